@@ -1,0 +1,26 @@
+//! The words of the trade: block numbers, sizes, modes and refusals.
+//!
+//! Every other crate of the cache stands on this one. It knows of no device, no text and no thread.
+#![tactic(auto)]
+
+mod entry;
+mod geometry;
+mod message;
+mod mode;
+mod number;
+mod refusal;
+#[cfg(test)]
+mod tests;
+
+pub use entry::Entry;
+pub use geometry::Geometry;
+pub use message::{CBlockRange, CBlockRanges, Key, Message};
+pub use mode::{Dev, Mode};
+pub use number::{CBlock, OBlock, Place, Sector};
+pub use refusal::Refusal;
+
+/// How many bytes a sector has.
+pub const SECTOR_BYTES: usize = 512;
+
+/// The bytes of a sector.
+pub type Content = [u8; 512];
