@@ -11,6 +11,7 @@ mod number;
 mod refusal;
 #[cfg(test)]
 mod tests;
+mod word;
 
 pub use entry::Entry;
 pub use geometry::Geometry;
@@ -18,6 +19,7 @@ pub use message::{CBlockRange, CBlockRanges, Key, Message};
 pub use mode::{Dev, Mode};
 pub use number::{CBlock, OBlock, Place, Sector};
 pub use refusal::Refusal;
+pub use word::{Access, Kind, Word};
 
 /// How many bytes a sector has.
 pub const SECTOR_BYTES: usize = 512;
