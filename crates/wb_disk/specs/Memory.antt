@@ -1,0 +1,29 @@
+-- A disk in memory, as its callers see it.
+use Rattle.std.specs.Prelude.{◌≡◌, ◌<◌, ℕ, List, [], map, length, replicate, slice_index, slice_set}
+use Rattle.wb_disk.specs.Device.{History}
+
+-- what it holds, how often it has failed (modulo 2^64), and of each sector how many writes since the last sync there is memory for
+pub record Memory : Type 0 where
+  pub contents : List History
+  pub faults : ℕ
+  pub capacity : List ℕ
+
+-- a sector that was never written
+abbrev pub blank : History
+blank = record { first = replicate 512 0; later = [] }
+
+-- a new disk of so many sectors
+abbrev pub zeros : ℕ → Memory
+zeros sectors = record { contents = replicate sectors blank; faults = 0; capacity = replicate sectors 0 }
+
+-- how many writes since the last sync are kept of a sector
+abbrev pub later_count : History → ℕ
+later_count h = length h.later
+
+-- the next write of this sector needs no memory
+abbrev pub HasRoom : Memory → ℕ → Type 0
+HasRoom disk at = slice_index (map later_count disk.contents) at < slice_index disk.capacity at
+
+-- two lists of numbers differ at this place alone, if at all
+abbrev pub DiffersOnlyAt : ℕ → List ℕ → List ℕ → Type 0
+DiffersOnlyAt at old new = new ≡ slice_set old at (slice_index new at)

@@ -1,0 +1,40 @@
+-- What the fields of a disk in memory stand for.
+use Rattle.std.specs.Prelude.{◌≡◌, ◌<◌, ℕ, List, [], ◌∷◌, Some, map, length, slice_get, slice_set, vec_capacity}
+use Rattle.wb_disk.specs.Device.{History, entries, only}
+use Rattle.wb_disk.specs.Crash.{Choice, content_at, chosen_position}
+use Rattle.wb_disk.specs.declared.crash_choice.NamedContent.{NamedContent}
+use Rattle.wb_disk.specs.declared.pending.Pending.{Pending}
+
+-- the contents of a sector as it is stored
+abbrev pub history : Pending → History
+history p = record { first = p.durable; later = p.later.items }
+
+-- how many later contents a sector has memory for
+abbrev pub capacity_of : Pending → ℕ
+capacity_of p = vec_capacity p.later
+
+-- the content at the mark, alone
+abbrev pub cut_at_mark : Pending → History
+cut_at_mark p = only (content_at (history p) p.mark)
+
+-- there is a content at the mark
+abbrev pub HasMark : Pending → Type 0
+HasMark p = p.mark < length (entries (history p))
+
+abbrev pub histories : List Pending → List History
+histories ps = map history ps
+
+abbrev pub capacities : List Pending → List ℕ
+capacities ps = map capacity_of ps
+
+abbrev pub marks : List Pending → List ℕ
+marks ps = map (λ p. p.mark) ps
+
+-- the marks after these names were carried over to them, in order
+abbrev pub marks_named : List NamedContent → List ℕ → List ℕ
+marks_named [] ms = ms
+marks_named (name ∷ names) ms = marks_named names (slice_set ms name.sector name.position)
+
+-- each mark is at the content that a choice keeps
+abbrev pub IsMarked : Choice → List Pending → Type 0
+IsMarked choice ps = (at : ℕ) (p : Pending) → slice_get ps at ≡ Some p → p.mark ≡ chosen_position choice at (history p)

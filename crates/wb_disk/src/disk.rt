@@ -1,0 +1,63 @@
+//! What a disk is.
+
+ghost use Rattle.std.specs.Prelude.{◌≡◌, ◌<◌, ◌⊎◌, ℕ, List, OnOk, OnErr, length};
+ghost use Rattle.wb_disk.specs.Device.{History, Gives, written, synced, PartlySynced, OneMore};
+
+use wb_types::Content;
+
+/// A step of the device failed.
+#[derive(Clone, Copy, Debug, PartialEq, Eq)]
+pub struct DiskFault;
+
+/// A disk, by the list of contents of each of its sectors.
+///
+/// Sectors are atomic. A fault is answered only where the disk's count of faults rose. After a failed read the
+/// disk holds what it held, and `out` holds anything; a failed write has added its content or not; a failed
+/// sync has settled each sector or left it.
+pub trait Disk {
+    /// Whether a disk of this type tells what it holds. The clauses on contents and faults are under it.
+    ghost tells: { Type 0 };
+
+    /// The number of sectors.
+    ghost size: { Self → ℕ };
+
+    /// Of each sector what it held at the last sync, and the writes to it since.
+    ghost contents: { Self → List History };
+
+    /// How often the disk has failed, modulo 2^64.
+    ghost faults: { Self → ℕ };
+
+    /// The number of sectors.
+    fn sectors(&self) -> u64
+        ensures { result ≡ size self.now };
+
+    /// Reads the newest content of a sector, which is below `sectors()`.
+    fn read(&mut self, at: u64, out: &mut Content) -> Result<(), DiskFault>
+        requires { at < size self.old }
+        ensures size { size self.new ≡ size self.old }
+        ensures given { tells → OnOk result (Gives (contents self.old) at out.new) }
+        ensures kept { tells → contents self.new ≡ contents self.old }
+        ensures no_fault { tells → OnOk result (faults self.new ≡ faults self.old) }
+        ensures cause { tells → OnErr result (OneMore (faults self.old) (faults self.new)) };
+
+    /// Writes a sector, which is below `sectors()`. Until the next sync, a crash may leave an older content of it.
+    fn write(&mut self, at: u64, from: &Content) -> Result<(), DiskFault>
+        requires { at < size self.old }
+        ensures size { size self.new ≡ size self.old }
+        ensures ok { tells → OnOk result (contents self.new ≡ written (contents self.old) at from.now) }
+        ensures err { tells → OnErr result ((contents self.new ≡ contents self.old)
+            ⊎ (contents self.new ≡ written (contents self.old) at from.now)) }
+        ensures no_fault { tells → OnOk result (faults self.new ≡ faults self.old) }
+        ensures cause { tells → OnErr result (OneMore (faults self.old) (faults self.new)) };
+
+    /// Makes the newest content of every sector durable.
+    fn sync(&mut self) -> Result<(), DiskFault>
+        ensures size { size self.new ≡ size self.old }
+        ensures ok { tells → OnOk result (contents self.new ≡ synced (contents self.old)) }
+        ensures err { tells → OnErr result (PartlySynced (contents self.old) (contents self.new)) }
+        ensures no_fault { tells → OnOk result (faults self.new ≡ faults self.old) }
+        ensures cause { tells → OnErr result (OneMore (faults self.old) (faults self.new)) };
+
+    /// A disk that tells what it holds has a list for each sector.
+    ghost whole: { (disk : Self) → tells → length (contents disk) ≡ size disk };
+}

@@ -1,0 +1,189 @@
+//! A disk in memory.
+
+ghost use Rattle.std.specs.Prelude.{◌≡◌, ◌<◌, ◌↔◌, [], ◌∷◌, ◌++◌, IsOk, IsTrue, IfOk, OnOk, OnErr, IfErr, length};
+ghost use Rattle.std.specs.Bool.{OnTrue, OnFalse};
+ghost use Rattle.wb_types.specs.declared.refusal.Refusal.TheVariants.{Memory as OutOfMemory};
+ghost use Rattle.wb_disk.specs.Device.{Gives, written, synced, OneMore, Crashed};
+ghost use Rattle.wb_disk.specs.Memory.{blank, zeros, HasRoom, DiffersOnlyAt};
+ghost use Rattle.wb_disk.specs.Crash.{Applies, crashed};
+ghost use Rattle.wb_disk.specs.Stored.{histories, capacities};
+
+use crate::crash::mark_chosen;
+use crate::pending::Pending;
+use crate::{CrashChoice, Disk, DiskFault};
+use std::alloc::{AllocError, Global};
+use std::marker::Model;
+use wb_types::{Content, Refusal};
+
+/// A disk in memory, which tells all that it holds.
+///
+/// A contract sees its contents, its count of faults, and of each sector how many writes since the last sync
+/// there is memory for.
+#[derive(Drop)]
+pub struct MemDisk {
+    sectors: Vec<Pending>,
+    faults: u64,
+}
+
+impl Model for MemDisk {
+    ghost use Rattle.wb_disk.specs.Memory.{Memory};
+
+    ghost Value = { Memory };
+
+    ghost use Rattle.wb_disk.specs.Stored.{histories, capacities};
+
+    ghost view = { λ d. record {
+      contents = histories d.sectors.items;
+      faults = d.faults;
+      capacity = capacities d.sectors.items;
+    } };
+}
+
+impl MemDisk {
+    /// A disk of zeros. `Memory` where there is none for so many sectors.
+    pub fn new(alloc: Global, sectors: u64) -> Result<MemDisk, Refusal>
+        ensures ok { IfOk result (λ disk. disk ≡ zeros sectors) }
+        ensures err { IfErr result (λ refusal. refusal ≡ OutOfMemory) }
+    {
+        let mut all = Vec::with_capacity(alloc, sectors as usize)?;
+        for _ in 0..sectors {
+            push_blank(alloc, &mut all)?;
+        }
+        Ok(MemDisk {
+            sectors: all,
+            faults: 0,
+        })
+    }
+
+    /// How often a call has failed, modulo 2^64.
+    pub fn faults(&self) -> u64
+        ensures { result ≡ self.now.faults }
+    {
+        self.faults
+    }
+
+    /// Makes room for the next write of a sector. `Memory` where the sector's list has to grow and cannot; the
+    /// disk is then as it was.
+    pub fn room(&mut self, at: u64) -> Result<(), Refusal>
+        requires { at < length self.old.contents }
+        ensures room { OnOk result (HasRoom self.new at) }
+        ensures contents { self.new.contents ≡ self.old.contents }
+        ensures faults { self.new.faults ≡ self.old.faults }
+        ensures elsewhere { DiffersOnlyAt at self.old.capacity self.new.capacity }
+
+        // It fails only where the room was missing, and takes nothing where it was there.
+        ensures had { HasRoom self.old at → IsOk result }
+        ensures stays { HasRoom self.old at → self.new ≡ self.old }
+        ensures err { OnErr result (self.new ≡ self.old) }
+        ensures refusal { IfErr result (λ refusal. refusal ≡ OutOfMemory) }
+    {
+        self.sectors[at as usize].make_room()
+    }
+
+    /// Crashes: each sector keeps its chosen content, and that alone. It takes no memory, and time linear in
+    /// the sectors and names.
+    ///
+    /// False, and nothing changes, where the choice does not apply: a name is of a sector that the disk has not
+    /// got, or the last name of a sector is of a content that is not in its list.
+    #[must_use]
+    pub fn stop(&mut self, choice: &CrashChoice) -> bool
+        ensures applies { IsTrue result ↔ Applies choice.now self.old.contents }
+        ensures crashed { OnTrue result (self.new ≡ record self.old { contents = crashed choice.now self.old.contents }) }
+        ensures outcome { OnTrue result (Crashed self.old.contents self.new.contents) }
+        ensures kept { OnFalse result (self.new ≡ self.old) }
+    {
+        if !mark_chosen(&mut self.sectors, choice) {
+            return false;
+        }
+        for pending in self.sectors.iter_mut() {
+            pending.cut();
+        }
+        true
+    }
+
+    /// Whether `stop` would crash the disk by this choice. The disk is lent to be marked, and shows no change.
+    pub fn applies(&mut self, choice: &CrashChoice) -> bool
+        ensures applies { IsTrue result ↔ Applies choice.now self.old.contents }
+        ensures kept { self.new ≡ self.old }
+    {
+        mark_chosen(&mut self.sectors, choice)
+    }
+}
+
+impl Disk for MemDisk {
+    ghost use Rattle.std.specs.Prelude.{length, refl};
+
+    ghost tells = { Unit {0} };
+
+    ghost size = { λ d. length d.contents };
+
+    ghost contents = { λ d. d.contents };
+
+    ghost faults = { λ d. d.faults };
+
+    fn sectors(&self) -> u64 {
+        self.sectors.len() as u64
+    }
+
+    /// It never fails.
+    fn read(&mut self, at: u64, out: &mut Content) -> Result<(), DiskFault>
+        requires { at < length self.old.contents }
+        ensures ok { IsOk result }
+        ensures given { Gives self.old.contents at out.new }
+        ensures kept { self.new ≡ self.old }
+    {
+        let pending = &self.sectors[at as usize];
+        *out = *pending.newest();
+        Ok(())
+    }
+
+    /// It fails, and adds nothing, where the sector's list has to grow and cannot.
+    fn write(&mut self, at: u64, from: &Content) -> Result<(), DiskFault>
+        requires { at < length self.old.contents }
+        ensures size { length self.new.contents ≡ length self.old.contents }
+        ensures ok { OnOk result (self.new.contents ≡ written self.old.contents at from.now) }
+        ensures no_fault { OnOk result (self.new.faults ≡ self.old.faults) }
+        ensures err { OnErr result (self.new.contents ≡ self.old.contents) }
+        ensures cause { OnErr result (OneMore self.old.faults self.new.faults) }
+
+        // Room is used up by the write, and other sectors keep theirs.
+        ensures room { HasRoom self.old at → IsOk result }
+        ensures in_place { HasRoom self.old at → self.new.capacity ≡ self.old.capacity }
+        ensures full { OnErr result (self.new.capacity ≡ self.old.capacity) }
+        ensures elsewhere { DiffersOnlyAt at self.old.capacity self.new.capacity }
+    {
+        let pending = &mut self.sectors[at as usize];
+        match pending.make_room() {
+            Ok(()) => {
+                pending.add(from);
+                Ok(())
+            }
+            Err(_) => {
+                self.faults = self.faults.wrapping_add(1);
+                Err(DiskFault)
+            }
+        }
+    }
+
+    /// It never fails. It goes over all sectors.
+    fn sync(&mut self) -> Result<(), DiskFault>
+        ensures ok { IsOk result }
+        ensures synced { self.new ≡ record self.old { contents = synced self.old.contents } }
+    {
+        for pending in self.sectors.iter_mut() {
+            pending.settle();
+        }
+        Ok(())
+    }
+
+    ghost whole = { λ d h. refl };
+}
+
+/// One sector of zeros more.
+fn push_blank(alloc: Global, all: &mut Vec<Pending>) -> Result<(), AllocError>
+    ensures contents { OnOk result (histories all.new.items ≡ histories all.old.items ++ blank ∷ []) }
+    ensures capacity { OnOk result (capacities all.new.items ≡ capacities all.old.items ++ 0 ∷ []) }
+{
+    all.push(Pending::blank(alloc))?;
+    Ok(())
+}

@@ -1,0 +1,110 @@
+-- A run of a task, step by step, and how long it can be.
+use Rattle.std.proofs.Common.{◌≡◌, ◌≢◌, ◌+◌, ◌<◌, ◌≤◌, ℕ, Bool, true, false, List, [], ◌∷◌, ◌++◌, Option, Some, None, length, map, max, ◌==◌, if◌then◌else◌, refl, sym, subst, arith, append_assoc}
+use Rattle.wb_types.specs.declared.number.CBlock.{CBlock}
+use Rattle.wb_types.specs.declared.word.Access.TheVariants.{Shared, Owned}
+use Rattle.wb_types.specs.declared.refusal.Refusal.TheVariants.{Busy, Failed, Worn}
+use Rattle.wb_types.specs.declared.word.Word.{Word as WordName}
+use Rattle.wb_types.specs.declared.word.Word.TheVariants.{Cell as LockWord, Seal as SealWord, Number, Count as CountWord, Fail}
+use Rattle.wb_tasks.specs.Job.{Part, Job, access_of, Reading, Writing, work, read_step, write_step, read_count, write_count, place_in, dirty_in}
+use Rattle.wb_tasks.specs.Script.{Script, want, after, after_look, release, Fits, IsStep, first_step, can_take, is_worn}
+use Rattle.wb_tasks.specs.Run.{IsRunOf, Leads}
+use Rattle.wb_tasks.specs.Length.{longest_work, longest_of, longest}
+use Rattle.wb_tasks.specs.declared.step.CellStep.TheVariants.{Look, Take, Release, Seal, Finish, Count, SetFailed, SetSuspended}
+use Rattle.wb_tasks.specs.declared.step.DeviceStep.TheVariants.{Read, Write, Sync}
+use Rattle.wb_tasks.specs.declared.step.Want.{Want}
+use Rattle.wb_tasks.specs.declared.step.Want.TheVariants.{Cell, Device, Desk, End}
+use Rattle.wb_tasks.specs.declared.step.Got.{Got}
+use Rattle.wb_tasks.specs.declared.step.Got.TheVariants.{Done, Word, Lost, Content, Fault, Refused}
+use Rattle.wb_tasks.specs.declared.step.Answer.{Answer}
+use Rattle.wb_tasks.specs.declared.step.Answer.TheVariants.{Refused as Refuses}
+
+-- what is no answer is a step
+pub IsStep-no_answer : (w : Want) → ((answer : Answer) → w ≢ End answer) → IsStep w
+IsStep-no_answer (Cell step) h = tt
+IsStep-no_answer (Device step) h = tt
+IsStep-no_answer (Desk step) h = tt
+IsStep-no_answer (End answer) h = absurd (h answer refl)
+
+-- the answer is a step too
+pub longest_of-some : (job : Job) (ws : List Want) → 1 ≤ longest_of job ws
+longest_of-some job [] = omega arith
+longest_of-some job (Cell (Look (LockWord b)) ∷ ws) = omega arith
+longest_of-some job (Cell (Look (SealWord b)) ∷ ws) = omega arith
+longest_of-some job (Cell (Look (Number b)) ∷ ws) = omega arith
+longest_of-some job (Cell (Look (CountWord k)) ∷ ws) = omega arith
+longest_of-some job (Cell (Look Fail) ∷ ws) = omega arith
+longest_of-some job (Cell (Take a b) ∷ ws) = omega arith
+longest_of-some job (Cell (Release a b) ∷ ws) = omega arith
+longest_of-some job (Cell (Seal b p d) ∷ ws) = omega arith
+longest_of-some job (Cell (Finish b) ∷ ws) = omega arith
+longest_of-some job (Cell (Count k) ∷ ws) = omega arith
+longest_of-some job (Cell SetFailed ∷ ws) = omega arith
+longest_of-some job (Cell SetSuspended ∷ ws) = omega arith
+longest_of-some job (Device s ∷ ws) = omega arith
+longest_of-some job (Desk s ∷ ws) = omega arith
+longest_of-some job (End a ∷ ws) = omega arith
+
+-- a step for each sector, before others that take two or more with the answer
+longest_of-reads : (job : Job) (part : Part) (place : Option CBlock) (sectors : List ℕ) (ws : List Want) → 2 ≤ longest_of job ws → longest_of job (map (read_step part place) sectors ++ ws) ≡ length sectors + longest_of job ws
+longest_of-reads job part place [] ws h = omega arith
+longest_of-reads job part None (at ∷ sectors) ws h = omega (arith, longest_of-reads job part None sectors ws h)
+longest_of-reads job part (Some c) (at ∷ sectors) ws h = omega (arith, longest_of-reads job part (Some c) sectors ws h)
+
+longest_of-writes : (job : Job) (part : Part) (place : Option CBlock) (sectors : List ℕ) (ws : List Want) → 2 ≤ longest_of job ws → longest_of job (map (write_step part place) sectors ++ ws) ≡ length sectors + longest_of job ws
+longest_of-writes job part place [] ws h = omega arith
+longest_of-writes job part None (at ∷ sectors) ws h = omega (arith, longest_of-writes job part None sectors ws h)
+longest_of-writes job part (Some c) (at ∷ sectors) ws h = omega (arith, longest_of-writes job part (Some c) sectors ws h)
+
+-- what a job does takes no longer than it says, wherever its block stands
+longest_of-work : (job : Job) (place : Option CBlock) (dirty : Bool) → longest_of job (work job place dirty) ≤ longest_work job
+longest_of-work (Reading part) None dirty = omega (arith, longest_of-reads (Reading part) part None part.sectors (read_count None ∷ Cell (Release Shared part.block) ∷ []) (omega arith))
+longest_of-work (Reading part) (Some c) dirty = omega (arith, longest_of-reads (Reading part) part (Some c) part.sectors (read_count (Some c) ∷ Cell (Release Shared part.block) ∷ []) (omega arith))
+longest_of-work (Writing part) None dirty = omega (arith, longest_of-writes (Writing part) part None part.sectors (Cell (Finish part.block) ∷ write_count None ∷ Cell (Release Owned part.block) ∷ []) (omega arith))
+longest_of-work (Writing part) (Some c) true = omega (arith, longest_of-writes (Writing part) part (Some c) part.sectors (Cell (Finish part.block) ∷ write_count (Some c) ∷ Cell (Release Owned part.block) ∷ []) (omega arith))
+longest_of-work (Writing part) (Some c) false = omega (arith, longest_of-writes (Writing part) part (Some c) part.sectors (Cell (Finish part.block) ∷ write_count (Some c) ∷ Cell (Release Owned part.block) ∷ []) (omega arith))
+
+some_work : (job : Job) → 2 ≤ longest_work job
+some_work (Reading part) = omega arith
+some_work (Writing part) = omega arith
+
+-- a look leaves less
+falls_look : (job : Job) (word : WordName) (ws : List Want) (a : Answer) (value : ℕ) → longest (after_look (record { job = job; steps = Cell (Look word) ∷ ws; answer = a }) (Cell (Look word)) value) < longest_of job (Cell (Look word) ∷ ws)
+falls_look job Fail ws a value = elim (value == 0) as (λ (b : Bool). longest (if b then (record { job = job; steps = ws; answer = a }) else (record { job = job; steps = []; answer = Refuses Failed })) < 1 + longest_of job ws) [ true ↦ omega arith | false ↦ omega (arith, longest_of-some job ws) ]
+falls_look job (LockWord block) ws a value = elim (can_take (access_of job) value) as (λ (b : Bool). longest (if b then (record { job = job; steps = ws; answer = a }) else (record { job = job; steps = []; answer = Refuses Busy })) < 1 + longest_of job ws) [ true ↦ omega arith | false ↦ omega (arith, longest_of-some job ws) ]
+falls_look job (SealWord block) ws a value = omega (arith, longest_of-work job (place_in value) (dirty_in value), some_work job)
+falls_look job (Number block) ws a value = elim (is_worn job value) as (λ (b : Bool). longest (if b then (record { job = job; steps = release job ∷ []; answer = Refuses Worn }) else (record { job = job; steps = ws; answer = a })) < 1 + max 2 (longest_of job ws)) [ true ↦ omega arith | false ↦ omega arith ]
+falls_look job (CountWord kind) ws a value = omega arith
+
+-- a step leaves less
+pub falls : (job : Job) (ws : List Want) (a : Answer) (g : Got) → Fits (first_step ws a) g → longest (after (record { job = job; steps = ws; answer = a }) g) < longest_of job ws
+falls job [] a g h = absurd h
+falls job (Cell (Look word) ∷ ws) a (Word value) h = falls_look job word ws a value
+falls job (Cell (Take access block) ∷ ws) a Done h = omega arith
+falls job (Cell (Take access block) ∷ ws) a Lost h = omega (arith, longest_of-some job ws)
+falls job (Cell (Release access block) ∷ ws) a Done h = omega arith
+falls job (Cell (Seal block place dirty) ∷ ws) a Done h = omega arith
+falls job (Cell (Finish block) ∷ ws) a Done h = omega arith
+falls job (Cell (Count kind) ∷ ws) a Done h = omega arith
+falls job (Cell SetFailed ∷ ws) a Done h = omega arith
+falls job (Cell SetSuspended ∷ ws) a Done h = omega arith
+falls job (Device (Read device at) ∷ ws) a (Content content) h = omega arith
+falls job (Device (Read device at) ∷ ws) a Fault h = omega arith
+falls job (Device (Write device at) ∷ ws) a Done h = omega arith
+falls job (Device (Write device at) ∷ ws) a Fault h = omega arith
+falls job (Device (Sync device) ∷ ws) a Done h = omega arith
+falls job (Device (Sync device) ∷ ws) a Fault h = omega arith
+falls job (Desk step ∷ ws) a Done h = omega arith
+falls job (Desk step ∷ ws) a (Refused refusal) h = omega (arith, longest_of-some job ws)
+falls job (w ∷ ws) a g h = absurd h
+
+-- one step more
+pub leads_more : {S : Type 0} (led : S → Want → Got → S → Type 0) (old : S) (steps : List (Want × Got)) (mid : S) (w : Want) (g : Got) (new : S) → Leads led old steps mid → led mid w g new → Leads led old (steps ++ (w, g) ∷ []) new
+leads_more {S} led old [] mid w g new e h = (new, subst (λ (x : S). led x w g new) (sym e) h, refl)
+leads_more led old (step ∷ steps) mid w g new e h = (e.0, e.1, leads_more led e.0 steps mid w g new e.2 h)
+
+-- These steps lead to what is left, whichever way it ends.
+abbrev pub Leaves : Script → List (Want × Got) → Script → Type 0
+Leaves s steps t = (more : List (Want × Got)) (a : Answer) → IsRunOf t more a → IsRunOf s (steps ++ more) a
+
+pub leaves_more : (s : Script) (steps : List (Want × Got)) (t : Script) (g : Got) → Leaves s steps t → Fits (want t) g → Leaves s (steps ++ (want t, g) ∷ []) (after t g)
+leaves_more s steps t g e h more a r = rw append_assoc (e ((want t, g) ∷ more) a (refl, h, r))

@@ -1,0 +1,5 @@
+pub mod Views
+pub mod Reading
+pub mod Writing
+pub mod Driving
+pub mod Causing

@@ -1,0 +1,98 @@
+use Rattle.std.specs.Prelude.{◌+◌, ◌*◌, ◌/◌, ◌%◌, ◌^◌, ◌++◌, ℕ, zero, suc, Bool, true, false, List, [], ◌∷◌, Option, Some, None, map, nat_lt, if◌then◌else◌}
+use Rattle.wb_types.specs.declared.mode.Dev.{Dev}
+use Rattle.wb_types.specs.declared.mode.Dev.TheVariants.{Cache, Origin}
+use Rattle.wb_types.specs.declared.number.OBlock.{OBlock}
+use Rattle.wb_types.specs.declared.number.CBlock.{CBlock}
+use Rattle.wb_types.specs.declared.word.Access.{Access}
+use Rattle.wb_types.specs.declared.word.Access.TheVariants.{Shared, Owned}
+use Rattle.wb_types.specs.declared.word.Kind.TheVariants.{ReadHit, ReadMiss, WriteHit, WriteMiss}
+use Rattle.wb_types.specs.declared.word.Word.TheVariants.{Cell as LockWord, Seal as SealWord, Number, Fail}
+use Rattle.wb_tasks.specs.declared.step.CellStep.TheVariants.{Look, Take, Release, Seal, Finish, Count}
+use Rattle.wb_tasks.specs.declared.step.DeviceStep.TheVariants.{Read, Write}
+use Rattle.wb_tasks.specs.declared.step.Want.{Want}
+use Rattle.wb_tasks.specs.declared.step.Want.TheVariants.{Cell, Device}
+
+-- sectors of one block of the origin, in the order in which they are taken
+pub record Part : Type 0 where
+  pub block_sectors : ℕ
+  pub block : OBlock
+  pub sectors : List ℕ
+
+-- this many sectors, rising from the first
+abbrev pub sectors_from : ℕ → ℕ → List ℕ
+sectors_from first zero = []
+sectors_from first (suc n) = first ∷ sectors_from (first + 1) n
+
+-- what a task is to do
+pub data Job : Type 0 where
+  Reading : Part → Job
+  Writing : Part → Job
+
+abbrev pub part_of : Job → Part
+part_of (Reading part) = part
+part_of (Writing part) = part
+
+-- a read shares its block, a write owns it
+abbrev pub access_of : Job → Access
+access_of (Reading part) = Shared
+access_of (Writing part) = Owned
+
+-- Where a block stands, as its seal tells: nowhere but on the origin, or in a cache block; and whether that copy
+-- is dirty. A place past every number of a cache block is none.
+
+abbrev pub cached_at : ℕ → Option CBlock
+cached_at zero = None
+cached_at (suc place) = if nat_lt place (2 ^ 32) then Some (record { 0 = place }) else None
+
+abbrev pub place_in : ℕ → Option CBlock
+place_in seal = cached_at (seal / 2)
+
+abbrev pub flag : ℕ → Bool
+flag zero = false
+flag (suc n) = true
+
+abbrev pub dirty_in : ℕ → Bool
+dirty_in seal = flag (seal % 2)
+
+-- The route in write-back mode: an unmapped block is read and written on the origin, a mapped one on the cache.
+
+abbrev pub device_at : Option CBlock → Dev
+device_at None = Origin
+device_at (Some c) = Cache
+
+-- the sector of the cache device that holds a sector of a mapped block
+abbrev pub cache_sector : Part → CBlock → ℕ → ℕ
+cache_sector part c at = c.0 * part.block_sectors + at % part.block_sectors
+
+abbrev pub read_step : Part → Option CBlock → ℕ → Want
+read_step part None at = Device (Read Origin at)
+read_step part (Some c) at = Device (Read Cache (cache_sector part c at))
+
+abbrev pub write_step : Part → Option CBlock → ℕ → Want
+write_step part None at = Device (Write Origin at)
+write_step part (Some c) at = Device (Write Cache (cache_sector part c at))
+
+-- a mapped block is sealed dirty before the first write to its clean copy
+abbrev pub dirtying : OBlock → Option CBlock → Bool → List Want
+dirtying block (Some c) false = Cell (Seal block (Some c) true) ∷ []
+dirtying block place dirty = []
+
+-- a part counts as a hit where its block is mapped
+abbrev pub read_count : Option CBlock → Want
+read_count None = Cell (Count ReadMiss)
+read_count (Some c) = Cell (Count ReadHit)
+
+abbrev pub write_count : Option CBlock → Want
+write_count None = Cell (Count WriteMiss)
+write_count (Some c) = Cell (Count WriteHit)
+
+-- The step tables.
+
+-- acquiring a block: the fail word, the lock word, the exchange, the seal, the number
+abbrev pub acquire : Access → OBlock → List Want
+acquire access block = Cell (Look Fail) ∷ Cell (Look (LockWord block)) ∷ Cell (Take access block) ∷ Cell (Look (SealWord block)) ∷ Cell (Look (Number block)) ∷ []
+
+-- what a job does once it has its block, which stands at this place
+abbrev pub work : Job → Option CBlock → Bool → List Want
+work (Reading part) place dirty = map (read_step part place) part.sectors ++ read_count place ∷ Cell (Release Shared part.block) ∷ []
+work (Writing part) place dirty = dirtying part.block place dirty ++ map (write_step part place) part.sectors ++ Cell (Finish part.block) ∷ write_count place ∷ Cell (Release Owned part.block) ∷ []

@@ -1,0 +1,8 @@
+pub mod Job
+pub mod Script
+pub mod Run
+pub mod Length
+pub mod Causes
+pub mod Words
+pub mod Phases
+pub mod Requests

@@ -1,0 +1,125 @@
+use Rattle.std.specs.Prelude.{◌-◌, ◌^◌, ◌%◌, ◌&&◌, ◌==◌, ℕ, Bool, false, List, [], ◌∷◌, if◌then◌else◌, nat_lt}
+use Rattle.wb_types.specs.declared.refusal.Refusal.{Refusal}
+use Rattle.wb_types.specs.declared.refusal.Refusal.TheVariants.{Busy, Failed, Worn, Io}
+use Rattle.wb_types.specs.declared.word.Access.{Access}
+use Rattle.wb_types.specs.declared.word.Access.TheVariants.{Shared, Owned}
+use Rattle.wb_types.specs.declared.word.Word.TheVariants.{Cell as LockWord, Seal as SealWord, Number, Fail}
+use Rattle.wb_tasks.specs.Job.{Job, Reading, Writing, part_of, access_of, place_in, dirty_in, acquire, work}
+use Rattle.wb_tasks.specs.declared.step.CellStep.TheVariants.{Look, Take, Release, Seal, Finish, Count, SetFailed, SetSuspended}
+use Rattle.wb_tasks.specs.declared.step.DeviceStep.TheVariants.{Read, Write, Sync}
+use Rattle.wb_tasks.specs.declared.step.Answer.{Answer}
+use Rattle.wb_tasks.specs.declared.step.Answer.TheVariants.{Done as Finished, Refused as Refuses}
+use Rattle.wb_tasks.specs.declared.step.Want.{Want}
+use Rattle.wb_tasks.specs.declared.step.Want.TheVariants.{Cell, Device, Desk, End}
+use Rattle.wb_tasks.specs.declared.step.Got.{Got}
+use Rattle.wb_tasks.specs.declared.step.Got.TheVariants.{Begin, Done, Word, Lost, Content, Fault, Refused}
+
+-- What is left of a task: the job that it is on, the steps to come, as far as they are known, and the answer
+-- after them. The steps after acquiring a block are known once its seal was seen.
+pub record Script : Type 0 where
+  pub job : Job
+  pub steps : List Want
+  pub answer : Answer
+
+-- a job that has not begun
+abbrev pub table : Job → Script
+table job = record { job = job; steps = acquire (access_of job) (part_of job).block; answer = Finished }
+
+abbrev pub first_step : List Want → Answer → Want
+first_step [] answer = End answer
+first_step (w ∷ ws) answer = w
+
+-- the next step, the answer being the last
+abbrev pub want : Script → Want
+want s = first_step s.steps s.answer
+
+abbrev pub later_steps : List Want → List Want
+later_steps [] = []
+later_steps (w ∷ ws) = ws
+
+-- on to the next step
+abbrev pub onward : Script → Script
+onward s = record s { steps = later_steps s.steps }
+
+-- nothing is left but these steps and a refusal
+abbrev pub refused : Script → List Want → Refusal → Script
+refused s steps refusal = record { job = s.job; steps = steps; answer = Refuses refusal }
+
+-- giving the block back
+abbrev pub release : Job → Want
+release job = Cell (Release (access_of job) (part_of job).block)
+
+-- Whether a block with this lock word can be taken: shared where nobody owns it and there is room for one sharer
+-- more, owned where nobody has it.
+abbrev pub can_take : Access → ℕ → Bool
+can_take Shared word = (word % 2 == 0) && nat_lt word (2 ^ 21 - 2)
+can_take Owned word = word == 0
+
+-- a write needs a number for itself
+abbrev pub is_worn : Job → ℕ → Bool
+is_worn (Reading part) number = false
+is_worn (Writing part) number = number == 2 ^ 64 - 1
+
+-- what is left after a word was looked at
+abbrev pub after_look : Script → Want → ℕ → Script
+after_look s (Cell (Look Fail)) word = if word == 0 then onward s else refused s [] Failed
+after_look s (Cell (Look (LockWord block))) word = if can_take (access_of s.job) word then onward s else refused s [] Busy
+after_look s (Cell (Look (SealWord block))) word = record s { steps = Cell (Look (Number block)) ∷ work s.job (place_in word) (dirty_in word) }
+after_look s (Cell (Look (Number block))) word = if is_worn s.job word then refused s (release s.job ∷ []) Worn else onward s
+after_look s w word = onward s
+
+-- After a fault on a read the block is given back; after one on a write or sync the failed bit is set, and what is
+-- owned is kept.
+abbrev pub after_fault : Script → Want → Script
+after_fault s (Device (Read device at)) = refused s (release s.job ∷ []) (Io device)
+after_fault s (Device (Write device at)) = refused s (Cell SetFailed ∷ []) (Io device)
+after_fault s (Device (Sync device)) = refused s (Cell SetFailed ∷ []) (Io device)
+after_fault s w = s
+
+-- what is left after the result of a step
+abbrev pub after : Script → Got → Script
+after s Begin = s
+after s Done = onward s
+after s (Word word) = after_look s (want s) word
+after s Lost = refused s [] Busy
+after s (Content content) = onward s
+after s Fault = after_fault s (want s)
+after s (Refused refusal) = refused s [] refusal
+
+-- a result of the kind that a step asks for
+abbrev pub Fits : Want → Got → Type 0
+Fits (Cell (Look word)) (Word value) = Unit {0}
+Fits (Cell (Take access block)) Done = Unit {0}
+Fits (Cell (Take access block)) Lost = Unit {0}
+Fits (Cell (Release access block)) Done = Unit {0}
+Fits (Cell (Seal block place dirty)) Done = Unit {0}
+Fits (Cell (Finish block)) Done = Unit {0}
+Fits (Cell (Count kind)) Done = Unit {0}
+Fits (Cell SetFailed) Done = Unit {0}
+Fits (Cell SetSuspended) Done = Unit {0}
+Fits (Device (Read device at)) (Content content) = Unit {0}
+Fits (Device (Read device at)) Fault = Unit {0}
+Fits (Device (Write device at)) Done = Unit {0}
+Fits (Device (Write device at)) Fault = Unit {0}
+Fits (Device (Sync device)) Done = Unit {0}
+Fits (Device (Sync device)) Fault = Unit {0}
+Fits (Desk step) Done = Unit {0}
+Fits (Desk step) (Refused refusal) = Unit {0}
+Fits want got = ⊥
+
+-- a want that is a step, and no answer
+abbrev pub IsStep : Want → Type 0
+IsStep (Cell step) = Unit {0}
+IsStep (Device step) = Unit {0}
+IsStep (Desk step) = Unit {0}
+IsStep (End answer) = ⊥
+
+-- a result that a task may be handed: none yet, or one of its next step
+abbrev pub MayCome : Script → Got → Type 0
+MayCome s Begin = Unit {0}
+MayCome s Done = Fits (want s) Done
+MayCome s (Word value) = Fits (want s) (Word value)
+MayCome s Lost = Fits (want s) Lost
+MayCome s (Content content) = Fits (want s) (Content content)
+MayCome s Fault = Fits (want s) Fault
+MayCome s (Refused refusal) = Fits (want s) (Refused refusal)

@@ -1,0 +1,81 @@
+//! Acquiring a block: the fail word, the lock word, the exchange, the seal, the number.
+
+ghost use Rattle.std.specs.Prelude.{◌≡◌};
+ghost use Rattle.wb_tasks.specs.Job.{Job, place_in, dirty_in, part_of, access_of};
+ghost use Rattle.wb_tasks.specs.Script.{Script, want, after_look, can_take as can_take_word};
+ghost use Rattle.wb_tasks.specs.Phases.{acquiring, after_seeing};
+
+use crate::step::{CellStep, Want};
+use wb_types::{Access, CBlock, OBlock, Refusal, Word};
+
+/// Where a task stands on its way to its block.
+#[derive(Clone, Copy)]
+pub enum Acquire {
+    FailWord,
+    Lock,
+    Exchange,
+    Seal,
+    /// The place and the dirty bit are those of the seal that it saw.
+    Number(Option<CBlock>, bool),
+}
+
+/// What comes of a word that a task on its way to its block looked at.
+#[derive(Clone, Copy)]
+pub enum Seen {
+    Next(Acquire),
+    /// It has its block, which stands at this place; the flag says whether that copy is dirty.
+    Holds(Option<CBlock>, bool),
+    Refused(Refusal),
+    /// The block has no number left for a write.
+    Worn,
+}
+
+impl Acquire {
+    pub fn want(self, access: Access, block: OBlock) -> Want
+        ensures { (job : Job) → access_of job ≡ access → (part_of job).block ≡ block → result ≡ want (acquiring job self) }
+    {
+        match self {
+            Acquire::FailWord => Want::Cell(CellStep::Look(Word::Fail)),
+            Acquire::Lock => Want::Cell(CellStep::Look(Word::Cell(block))),
+            Acquire::Exchange => Want::Cell(CellStep::Take(access, block)),
+            Acquire::Seal => Want::Cell(CellStep::Look(Word::Seal(block))),
+            Acquire::Number(_, _) => Want::Cell(CellStep::Look(Word::Number(block))),
+        }
+    }
+
+    pub fn after_look(self, access: Access, word: u64) -> Seen
+        ensures { (job : Job) → access_of job ≡ access → after_seeing job result ≡ after_look (acquiring job self) (want (acquiring job self)) word }
+    {
+        match self {
+            Acquire::FailWord if word != 0 => Seen::Refused(Refusal::Failed),
+            Acquire::FailWord => Seen::Next(Acquire::Lock),
+            Acquire::Lock if can_take(access, word) => Seen::Next(Acquire::Exchange),
+            Acquire::Lock => Seen::Refused(Refusal::Busy),
+            Acquire::Exchange => Seen::Next(Acquire::Seal),
+            Acquire::Seal => Seen::Next(Acquire::Number(place_in(word), word % 2 == 1)),
+            Acquire::Number(_, _) if access == Access::Owned && word == u64::MAX => Seen::Worn,
+            Acquire::Number(place, dirty) => Seen::Holds(place, dirty),
+        }
+    }
+}
+
+/// Whether a block with this lock word can be taken.
+pub fn can_take(access: Access, word: u64) -> bool
+    ensures { result ≡ can_take_word access word }
+{
+    match access {
+        Access::Shared => word % 2 == 0 && word < (1 << 21) - 2,
+        Access::Owned => word == 0,
+    }
+}
+
+/// The place in a seal.
+fn place_in(seal: u64) -> Option<CBlock>
+    ensures { result ≡ place_in seal }
+{
+    let place = seal / 2;
+    if place == 0 || place > 1 << 32 {
+        return None;
+    }
+    Some(CBlock((place - 1) as u32))
+}

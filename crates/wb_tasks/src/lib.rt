@@ -1,0 +1,29 @@
+//! Requests as lists of steps: what comes next, and what drives them.
+//!
+//! A task says which step it wants and is told what came of it. It holds no content, no device and no
+//! lock: what performs its steps has those. So a task takes no memory and borrows nothing.
+#![tactic(auto)]
+
+mod acquire;
+mod card;
+mod laws;
+mod read;
+mod request;
+mod route;
+mod stage;
+mod step;
+mod task;
+#[cfg(test)]
+mod tests;
+mod words;
+mod write;
+
+pub use card::{Card, Held};
+pub use laws::{refusal_causes, step_bound};
+pub use read::ReadTask;
+pub use request::RequestTask;
+pub use stage::{Stage, drive};
+pub use step::{Answer, CellStep, DeskStep, DeviceStep, Got, Want};
+pub use task::Task;
+pub use words::Words;
+pub use write::WriteTask;

@@ -1,0 +1,33 @@
+//! Where a sector of a block stands in write-back mode.
+
+ghost use Rattle.std.specs.Prelude.{◌≡◌, ◌<◌};
+ghost use Rattle.wb_tasks.specs.Job.{Part, read_step, write_step, device_at};
+ghost use Rattle.wb_tasks.specs.declared.step.Want.TheVariants.{Device};
+ghost use Rattle.wb_tasks.specs.declared.step.DeviceStep.TheVariants.{Read, Write};
+
+use wb_types::{CBlock, Dev};
+
+/// The device that has the newest copy of a block at this place.
+pub fn device_at(place: Option<CBlock>) -> Dev
+    ensures { result ≡ device_at place }
+{
+    match place {
+        None => Dev::Origin,
+        Some(_) => Dev::Cache,
+    }
+}
+
+/// The device and the sector on it that hold a sector of a block at this place.
+pub fn route(block_sectors: u32, place: Option<CBlock>, at: u64) -> (Dev, u64)
+    requires { 0 < block_sectors }
+    ensures read { (part : Part) → part.block_sectors ≡ block_sectors → Device (Read result.0 result.1) ≡ read_step part place at }
+    ensures write { (part : Part) → part.block_sectors ≡ block_sectors → Device (Write result.0 result.1) ≡ write_step part place at }
+{
+    match place {
+        None => (Dev::Origin, at),
+        Some(CBlock(c)) => {
+            let size = u64::from(block_sectors);
+            (Dev::Cache, u64::from(c) * size + at % size)
+        }
+    }
+}

@@ -1,0 +1,173 @@
+//! A write of sectors of one block.
+
+ghost use Rattle.std.specs.Prelude.{◌≡◌, ◌+◌, ◌<◌, ◌^◌, []};
+ghost use Rattle.wb_tasks.specs.Job.{Writing, sectors_from};
+ghost use Rattle.wb_tasks.specs.Script.{Script, want, after, refused, table, Fits};
+
+use crate::acquire::{Acquire, Seen};
+use crate::route::{device_at, route};
+use crate::step::{Answer, CellStep, DeviceStep, Got, Want};
+use crate::task::Task;
+use std::marker::Model;
+use wb_types::{Access, CBlock, Dev, Kind, OBlock, Refusal, Sector};
+
+/// Where a write stands.
+#[derive(Clone, Copy)]
+enum Phase {
+    Acquires(Acquire),
+    /// The block stands in this cache block, whose copy is still sealed clean.
+    Dirties(CBlock),
+    /// The block stands at this place. When its sectors are written, the write is finished.
+    Writes(Option<CBlock>),
+    Counts(Option<CBlock>),
+    Releases(Answer),
+    /// A step on this device failed.
+    SetsFailed(Dev),
+    Ended(Answer),
+}
+
+/// A write of some sectors of a block, in rising order, in write-back mode. It owns the block, seals a clean
+/// copy in the cache dirty, writes where the newest copy stands, is finished, counts as a hit where that
+/// is the cache, and gives the block back.
+#[derive(Drop)]
+pub struct WriteTask {
+    phase: Phase,
+    block_sectors: u32,
+    block: OBlock,
+    first: u64,
+    count: u64,
+    /// The next sector to write, and how many are left from it on.
+    at: u64,
+    left: u64,
+}
+
+impl Model for WriteTask {
+    ghost use Rattle.std.specs.Prelude.{ℕ, ◌+◌, ◌<◌, ◌^◌};
+    ghost use Rattle.wb_tasks.specs.Script.{Script};
+
+    ghost Value = { Script };
+
+    ghost use Rattle.wb_tasks.specs.Job.{sectors_from};
+    ghost use Rattle.wb_tasks.specs.Phases.{write_left};
+
+    ghost view = { λ t. write_left (record { block_sectors = t.block_sectors; block = t.block; sectors = sectors_from t.first t.count }) t.phase (sectors_from t.at t.left) };
+
+    ghost invariant = { λ t. (0 < t.block_sectors) × (t.first + t.count < 2 ^ 64) × (t.at + t.left < 2 ^ 64) };
+}
+
+impl WriteTask {
+    /// A write of `count` sectors from `first` on, which lie in that block of the origin.
+    pub fn new(block_sectors: u32, block: OBlock, first: Sector, count: u64) -> WriteTask
+        requires some { 0 < block_sectors }
+        requires in_range { first.0 + count < 2 ^ 64 }
+        ensures { result ≡ table (Writing (record { block_sectors = block_sectors; block = block; sectors = sectors_from first.0 count })) }
+    {
+        let Sector(first) = first;
+        WriteTask {
+            phase: Phase::Acquires(Acquire::FailWord),
+            block_sectors,
+            block,
+            first,
+            count,
+            at: first,
+            left: count,
+        }
+    }
+
+    /// The next step, or the answer.
+    pub fn want(&self) -> Want
+        ensures { result ≡ want self.now }
+    {
+        match self.phase {
+            Phase::Acquires(acquire) => acquire.want(Access::Owned, self.block),
+            Phase::Dirties(c) => Want::Cell(CellStep::Seal(self.block, Some(c), true)),
+            Phase::Writes(place) if self.left > 0 => {
+                let (device, at) = route(self.block_sectors, place, self.at);
+                Want::Device(DeviceStep::Write(device, at))
+            }
+            Phase::Writes(_) => Want::Cell(CellStep::Finish(self.block)),
+            Phase::Counts(None) => Want::Cell(CellStep::Count(Kind::WriteMiss)),
+            Phase::Counts(Some(_)) => Want::Cell(CellStep::Count(Kind::WriteHit)),
+            Phase::Releases(_) => Want::Cell(CellStep::Release(Access::Owned, self.block)),
+            Phase::SetsFailed(_) => Want::Cell(CellStep::SetFailed),
+            Phase::Ended(answer) => Want::End(answer),
+        }
+    }
+
+    /// What is left after a word was looked at.
+    fn after_look(&mut self, word: u64)
+        requires { Fits (want self.old) (Got.Word word) }
+        ensures { self.new ≡ after self.old (Got.Word word) }
+    {
+        if let Phase::Acquires(acquire) = self.phase {
+            self.at = self.first;
+            self.left = self.count;
+            match acquire.after_look(Access::Owned, word) {
+                Seen::Next(next) => self.phase = Phase::Acquires(next),
+                Seen::Holds(Some(c), false) => self.phase = Phase::Dirties(c),
+                Seen::Holds(place, _) => self.phase = Phase::Writes(place),
+                Seen::Refused(refusal) => self.phase = Phase::Ended(Answer::Refused(refusal)),
+                Seen::Worn => self.phase = Phase::Releases(Answer::Refused(Refusal::Worn)),
+            }
+        }
+    }
+
+    /// What is left after a step was done.
+    fn after_done(&mut self)
+        requires { Fits (want self.old) Got.Done }
+        ensures { self.new ≡ after self.old Got.Done }
+    {
+        match self.phase {
+            // Only the exchange can have been done.
+            Phase::Acquires(_) => self.phase = Phase::Acquires(Acquire::Seal),
+            Phase::Dirties(c) => self.phase = Phase::Writes(Some(c)),
+            Phase::Writes(_) if self.left > 0 => {
+                self.at += 1;
+                self.left -= 1;
+            }
+            Phase::Writes(place) => self.phase = Phase::Counts(place),
+            Phase::Counts(_) => self.phase = Phase::Releases(Answer::Done),
+            Phase::Releases(answer) => self.phase = Phase::Ended(answer),
+            Phase::SetsFailed(device) => {
+                self.phase = Phase::Ended(Answer::Refused(Refusal::Io(device)));
+            }
+            Phase::Ended(_) => {}
+        }
+    }
+
+    /// What is left after a fault.
+    fn after_fault(&mut self)
+        requires { Fits (want self.old) Got.Fault }
+        ensures { self.new ≡ after self.old Got.Fault }
+    {
+        if let Phase::Writes(place) = self.phase {
+            self.phase = Phase::SetsFailed(device_at(place));
+        }
+    }
+
+    /// Nothing is left but the refusal.
+    #[tactic(auto, using(crate::proofs::Views::refused_write))]
+    fn refuse(&mut self, refusal: Refusal)
+        ensures { self.new ≡ refused self.old [] refusal }
+    {
+        self.phase = Phase::Ended(Answer::Refused(refusal));
+    }
+}
+
+impl Task for WriteTask {
+    ghost script = { λ t. t };
+
+    fn next(&mut self, got: Got) -> Want {
+        match got {
+            Got::Begin => {}
+            Got::Word(word) => self.after_look(word),
+            Got::Done => self.after_done(),
+            // No step of a write gives a content.
+            Got::Content(_) => self.phase = Phase::Ended(Answer::Done),
+            Got::Fault => self.after_fault(),
+            Got::Lost => self.refuse(Refusal::Busy),
+            Got::Refused(refusal) => self.refuse(refusal),
+        }
+        self.want()
+    }
+}

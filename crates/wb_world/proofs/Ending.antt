@@ -1,0 +1,112 @@
+-- The steps of a request that count, finish and answer, and those that read.
+use Rattle.std.proofs.Common.{◌≡◌, ◌≢◌, ◌/◌, ℕ, Bool, true, false, List, [], ◌∷◌, ◌++◌, Option, Some, None, refl, sym, ap, subst, ◌∙◌, slice_get, slice_set, map, All, append-nil, append_assoc}
+use Rattle.wb_types.specs.declared.mode.Dev.TheVariants.{Origin}
+use Rattle.wb_types.specs.declared.refusal.Refusal.TheVariants.{Io}
+use Rattle.wb_types.specs.declared.word.Kind.TheVariants.{ReadMiss, WriteMiss}
+use Rattle.wb_disk.specs.Device.{Content as Bytes, History, newest}
+use Rattle.wb_tasks.specs.Job.{part_of, access_of}
+use Rattle.wb_tasks.specs.Script.{Script}
+use Rattle.wb_tasks.specs.Words.{Words, counted, word_at, one_more}
+use Rattle.wb_tasks.specs.declared.card.Card.{Card}
+use Rattle.wb_tasks.specs.declared.card.Held.TheVariants.{Nothing}
+use Rattle.wb_tasks.specs.declared.step.Answer.{Answer}
+use Rattle.wb_tasks.specs.declared.step.Answer.TheVariants.{Done as Finished, Refused as Refuses}
+use Rattle.wb_tasks.specs.declared.step.CellStep.TheVariants.{Finish, Count}
+use Rattle.wb_tasks.specs.declared.step.DeviceStep.TheVariants.{Read as ReadSector, Write as WriteSector}
+use Rattle.wb_tasks.specs.declared.step.Want.{Want}
+use Rattle.wb_tasks.specs.declared.step.Want.TheVariants.{Cell, Device, End}
+use Rattle.wb_tasks.specs.declared.step.Got.{Got}
+use Rattle.wb_tasks.specs.declared.step.Got.TheVariants.{Done, Content, Fault}
+use Rattle.wb_world.specs.declared.actor.Actor.{Actor}
+use Rattle.wb_world.specs.declared.job.Job.{Job}
+use Rattle.wb_world.specs.declared.job.Job.TheVariants.{Read, Write}
+use Rattle.wb_world.specs.declared.event.What.TheVariants.{Stepped}
+use Rattle.wb_world.specs.World.{Shape, State, task_job, sectors_of, task_outcome}
+use Rattle.wb_world.specs.Clerk.{Notes, Doing, Reading, Position}
+use Rattle.wb_world.specs.Headline.{IsLatest, DoneRightly}
+use Rattle.wb_world.proofs.Lists.{get_set_same, get_set_other}
+use Rattle.wb_world.proofs.Kept.{ActingOn, Kept, quiet, Good, good}
+use Rattle.wb_world.proofs.Phases.{Phase, Moving, Counting, Releasing, GivingBack, Ending, Stands, SoFar, LeftIn, script_in, block_of}
+use Rattle.wb_world.proofs.Rule.{task_fails}
+use Rattle.wb_world.proofs.Looking.{at_work, Working, acts, quietly, moves_on}
+
+-- a write counts after it has finished
+pub count_written : (shape : Shape) (w : State) (n : Notes) (a : ℕ) (card : Card) (job : Job) (doing : Doing) → Working shape w n a card job doing Counting →
+    Good shape w n a (task_outcome w.device w.words card (Some (job, script_in (task_job shape job) Counting)))
+count_written shape w n a card (Read extent) doing k =
+    let s = k.stands in
+    good shape w n a (at_work shape card (Read extent) Counting) doing (Cell (Count ReadMiss)) Done k.actor k.noted
+    (quietly shape w n a card card (Read extent) doing Counting (script_in (task_job shape (Read extent)) Releasing) (counted w.words ReadMiss) k
+    (acts shape card (Read extent) doing Releasing (slice_get n.doings a) k.noted (record { held_is = s.held_is; job_is = s.job_is; left_is = s.left_is; owns = tt; kept_is = s.kept_is; so_far = s.so_far; in_block = s.in_block; inside = s.inside }))
+    refl refl refl refl refl refl refl)
+    tt
+count_written shape w n a card (Write extent content) doing k =
+    let s = k.stands in
+    let job = Write extent content in
+    good shape w n a (at_work shape card job Counting) doing (Cell (Count WriteMiss)) Done k.actor k.noted
+    (quietly shape w n a card card job doing Counting (script_in (task_job shape job) Releasing) (counted w.words WriteMiss) k
+    (acts shape card job doing Releasing (slice_get n.doings a) k.noted (record { held_is = s.held_is; job_is = s.job_is; left_is = s.left_is; owns = tt; kept_is = s.kept_is; so_far = s.so_far; in_block = s.in_block; inside = s.inside }))
+    refl refl refl refl refl refl refl)
+    tt
+
+-- With no sector left a read counts, and a write finishes.
+pub moved_all : (shape : Shape) (w : State) (n : Notes) (a : ℕ) (card : Card) (job : Job) (doing : Doing) → Working shape w n a card job doing (Moving []) →
+    Good shape w n a (task_outcome w.device w.words card (Some (job, script_in (task_job shape job) (Moving []))))
+moved_all shape w n a card (Read extent) doing k =
+    let s = k.stands in
+    let job = Read extent in
+    good shape w n a (at_work shape card job (Moving [])) doing (Cell (Count ReadMiss)) Done k.actor k.noted
+    (quietly shape w n a card card job doing (Moving []) (script_in (task_job shape job) Releasing) (counted w.words ReadMiss) k
+    (acts shape card job doing Releasing (slice_get n.doings a) k.noted (record { held_is = s.held_is; job_is = s.job_is; left_is = s.left_is; owns = tt; kept_is = s.kept_is; so_far = s.so_far; in_block = s.in_block; inside = s.inside }))
+    refl refl refl refl refl refl refl)
+    tt
+moved_all shape w n a card (Write extent content) doing k =
+    let s = k.stands in
+    let job = Write extent content in
+    let block = block_of (task_job shape job) in
+    let card' : Card = record card { number = one_more card.number } in
+    good shape w n a (at_work shape card job (Moving [])) doing (Cell (Finish block)) Done k.actor k.noted
+    (quietly shape w n a card card' job doing (Moving []) (script_in (task_job shape job) Counting) (record w.words { numbers = slice_set w.words.numbers block.0 (one_more (word_at w.words.numbers block)) }) k
+    (acts shape card' job doing Counting (slice_get n.doings a) k.noted (record { held_is = s.held_is; job_is = s.job_is; left_is = s.left_is; owns = tt; kept_is = s.kept_is; so_far = s.so_far; in_block = s.in_block; inside = s.inside }))
+    refl refl refl refl refl refl refl)
+    tt
+
+-- The answer.
+
+-- what was done so far is done when nothing is left
+done_rightly : (doing : Doing) (job : Job) → doing.left ≡ [] → SoFar doing job → DoneRightly doing job
+done_rightly doing (Read extent) e s = (sym (append-nil (map (λ (r : Reading). r.sector) doing.readings)) ∙ ap (λ left. map (λ (r : Reading). r.sector) doing.readings ++ left) (sym e) ∙ s.0, s.1)
+done_rightly doing (Write extent content) e s = sym (append-nil (map (λ (p : Position). p.sector) doing.entered)) ∙ ap (λ left. map (λ (p : Position). p.sector) doing.entered ++ left) (sym e) ∙ s
+
+abbrev no_doing : Option Doing
+no_doing = None
+
+-- nobody is at anything, and holds nothing
+rested : (shape : Shape) (w : State) (n n' : Notes) (a : ℕ) (card : Card) (job : Job) (doing : Doing) (answer : Answer) → Working shape w n a card job doing (Ending answer) →
+    n'.doings ≡ slice_set n.doings a None → n'.histories ≡ n.histories → n'.floors ≡ n.floors →
+    Kept shape (record { device = w.device; words = w.words; actors = slice_set w.actors a (record { task = None; card = card }) }) n'
+rested shape w n n' a card job doing answer k d h f =
+    quiet shape w n a (at_work shape card job (Ending answer)) (record { task = None; card = card }) w.words n' k.kept k.actor (record {
+      others = λ b m. rw d (get_set_other n.doings a b no_doing m);
+      stands = (ap (λ (ds : List (Option Doing)). slice_get ds a) d ∙ get_set_same n.doings a (Some doing) no_doing k.noted, k.stands.held_is);
+      held = refl;
+      kept = refl;
+      not_failing = refl;
+      was_not = refl;
+      cells = refl;
+      seals = refl;
+      fail = refl;
+      histories = h;
+      floors = f;
+    })
+
+pub answered : (shape : Shape) (w : State) (n : Notes) (a : ℕ) (card : Card) (job : Job) (doing : Doing) (answer : Answer) → Working shape w n a card job doing (Ending answer) →
+    Good shape w n a (task_outcome w.device w.words card (Some (job, script_in (task_job shape job) (Ending answer))))
+answered shape w n a card job doing Finished k =
+    good shape w n a (at_work shape card job (Ending Finished)) doing (End Finished) Done k.actor k.noted
+    (rested shape w n _ a card job doing Finished k refl refl refl)
+    (rw (k.noted, k.stands.job_is) (done_rightly doing job k.stands.left_is k.stands.so_far))
+answered shape w n a card job doing (Refuses refusal) k =
+    good shape w n a (at_work shape card job (Ending (Refuses refusal))) doing (End (Refuses refusal)) Done k.actor k.noted
+    (rested shape w n _ a card job doing (Refuses refusal) k refl refl refl)
+    tt

@@ -1,0 +1,160 @@
+-- What every run keeps, and how it is kept when one actor changes.
+use Rattle.std.proofs.Common.{◌≡◌, ◌≢◌, ◌/◌, ◌≤◌, ◌+◌, ◌⊎◌, inl, inr, ℕ, Bool, false, List, [], ◌∷◌, Option, Some, None, cond, refl, sym, ap, subst, ◌∙◌, arith, slice_get, slice_set, unwrap_or, length}
+use Rattle.std.proofs.lemmas.Bool.{cases_eq}
+use Rattle.wb_types.specs.declared.number.OBlock.{OBlock}
+use Rattle.wb_disk.specs.Device.{History}
+use Rattle.wb_tasks.specs.Script.{Script}
+use Rattle.wb_tasks.specs.Words.{Words, word_at}
+use Rattle.wb_tasks.specs.declared.card.Card.{Card}
+use Rattle.wb_tasks.specs.declared.card.Held.TheVariants.{Nothing}
+use Rattle.wb_tasks.specs.declared.step.Want.{Want}
+use Rattle.wb_tasks.specs.declared.step.Got.{Got}
+use Rattle.wb_world.specs.declared.actor.Actor.{Actor}
+use Rattle.wb_world.specs.declared.job.Job.{Job}
+use Rattle.wb_world.specs.declared.event.Event.TheVariants.{Step, FaultStep}
+use Rattle.wb_world.specs.declared.event.What.{What}
+use Rattle.wb_world.specs.declared.event.What.TheVariants.{Stepped}
+use Rattle.wb_world.specs.World.{Shape, State, task_job, stepped, changed_by, device_by, device_failed, after_what, with_actor}
+use Rattle.wb_world.specs.Clerk.{Notes, Doing, noted_what, noted_step}
+use Rattle.wb_world.specs.Headline.{AnswersRightly}
+use Rattle.wb_world.proofs.Lists.{get_set_same, get_set_other}
+use Rattle.wb_world.proofs.Contents.{AllHold, AllHoldLast, last_more}
+use Rattle.wb_world.proofs.Phases.{Phase, Stands, script_in}
+use Rattle.wb_world.proofs.Rule.{Ruled, total, total_same, shares, owns, leaves_stale, owned_by, kept_by, shared_by, task_fails, same_held}
+
+-- An actor with a task stands somewhere in its table, and the clerk knows its job; one without holds nothing.
+abbrev pub ActingOn : Shape → Card → Option (Job × Script) → Option (Option Doing) → Type 0
+ActingOn shape card None noted = (noted ≡ Some None) × (card.held ≡ Nothing)
+ActingOn shape card (Some task) noted = (doing : Doing) × (phase : Phase) × (noted ≡ Some (Some doing)) × (task.1 ≡ script_in (task_job shape task.0) phase) × Stands shape card task.0 doing phase
+
+abbrev pub AllActing : Shape → List Actor → List (Option Doing) → Type 0
+AllActing shape actors doings = (a : ℕ) (x : Actor) → slice_get actors a ≡ Some x → ActingOn shape x.card x.task (slice_get doings a)
+
+-- how many leave the block of a sector stale
+abbrev pub stale_of : Shape → List Actor → ℕ → ℕ
+stale_of shape actors at = total (leaves_stale (at / shape.block_sectors)) actors
+
+-- Who has kept a block at a failure has set the failed bit.
+abbrev pub KeepsNothing : Option OBlock → ℕ → Type 0
+KeepsNothing kept fail = (kept ≡ None) ⊎ (1 ≤ fail)
+
+pub keeps_nothing_more : (kept : Option OBlock) (fail fail' : ℕ) → fail ≤ fail' → KeepsNothing kept fail → KeepsNothing kept fail'
+keeps_nothing_more kept fail fail' l (inl e) = inl e
+keeps_nothing_more kept fail fail' l (inr m) = inr (omega arith)
+
+failed_set : (actors : List Actor) (a : ℕ) (x y : Actor) (fail fail' : ℕ) → slice_get actors a ≡ Some x → fail ≤ fail' → KeepsNothing y.card.kept fail' →
+    ((b : ℕ) (z : Actor) → slice_get actors b ≡ Some z → KeepsNothing z.card.kept fail) →
+    (b : ℕ) (z : Actor) → slice_get (slice_set actors a y) b ≡ Some z → KeepsNothing z.card.kept fail'
+failed_set actors a x y fail fail' e l f i b z g = elim (cases_eq b a) [
+  | inl s ↦ let here : Some y ≡ Some z = sym (get_set_same actors a x y e) ∙ ap (λ k. slice_get (slice_set actors a y) k) (sym s) ∙ g in
+      let same : y ≡ z = cc in subst (λ (v : Actor). KeepsNothing v.card.kept fail') same f
+  | inr m ↦ keeps_nothing_more z.card.kept fail fail' l (i b z (sym (get_set_other actors a b y m) ∙ g))
+]
+
+-- While there are actors, the words are theirs, and the device has the last entries.
+pub record Kept (shape : Shape) (w : State) (n : Notes) : Type 0 where
+  pub acting : AllActing shape w.actors n.doings
+  pub cells : length w.words.cells ≡ shape.origin_blocks
+  pub seals : (block : OBlock) → word_at w.words.seals block ≡ 0
+  pub rule : (a : ℕ) (x : Actor) → slice_get w.actors a ≡ Some x → Ruled w.words.cells w.actors
+  pub holds : AllHold w.device n.histories
+  pub last : (a : ℕ) (x : Actor) → slice_get w.actors a ≡ Some x → AllHoldLast w.device n.histories (stale_of shape w.actors)
+  pub failed : (a : ℕ) (x : Actor) → slice_get w.actors a ≡ Some x → KeepsNothing x.card.kept w.words.fail
+  pub floors : (at : ℕ) → unwrap_or (slice_get n.floors at) 0 ≡ 0
+
+-- one actor, and what the clerk has of it, changed
+pub acting_set : (shape : Shape) (actors : List Actor) (doings doings' : List (Option Doing)) (a : ℕ) (x y : Actor) → slice_get actors a ≡ Some x →
+    ((b : ℕ) → b ≢ a → slice_get doings' b ≡ slice_get doings b) → ActingOn shape y.card y.task (slice_get doings' a) →
+    AllActing shape actors doings → AllActing shape (slice_set actors a y) doings'
+acting_set shape actors doings doings' a x y e others f i b z g = elim (cases_eq b a) [
+  | inl s ↦ let here : Some y ≡ Some z = sym (get_set_same actors a x y e) ∙ ap (λ k. slice_get (slice_set actors a y) k) (sym s) ∙ g in
+      let same : y ≡ z = cc in
+      subst (λ (v : Actor). ActingOn shape v.card v.task (slice_get doings' b)) same (subst (λ (k : ℕ). ActingOn shape y.card y.task (slice_get doings' k)) (sym s) f)
+  | inr m ↦ let was = i b z (sym (get_set_other actors a b y m) ∙ g) in
+      subst (λ (o : Option (Option Doing)). ActingOn shape z.card z.task o) (sym (others b m)) was
+]
+
+-- what a step of one actor changes, and what has to be known of it
+pub record Moved (shape : Shape) (w : State) (n : Notes) (a : ℕ) (y : Actor) (words : Words) (device : List History) (n' : Notes) : Type 0 where
+  pub others : (b : ℕ) → b ≢ a → slice_get n'.doings b ≡ slice_get n.doings b
+  pub stands : ActingOn shape y.card y.task (slice_get n'.doings a)
+  pub cells : length words.cells ≡ length w.words.cells
+  pub seals : words.seals ≡ w.words.seals
+  pub fail : w.words.fail ≤ words.fail
+  pub keeps : KeepsNothing y.card.kept words.fail
+  pub rule : Ruled words.cells (slice_set w.actors a y)
+  pub holds : AllHold device n'.histories
+  pub last : AllHoldLast device n'.histories (stale_of shape (slice_set w.actors a y))
+  pub floors : n'.floors ≡ n.floors
+
+pub moved : (shape : Shape) (w : State) (n : Notes) (a : ℕ) (x y : Actor) (words : Words) (device : List History) (n' : Notes) →
+    Kept shape w n → slice_get w.actors a ≡ Some x → Moved shape w n a y words device n' →
+    Kept shape (record { device = device; words = words; actors = slice_set w.actors a y }) n'
+moved shape w n a x y words device n' i e m = record {
+  acting = acting_set shape w.actors n.doings n'.doings a x y e m.others m.stands i.acting;
+  cells = m.cells ∙ i.cells;
+  seals = λ block. rw m.seals (i.seals block);
+  rule = λ b z g. m.rule;
+  holds = m.holds;
+  last = λ b z g. m.last;
+  failed = failed_set w.actors a x y w.words.fail words.fail e m.fail m.keeps i.failed;
+  floors = λ at. rw m.floors (i.floors at);
+}
+
+-- an actor's part of each sum stays where it holds and keeps the same, and has no failed write to tell of
+pub stale_same : (b : ℕ) (x y : Actor) → y.card.kept ≡ x.card.kept → task_fails y.task ≡ false → task_fails x.task ≡ false → leaves_stale b y ≡ leaves_stale b x
+stale_same b x y k f g = rw (f, g, k) refl
+
+pub last_same : (shape : Shape) (w : State) (n : Notes) (a : ℕ) (x y : Actor) (device histories : List History) → slice_get w.actors a ≡ Some x → ((b : ℕ) → leaves_stale b y ≡ leaves_stale b x) →
+    AllHoldLast device histories (stale_of shape w.actors) → AllHoldLast device histories (stale_of shape (slice_set w.actors a y))
+last_same shape w n a x y device histories e s l at =
+    let b = at / shape.block_sectors in
+    let same = total_same (leaves_stale b) w.actors a x y e (s b) in
+    last_more (slice_get device at) (slice_get histories at) (stale_of shape w.actors at) (stale_of shape (slice_set w.actors a y) at) (omega (arith, same)) (l at)
+
+-- a step that touches no lock word, nothing held, and no sector
+pub record Quiet (shape : Shape) (w : State) (n : Notes) (a : ℕ) (x y : Actor) (words : Words) (n' : Notes) : Type 0 where
+  pub others : (b : ℕ) → b ≢ a → slice_get n'.doings b ≡ slice_get n.doings b
+  pub stands : ActingOn shape y.card y.task (slice_get n'.doings a)
+  pub held : y.card.held ≡ x.card.held
+  pub kept : y.card.kept ≡ x.card.kept
+  pub not_failing : task_fails y.task ≡ false
+  pub was_not : task_fails x.task ≡ false
+  pub cells : words.cells ≡ w.words.cells
+  pub seals : words.seals ≡ w.words.seals
+  pub fail : words.fail ≡ w.words.fail
+  pub histories : n'.histories ≡ n.histories
+  pub floors : n'.floors ≡ n.floors
+
+pub quiet : (shape : Shape) (w : State) (n : Notes) (a : ℕ) (x y : Actor) (words : Words) (n' : Notes) →
+    Kept shape w n → slice_get w.actors a ≡ Some x → Quiet shape w n a x y words n' →
+    Kept shape (record { device = w.device; words = words; actors = slice_set w.actors a y }) n'
+quiet shape w n a x y words n' i e q = moved shape w n a x y words w.device n' i e (record {
+  others = q.others;
+  stands = q.stands;
+  cells = ap length q.cells;
+  seals = q.seals;
+  fail = omega (arith, q.fail);
+  keeps = rw (q.fail, q.kept) (i.failed a x e);
+  rule = rw q.cells (same_held w.words.cells w.actors a x y e (λ b. ap (shared_by b) q.held) (λ b. rw (q.held, q.kept) refl) (i.rule a x e));
+  holds = rw q.histories i.holds;
+  last = rw q.histories (last_same shape w n a x y w.device n.histories e (λ b. stale_same b x y q.kept q.not_failing q.was_not) (i.last a x e));
+  floors = q.floors;
+})
+
+-- A step of an actor keeps all this, and what it answers is right.
+abbrev pub Good : Shape → State → Notes → ℕ → What → Type 0
+Good shape w n a what = Kept shape (after_what shape w (Step a) what) (noted_what n (Step a) what) × AnswersRightly n (Step a) what
+
+pub good : (shape : Shape) (w : State) (n : Notes) (a : ℕ) (x : Actor) (doing : Doing) (next : Want) (got : Got) → slice_get w.actors a ≡ Some x → slice_get n.doings a ≡ Some (Some doing) →
+    Kept shape (stepped w a x next got (changed_by w.device x.task (λ job. device_by w.device job next))) (noted_step n a (Some (Some doing)) next got) →
+    AnswersRightly n (Step a) (Stepped next got) → Good shape w n a (Stepped next got)
+good shape w n a x doing next got e d k r = (rw (e, d) k, r)
+
+abbrev pub GoodFault : Shape → State → Notes → ℕ → Bool → What → Type 0
+GoodFault shape w n a landed what = Kept shape (after_what shape w (FaultStep a landed) what) (noted_what n (FaultStep a landed) what)
+
+pub good_fault : (shape : Shape) (w : State) (n : Notes) (a : ℕ) (landed : Bool) (x : Actor) (doing : Doing) (next : Want) (got : Got) → slice_get w.actors a ≡ Some x → slice_get n.doings a ≡ Some (Some doing) →
+    Kept shape (stepped w a x next got (changed_by w.device x.task (λ job. device_failed landed w.device job next))) (noted_step n a (Some (Some doing)) next got) →
+    GoodFault shape w n a landed (Stepped next got)
+good_fault shape w n a landed x doing next got e d k = rw (e, d) k

@@ -1,0 +1,14 @@
+pub mod Contents
+pub mod Ending
+pub mod Happening
+pub mod Kept
+pub mod Lists
+pub mod Locking
+pub mod Looking
+pub mod Phases
+pub mod Reading
+pub mod Releasing
+pub mod Rule
+pub mod Runs
+pub mod Taking
+pub mod Writing

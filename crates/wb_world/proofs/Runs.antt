@@ -1,0 +1,319 @@
+-- Whole runs: each record keeps what is kept, so every answer is right and a crash leaves what was written.
+use Rattle.std.proofs.Common.{◌≡◌, ◌≢◌, ◌≤◌, ◌<◌, ◌+◌, ◌-◌, ◌*◌, ◌/◌, ◌==◌, ◌&&◌, inl, inr, ℕ, zero, suc, Bool, true, false, List, [], ◌∷◌, ◌++◌, Option, Some, None, refl, sym, ap, subst, ◌∙◌, arith, slice_get, slice_set, unwrap_or, length, replicate, Contains, mul_comm}
+use Rattle.std.proofs.lemmas.Bool.{cases_eq, eqb-true, leb-true}
+use Rattle.std.proofs.lemmas.List.Elements.{Contains-push_cases}
+use Rattle.std.proofs.lemmas.Nat.{div_below, le-div}
+use Rattle.std.proofs.lemmas.Option.{slice_get-get_or}
+use Rattle.std.proofs.Math.Nat.{div-mul-le_self}
+use Rattle.std.specs.Prelude.{nat_le, if◌then◌else◌}
+use Rattle.wb_types.specs.declared.number.OBlock.{OBlock}
+use Rattle.wb_types.specs.declared.refusal.Refusal.{Refusal}
+use Rattle.wb_types.specs.declared.refusal.Refusal.TheVariants.{Range, Crosses}
+use Rattle.wb_disk.specs.Device.{Content as Bytes, History, entries, only}
+use Rattle.wb_disk.specs.Memory.{blank}
+use Rattle.wb_disk.specs.Crash.{Choice, crashed, crashed_from, content_at, chosen_position}
+use Rattle.wb_disk.proofs.Crashes.{Contains-content_at}
+use Rattle.wb_tasks.specs.Job.{sectors_from}
+use Rattle.wb_tasks.specs.Script.{Script}
+use Rattle.wb_tasks.specs.Words.{fresh_words, blank_card, wins, word_at}
+use Rattle.wb_tasks.specs.declared.card.Card.{Card}
+use Rattle.wb_tasks.specs.declared.card.Held.{Held}
+use Rattle.wb_tasks.specs.declared.card.Held.TheVariants.{Nothing}
+use Rattle.wb_world.specs.declared.actor.Actor.{Actor}
+use Rattle.wb_world.specs.declared.job.Extent.{Extent}
+use Rattle.wb_world.specs.declared.job.Job.{Job}
+use Rattle.wb_world.specs.declared.job.Job.TheVariants.{Read, Write}
+use Rattle.wb_world.specs.declared.event.Event.{Event}
+use Rattle.wb_world.specs.declared.event.Event.TheVariants.{Start, Step, FaultStep, Stop}
+use Rattle.wb_world.specs.declared.event.What.{What}
+use Rattle.wb_world.specs.declared.event.What.TheVariants.{Skipped, Refused, Started, Stepped, Stopped}
+use Rattle.wb_world.specs.declared.event.Record.{Record}
+use Rattle.wb_world.specs.World.{Shape, State, start, resting, task_job, extent_of, sectors_of, sector_count, job_refusal, is_inside, is_in_one_block, started_or, free_outcome, start_outcome, task_outcome, step_outcome, task_failure, fault_outcome, MayBe, May, IsRun, after_what, after_record, after_all, after_crash, given}
+use Rattle.wb_world.specs.Clerk.{Notes, Doing, opened, begun, noted_what, note, noted}
+use Rattle.wb_world.specs.Headline.{AnswersRightly, ReadsLatest, IsAllowed, CrashConsistent}
+use Rattle.wb_world.proofs.Lists.{get_set_same, get_set_other}
+use Rattle.wb_world.proofs.Contents.{AllHold, AllHoldLast, Holds, HoldsLast, Within, Same}
+use Rattle.wb_world.proofs.Kept.{ActingOn, Kept, KeepsNothing, quiet, Good, GoodFault, stale_of}
+use Rattle.wb_world.proofs.Phases.{Phase, FailLook, LockLook, Taking, SealLook, NumberLook, Moving, Counting, Releasing, GivingBack, Failing, Ending, Stands, SoFar, AllIn, script_in, block_of}
+use Rattle.wb_world.proofs.Rule.{Rule, Ruled, total, shares, owns, leaves_stale, lock_at}
+use Rattle.wb_world.proofs.Looking.{at_work, Working, acts, fail_look, lock_look, seal_look, number_look}
+use Rattle.wb_world.proofs.Taking.{taking}
+use Rattle.wb_world.proofs.Reading.{read_sector, read_failed}
+use Rattle.wb_world.proofs.Writing.{write_sector, write_failed}
+use Rattle.wb_world.proofs.Ending.{moved_all, count_written, answered}
+use Rattle.wb_world.proofs.Releasing.{releasing, giving_back, failing}
+
+abbrev no_doing : Option Doing
+no_doing = None
+
+-- A step.
+
+in_phase : (shape : Shape) (w : State) (n : Notes) (a : ℕ) (card : Card) (job : Job) (doing : Doing) (phase : Phase) → Working shape w n a card job doing phase →
+    Good shape w n a (task_outcome w.device w.words card (Some (job, script_in (task_job shape job) phase)))
+in_phase shape w n a card job doing FailLook k = fail_look shape w n a card job doing k
+in_phase shape w n a card job doing LockLook k = lock_look shape w n a card job doing k
+in_phase shape w n a card job doing Taking k = taking shape w n a card job doing k _ refl
+in_phase shape w n a card job doing SealLook k = seal_look shape w n a card job doing k
+in_phase shape w n a card job doing NumberLook k = number_look shape w n a card job doing k
+in_phase shape w n a card job doing (Moving []) k = moved_all shape w n a card job doing k
+in_phase shape w n a card (Read extent) doing (Moving (at ∷ left)) k = read_sector shape w n a card extent doing at left k (slice_get w.device at) refl
+in_phase shape w n a card (Write extent content) doing (Moving (at ∷ left)) k = write_sector shape w n a card extent content doing at left k (slice_get w.device at)
+in_phase shape w n a card job doing Counting k = count_written shape w n a card job doing k
+in_phase shape w n a card job doing Releasing k = releasing shape w n a card job doing k
+in_phase shape w n a card job doing (GivingBack refusal) k = giving_back shape w n a card job doing refusal k
+in_phase shape w n a card job doing (Failing refusal) k = failing shape w n a card job doing refusal k
+in_phase shape w n a card job doing (Ending answer) k = answered shape w n a card job doing answer k
+
+task_kept : (shape : Shape) (w : State) (n : Notes) (a : ℕ) (card : Card) (task : Option (Job × Script)) → Kept shape w n → slice_get w.actors a ≡ Some (record { task = task; card = card }) → ActingOn shape card task (slice_get n.doings a) →
+    Good shape w n a (task_outcome w.device w.words card task)
+task_kept shape w n a card None i e s = (i, tt)
+task_kept shape w n a card (Some (job, script)) i e s =
+    let here : slice_get w.actors a ≡ Some (at_work shape card job s.1) = e ∙ ap (λ (t : Script). Some (record { task = Some (job, t); card = card })) s.3 in
+    subst (λ (t : Script). Good shape w n a (task_outcome w.device w.words card (Some (job, t)))) (sym s.3)
+    (in_phase shape w n a card job s.0 s.1 (record { kept = i; actor = here; noted = s.2; stands = s.4 }))
+
+actor_kept : (shape : Shape) (w : State) (n : Notes) (a : ℕ) (o : Option Actor) → slice_get w.actors a ≡ o → Kept shape w n → Good shape w n a (step_outcome w o)
+actor_kept shape w n a None e i = (i, tt)
+actor_kept shape w n a (Some x) e i = task_kept shape w n a x.card x.task i e (i.acting a x e)
+
+-- A step that fails.
+
+in_phase_failing : (shape : Shape) (w : State) (n : Notes) (a : ℕ) (landed : Bool) (card : Card) (job : Job) (doing : Doing) (phase : Phase) → Working shape w n a card job doing phase →
+    GoodFault shape w n a landed (task_failure w.device (Some (job, script_in (task_job shape job) phase)))
+in_phase_failing shape w n a landed card job doing FailLook k = k.kept
+in_phase_failing shape w n a landed card job doing LockLook k = k.kept
+in_phase_failing shape w n a landed card job doing Taking k = k.kept
+in_phase_failing shape w n a landed card job doing SealLook k = k.kept
+in_phase_failing shape w n a landed card job doing NumberLook k = k.kept
+in_phase_failing shape w n a landed card (Read extent) doing (Moving []) k = k.kept
+in_phase_failing shape w n a landed card (Write extent content) doing (Moving []) k = k.kept
+in_phase_failing shape w n a landed card (Read extent) doing (Moving (at ∷ left)) k = read_failed shape w n a landed card extent doing at left k _
+in_phase_failing shape w n a landed card (Write extent content) doing (Moving (at ∷ left)) k = write_failed shape w n a landed card extent content doing at left k _
+in_phase_failing shape w n a landed card (Read extent) doing Counting k = k.kept
+in_phase_failing shape w n a landed card (Write extent content) doing Counting k = k.kept
+in_phase_failing shape w n a landed card job doing Releasing k = k.kept
+in_phase_failing shape w n a landed card job doing (GivingBack refusal) k = k.kept
+in_phase_failing shape w n a landed card job doing (Failing refusal) k = k.kept
+in_phase_failing shape w n a landed card job doing (Ending answer) k = k.kept
+
+task_failing : (shape : Shape) (w : State) (n : Notes) (a : ℕ) (landed : Bool) (card : Card) (task : Option (Job × Script)) → Kept shape w n → slice_get w.actors a ≡ Some (record { task = task; card = card }) → ActingOn shape card task (slice_get n.doings a) →
+    GoodFault shape w n a landed (task_failure w.device task)
+task_failing shape w n a landed card None i e s = i
+task_failing shape w n a landed card (Some (job, script)) i e s =
+    let here : slice_get w.actors a ≡ Some (at_work shape card job s.1) = e ∙ ap (λ (t : Script). Some (record { task = Some (job, t); card = card })) s.3 in
+    subst (λ (t : Script). GoodFault shape w n a landed (task_failure w.device (Some (job, t)))) (sym s.3)
+    (in_phase_failing shape w n a landed card job s.0 s.1 (record { kept = i; actor = here; noted = s.2; stands = s.4 }))
+
+actor_failing : (shape : Shape) (w : State) (n : Notes) (a : ℕ) (landed : Bool) (o : Option Actor) → slice_get w.actors a ≡ o → Kept shape w n → GoodFault shape w n a landed (fault_outcome w o)
+actor_failing shape w n a landed None e i = i
+actor_failing shape w n a landed (Some x) e i = task_failing shape w n a landed x.card x.task i e (i.acting a x e)
+
+-- A start.
+
+div-le_div : (a b k : ℕ) → 0 < k → a ≤ b → a / k ≤ b / k
+div-le_div a b k p l = le-div (a / k) b k p (omega (arith, div-mul-le_self a k))
+
+-- sectors between two of one block are of that block
+all_in : (size block first end at count : ℕ) → 0 < size → first / size ≡ block → end / size ≡ block → first ≤ at → at + count ≤ end + 1 → AllIn size block (sectors_from at count)
+all_in size block first end at zero p f e l m = tt
+all_in size block first end at (suc count) p f e l m = (
+  omega (arith, div-le_div first at size p l, div-le_div at end size p (omega arith)),
+  all_in size block first end (at + 1) count p f e (omega arith) (omega arith),
+)
+
+-- what it means that a job is not refused
+record MayStart (shape : Shape) (extent : Extent) : Type 0 where
+  some : 1 ≤ extent.count
+  inside : extent.first.0 + extent.count ≤ sector_count shape
+  one_block : extent.first.0 / shape.block_sectors ≡ (extent.first.0 + extent.count - 1) / shape.block_sectors
+
+may_start : (shape : Shape) (extent : Extent) → job_refusal shape extent ≡ None → MayStart shape extent
+may_start shape extent e = go (nat_le 1 extent.count) (nat_le (extent.first.0 + extent.count) (sector_count shape)) (is_in_one_block shape extent) refl refl refl e where
+  go : (a b c : Bool) → nat_le 1 extent.count ≡ a → nat_le (extent.first.0 + extent.count) (sector_count shape) ≡ b → is_in_one_block shape extent ≡ c →
+      (if (a && b) then (if c then None else Some Crosses) else Some Range) ≡ None → MayStart shape extent
+  go true true true f g h e = record { some = leb-true _ _ f; inside = leb-true _ _ g; one_block = eqb-true _ _ h }
+  go true true false f g h e = absurd (cc)
+  go true false c f g h e = absurd (cc)
+  go false b c f g h e = absurd (cc)
+
+some_sectors : (shape : Shape) (extent : Extent) → MayStart shape extent → 0 < shape.block_sectors
+some_sectors shape extent m = go shape.block_sectors refl where
+  go : (k : ℕ) → shape.block_sectors ≡ k → 0 < shape.block_sectors
+  go zero e = let none : sector_count shape ≡ 0 = ap (λ k. k * shape.origin_blocks) e ∙ omega arith in absurd (omega (arith, m.some, m.inside))
+  go (suc k) e = omega arith
+
+first_inside : (shape : Shape) (extent : Extent) → MayStart shape extent → extent.first.0 < shape.origin_blocks * shape.block_sectors
+first_inside shape extent m = omega (arith, m.some, m.inside, mul_comm shape.block_sectors shape.origin_blocks)
+
+-- an actor that has been given a job
+begun_stands : (shape : Shape) (card : Card) (job : Job) → card.held ≡ Nothing → MayStart shape (extent_of job) → Stands shape card job (begun job) FailLook
+begun_stands shape card (Read extent) held m = record {
+  held_is = held;
+  job_is = refl;
+  left_is = refl;
+  owns = tt;
+  kept_is = tt;
+  so_far = (refl, λ k d b. absurd (omega arith));
+  in_block = all_in shape.block_sectors (extent.first.0 / shape.block_sectors) extent.first.0 (extent.first.0 + extent.count - 1) extent.first.0 extent.count (some_sectors shape extent m) refl (sym m.one_block) (omega arith) (omega (arith, m.some));
+  inside = div_below extent.first.0 shape.block_sectors shape.origin_blocks (some_sectors shape extent m) (first_inside shape extent m);
+}
+begun_stands shape card (Write extent content) held m = record {
+  held_is = held;
+  job_is = refl;
+  left_is = refl;
+  owns = tt;
+  kept_is = tt;
+  so_far = refl;
+  in_block = all_in shape.block_sectors (extent.first.0 / shape.block_sectors) extent.first.0 (extent.first.0 + extent.count - 1) extent.first.0 extent.count (some_sectors shape extent m) refl (sym m.one_block) (omega arith) (omega (arith, m.some));
+  inside = div_below extent.first.0 shape.block_sectors shape.origin_blocks (some_sectors shape extent m) (first_inside shape extent m);
+}
+
+free_kept : (shape : Shape) (w : State) (n : Notes) (a : ℕ) (card : Card) (job : Job) (o : Option Refusal) → job_refusal shape (extent_of job) ≡ o → Kept shape w n → slice_get w.actors a ≡ Some (record { task = None; card = card }) → ActingOn shape card None (slice_get n.doings a) →
+    Kept shape (after_what shape w (Start a job) (started_or o)) (noted_what n (Start a job) (started_or o))
+free_kept shape w n a card job (Some refusal) r i e s = i
+free_kept shape w n a card job None r i e s =
+    let x : Actor = record { task = None; card = card } in
+    rw e (quiet shape w n a x (given shape x job) w.words (record n { doings = slice_set n.doings a (Some (begun job)) }) i e (record {
+      others = λ b m. get_set_other n.doings a b (Some (begun job)) m;
+      stands = acts shape card job (begun job) FailLook (slice_get (slice_set n.doings a (Some (begun job))) a) (get_set_same n.doings a no_doing (Some (begun job)) s.0) (begun_stands shape card job s.1 (may_start shape (extent_of job) r));
+      held = refl;
+      kept = refl;
+      not_failing = refl;
+      was_not = refl;
+      cells = refl;
+      seals = refl;
+      fail = refl;
+      histories = refl;
+      floors = refl;
+    }))
+
+given_kept : (shape : Shape) (w : State) (n : Notes) (a : ℕ) (card : Card) (task : Option (Job × Script)) (job : Job) → Kept shape w n → slice_get w.actors a ≡ Some (record { task = task; card = card }) → ActingOn shape card task (slice_get n.doings a) →
+    Kept shape (after_what shape w (Start a job) (free_outcome shape task job)) (noted_what n (Start a job) (free_outcome shape task job))
+given_kept shape w n a card None job i e s = free_kept shape w n a card job (job_refusal shape (extent_of job)) refl i e s
+given_kept shape w n a card (Some task) job i e s = i
+
+started_kept : (shape : Shape) (w : State) (n : Notes) (a : ℕ) (job : Job) (o : Option Actor) → slice_get w.actors a ≡ o → Kept shape w n →
+    Kept shape (after_what shape w (Start a job) (start_outcome shape o job)) (noted_what n (Start a job) (start_outcome shape o job))
+started_kept shape w n a job None e i = i
+started_kept shape w n a job (Some x) e i = given_kept shape w n a x.card x.task job i e (i.acting a x e)
+
+-- A crash.
+
+one_content : (c d : Bytes) → Contains (c ∷ []) d → c ≡ d
+one_content c d m = elim (Contains-push_cases [] c d m) [ inl none ↦ absurd (omega (arith, none.1)) | inr e ↦ e ]
+
+-- a sector keeps one of its contents, which stands in its history
+crash_holds : (choice : Choice) (k : ℕ) (device : List History) (at : ℕ) (g : Option History) → Holds (slice_get device at) g → Holds (slice_get (crashed_from choice k device) at) g
+crash_holds choice k [] at g i = i
+crash_holds choice k (h ∷ hs) zero (Some g) i =
+    let position = chosen_position choice k h in
+    λ d m. i d (subst (λ (c : Bytes). Contains (entries h) c) (one_content (content_at h position) d m) (Contains-content_at h position))
+crash_holds choice k (h ∷ hs) zero None i = absurd i
+crash_holds choice k (h ∷ hs) (suc at) g i = crash_holds choice (suc k) hs at g i
+
+stopped_kept : (shape : Shape) (w : State) (n : Notes) (choice : Choice) → Kept shape w n → Kept shape (after_crash w (crashed choice w.device)) (record n { doings = [] })
+stopped_kept shape w n choice i = record {
+  acting = λ a x e. absurd (cc);
+  cells = i.cells;
+  seals = i.seals;
+  rule = λ a x e. absurd (cc);
+  holds = λ at. crash_holds choice 0 w.device at (slice_get n.histories at) (i.holds at);
+  last = λ a x e. absurd (cc);
+  failed = λ a x e. absurd (cc);
+  floors = i.floors;
+}
+
+stop_kept : (shape : Shape) (w : State) (n : Notes) (choice : Choice) (what : What) → Kept shape w n → Kept shape (after_what shape w (Stop choice) what) (noted_what n (Stop choice) what)
+stop_kept shape w n choice Stopped i = stopped_kept shape w n choice i
+stop_kept shape w n choice Skipped i = i
+stop_kept shape w n choice (Refused refusal) i = i
+stop_kept shape w n choice Started i = i
+stop_kept shape w n choice (Stepped next got) i = i
+
+-- Each record.
+
+what_kept : (shape : Shape) (w : State) (n : Notes) (event : Event) (what : What) → Kept shape w n → MayBe shape w event what → Kept shape (after_what shape w event what) (noted_what n event what)
+what_kept shape w n (Start a job) what i m = rw m (started_kept shape w n a job (slice_get w.actors a) refl i)
+what_kept shape w n (Step a) what i m = rw m (actor_kept shape w n a (slice_get w.actors a) refl i).0
+what_kept shape w n (FaultStep a landed) what i m = rw m (actor_failing shape w n a landed (slice_get w.actors a) refl i)
+what_kept shape w n (Stop choice) what i m = stop_kept shape w n choice what i
+
+what_right : (shape : Shape) (w : State) (n : Notes) (event : Event) (what : What) → Kept shape w n → MayBe shape w event what → AnswersRightly n event what
+what_right shape w n (Start a job) what i m = tt
+what_right shape w n (Step a) what i m = rw m (actor_kept shape w n a (slice_get w.actors a) refl i).1
+what_right shape w n (FaultStep a landed) what i m = tt
+what_right shape w n (Stop choice) what i m = tt
+
+-- Whole runs.
+
+pub all_latest : (shape : Shape) (w : State) (n : Notes) (trace : List Record) → Kept shape w n → IsRun shape w trace → ReadsLatest n trace
+all_latest shape w n [] i m = tt
+all_latest shape w n (r ∷ rs) i m = (what_right shape w n r.event r.what i m.0, all_latest shape (after_record shape w r) (note n r) rs (what_kept shape w n r.event r.what i m.0) m.1)
+
+pub all_kept : (shape : Shape) (w : State) (n : Notes) (trace : List Record) → Kept shape w n → IsRun shape w trace → Kept shape (after_all shape w trace) (noted n trace)
+all_kept shape w n [] i m = i
+all_kept shape w n (r ∷ rs) i m = all_kept shape (after_record shape w r) (note n r) rs (what_kept shape w n r.event r.what i m.0) m.1
+
+-- what is held is allowed
+position_of : (cs : List Bytes) (c : Bytes) → Contains cs c → (p : ℕ) × (slice_get cs p ≡ Some c)
+position_of cs c m = (m.0, slice_get-get_or cs m.0 c m.1 ∙ ap (λ d. Some d) m.2)
+
+allowed : (h : History) (g : Option History) (floor : ℕ) (content : Bytes) → floor ≡ 0 → Holds (Some h) g → Contains (entries h) content → IsAllowed g floor content
+allowed h None floor content z i m = i
+allowed h (Some g) floor content z i m =
+    let p = position_of (entries g) content (i content m) in
+    (p.0, omega arith, p.1)
+
+pub consistent : (shape : Shape) (w : State) (n : Notes) → Kept shape w n → CrashConsistent n w.device
+consistent shape w n i = record {
+  each = λ at h content e m. allowed h (slice_get n.histories at) (unwrap_or (slice_get n.floors at) 0) content (i.floors at)
+      (subst (λ (o : Option History). Holds o (slice_get n.histories at)) e (i.holds at)) m;
+}
+
+-- At the start.
+
+replicated : {X : Type 0} (k i : ℕ) (x y : X) → slice_get (replicate k x) i ≡ Some y → x ≡ y
+replicated zero i x y e = absurd (cc)
+replicated (suc k) zero x y e = cc
+replicated (suc k) (suc i) x y e = replicated k i x y e
+
+replicated_both : {X Y : Type 0} (k i : ℕ) (x z : X) (y : Y) → slice_get (replicate k x) i ≡ Some z → slice_get (replicate k y) i ≡ Some y
+replicated_both zero i x z y e = absurd (cc)
+replicated_both (suc k) zero x z y e = refl
+replicated_both (suc k) (suc i) x z y e = replicated_both k i x z y e
+
+zeros_at : (k i : ℕ) → lock_at (replicate k 0) i ≡ 0
+zeros_at zero i = refl
+zeros_at (suc k) zero = refl
+zeros_at (suc k) (suc i) = zeros_at k i
+
+resting_total : (f : Actor → ℕ) (k : ℕ) → f resting ≡ 0 → total f (replicate k resting) ≡ 0
+resting_total f zero e = refl
+resting_total f (suc k) e = omega (arith, resting_total f k e)
+
+same_holds : (o : Option History) → Holds o o
+same_holds None = tt
+same_holds (Some h) = λ c m. m
+
+same_last : (o : Option History) (k : ℕ) → HoldsLast o o k
+same_last None k = tt
+same_last (Some h) k = Same refl
+
+length-replicate : (k v : ℕ) → length (replicate k v) ≡ k
+length-replicate zero v = refl
+length-replicate (suc k) v = ap suc (length-replicate k v)
+
+pub start_kept : (shape : Shape) → Kept shape (start shape) (opened shape)
+start_kept shape = record {
+  acting = λ a x e.
+      let r = replicated shape.actors a resting x e in
+      subst (λ (v : Actor). ActingOn shape v.card v.task (slice_get (replicate shape.actors no_doing) a)) r (replicated_both shape.actors a resting x no_doing e, refl);
+  cells = length-replicate shape.origin_blocks 0;
+  seals = λ block. zeros_at shape.origin_blocks block.0;
+  rule = λ a x e b. rw (zeros_at shape.origin_blocks b, resting_total (shares b) shape.actors refl, resting_total (owns b) shape.actors refl)
+      (record { word_is = refl; one_owner = omega arith; alone = λ m. refl });
+  holds = λ at. same_holds (slice_get (replicate (sector_count shape) blank) at);
+  last = λ a x e at. same_last (slice_get (replicate (sector_count shape) blank) at) (stale_of shape (replicate shape.actors resting) at);
+  failed = λ a x e. let r = replicated shape.actors a resting x e in inl (ap (λ (v : Actor). v.card.kept) (sym r));
+  floors = λ at. zeros_at (sector_count shape) at;
+}

@@ -1,0 +1,21 @@
+//! Every interleaving of requests, one atomic step at a time, and what holds in each of them.
+//!
+//! A world has a device, shared words and actors. Each event is a start, one step of one actor, a failing
+//! step, or a crash. What happened is kept as a list of records, and the headline speaks of such lists.
+#![tactic(auto)]
+
+mod actor;
+mod bench;
+mod event;
+mod job;
+mod start;
+mod theorem;
+mod trace;
+mod world;
+
+pub use actor::Actor;
+pub use event::{Event, Record, What};
+pub use job::{Extent, Job};
+pub use theorem::headline;
+pub use trace::Trace;
+pub use world::{ACTORS, Setup, World, run};

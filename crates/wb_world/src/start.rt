@@ -1,0 +1,48 @@
+//! Whether a job may be started, and its task.
+
+ghost use Rattle.std.specs.Prelude.{◌≡◌, None};
+ghost use Rattle.wb_tasks.specs.Script.{table};
+ghost use Rattle.wb_world.specs.declared.world.TheConstants.{ACTORS};
+ghost use Rattle.wb_world.specs.World.{job_refusal, task_job, extent_of};
+ghost use Rattle.wb_world.specs.Life.{shape_of};
+
+use crate::job::{Extent, Job};
+use wb_tasks::{ReadTask, RequestTask, WriteTask};
+use wb_types::{Geometry, OBlock, Refusal, Sector};
+
+/// Why a job is not started: `Range` where it has no sector or one outside the origin, `Crosses` where it lies
+/// in more than one block.
+pub(crate) fn refusal_of(geometry: &Geometry, job: &Job) -> Option<Refusal>
+    ensures { result ≡ job_refusal (shape_of geometry.now ACTORS) (extent_of job.now) }
+{
+    let extent = job.extent();
+    let Sector(first) = extent.first;
+    let Some(end) = first.checked_add(extent.count) else {
+        return Some(Refusal::Range);
+    };
+    if extent.count == 0 || end > geometry.origin_sectors() {
+        return Some(Refusal::Range);
+    }
+    let block = u64::from(geometry.block);
+    if first / block == (end - 1) / block {
+        None
+    } else {
+        Some(Refusal::Crosses)
+    }
+}
+
+/// The task of a job that may be started.
+pub(crate) fn task_of(geometry: &Geometry, job: &Job) -> RequestTask
+    requires { job_refusal (shape_of geometry.now ACTORS) (extent_of job.now) ≡ None }
+    ensures { result ≡ table (task_job (shape_of geometry.now ACTORS) job.now) }
+{
+    let Extent { first, count } = job.extent();
+    let Sector(at) = first;
+    let block = OBlock((at / u64::from(geometry.block)) as u32);
+    match job {
+        Job::Read(_) => RequestTask::reads(ReadTask::new(geometry.block, block, first, count)),
+        Job::Write(_, _) => {
+            RequestTask::writes(WriteTask::new(geometry.block, block, first, count))
+        }
+    }
+}

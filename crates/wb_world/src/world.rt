@@ -1,0 +1,182 @@
+//! A world that runs.
+
+ghost use Rattle.std.specs.Prelude.{◌≡◌, [], OnOk, OnErr, IfOk, IfErr, replicate, vec_len};
+ghost use Rattle.wb_types.specs.declared.refusal.Refusal.TheVariants.{Memory};
+ghost use Rattle.wb_world.specs.declared.world.TheConstants.{ACTORS};
+ghost use Rattle.wb_world.specs.World.{resting, IsRun, start, after_all};
+ghost use Rattle.wb_world.specs.Clerk.{opened, noted};
+ghost use Rattle.wb_world.specs.Headline.{ReadsLatest, CrashConsistent};
+ghost use Rattle.wb_world.specs.Life.{GoesOn, Happens, AreOf, shape_of, state_of, now};
+
+use crate::actor::Actor;
+use crate::bench::Bench;
+use crate::event::{Event, Record, What};
+use crate::trace::Trace;
+use std::alloc::Global;
+use std::marker::Model;
+use wb_disk::MemDisk;
+use wb_tasks::Words;
+use wb_types::{Geometry, Refusal};
+
+/// How many actors a world has.
+pub const ACTORS: usize = 64;
+
+/// What a world is made of.
+#[derive(Clone, Copy, Debug, PartialEq, Eq)]
+pub struct Setup {
+    pub geometry: Geometry,
+}
+
+/// Actors on one memory device, the origin, and the trace of what they did.
+#[derive(Drop)]
+pub struct World {
+    geometry: Geometry,
+    bench: Bench,
+    actors: Vec<Actor>,
+    trace: Trace,
+}
+
+impl Model for World {
+    ghost use Rattle.wb_world.specs.declared.world.TheConstants.{ACTORS};
+    ghost use Rattle.wb_world.specs.Life.{Life, IsWhere, shape_of, state_of};
+
+    ghost Value = { Life };
+
+    ghost view = { λ w. record { shape = shape_of w.geometry ACTORS; trace = w.trace.records } };
+
+    ghost invariant = { λ w. IsWhere (record { shape = shape_of w.geometry ACTORS; trace = w.trace.records })
+        (state_of w.bench.disk.contents w.bench.words w.actors.items) };
+}
+
+impl World {
+    /// A world in which nothing has happened: a device of zeros and actors at rest. `Memory` where there is none
+    /// for it.
+    pub fn new(alloc: Global, setup: Setup) -> Result<World, Refusal>
+        ensures shape { IfOk result (λ w. w.shape ≡ shape_of setup.geometry ACTORS) }
+        ensures trace { IfOk result (λ w. w.trace ≡ []) }
+        ensures refusal { IfErr result (λ refusal. refusal ≡ Memory) }
+    {
+        let geometry = setup.geometry;
+        let disk = MemDisk::new(alloc, geometry.origin_sectors())?;
+        let words = Words::new(alloc, geometry.origin_blocks)?;
+        let actors = resting_actors(alloc)?;
+        Ok(World {
+            geometry,
+            bench: Bench { disk, words },
+            actors,
+            trace: Trace::new(alloc),
+        })
+    }
+
+    /// One event. It adds one record, which says what the event did. `Memory` where the record, or what a write
+    /// adds, wants more than there is; nothing has changed then.
+    pub fn event(&mut self, event: Event) -> Result<(), Refusal>
+        ensures ok { OnOk result (GoesOn self.old event self.new) }
+        ensures err { OnErr result (self.new ≡ self.old) }
+        ensures refusal { IfErr result (λ refusal. refusal ≡ Memory) }
+    {
+        self.trace.reserve()?;
+        let what = happen(&self.geometry, &mut self.bench, &mut self.actors, &event)?;
+        self.trace.push_reserved(Record { event, what });
+        Ok(())
+    }
+
+    /// The trace. It is a run from the world's start, so each of its finished reads was given the latest writes,
+    /// and each content of the device that a crash could keep stands in its sector's history.
+    pub fn trace(&self) -> &Trace
+        ensures trace { result.now.records ≡ self.now.trace }
+        ensures run { IsRun self.now.shape (start self.now.shape) self.now.trace }
+        ensures latest { ReadsLatest (opened self.now.shape) self.now.trace }
+        ensures consistent { CrashConsistent (noted (opened self.now.shape) self.now.trace) (now self.now).device }
+    {
+        &self.trace
+    }
+}
+
+impl World {
+    /// The trace alone.
+    fn into_trace(self) -> Trace
+        ensures trace { result.records ≡ self.trace }
+        ensures run { IsRun self.shape (start self.shape) self.trace }
+    {
+        let World {
+            geometry: _,
+            bench: _,
+            actors: _,
+            trace,
+        } = self;
+        trace
+    }
+}
+
+/// Runs these events in a new world. `Memory` where there is none for it.
+pub fn run(alloc: Global, setup: Setup, events: Vec<Event>) -> Result<Trace, Refusal>
+    ensures run { IfOk result (λ trace. IsRun (shape_of setup.geometry ACTORS) (start (shape_of setup.geometry ACTORS)) trace.records) }
+    ensures of_events { IfOk result (λ trace. AreOf trace.records events.items) }
+    ensures refusal { IfErr result (λ refusal. refusal ≡ Memory) }
+{
+    let mut world = World::new(alloc, setup)?;
+    for event in events {
+        world.event(event)?;
+    }
+    Ok(world.into_trace())
+}
+
+/// Actors with nothing to do.
+fn resting_actors(alloc: Global) -> Result<Vec<Actor>, Refusal>
+    ensures actors { IfOk result (λ actors. actors.items ≡ replicate ACTORS resting) }
+    ensures refusal { IfErr result (λ refusal. refusal ≡ Memory) }
+{
+    let mut actors = Vec::new(alloc);
+    for _ in 0..ACTORS {
+        actors.push(Actor::resting()).map_err(|_| Refusal::Memory)?;
+    }
+    Ok(actors)
+}
+
+/// What an event does to the parts of a world. `Memory` where a write wants more than there is; nothing has
+/// changed then.
+fn happen(
+    geometry: &Geometry,
+    bench: &mut Bench,
+    actors: &mut Vec<Actor>,
+    event: &Event,
+) -> Result<What, Refusal>
+    ensures ok { IfOk result (λ what. Happens (shape_of geometry.now ACTORS)
+        (state_of bench.old.disk.contents bench.old.words actors.old.items) event.now what
+        (state_of bench.new.disk.contents bench.new.words actors.new.items)) }
+    ensures err { OnErr result (state_of bench.new.disk.contents bench.new.words actors.new.items
+        ≡ state_of bench.old.disk.contents bench.old.words actors.old.items) }
+    ensures refusal { IfErr result (λ refusal. refusal ≡ Memory) }
+{
+    match event {
+        Event::Start(a, job) => {
+            if *a >= actors.len() {
+                return Ok(What::Skipped);
+            }
+            let actor = &mut actors[*a];
+            Ok(actor.start(geometry, job))
+        }
+        Event::Step(a) => {
+            if *a >= actors.len() {
+                return Ok(What::Skipped);
+            }
+            let actor = &mut actors[*a];
+            actor.step(bench)
+        }
+        Event::FaultStep(a, landed) => {
+            if *a >= actors.len() {
+                return Ok(What::Skipped);
+            }
+            let actor = &mut actors[*a];
+            actor.falter(bench, *landed)
+        }
+        Event::Stop(choice) => {
+            if !bench.disk.stop(choice) {
+                return Ok(What::Skipped);
+            }
+            actors.clear();
+            Ok(What::Stopped)
+        }
+    }
+}
