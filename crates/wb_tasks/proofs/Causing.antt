@@ -1,5 +1,5 @@
 -- A read or write refuses for a cause alone.
-use Rattle.std.proofs.Common.{◌≡◌, ◌≢◌, ◌-◌, ◌^◌, ◌==◌, ◌⊎◌, inl, inr, ℕ, Bool, true, false, List, [], ◌∷◌, ◌++◌, Option, Some, None, map, if◌then◌else◌, refl, sym, subst, ap, ◌∙◌, arith}
+use Rattle.std.proofs.Common.{◌≡◌, ◌≢◌, ◌-◌, ◌^◌, ◌==◌, ◌⊎◌, inl, inr, ℕ, Bool, true, false, List, [], ◌∷◌, ◌++◌, Option, Some, None, map, if◌then◌else◌, refl, sym, subst}
 use Rattle.std.proofs.lemmas.Bool.{eqb-true, eq-eqb}
 use Rattle.wb_types.specs.declared.number.OBlock.{OBlock}
 use Rattle.wb_types.specs.declared.number.CBlock.{CBlock}
@@ -9,7 +9,7 @@ use Rattle.wb_types.specs.declared.word.Access.{Access}
 use Rattle.wb_types.specs.declared.word.Access.TheVariants.{Owned}
 use Rattle.wb_types.specs.declared.word.Word.TheVariants.{Cell as LockWord, Seal as SealWord, Number, Count as CountWord, Fail}
 use Rattle.wb_tasks.specs.Job.{Part, Job, Reading, Writing, part_of, access_of, place_in, dirty_in, work, read_step, write_step}
-use Rattle.wb_tasks.specs.Script.{Script, want, after, table, first_step, refused, release, can_take, is_worn, Fits}
+use Rattle.wb_tasks.specs.Script.{Script, after, table, first_step, refused, release, can_take, is_worn, Fits}
 use Rattle.wb_tasks.specs.Run.{IsRunOf}
 use Rattle.wb_tasks.specs.Causes.{Causes, GaveCause}
 use Rattle.wb_tasks.specs.declared.step.CellStep.{CellStep}
@@ -18,8 +18,7 @@ use Rattle.wb_tasks.specs.declared.step.DeviceStep.TheVariants.{Read, Write, Syn
 use Rattle.wb_tasks.specs.declared.step.Want.{Want}
 use Rattle.wb_tasks.specs.declared.step.Want.TheVariants.{Cell, Device, Desk, End}
 use Rattle.wb_tasks.specs.declared.step.Got.{Got}
-use Rattle.wb_tasks.specs.declared.step.Got.TheVariants.{Begin, Done, Word, Lost, Content, Fault, Refused}
-use Rattle.wb_tasks.specs.declared.step.Answer.{Answer}
+use Rattle.wb_tasks.specs.declared.step.Got.TheVariants.{Done, Word, Lost, Content, Fault}
 use Rattle.wb_tasks.specs.declared.step.Answer.TheVariants.{Done as Finished, Refused as Refuses}
 
 -- cell and device steps alone

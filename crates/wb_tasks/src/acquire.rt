@@ -31,6 +31,7 @@ pub enum Seen {
 }
 
 impl Acquire {
+    /// The next step of a job that takes this block with this access.
     pub fn want(self, access: Access, block: OBlock) -> Want
         ensures { (job : Job) → access_of job ≡ access → (part_of job).block ≡ block → result ≡ want (acquiring job self) }
     {
@@ -43,6 +44,7 @@ impl Acquire {
         }
     }
 
+    /// What comes of this word.
     pub fn after_look(self, access: Access, word: u64) -> Seen
         ensures { (job : Job) → access_of job ≡ access → after_seeing job result ≡ after_look (acquiring job self) (want (acquiring job self)) word }
     {

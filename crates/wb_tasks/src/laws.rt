@@ -15,8 +15,7 @@ ghost use Rattle.wb_tasks.specs.declared.step.Got.{Got as GotTerm};
 /// takes no more steps than `longest`.
 pub fn step_bound()
     ensures { (job : Job) → longest (table job) ≤ 2 * length (part_of job).sectors + 11 }
-{
-}
+{}
 
 /// The law that a read or write refuses for a cause alone: `Io` only where a step on that device failed,
 /// `Busy` only where the lock word that it looked at ruled the exchange out or it lost its exchange,
@@ -25,5 +24,4 @@ pub fn step_bound()
 #[tactic(auto, using(crate::proofs::Causing::refuses_for_cause))]
 pub fn refusal_causes()
     ensures { (job : Job) (steps : List (WantTerm × GotTerm)) (refusal : RefusalTerm) → IsRunOf (table job) steps (Refuses refusal) → GaveCause (access_of job) refusal steps }
-{
-}
+{}

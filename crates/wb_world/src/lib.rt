@@ -9,6 +9,8 @@ mod bench;
 mod event;
 mod job;
 mod start;
+#[cfg(test)]
+mod tests;
 mod theorem;
 mod trace;
 mod world;

@@ -1,0 +1,90 @@
+//! Drives requests over a file, to be timed from outside.
+//!
+//! `wb_bench FILE read|write SECTORS REQUESTS` drives so many requests of so many sectors each, up to a block of
+//! 64, one after another over all blocks of the file, and prints how many were done.
+#![tactic(auto)]
+
+ghost use Rattle.std.specs.Prelude.{◌<◌, ◌≤◌};
+
+mod asked;
+mod stage;
+
+use crate::asked::{Asked, Direction, read_asked};
+use crate::stage::FileStage;
+use std::env;
+use std::process::ExitCode;
+use wb_disk::{Disk, FileDisk};
+use wb_tasks::{Answer, ReadTask, WriteTask, drive};
+use wb_types::{OBlock, Sector};
+
+/// Sectors of a block.
+const BLOCK: u32 = 64;
+
+/// The most blocks that a run goes over.
+const MOST_BLOCKS: u64 = 1_048_576;
+
+fn main(rt: HostRuntime) -> ExitCode {
+    let alloc = rt.alloc();
+    let Ok(words) = env::args(&rt) else {
+        return usage(&rt);
+    };
+    let Ok(words) = words.collect::<Vec<String>>(alloc) else {
+        return usage(&rt);
+    };
+    let Some(asked) = read_asked(words.as_slice()) else {
+        return usage(&rt);
+    };
+    let Ok(disk) = FileDisk::open(&rt, asked.file) else {
+        return failed(&rt, "the file cannot be opened");
+    };
+    let blocks = (disk.sectors() / u64::from(BLOCK)).min(MOST_BLOCKS);
+    if blocks == 0 {
+        return failed(&rt, "the file has no whole block");
+    }
+    let Ok(mut stage) = FileStage::new(alloc, blocks as u32, disk) else {
+        return failed(&rt, "out of memory");
+    };
+    match drive_all(&asked, blocks, &mut stage) {
+        Some(done) if println!(rt; "{done}").is_ok() => ExitCode::SUCCESS,
+        _ => failed(&rt, "a request failed"),
+    }
+}
+
+/// Drives all requests; None where one is not answered done.
+fn drive_all(asked: &Asked<'_>, blocks: u64, stage: &mut FileStage) -> Option<u64>
+    requires some { 0 < blocks }
+    requires few { blocks ≤ 1048576 }
+    requires one_block { asked.now.sectors ≤ 64 }
+{
+    for number in 0..asked.requests {
+        let block = number % blocks;
+        let first = Sector(block * u64::from(BLOCK));
+        let block = OBlock(block as u32);
+        let answer = match asked.direction {
+            Direction::Read => drive(
+                &mut ReadTask::new(BLOCK, block, first, asked.sectors),
+                stage,
+            ),
+            Direction::Write => {
+                drive(
+                    &mut WriteTask::new(BLOCK, block, first, asked.sectors),
+                    stage,
+                )
+            }
+        };
+        if answer != Answer::Done {
+            return None;
+        }
+    }
+    Some(asked.requests)
+}
+
+fn usage<R: Eprint>(rt: &R) -> ExitCode {
+    let _ = eprintln!(rt; "usage: wb_bench FILE read|write SECTORS REQUESTS");
+    ExitCode::from(2)
+}
+
+fn failed<R: Eprint>(rt: &R, why: &str) -> ExitCode {
+    let _ = eprintln!(rt; "wb_bench: {why}");
+    ExitCode::FAILURE
+}

@@ -1,0 +1,13 @@
+#!/bin/sh
+# Makes three image files (10 origin blocks of 64 sectors, 4 cache blocks, 4 metadata sectors) in images/, and
+# runs a script over them that writes a sector and reads it back. It prints 'ok' and '0 11'.
+set -eu
+top=$(cd "$(dirname "$0")/.." && pwd)
+test -x "$top/bin/wbcache" || sh "$top/scripts/build.sh"
+mkdir -p "$top/images"
+cd "$top/images"
+rm -f m.img c.img o.img
+truncate -s 2048 m.img
+truncate -s 131072 c.img
+truncate -s 327680 o.img
+printf 'w 0 1 11\nr 0 1\n' | "$top/bin/wbcache" run 'cache m.img c.img o.img 64 0 tinylfu 0'
