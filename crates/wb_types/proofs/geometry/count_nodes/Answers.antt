@@ -21,7 +21,7 @@ loop-preserved c =
     record {
       span = span;
       nodes = rw (nodes_up_to-more, ← more, ← c.loop.invariant.nodes) refl;
-      bound = rw more (omega (arith, div_ceil-le c.args.cache_blocks (32 ^ (c.loop.counter + 1))))
+      bound = rw more (omega (arith, div_ceil-le c.args.cache_blocks (32 ^ (c.loop.counter + 1))));
     }
 
 pub returns-clause-value : goal.returns-clause-value

@@ -6,5 +6,5 @@ abbrev pub invariant-loop : goal.invariant-loop
 invariant-loop l = record {
   span : l.span ≡ 32 ^ l.counter;
   nodes : l.nodes ≡ nodes_up_to l.counter l.cache_blocks;
-  bound : l.nodes ≤ 1048577 * l.counter
+  bound : l.nodes ≤ 1048577 * l.counter;
 }
