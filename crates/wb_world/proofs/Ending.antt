@@ -1,34 +1,22 @@
 -- The steps of a request that count, finish and answer, and those that read.
-use Rattle.std.proofs.Common.{◌≡◌, ◌≢◌, ◌/◌, ℕ, Bool, true, false, List, [], ◌∷◌, ◌++◌, Option, Some, None, refl, sym, ap, subst, ◌∙◌, slice_get, slice_set, map, All, append-nil, append_assoc}
-use Rattle.wb_types.specs.declared.mode.Dev.TheVariants.{Origin}
-use Rattle.wb_types.specs.declared.refusal.Refusal.TheVariants.{Io}
+use Rattle.std.proofs.Common.{◌≡◌, ℕ, List, [], ◌++◌, Option, Some, None, refl, sym, ap, ◌∙◌, slice_get, slice_set, map, append-nil}
 use Rattle.wb_types.specs.declared.word.Kind.TheVariants.{ReadMiss, WriteMiss}
-use Rattle.wb_disk.specs.Device.{Content as Bytes, History, newest}
-use Rattle.wb_tasks.specs.Job.{part_of, access_of}
-use Rattle.wb_tasks.specs.Script.{Script}
-use Rattle.wb_tasks.specs.Words.{Words, counted, word_at, one_more}
+use Rattle.wb_tasks.specs.Words.{counted, word_at, one_more}
 use Rattle.wb_tasks.specs.declared.card.Card.{Card}
-use Rattle.wb_tasks.specs.declared.card.Held.TheVariants.{Nothing}
 use Rattle.wb_tasks.specs.declared.step.Answer.{Answer}
 use Rattle.wb_tasks.specs.declared.step.Answer.TheVariants.{Done as Finished, Refused as Refuses}
 use Rattle.wb_tasks.specs.declared.step.CellStep.TheVariants.{Finish, Count}
-use Rattle.wb_tasks.specs.declared.step.DeviceStep.TheVariants.{Read as ReadSector, Write as WriteSector}
-use Rattle.wb_tasks.specs.declared.step.Want.{Want}
-use Rattle.wb_tasks.specs.declared.step.Want.TheVariants.{Cell, Device, End}
-use Rattle.wb_tasks.specs.declared.step.Got.{Got}
-use Rattle.wb_tasks.specs.declared.step.Got.TheVariants.{Done, Content, Fault}
-use Rattle.wb_world.specs.declared.actor.Actor.{Actor}
+use Rattle.wb_tasks.specs.declared.step.Want.TheVariants.{Cell, End}
+use Rattle.wb_tasks.specs.declared.step.Got.TheVariants.{Done}
 use Rattle.wb_world.specs.declared.job.Job.{Job}
 use Rattle.wb_world.specs.declared.job.Job.TheVariants.{Read, Write}
-use Rattle.wb_world.specs.declared.event.What.TheVariants.{Stepped}
-use Rattle.wb_world.specs.World.{Shape, State, task_job, sectors_of, task_outcome}
+use Rattle.wb_world.specs.World.{Shape, State, task_job, task_outcome}
 use Rattle.wb_world.specs.Clerk.{Notes, Doing, Reading, Position}
-use Rattle.wb_world.specs.Headline.{IsLatest, DoneRightly}
+use Rattle.wb_world.specs.Headline.{DoneRightly}
 use Rattle.wb_world.proofs.Lists.{get_set_same, get_set_other}
-use Rattle.wb_world.proofs.Kept.{ActingOn, Kept, quiet, Good, good}
-use Rattle.wb_world.proofs.Phases.{Phase, Moving, Counting, Releasing, GivingBack, Ending, Stands, SoFar, LeftIn, script_in, block_of}
-use Rattle.wb_world.proofs.Rule.{task_fails}
-use Rattle.wb_world.proofs.Looking.{at_work, Working, acts, quietly, moves_on}
+use Rattle.wb_world.proofs.Kept.{Kept, quiet, Good, good}
+use Rattle.wb_world.proofs.Phases.{Moving, Counting, Releasing, Ending, SoFar, script_in, block_of}
+use Rattle.wb_world.proofs.Looking.{at_work, Working, acts, quietly}
 
 -- a write counts after it has finished
 pub count_written : (shape : Shape) (w : State) (n : Notes) (a : ℕ) (card : Card) (job : Job) (doing : Doing) → Working shape w n a card job doing Counting →

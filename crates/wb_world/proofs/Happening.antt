@@ -1,21 +1,18 @@
 -- What an event does to the parts of a world is what the machine says.
-use Rattle.std.proofs.Common.{◌≡◌, ◌≤◌, ℕ, zero, suc, Bool, true, false, List, [], ◌∷◌, ◌++◌, Option, Some, None, refl, sym, ap, subst, ◌∙◌, slice_get, slice_set, map, Result, Ok, Err, IfOk}
+use Rattle.std.proofs.Common.{◌≡◌, ℕ, zero, suc, Bool, List, [], ◌∷◌, ◌++◌, Some, None, refl, sym, ap, subst, ◌∙◌, slice_get, slice_set, map, Result, Ok, Err, IfOk}
 use Rattle.std.proofs.lemmas.List.{map-append}
 use Rattle.wb_types.specs.declared.refusal.Refusal.{Refusal}
 use Rattle.wb_disk.specs.Device.{History}
-use Rattle.wb_disk.specs.Crash.{Choice, Applies, crashed}
 use Rattle.wb_tasks.specs.Words.{Words}
-use Rattle.wb_tasks.specs.declared.step.Want.{Want}
-use Rattle.wb_tasks.specs.declared.step.Got.{Got}
 use Rattle.wb_world.specs.declared.actor.Actor.{Actor}
 use Rattle.wb_world.specs.declared.job.Job.{Job}
 use Rattle.wb_world.specs.declared.event.Event.{Event}
-use Rattle.wb_world.specs.declared.event.Event.TheVariants.{Start, Step, FaultStep, Stop}
+use Rattle.wb_world.specs.declared.event.Event.TheVariants.{Start, Step, FaultStep}
 use Rattle.wb_world.specs.declared.event.What.{What}
 use Rattle.wb_world.specs.declared.event.What.TheVariants.{Skipped, Refused, Started, Stepped, Stopped}
 use Rattle.wb_world.specs.declared.event.Record.{Record}
-use Rattle.wb_world.specs.World.{Shape, State, start, started, went, faulted, free_outcome, start_outcome, task_outcome, step_outcome, task_failure, fault_outcome, MayBe, May, IsRun, after_what, after_record, after_all}
-use Rattle.wb_world.specs.Life.{Life, state_of, now, IsWhere, Happens, GoesOn}
+use Rattle.wb_world.specs.World.{Shape, State, start, free_outcome, MayBe, May, IsRun, after_what, after_record, after_all}
+use Rattle.wb_world.specs.Life.{Life, state_of, IsWhere, Happens, GoesOn}
 use Rattle.wb_world.specs.Performing.{Steps, Falters, actor_given, device_left, device_left_failing, words_left, actor_left}
 
 -- a list in which an element was set to itself

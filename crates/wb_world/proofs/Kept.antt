@@ -1,5 +1,5 @@
 -- What every run keeps, and how it is kept when one actor changes.
-use Rattle.std.proofs.Common.{◌≡◌, ◌≢◌, ◌/◌, ◌≤◌, ◌+◌, ◌⊎◌, inl, inr, ℕ, Bool, false, List, [], ◌∷◌, Option, Some, None, cond, refl, sym, ap, subst, ◌∙◌, arith, slice_get, slice_set, unwrap_or, length}
+use Rattle.std.proofs.Common.{◌≡◌, ◌≢◌, ◌/◌, ◌≤◌, ◌⊎◌, inl, inr, ℕ, Bool, false, List, Option, Some, None, refl, sym, ap, subst, ◌∙◌, arith, slice_get, slice_set, unwrap_or, length}
 use Rattle.std.proofs.lemmas.Bool.{cases_eq}
 use Rattle.wb_types.specs.declared.number.OBlock.{OBlock}
 use Rattle.wb_disk.specs.Device.{History}
@@ -14,13 +14,13 @@ use Rattle.wb_world.specs.declared.job.Job.{Job}
 use Rattle.wb_world.specs.declared.event.Event.TheVariants.{Step, FaultStep}
 use Rattle.wb_world.specs.declared.event.What.{What}
 use Rattle.wb_world.specs.declared.event.What.TheVariants.{Stepped}
-use Rattle.wb_world.specs.World.{Shape, State, task_job, stepped, changed_by, device_by, device_failed, after_what, with_actor}
+use Rattle.wb_world.specs.World.{Shape, State, task_job, stepped, changed_by, device_by, device_failed, after_what}
 use Rattle.wb_world.specs.Clerk.{Notes, Doing, noted_what, noted_step}
 use Rattle.wb_world.specs.Headline.{AnswersRightly}
 use Rattle.wb_world.proofs.Lists.{get_set_same, get_set_other}
 use Rattle.wb_world.proofs.Contents.{AllHold, AllHoldLast, last_more}
 use Rattle.wb_world.proofs.Phases.{Phase, Stands, script_in}
-use Rattle.wb_world.proofs.Rule.{Ruled, total, total_same, shares, owns, leaves_stale, owned_by, kept_by, shared_by, task_fails, same_held}
+use Rattle.wb_world.proofs.Rule.{Ruled, total, total_same, leaves_stale, shared_by, task_fails, same_held}
 
 -- An actor with a task stands somewhere in its table, and the clerk knows its job; one without holds nothing.
 abbrev pub ActingOn : Shape → Card → Option (Job × Script) → Option (Option Doing) → Type 0

@@ -1,35 +1,16 @@
 -- The steps of a request that take a block, give it back, or keep it for good.
-use Rattle.std.proofs.Common.{◌≡◌, ◌≢◌, ◌≤◌, ◌<◌, ◌+◌, ◌-◌, ◌*◌, ◌/◌, ◌%◌, ◌==◌, ◌&&◌, inl, inr, ℕ, zero, suc, Bool, true, false, List, [], ◌∷◌, Option, Some, None, cond, refl, sym, ap, subst, ◌∙◌, arith, slice_get, slice_set, unwrap_or, length, if◌then◌else◌}
-use Rattle.std.proofs.lemmas.Bool.{eq-eqb, eqb-true, ne_eqb}
-use Rattle.std.proofs.lemmas.Nat.{le_or_l, le_or_r}
-use Rattle.std.specs.Int.Bits.{bit_or}
+use Rattle.std.proofs.Common.{◌≡◌, ◌≢◌, ◌<◌, ◌+◌, ◌==◌, ℕ, zero, suc, List, [], ◌∷◌, refl, sym, ap, ◌∙◌, arith, slice_get, slice_set, length}
+use Rattle.std.proofs.lemmas.Bool.{eq-eqb, ne_eqb}
 use Rattle.wb_types.specs.declared.number.OBlock.{OBlock}
-use Rattle.wb_types.specs.declared.refusal.Refusal.{Refusal}
-use Rattle.wb_types.specs.declared.word.Access.{Access}
-use Rattle.wb_types.specs.declared.word.Access.TheVariants.{Shared, Owned}
-use Rattle.wb_disk.specs.Device.{History}
-use Rattle.wb_tasks.specs.Job.{access_of, part_of}
-use Rattle.wb_tasks.specs.Script.{can_take}
-use Rattle.wb_tasks.specs.Words.{Words, word_at, wins, with_cell, taken, given_back, holding, failed_card, cell_got}
+use Rattle.wb_tasks.specs.Words.{with_cell}
 use Rattle.wb_tasks.specs.declared.card.Card.{Card}
-use Rattle.wb_tasks.specs.declared.card.Held.{Held}
-use Rattle.wb_tasks.specs.declared.card.Held.TheVariants.{Nothing, Shares, Owns}
-use Rattle.wb_tasks.specs.declared.step.Answer.{Answer}
-use Rattle.wb_tasks.specs.declared.step.Answer.TheVariants.{Done as Finished, Refused as Refuses}
-use Rattle.wb_tasks.specs.declared.step.CellStep.TheVariants.{Take, Release, SetFailed}
-use Rattle.wb_tasks.specs.declared.step.Want.TheVariants.{Cell}
-use Rattle.wb_tasks.specs.declared.step.Got.{Got}
-use Rattle.wb_tasks.specs.declared.step.Got.TheVariants.{Done, Lost}
-use Rattle.wb_world.specs.declared.actor.Actor.{Actor}
 use Rattle.wb_world.specs.declared.job.Job.{Job}
-use Rattle.wb_world.specs.declared.job.Job.TheVariants.{Read, Write}
-use Rattle.wb_world.specs.declared.event.What.TheVariants.{Stepped}
-use Rattle.wb_world.specs.World.{Shape, State, task_job, task_outcome}
+use Rattle.wb_world.specs.World.{Shape, State, task_job}
 use Rattle.wb_world.specs.Clerk.{Notes, Doing}
-use Rattle.wb_world.proofs.Kept.{ActingOn, Kept, KeepsNothing, moved, Good, good, last_same, stale_same}
-use Rattle.wb_world.proofs.Phases.{Phase, Taking, SealLook, Releasing, GivingBack, Failing, Ending, Stands, LeftIn, script_in, block_of}
-use Rattle.wb_world.proofs.Rule.{Rule, Ruled, changed, total, total_set, total_same, total_has, shares, owns, leaves_stale, shared_by, owned_by, kept_by, one_if, lock_at, same_held}
-use Rattle.wb_world.proofs.Looking.{at_work, Working, acts, lost}
+use Rattle.wb_world.proofs.Kept.{Kept, moved, last_same}
+use Rattle.wb_world.proofs.Phases.{Phase, Stands, block_of}
+use Rattle.wb_world.proofs.Rule.{Rule, changed, total, shares, owns, leaves_stale, shared_by, owned_by, kept_by, one_if, lock_at}
+use Rattle.wb_world.proofs.Looking.{at_work, Working, acts}
 
 -- What a step that changes one lock word, and what its actor holds, has to show.
 pub record Locks (shape : Shape) (w : State) (n : Notes) (a : ℕ) (card card' : Card) (job : Job) (doing : Doing) (phase phase' : Phase) (v : ℕ) : Type 0 where

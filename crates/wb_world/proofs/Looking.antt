@@ -1,28 +1,24 @@
 -- The steps of a request that look at words, count, finish or answer: they touch no lock word and no sector.
-use Rattle.std.proofs.Common.{◌≡◌, ◌≢◌, ◌/◌, ◌%◌, ◌==◌, ℕ, Bool, true, false, List, [], ◌∷◌, ◌++◌, Option, Some, None, refl, sym, ap, subst, ◌∙◌, slice_get, slice_set, if◌then◌else◌, inl, inr, arith}
+use Rattle.std.proofs.Common.{◌≡◌, ◌==◌, ℕ, Bool, true, false, List, [], ◌∷◌, Option, Some, None, refl, slice_get, slice_set, if◌then◌else◌, inl, inr, arith}
 use Rattle.std.proofs.lemmas.Bool.{eqb-true}
-use Rattle.wb_types.specs.declared.refusal.Refusal.{Refusal}
 use Rattle.wb_types.specs.declared.refusal.Refusal.TheVariants.{Failed, Busy, Worn}
 use Rattle.wb_types.specs.declared.word.Word.TheVariants.{Cell as LockWord, Seal as SealWord, Number, Fail}
-use Rattle.wb_types.specs.declared.word.Kind.TheVariants.{ReadMiss, WriteMiss}
-use Rattle.wb_tasks.specs.Job.{place_in, dirty_in, part_of, access_of, work}
+use Rattle.wb_tasks.specs.Job.{access_of, work}
 use Rattle.wb_tasks.specs.Script.{Script, can_take, is_worn}
-use Rattle.wb_tasks.specs.Words.{Words, value_of, word_at, counted}
+use Rattle.wb_tasks.specs.Words.{Words, word_at}
 use Rattle.wb_tasks.specs.declared.card.Card.{Card}
-use Rattle.wb_tasks.specs.declared.step.Answer.{Answer}
 use Rattle.wb_tasks.specs.declared.step.Answer.TheVariants.{Done as Finished, Refused as Refuses}
-use Rattle.wb_tasks.specs.declared.step.CellStep.TheVariants.{Look, Take, Finish, Count}
-use Rattle.wb_tasks.specs.declared.step.Want.TheVariants.{Cell, End}
-use Rattle.wb_tasks.specs.declared.step.Got.TheVariants.{Done, Word, Lost}
+use Rattle.wb_tasks.specs.declared.step.CellStep.TheVariants.{Look, Take}
+use Rattle.wb_tasks.specs.declared.step.Want.TheVariants.{Cell}
+use Rattle.wb_tasks.specs.declared.step.Got.TheVariants.{Word, Lost}
 use Rattle.wb_world.specs.declared.actor.Actor.{Actor}
 use Rattle.wb_world.specs.declared.job.Job.{Job}
 use Rattle.wb_world.specs.declared.job.Job.TheVariants.{Read, Write}
 use Rattle.wb_world.specs.declared.event.What.TheVariants.{Stepped}
 use Rattle.wb_world.specs.World.{Shape, State, task_job, sectors_of, task_outcome}
 use Rattle.wb_world.specs.Clerk.{Notes, Doing}
-use Rattle.wb_world.proofs.Lists.{get_set_same, get_set_other}
 use Rattle.wb_world.proofs.Kept.{ActingOn, Kept, KeepsNothing, quiet, Good, good}
-use Rattle.wb_world.proofs.Phases.{Phase, FailLook, LockLook, Taking, SealLook, NumberLook, Moving, Counting, Releasing, GivingBack, Ending, Stands, script_in, block_of, work-moves}
+use Rattle.wb_world.proofs.Phases.{Phase, FailLook, LockLook, Taking, SealLook, NumberLook, Moving, GivingBack, Ending, Stands, script_in, block_of}
 use Rattle.wb_world.proofs.Rule.{task_fails}
 
 -- an actor in a phase of its job

@@ -5,8 +5,8 @@ use Rattle.wb_types.specs.declared.number.OBlock.{OBlock}
 use Rattle.wb_types.specs.declared.refusal.Refusal.{Refusal}
 use Rattle.wb_types.specs.declared.word.Access.TheVariants.{Shared, Owned}
 use Rattle.wb_types.specs.declared.word.Kind.TheVariants.{ReadMiss, WriteMiss}
-use Rattle.wb_types.specs.declared.word.Word.TheVariants.{Cell as LockWord, Seal as SealWord, Number, Fail}
-use Rattle.wb_tasks.specs.Job.{Job as TaskJob, Reading, Writing, Part, part_of, access_of, acquire, work}
+use Rattle.wb_types.specs.declared.word.Word.TheVariants.{Cell as LockWord, Seal as SealWord, Number}
+use Rattle.wb_tasks.specs.Job.{Job as TaskJob, Reading, Writing, part_of, access_of, acquire, work}
 use Rattle.wb_tasks.specs.Script.{Script, release}
 use Rattle.wb_tasks.specs.Words.{holding}
 use Rattle.wb_tasks.specs.declared.card.Card.{Card}

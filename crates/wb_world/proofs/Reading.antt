@@ -1,5 +1,5 @@
 -- The step of a read that reads a sector: it gives the last entry of the sector's history.
-use Rattle.std.proofs.Common.{◌≡◌, ◌≢◌, ◌≤◌, ◌/◌, ◌==◌, ℕ, zero, suc, Bool, true, false, List, [], ◌∷◌, ◌++◌, Option, Some, None, cond, refl, sym, ap, subst, ◌∙◌, arith, slice_get, slice_set, map, All}
+use Rattle.std.proofs.Common.{◌≡◌, ◌≤◌, ◌/◌, ℕ, zero, suc, Bool, true, false, List, [], ◌∷◌, ◌++◌, Option, Some, None, refl, sym, ap, subst, ◌∙◌, arith, slice_get, slice_set, map}
 use Rattle.std.proofs.lemmas.List.{map-append, append_assoc}
 use Rattle.std.proofs.lemmas.List.Elements.{All-push}
 use Rattle.std.proofs.lemmas.Bool.{eq-eqb}
@@ -8,21 +8,19 @@ use Rattle.wb_types.specs.declared.refusal.Refusal.TheVariants.{Io}
 use Rattle.wb_disk.specs.Device.{Content as Bytes, History, newest}
 use Rattle.wb_tasks.specs.declared.card.Card.{Card}
 use Rattle.wb_tasks.specs.declared.step.DeviceStep.TheVariants.{Read as ReadSector}
-use Rattle.wb_tasks.specs.declared.step.Want.{Want}
 use Rattle.wb_tasks.specs.declared.step.Want.TheVariants.{Device}
 use Rattle.wb_tasks.specs.declared.step.Got.TheVariants.{Content, Fault}
 use Rattle.wb_world.specs.declared.actor.Actor.{Actor}
 use Rattle.wb_world.specs.declared.job.Extent.{Extent}
-use Rattle.wb_world.specs.declared.job.Job.{Job}
 use Rattle.wb_world.specs.declared.job.Job.TheVariants.{Read}
 use Rattle.wb_world.specs.World.{Shape, State, task_job, stepped_or, read_got, failed_or, device_failed}
 use Rattle.wb_world.specs.Clerk.{Notes, Doing, Reading, read_on, latest_of}
 use Rattle.wb_world.specs.Headline.{IsLatest}
 use Rattle.wb_world.proofs.Lists.{get_set_same, get_set_other}
-use Rattle.wb_world.proofs.Contents.{Holds, HoldsLast, Fresh, Same, Stale}
+use Rattle.wb_world.proofs.Contents.{Holds, HoldsLast, Same, Stale}
 use Rattle.wb_world.proofs.Kept.{Kept, quiet, Good, good, GoodFault, good_fault, stale_of}
-use Rattle.wb_world.proofs.Phases.{Moving, GivingBack, Stands, SoFar, AllIn, script_in, block_of}
-use Rattle.wb_world.proofs.Rule.{Rule, shares, owns, leaves_stale, stale_is_owned, total, total_has, total_most, shared_by, one_if}
+use Rattle.wb_world.proofs.Phases.{Moving, GivingBack, SoFar, AllIn, script_in, block_of}
+use Rattle.wb_world.proofs.Rule.{shares, owns, leaves_stale, stale_is_owned, total, total_has, total_most, shared_by, one_if}
 use Rattle.wb_world.proofs.Looking.{at_work, Working, acts, quietly, moves_on}
 
 -- Who shares a block knows that no failed write left it stale.

@@ -1,5 +1,5 @@
 -- Giving a block back, and keeping it for good.
-use Rattle.std.proofs.Common.{◌≡◌, ◌≢◌, ◌≤◌, ◌+◌, ◌-◌, ◌*◌, ℕ, zero, suc, Bool, true, false, List, Option, Some, None, refl, sym, ap, subst, ◌∙◌, arith, inl, inr, slice_get, slice_set}
+use Rattle.std.proofs.Common.{◌≡◌, ◌≤◌, ◌+◌, ◌-◌, ℕ, zero, suc, false, Some, None, refl, sym, ap, ◌∙◌, arith, inr, slice_get}
 use Rattle.std.proofs.lemmas.Nat.{le_or_l, le_or_r}
 use Rattle.std.specs.Int.Bits.{bit_or}
 use Rattle.wb_types.specs.declared.refusal.Refusal.{Refusal}
@@ -15,12 +15,11 @@ use Rattle.wb_tasks.specs.declared.step.Want.TheVariants.{Cell}
 use Rattle.wb_tasks.specs.declared.step.Got.TheVariants.{Done}
 use Rattle.wb_world.specs.declared.job.Job.{Job}
 use Rattle.wb_world.specs.declared.job.Job.TheVariants.{Read, Write}
-use Rattle.wb_world.specs.declared.event.What.TheVariants.{Stepped}
 use Rattle.wb_world.specs.World.{Shape, State, task_job, task_outcome}
 use Rattle.wb_world.specs.Clerk.{Notes, Doing}
 use Rattle.wb_world.proofs.Kept.{moved, Good, good, last_same}
-use Rattle.wb_world.proofs.Phases.{Phase, Releasing, GivingBack, Failing, Ending, LeftIn, OwnsIn, script_in, held_in, block_of}
-use Rattle.wb_world.proofs.Rule.{Rule, total, total_set, total_same, total_has, shares, owns, leaves_stale, shared_by, owned_by, kept_by, lock_at, task_fails, same_held}
+use Rattle.wb_world.proofs.Phases.{Phase, Releasing, GivingBack, Failing, Ending, LeftIn, script_in, held_in, block_of}
+use Rattle.wb_world.proofs.Rule.{Rule, total_set, total_same, shares, owns, shared_by, owned_by, kept_by, lock_at, task_fails, same_held}
 use Rattle.wb_world.proofs.Looking.{at_work, Working, acts}
 use Rattle.wb_world.proofs.Locking.{Locks, locked, other_block, same_block}
 

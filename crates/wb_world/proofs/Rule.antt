@@ -1,9 +1,8 @@
 -- The lock-word rule: each lock word tells how many actors share its block, and whether one owns it.
-use Rattle.std.proofs.Common.{◌≡◌, ◌≢◌, ◌+◌, ◌-◌, ◌*◌, ◌≤◌, ◌<◌, ◌==◌, inl, inr, ℕ, zero, suc, List, [], ◌∷◌, Option, Some, None, Bool, true, false, cond, refl, sym, ap, ◌∙◌, arith, slice_get, slice_set, unwrap_or, length}
-use Rattle.std.proofs.lemmas.Bool.{cases_eq, eq-eqb, eqb-true}
+use Rattle.std.proofs.Common.{◌≡◌, ◌≢◌, ◌+◌, ◌*◌, ◌≤◌, ◌<◌, ◌==◌, inl, inr, ℕ, zero, suc, List, [], ◌∷◌, Option, Some, None, Bool, true, false, cond, refl, ap, arith, slice_get, slice_set, unwrap_or, length}
+use Rattle.std.proofs.lemmas.Bool.{cases_eq}
 use Rattle.wb_types.specs.declared.number.OBlock.{OBlock}
 use Rattle.wb_tasks.specs.Script.{Script}
-use Rattle.wb_tasks.specs.declared.card.Card.{Card}
 use Rattle.wb_tasks.specs.declared.card.Held.{Held}
 use Rattle.wb_tasks.specs.declared.card.Held.TheVariants.{Nothing, Shares, Owns}
 use Rattle.wb_tasks.specs.declared.step.CellStep.TheVariants.{SetFailed}
@@ -11,7 +10,7 @@ use Rattle.wb_tasks.specs.declared.step.Want.{Want}
 use Rattle.wb_tasks.specs.declared.step.Want.TheVariants.{Cell}
 use Rattle.wb_world.specs.declared.actor.Actor.{Actor}
 use Rattle.wb_world.specs.declared.job.Job.{Job}
-use Rattle.wb_world.proofs.Lists.{get_set_same, get_set_other}
+use Rattle.wb_world.proofs.Lists.{get_set_other}
 
 -- one where this is the block, else none
 abbrev pub one_if : Bool → ℕ

@@ -1,23 +1,20 @@
 -- Whole runs: each record keeps what is kept, so every answer is right and a crash leaves what was written.
-use Rattle.std.proofs.Common.{◌≡◌, ◌≢◌, ◌≤◌, ◌<◌, ◌+◌, ◌-◌, ◌*◌, ◌/◌, ◌==◌, ◌&&◌, inl, inr, ℕ, zero, suc, Bool, true, false, List, [], ◌∷◌, ◌++◌, Option, Some, None, refl, sym, ap, subst, ◌∙◌, arith, slice_get, slice_set, unwrap_or, length, replicate, Contains, mul_comm}
-use Rattle.std.proofs.lemmas.Bool.{cases_eq, eqb-true, leb-true}
+use Rattle.std.proofs.Common.{◌≡◌, ◌≤◌, ◌<◌, ◌+◌, ◌-◌, ◌*◌, ◌/◌, ◌&&◌, inl, inr, ℕ, zero, suc, Bool, true, false, List, [], ◌∷◌, Option, Some, None, refl, sym, ap, subst, ◌∙◌, arith, slice_get, slice_set, unwrap_or, length, replicate, Contains, mul_comm}
+use Rattle.std.proofs.lemmas.Bool.{eqb-true, leb-true}
 use Rattle.std.proofs.lemmas.List.Elements.{Contains-push_cases}
 use Rattle.std.proofs.lemmas.Nat.{div_below, le-div}
 use Rattle.std.proofs.lemmas.Option.{slice_get-get_or}
 use Rattle.std.proofs.Math.Nat.{div-mul-le_self}
 use Rattle.std.specs.Prelude.{nat_le, if◌then◌else◌}
-use Rattle.wb_types.specs.declared.number.OBlock.{OBlock}
 use Rattle.wb_types.specs.declared.refusal.Refusal.{Refusal}
 use Rattle.wb_types.specs.declared.refusal.Refusal.TheVariants.{Range, Crosses}
-use Rattle.wb_disk.specs.Device.{Content as Bytes, History, entries, only}
+use Rattle.wb_disk.specs.Device.{Content as Bytes, History, entries}
 use Rattle.wb_disk.specs.Memory.{blank}
 use Rattle.wb_disk.specs.Crash.{Choice, crashed, crashed_from, content_at, chosen_position}
 use Rattle.wb_disk.proofs.Crashes.{Contains-content_at}
 use Rattle.wb_tasks.specs.Job.{sectors_from}
 use Rattle.wb_tasks.specs.Script.{Script}
-use Rattle.wb_tasks.specs.Words.{fresh_words, blank_card, wins, word_at}
 use Rattle.wb_tasks.specs.declared.card.Card.{Card}
-use Rattle.wb_tasks.specs.declared.card.Held.{Held}
 use Rattle.wb_tasks.specs.declared.card.Held.TheVariants.{Nothing}
 use Rattle.wb_world.specs.declared.actor.Actor.{Actor}
 use Rattle.wb_world.specs.declared.job.Extent.{Extent}
@@ -28,14 +25,14 @@ use Rattle.wb_world.specs.declared.event.Event.TheVariants.{Start, Step, FaultSt
 use Rattle.wb_world.specs.declared.event.What.{What}
 use Rattle.wb_world.specs.declared.event.What.TheVariants.{Skipped, Refused, Started, Stepped, Stopped}
 use Rattle.wb_world.specs.declared.event.Record.{Record}
-use Rattle.wb_world.specs.World.{Shape, State, start, resting, task_job, extent_of, sectors_of, sector_count, job_refusal, is_inside, is_in_one_block, started_or, free_outcome, start_outcome, task_outcome, step_outcome, task_failure, fault_outcome, MayBe, May, IsRun, after_what, after_record, after_all, after_crash, given}
+use Rattle.wb_world.specs.World.{Shape, State, start, resting, task_job, extent_of, sector_count, job_refusal, is_in_one_block, started_or, free_outcome, start_outcome, task_outcome, step_outcome, task_failure, fault_outcome, MayBe, IsRun, after_what, after_record, after_all, after_crash, given}
 use Rattle.wb_world.specs.Clerk.{Notes, Doing, opened, begun, noted_what, note, noted}
 use Rattle.wb_world.specs.Headline.{AnswersRightly, ReadsLatest, IsAllowed, CrashConsistent}
 use Rattle.wb_world.proofs.Lists.{get_set_same, get_set_other}
-use Rattle.wb_world.proofs.Contents.{AllHold, AllHoldLast, Holds, HoldsLast, Within, Same}
-use Rattle.wb_world.proofs.Kept.{ActingOn, Kept, KeepsNothing, quiet, Good, GoodFault, stale_of}
-use Rattle.wb_world.proofs.Phases.{Phase, FailLook, LockLook, Taking, SealLook, NumberLook, Moving, Counting, Releasing, GivingBack, Failing, Ending, Stands, SoFar, AllIn, script_in, block_of}
-use Rattle.wb_world.proofs.Rule.{Rule, Ruled, total, shares, owns, leaves_stale, lock_at}
+use Rattle.wb_world.proofs.Contents.{Holds, HoldsLast, Same}
+use Rattle.wb_world.proofs.Kept.{ActingOn, Kept, quiet, Good, GoodFault, stale_of}
+use Rattle.wb_world.proofs.Phases.{Phase, FailLook, LockLook, Taking, SealLook, NumberLook, Moving, Counting, Releasing, GivingBack, Failing, Ending, Stands, AllIn, script_in}
+use Rattle.wb_world.proofs.Rule.{total, shares, owns, lock_at}
 use Rattle.wb_world.proofs.Looking.{at_work, Working, acts, fail_look, lock_look, seal_look, number_look}
 use Rattle.wb_world.proofs.Taking.{taking}
 use Rattle.wb_world.proofs.Reading.{read_sector, read_failed}

@@ -1,28 +1,23 @@
 -- The exchange that takes a block.
-use Rattle.std.proofs.Common.{◌≡◌, ◌≢◌, ◌≤◌, ◌<◌, ◌+◌, ◌-◌, ◌*◌, ◌^◌, ◌%◌, ◌==◌, ◌&&◌, ℕ, Bool, true, false, List, Option, Some, None, refl, sym, ap, subst, ◌∙◌, arith, slice_set}
+use Rattle.std.proofs.Common.{◌≡◌, ◌+◌, ◌%◌, ◌&&◌, ℕ, Bool, true, false, refl, sym, ap, ◌∙◌, arith}
 use Rattle.std.proofs.lemmas.Bool.{eqb-true}
-use Rattle.std.specs.Prelude.{nat_lt, if◌then◌else◌}
-use Rattle.wb_types.specs.declared.number.OBlock.{OBlock}
-use Rattle.wb_types.specs.declared.word.Access.{Access}
+use Rattle.std.specs.Prelude.{if◌then◌else◌}
 use Rattle.wb_types.specs.declared.word.Access.TheVariants.{Shared, Owned}
 use Rattle.wb_tasks.specs.Job.{access_of}
-use Rattle.wb_tasks.specs.Script.{can_take}
 use Rattle.wb_tasks.specs.Words.{word_at, wins}
 use Rattle.wb_tasks.specs.declared.card.Card.{Card}
 use Rattle.wb_tasks.specs.declared.card.Held.TheVariants.{Shares, Owns}
 use Rattle.wb_tasks.specs.declared.step.CellStep.TheVariants.{Take}
 use Rattle.wb_tasks.specs.declared.step.Want.TheVariants.{Cell}
-use Rattle.wb_tasks.specs.declared.step.Got.{Got}
 use Rattle.wb_tasks.specs.declared.step.Got.TheVariants.{Done, Lost}
 use Rattle.wb_world.specs.declared.job.Job.{Job}
 use Rattle.wb_world.specs.declared.job.Job.TheVariants.{Read, Write}
-use Rattle.wb_world.specs.declared.event.What.{What}
 use Rattle.wb_world.specs.declared.event.What.TheVariants.{Stepped}
-use Rattle.wb_world.specs.World.{Shape, State, task_job, task_outcome}
+use Rattle.wb_world.specs.World.{Shape, State, task_job}
 use Rattle.wb_world.specs.Clerk.{Notes, Doing}
 use Rattle.wb_world.proofs.Kept.{Good, good}
-use Rattle.wb_world.proofs.Phases.{Taking, SealLook, script_in, block_of}
-use Rattle.wb_world.proofs.Rule.{Rule, total, total_set, total_same, shares, owns, shared_by, owned_by, kept_by, lock_at}
+use Rattle.wb_world.proofs.Phases.{Taking, SealLook, block_of}
+use Rattle.wb_world.proofs.Rule.{Rule, total_set, total_same, shares, owns, shared_by, owned_by, lock_at}
 use Rattle.wb_world.proofs.Looking.{at_work, Working, lost}
 use Rattle.wb_world.proofs.Locking.{Locks, locked, other_block, same_block}
 

@@ -1,5 +1,5 @@
 -- The step of a write that writes a sector, done or failing: the clerk enters it in the sector's history.
-use Rattle.std.proofs.Common.{◌≡◌, ◌≢◌, ◌≤◌, ◌+◌, ◌/◌, ℕ, Bool, true, false, List, [], ◌∷◌, ◌++◌, Option, Some, None, refl, sym, ap, subst, ◌∙◌, arith, slice_get, slice_set, map}
+use Rattle.std.proofs.Common.{◌≡◌, ◌≤◌, ◌/◌, ℕ, Bool, true, false, List, [], ◌∷◌, ◌++◌, Option, Some, None, refl, sym, ap, subst, ◌∙◌, arith, slice_get, slice_set, map}
 use Rattle.std.proofs.lemmas.List.{map-append, append_assoc}
 use Rattle.wb_types.specs.declared.mode.Dev.TheVariants.{Origin}
 use Rattle.wb_types.specs.declared.refusal.Refusal.TheVariants.{Io}
@@ -7,7 +7,6 @@ use Rattle.wb_disk.specs.Device.{Content as Bytes, History, written}
 use Rattle.wb_tasks.specs.declared.card.Card.{Card}
 use Rattle.wb_tasks.specs.declared.step.DeviceStep.TheVariants.{Write as WriteSector}
 use Rattle.wb_tasks.specs.declared.step.Want.TheVariants.{Device}
-use Rattle.wb_tasks.specs.declared.step.Got.{Got}
 use Rattle.wb_tasks.specs.declared.step.Got.TheVariants.{Done, Fault}
 use Rattle.wb_world.specs.declared.actor.Actor.{Actor}
 use Rattle.wb_world.specs.declared.job.Extent.{Extent}
@@ -18,8 +17,8 @@ use Rattle.wb_world.specs.Clerk.{Notes, Doing, Position, write_on, entered_by, n
 use Rattle.wb_world.proofs.Lists.{get_set_same, get_set_other}
 use Rattle.wb_world.proofs.Contents.{AllHold, AllHoldLast, last_more, with_entry-written, both_written, both_last, alone_written, alone_last}
 use Rattle.wb_world.proofs.Kept.{Kept, moved, Good, good, GoodFault, good_fault, stale_of, last_same, stale_same}
-use Rattle.wb_world.proofs.Phases.{Phase, Moving, Failing, Stands, SoFar, AllIn, script_in, block_of}
-use Rattle.wb_world.proofs.Rule.{leaves_stale, owned_by, kept_by, total, total_set, total_has, same_held}
+use Rattle.wb_world.proofs.Phases.{Phase, Moving, Failing, Stands, SoFar, AllIn, block_of}
+use Rattle.wb_world.proofs.Rule.{leaves_stale, owned_by, total_set, total_has, same_held}
 use Rattle.wb_world.proofs.Looking.{at_work, Working, acts, moves_on}
 use Rattle.wb_world.proofs.Locking.{same_block}
 

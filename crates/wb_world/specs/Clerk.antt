@@ -1,7 +1,7 @@
 -- What a clerk writes down who sees the records alone: the write history of each sector, which of its entries
 -- are finished, how far a crash may go back, and what each actor has been told to do. No device, no word and
 -- no task phase stands in it.
-use Rattle.std.specs.Prelude.{◌≡◌, ◌+◌, ℕ, List, [], ◌∷◌, ◌++◌, Option, Some, None, replicate, length, map, slice_get, slice_set, max, unwrap_or}
+use Rattle.std.specs.Prelude.{◌+◌, ℕ, List, [], ◌∷◌, ◌++◌, Option, Some, None, replicate, length, slice_get, slice_set, max, unwrap_or}
 use Rattle.wb_disk.specs.Device.{Content as Bytes, History, newest, added}
 use Rattle.wb_disk.specs.Memory.{blank}
 use Rattle.wb_tasks.specs.declared.step.Answer.TheVariants.{Done as Finished}
@@ -11,7 +11,6 @@ use Rattle.wb_tasks.specs.declared.step.Want.TheVariants.{Device, End}
 use Rattle.wb_tasks.specs.declared.step.Got.{Got}
 use Rattle.wb_tasks.specs.declared.step.Got.TheVariants.{Content}
 use Rattle.wb_world.specs.declared.job.Job.{Job}
-use Rattle.wb_world.specs.declared.job.Job.TheVariants.{Read, Write}
 use Rattle.wb_world.specs.declared.event.Event.{Event}
 use Rattle.wb_world.specs.declared.event.Event.TheVariants.{Start, Step, FaultStep, Stop}
 use Rattle.wb_world.specs.declared.event.What.{What}

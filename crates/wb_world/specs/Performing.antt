@@ -1,5 +1,5 @@
 -- What one step does to the device, the words and what an actor knows.
-use Rattle.std.specs.Prelude.{◌≡◌, ℕ, Bool, List, Option, unwrap_or}
+use Rattle.std.specs.Prelude.{◌≡◌, Bool, List, Option, unwrap_or}
 use Rattle.wb_disk.specs.Device.{History}
 use Rattle.wb_tasks.specs.Words.{Words}
 use Rattle.wb_tasks.specs.declared.card.Card.{Card}

@@ -10,9 +10,9 @@ use Rattle.wb_tasks.specs.Job.{Job as TaskJob, Reading, Writing, Part, sectors_f
 use Rattle.wb_tasks.specs.Script.{Script, table, want, after}
 use Rattle.wb_tasks.specs.Words.{Words, fresh_words, blank_card, cell_got, words_after, card_after}
 use Rattle.wb_tasks.specs.declared.card.Card.{Card}
-use Rattle.wb_tasks.specs.declared.step.DeviceStep.TheVariants.{Read as ReadSector, Write as WriteSector, Sync}
+use Rattle.wb_tasks.specs.declared.step.DeviceStep.TheVariants.{Read as ReadSector, Write as WriteSector}
 use Rattle.wb_tasks.specs.declared.step.Want.{Want}
-use Rattle.wb_tasks.specs.declared.step.Want.TheVariants.{Cell, Device, Desk, End}
+use Rattle.wb_tasks.specs.declared.step.Want.TheVariants.{Cell, Device, End}
 use Rattle.wb_tasks.specs.declared.step.Got.{Got}
 use Rattle.wb_tasks.specs.declared.step.Got.TheVariants.{Done, Content, Fault}
 use Rattle.wb_world.specs.declared.job.Extent.{Extent}

@@ -1,6 +1,5 @@
 use Rattle.std.proofs.Common.{◌≡◌, ◌∙◌, ◌++◌, ◌∷◌, [], ap}
 use Rattle.wb_world.specs.declared.world.TheConstants.{ACTORS}
-use Rattle.wb_world.specs.declared.event.Record.{Record}
 use Rattle.wb_world.specs.Life.{Life, shape_of, state_of}
 use Rattle.wb_world.proofs.Happening.{where_more, goes_on}
 use Rattle.wb_world.proofs.world.World.event.Goals as goal
