@@ -1,0 +1,8 @@
+pub mod Words
+pub mod Numbers
+pub mod Table
+pub mod Line
+pub mod Request
+pub mod Steps
+pub mod Fill
+pub mod Exit

@@ -1,0 +1,14 @@
+use Rattle.std.specs.Prelude.{◌<◌, ◌≤◌, ◌+◌, ℕ}
+use Rattle.wbcache.specs.declared.line.Line.{Line}
+use Rattle.wbcache.specs.declared.line.Line.TheVariants.{Nothing, Read, Write}
+
+-- A request over so many sectors from the first on has at least one, and all of them lie on an origin of this size.
+pub record IsInside (first count sectors : ℕ) : Type 0 where
+  pub some : 0 < count
+  pub within : first + count ≤ sectors
+
+-- What a line asks lies on an origin of this size.
+abbrev pub AsksInside : Line → ℕ → Type 0
+AsksInside Nothing sectors = Unit {0}
+AsksInside (Read at count) sectors = IsInside at.0 count sectors
+AsksInside (Write at count fill) sectors = IsInside at.0 count sectors

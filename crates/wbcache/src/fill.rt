@@ -1,0 +1,38 @@
+//! What a user is shown of a sector.
+
+use std::fmt;
+use wb_types::Content;
+
+/// What fills a sector. Shown, it is two hexadecimal digits, or `mixed`.
+#[derive(Clone, Copy, Debug, PartialEq, Eq)]
+pub enum Fill {
+    /// Each byte is this one.
+    Uniform(u8),
+    /// Two bytes differ.
+    Mixed,
+}
+
+impl Fill {
+    ghost use Rattle.wbcache.specs.Fill.{Shows};
+
+    /// What fills this content.
+    pub fn of(content: &Content) -> Fill
+        ensures { Shows result content.now }
+    {
+        let first = content[0];
+        if content.iter().all(|byte| *byte == first) {
+            Fill::Uniform(first)
+        } else {
+            Fill::Mixed
+        }
+    }
+}
+
+impl fmt::Display for Fill {
+    fn fmt<W: fmt::Write>(&self, f: &mut fmt::Formatter<W>) -> fmt::Result {
+        match self {
+            Fill::Uniform(byte) => write!(f, "{byte:02x}"),
+            Fill::Mixed => f.write_str("mixed"),
+        }
+    }
+}

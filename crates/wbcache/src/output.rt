@@ -1,0 +1,79 @@
+//! Answers, each out in one write.
+
+ghost use Rattle.std.specs.Prelude.{◌≡◌, IfOk, OnErr};
+ghost use Rattle.wbcache.specs.Exit.{code_of};
+
+use crate::status::Status;
+use std::alloc::Global;
+use std::fmt::Write as _;
+use std::io::Write;
+use wb_types::Refusal;
+
+/// What is printed where even the text of a refusal has no room.
+const OUT_OF_MEMORY: &[u8] = b"refused 7 Memory\n";
+
+/// The reader or the writer of a script failed.
+#[derive(Clone, Copy, Debug, PartialEq, Eq)]
+pub struct StreamFailed;
+
+/// The exit status of a run that ended so.
+pub fn exit_code(ended: Result<Status, StreamFailed>) -> u8
+    ensures streams { OnErr ended (result ≡ 4) }
+    ensures lines { IfOk ended (λ status. result ≡ code_of status) }
+{
+    match ended {
+        Ok(status) => status.code(),
+        Err(StreamFailed) => Status::StreamFailed.code(),
+    }
+}
+
+/// Prints a refusal after which nothing else is printed.
+pub fn refuse<W: Write>(
+    alloc: Global,
+    refusal: Refusal,
+    writer: &mut W,
+) -> Result<Status, StreamFailed> {
+    print_refusal(refusal, &mut String::new(alloc), writer)
+}
+
+/// Prints an answer.
+pub fn print<W: Write>(text: &String, writer: &mut W) -> Result<Status, StreamFailed> {
+    if !text.is_empty() {
+        send(text.as_bytes(), writer)?;
+    }
+    Ok(Status::Done)
+}
+
+/// Prints a refusal, over what the text had.
+pub fn print_refusal<W: Write>(
+    refusal: Refusal,
+    text: &mut String,
+    writer: &mut W,
+) -> Result<Status, StreamFailed> {
+    text.clear();
+    if writeln!(text, "refused {refusal}").is_err() {
+        send(OUT_OF_MEMORY, writer)?;
+        return Ok(Status::of(Refusal::Memory).max(Status::of(refusal)));
+    }
+    send(text.as_bytes(), writer)?;
+    Ok(Status::of(refusal))
+}
+
+/// Prints that a line is none of a script's.
+pub fn print_bad_line<W: Write>(
+    number: u64,
+    text: &mut String,
+    writer: &mut W,
+) -> Result<Status, StreamFailed> {
+    if writeln!(text, "bad line {number}").is_err() {
+        return print_refusal(Refusal::Memory, text, writer);
+    }
+    print(text, writer)?;
+    Ok(Status::Refused)
+}
+
+/// Writes all of it at once, and sees that it is out.
+fn send<W: Write>(bytes: &[u8], writer: &mut W) -> Result<(), StreamFailed> {
+    writer.write_all(bytes).map_err(|_| StreamFailed)?;
+    writer.flush().map_err(|_| StreamFailed)
+}

@@ -1,0 +1,63 @@
+//! The constructor line of a target.
+
+ghost use Rattle.std.specs.Prelude.{◌≡◌, ℕ, List, IfOk, IfErr, IfSome, IfNone};
+ghost use Rattle.wbcache.specs.Table.{IsTable, IsBlockSize};
+ghost use Rattle.wbcache.specs.Words.{words_of};
+
+use crate::number::read_number;
+use crate::words::SplitSpaces;
+use wb_types::Refusal;
+
+/// The files of a target, and the size of its blocks.
+#[derive(Clone, Copy, Debug)]
+pub struct Table<'a> {
+    pub metadata: &'a str,
+    pub cache: &'a str,
+    pub origin: &'a str,
+    /// Sectors of a block: 64 to 2,097,152, a multiple of 64.
+    pub block: u64,
+}
+
+/// Reads `cache <metadata> <cache> <origin> <block size> 0 tinylfu 0` (the constructor of the kernel's
+/// `cache.rst`): words parted by spaces. Anything else is `BadTable`.
+pub fn read_table(text: &str) -> Result<Table<'_>, Refusal>
+    ensures found { IfOk result (λ table. IsTable (words_of text.now) table.metadata.now table.cache.now table.origin.now table.block) }
+    ensures refused { IfErr result (λ refusal. refusal ≡ Refusal.BadTable) }
+    ensures outside { IfErr result (λ _. (metadata cache origin : List ℕ) (block : ℕ) → ¬ IsTable (words_of text.now) metadata cache origin block) }
+{
+    read_words(SplitSpaces(text)).ok_or(Refusal::BadTable)
+}
+
+fn read_words(mut words: SplitSpaces<'_>) -> Option<Table<'_>>
+    ensures found { IfSome result (λ table. IsTable (words_of words.entry.0.now) table.metadata.now table.cache.now table.origin.now table.block) }
+    ensures outside { IfNone result ((metadata cache origin : List ℕ) (block : ℕ) → ¬ IsTable (words_of words.entry.0.now) metadata cache origin block) }
+{
+    words.expect("cache")?;
+    let metadata = words.next()?;
+    let cache = words.next()?;
+    let origin = words.next()?;
+    let block = read_block_size(words.next()?)?;
+    words.expect("0")?;
+    words.expect("tinylfu")?;
+    words.expect("0")?;
+    words.expect_end()?;
+    Some(Table {
+        metadata,
+        cache,
+        origin,
+        block,
+    })
+}
+
+/// Reads the size of a block.
+fn read_block_size(word: &str) -> Option<u64>
+    ensures found { IfSome result (IsBlockSize word.now) }
+    ensures none { IfNone result ((block : ℕ) → ¬ IsBlockSize word.now block) }
+{
+    let block = read_number(word)?;
+    if (64..=2_097_152).contains(&block) && block % 64 == 0 {
+        Some(block)
+    } else {
+        None
+    }
+}

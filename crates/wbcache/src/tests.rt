@@ -1,0 +1,5 @@
+//! Scripts over files and over fakes.
+
+mod device;
+mod files;
+mod stream;

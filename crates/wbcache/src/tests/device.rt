@@ -1,0 +1,108 @@
+//! Scripts over a device that fails.
+
+ghost use Rattle.std.specs.Prelude.{[], vec_len};
+
+use crate::engine::Engine;
+use crate::script::play;
+use crate::status::Status;
+use std::alloc::Global;
+use std::process::Abort;
+use std::test::Fail;
+use wb_disk::{Disk, DiskFault};
+use wb_types::{Content, Geometry, SECTOR_BYTES};
+
+/// A device in memory, of which one sector cannot be read and one cannot be written.
+#[derive(Drop)]
+struct Failing {
+    sectors: Vec<Content>,
+    unreadable: u64,
+    unwritable: u64,
+}
+
+impl Disk for Failing {
+    ghost tells = { ⊥ };
+
+    ghost size = { λ d. vec_len d.sectors };
+
+    ghost contents = { λ _. [] };
+
+    ghost faults = { λ _. 0 };
+
+    fn sectors(&self) -> u64 {
+        self.sectors.len() as u64
+    }
+
+    fn read(&mut self, at: u64, out: &mut Content) -> Result<(), DiskFault> {
+        if at == self.unreadable {
+            return Err(DiskFault);
+        }
+        *out = self.sectors[at as usize];
+        Ok(())
+    }
+
+    fn write(&mut self, at: u64, from: &Content) -> Result<(), DiskFault> {
+        if at == self.unwritable {
+            return Err(DiskFault);
+        }
+        self.sectors[at as usize] = *from;
+        Ok(())
+    }
+
+    fn sync(&mut self) -> Result<(), DiskFault> {
+        Ok(())
+    }
+
+    ghost whole = { λ d h. absurd h };
+}
+
+/// An engine over ten blocks of 64 sectors, of which these two fail.
+fn engine(alloc: Global, unreadable: u64, unwritable: u64) -> Result<Engine<Failing>, Fail> {
+    let origin = Failing {
+        sectors: vec![in alloc; [0; SECTOR_BYTES]; 640]?,
+        unreadable,
+        unwritable,
+    };
+    Ok(Engine::new(alloc, Geometry::new(64, 4, 10, 4)?, origin)?)
+}
+
+fn expect(
+    rt: &(impl Abort + AllocGlobal),
+    unreadable: u64,
+    unwritable: u64,
+    script: &str,
+    printed: &str,
+    status: Status,
+) -> Result<(), Fail> {
+    let mut engine = engine(rt.alloc(), unreadable, unwritable)?;
+    let mut reader = script.as_bytes();
+    let mut writer: Vec<u8> = Vec::new(rt.alloc());
+    let given = play(rt.alloc(), &mut engine, &mut reader, &mut writer)?;
+    let text = String::from_utf8(writer)?;
+    assert_eq!(rt; text.as_str(), printed, "of {script}");
+    assert_eq!(rt; given, status, "of {script}");
+    Ok(())
+}
+
+#[test]
+fn a_failed_read_is_answered_and_the_script_goes_on(rt: HostRuntime) -> Result<(), Fail> {
+    expect(
+        &rt,
+        70,
+        640,
+        "r 63 1\nr 63 9\nr 70 1\nr 69 1\nw 70 1 11\nr 70 1\nr 71 1\n",
+        "63 00\nrefused 5 Io origin\nrefused 5 Io origin\n69 00\nok\nrefused 5 Io origin\n71 00\n",
+        Status::DeviceFailed,
+    )
+}
+
+#[test]
+fn a_failed_write_leaves_the_target_failed(rt: HostRuntime) -> Result<(), Fail> {
+    expect(
+        &rt,
+        640,
+        70,
+        "w 0 1 11\nw 60 20 22\nr 0 1\nw 0 1 33\nr 640 1\n",
+        "ok\nrefused 5 Io origin\nrefused 6 Failed\nrefused 6 Failed\nrefused 1 Range\n",
+        Status::DeviceFailed,
+    )
+}
