@@ -1,0 +1,9 @@
+pub mod Counters
+pub mod Places
+pub mod Sizes
+pub mod Steps
+pub mod Shapes
+pub mod Raising
+pub mod Noting
+pub mod Covering
+pub mod Meeting

@@ -1,0 +1,5 @@
+pub mod Sizes
+pub mod Places
+pub mod Frequencies
+pub mod Exact
+pub mod Alone
