@@ -45,3 +45,12 @@ for way in read write; do
       "$(ratio "$driven" "$plain")" "$(ratio "$driven" "$each")" "$(ratio "$scripted" "$plain")"
   done
 done
+
+printf '\n%-14s %9s %9s %9s\n' 'sketch, adds' plain proved proved/plain
+cc -O2 -o "$work/sketch" "$top/bench/sketch.c"
+for blocks in 1024 1048575; do
+  test "$("$work/sketch" "$blocks" 100000)" = "$("$top/bin/wb_bench" sketch "$blocks" 100000)" || { echo 'the sketches differ' >&2; exit 1; }
+  plain=$(seconds "$work/sketch" "$blocks" 20000000)
+  proved=$(seconds "$top/bin/wb_bench" sketch "$blocks" 20000000)
+  printf '%-14s %9s %9s %9s\n' "$blocks blocks" "$plain" "$proved" "$(ratio "$proved" "$plain")"
+done

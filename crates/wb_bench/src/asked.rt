@@ -1,6 +1,6 @@
 //! What a run is asked to do.
 
-ghost use Rattle.std.specs.Prelude.{◌≤◌, IfSome};
+ghost use Rattle.std.specs.Prelude.{◌≤◌};
 
 /// Which way the sectors go.
 #[derive(Clone, Copy, Debug, PartialEq, Eq)]
@@ -11,35 +11,51 @@ pub enum Direction {
 
 /// A file, and the requests to drive over it.
 #[derive(Clone, Copy, Debug)]
-pub struct Asked<'a> {
+pub struct Requests<'a> {
     pub file: &'a str,
     pub direction: Direction,
     /// Sectors of a request, 1 to 64.
     pub sectors: u64,
     pub requests: u64,
+    pub ghost one_block: { sectors ≤ 64 },
+}
+
+/// What is to be timed.
+#[derive(Clone, Copy, Debug)]
+pub enum Asked<'a> {
+    Requests(Requests<'a>),
+    Accesses { cache_blocks: u32, adds: u64 },
 }
 
 /// Reads the words of the command line, the program's name first.
-pub fn read_asked(words: &[String]) -> Option<Asked<'_>>
-    ensures one_block { IfSome result (λ asked. asked.sectors ≤ 64) }
-{
-    let [_, file, direction, sectors, requests] = words else {
-        return None;
-    };
-    let direction = match direction.as_str() {
-        "read" => Direction::Read,
-        "write" => Direction::Write,
-        _ => return None,
-    };
-    let sectors = sectors.as_str().parse::<u64>().ok()?;
-    let requests = requests.as_str().parse::<u64>().ok()?;
-    if sectors == 0 || sectors > 64 {
-        return None;
+pub fn read_asked(words: &[String]) -> Option<Asked<'_>> {
+    match words {
+        [_, sketch, cache_blocks, adds] if sketch.as_str() == "sketch" => Some(Asked::Accesses {
+            cache_blocks: cache_blocks.as_str().parse::<u32>().ok()?,
+            adds: adds.as_str().parse::<u64>().ok()?,
+        }),
+        [_, file, direction, sectors, requests] => {
+            let requests = requests.as_str().parse::<u64>().ok()?;
+            let sectors = sectors.as_str().parse::<u64>().ok()?;
+            let direction = read_direction(direction.as_str())?;
+            if sectors == 0 || sectors > 64 {
+                return None;
+            }
+            Some(Asked::Requests(Requests {
+                file: file.as_str(),
+                direction,
+                sectors,
+                requests,
+            }))
+        }
+        _ => None,
     }
-    Some(Asked {
-        file: file.as_str(),
-        direction,
-        sectors,
-        requests,
-    })
+}
+
+fn read_direction(word: &str) -> Option<Direction> {
+    match word {
+        "read" => Some(Direction::Read),
+        "write" => Some(Direction::Write),
+        _ => None,
+    }
 }

@@ -1,15 +1,18 @@
 //! Drives requests over a file, to be timed from outside.
 //!
 //! `wb_bench FILE read|write SECTORS REQUESTS` drives so many requests of so many sectors each, up to a block of
-//! 64, one after another over all blocks of the file, and prints how many were done.
+//! 64, one after another over all blocks of the file, and prints how many were done. `wb_bench sketch CACHE_BLOCKS
+//! ADDS` adds so many accesses to a frequency sketch, and prints the sum of every 1,024th estimate.
 #![tactic(auto)]
 
 ghost use Rattle.std.specs.Prelude.{◌<◌, ◌≤◌};
 
+mod accesses;
 mod asked;
 mod stage;
 
-use crate::asked::{Asked, Direction, read_asked};
+use crate::accesses::add_all;
+use crate::asked::{Asked, Direction, Requests, read_asked};
 use crate::stage::FileStage;
 use std::env;
 use std::process::ExitCode;
@@ -34,24 +37,42 @@ fn main(rt: HostRuntime) -> ExitCode {
     let Some(asked) = read_asked(words.as_slice()) else {
         return usage(&rt);
     };
-    let Ok(disk) = FileDisk::open(&rt, asked.file) else {
-        return failed(&rt, "the file cannot be opened");
+    match asked {
+        Asked::Requests(requests) => serve(&rt, &requests),
+        Asked::Accesses { cache_blocks, adds } => match add_all(alloc, cache_blocks, adds) {
+            Ok(sum) => print(&rt, sum),
+            Err(_) => failed(&rt, "out of memory"),
+        },
+    }
+}
+
+/// Drives requests over their file, and prints how many were done.
+fn serve(rt: &HostRuntime, requests: &Requests<'_>) -> ExitCode {
+    let Ok(disk) = FileDisk::open(rt, requests.file) else {
+        return failed(rt, "the file cannot be opened");
     };
     let blocks = (disk.sectors() / u64::from(BLOCK)).min(MOST_BLOCKS);
     if blocks == 0 {
-        return failed(&rt, "the file has no whole block");
+        return failed(rt, "the file has no whole block");
     }
-    let Ok(mut stage) = FileStage::new(alloc, blocks as u32, disk) else {
-        return failed(&rt, "out of memory");
+    let Ok(mut stage) = FileStage::new(rt.alloc(), blocks as u32, disk) else {
+        return failed(rt, "out of memory");
     };
-    match drive_all(&asked, blocks, &mut stage) {
-        Some(done) if println!(rt; "{done}").is_ok() => ExitCode::SUCCESS,
-        _ => failed(&rt, "a request failed"),
+    match drive_all(requests, blocks, &mut stage) {
+        Some(done) => print(rt, done),
+        None => failed(rt, "a request failed"),
+    }
+}
+
+fn print(rt: &HostRuntime, number: u64) -> ExitCode {
+    match println!(rt; "{number}") {
+        Ok(()) => ExitCode::SUCCESS,
+        Err(_) => failed(rt, "the output failed"),
     }
 }
 
 /// Drives all requests; None where one is not answered done.
-fn drive_all(asked: &Asked<'_>, blocks: u64, stage: &mut FileStage) -> Option<u64>
+fn drive_all(asked: &Requests<'_>, blocks: u64, stage: &mut FileStage) -> Option<u64>
     requires some { 0 < blocks }
     requires few { blocks ≤ 1048576 }
     requires one_block { asked.now.sectors ≤ 64 }
@@ -79,12 +100,14 @@ fn drive_all(asked: &Asked<'_>, blocks: u64, stage: &mut FileStage) -> Option<u6
     Some(asked.requests)
 }
 
-fn usage<R: Eprint>(rt: &R) -> ExitCode {
-    let _ = eprintln!(rt; "usage: wb_bench FILE read|write SECTORS REQUESTS");
+fn usage(rt: &HostRuntime) -> ExitCode {
+    let _ = eprintln!(rt;
+        "usage: wb_bench FILE read|write SECTORS REQUESTS | sketch CACHE_BLOCKS ADDS"
+    );
     ExitCode::from(2)
 }
 
-fn failed<R: Eprint>(rt: &R, why: &str) -> ExitCode {
+fn failed(rt: &HostRuntime, why: &str) -> ExitCode {
     let _ = eprintln!(rt; "wb_bench: {why}");
     ExitCode::FAILURE
 }

@@ -1,0 +1,8 @@
+use Rattle.std.proofs.Common.{ap, ◌∙◌}
+use Rattle.std.specs.List.{position}
+use Rattle.wb_space.specs.Blocks.{is_late}
+use Rattle.wb_space.proofs.Chosen.{position-map}
+use Rattle.wb_space.proofs.blocks.Blocks.least_late.Goals as goal
+
+pub returns : goal.returns
+returns c = c.least.ensures ∙ ap (position (λ b. b)) c.self.invariant.late ∙ position-map is_late c.self.inside.states.items ∙ ap (position is_late) c.self.view_is

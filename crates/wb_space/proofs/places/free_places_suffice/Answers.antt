@@ -1,0 +1,5 @@
+use Rattle.wb_space.proofs.Suffices.{places_suffice}
+use Rattle.wb_space.proofs.places.free_places_suffice.Goals as goal
+
+pub returns : goal.returns
+returns g = λ n committed running. places_suffice n committed running

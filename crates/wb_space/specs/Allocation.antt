@@ -1,0 +1,161 @@
+-- What may happen to the cache blocks, the mapping, the two images and the live orders, and the rule that
+-- holds after each such act.
+use Rattle.std.specs.Prelude.{◌≡◌, ◌≢◌, ◌≤◌, ◌<◌, ◌+◌, ◌⊎◌, ℕ, zero, suc, List, [], ◌∷◌, ◌++◌, Bool, true, false, Option, Some, None, length, map, get_or, slice_set, slice_get}
+use Rattle.wb_space.specs.declared.block.Block.{Block}
+use Rattle.wb_space.specs.declared.block.Block.TheVariants.{Free, Mapped, Reserved, Quarantined}
+use Rattle.wb_space.specs.Blocks.{given_back, begun, ended, state, IsKept}
+
+-- which origin block each cache block stands for
+abbrev pub Image : Type 0
+Image = List (Option ℕ)
+
+abbrev pub names : Image → ℕ → Option ℕ
+names image c = get_or image c None
+
+-- no origin block stands in it twice
+abbrev pub NoneTwice : Image → Type 0
+NoneTwice image = (b c k : ℕ) → names image c ≡ Some b → names image k ≡ Some b → c ≡ k
+
+-- what an order keeps: its origin blocks, its cache block, its sectors and the threshold in force when it was given
+pub record LiveOrder : Type 0 where
+  pub origin : ℕ
+  pub other : ℕ
+  pub cache : ℕ
+  pub sectors : ℕ
+  pub threshold : ℕ
+
+pub record Allocation : Type 0 where
+  pub blocks : List Block
+  pub mapping : Image
+  pub committed : Image
+  pub running : Image
+  pub committing : Bool
+  pub orders : List LiveOrder
+  pub threshold : ℕ
+
+abbrev pub cost : List LiveOrder → ℕ
+cost [] = 0
+cost (o ∷ os) = o.sectors + cost os
+
+-- two orders share no block
+pub record Apart (o p : LiveOrder) : Type 0 where
+  pub cache : o.cache ≢ p.cache
+  pub origin : o.origin ≢ p.origin
+  pub origin_other : o.origin ≢ p.other
+  pub other_origin : o.other ≢ p.origin
+  pub other : o.other ≢ p.other
+
+abbrev pub ApartAll : LiveOrder → List LiveOrder → Type 0
+ApartAll o [] = Unit {0}
+ApartAll o (p ∷ ps) = Apart o p × ApartAll o ps
+
+-- every two
+abbrev pub Shareless : List LiveOrder → Type 0
+Shareless [] = Unit {0}
+Shareless (o ∷ os) = ApartAll o os × Shareless os
+
+-- each with those before it is within its threshold
+abbrev pub WithinFrom : ℕ → List LiveOrder → Type 0
+WithinFrom before [] = Unit {0}
+WithinFrom before (o ∷ os) = (before + o.sectors ≤ o.threshold) × WithinFrom (before + o.sectors) os
+
+-- orders without the one at this place
+abbrev pub without : List LiveOrder → ℕ → List LiveOrder
+without [] i = []
+without (o ∷ os) zero = os
+without (o ∷ os) (suc i) = o ∷ without os i
+
+abbrev pub cache_at : List LiveOrder → ℕ → ℕ
+cache_at [] i = 0
+cache_at (o ∷ os) zero = o.cache
+cache_at (o ∷ os) (suc i) = cache_at os i
+
+-- some order has this cache block
+abbrev pub Holds : List LiveOrder → ℕ → Type 0
+Holds [] c = ⊥
+Holds (o ∷ os) c = (o.cache ≡ c) ⊎ Holds os c
+
+-- What happens: orders that are given with the block reserved or not, and their ends.
+pub data Act : Type 0 where
+  Give : (order : LiveOrder) (reserves : Bool) → Act
+  Over : (place : ℕ) → Act
+  Map : (block cache : ℕ) → Act
+  Unmap : (cache : ℕ) (keep : Bool) → Act
+  Begin : Act
+  End : Act
+  Threshold : ℕ → Act
+
+abbrev pub after_act : Allocation → Act → Allocation
+after_act d (Give o true) = record d { blocks = slice_set d.blocks o.cache Reserved; orders = d.orders ++ o ∷ [] }
+after_act d (Give o false) = record d { orders = d.orders ++ o ∷ [] }
+after_act d (Over i) = record d { blocks = slice_set d.blocks (cache_at d.orders i) (given_back (state d.blocks (cache_at d.orders i))); orders = without d.orders i }
+after_act d (Map b c) = record d { blocks = slice_set d.blocks c Mapped; mapping = slice_set d.mapping c (Some b) }
+after_act d (Unmap c keep) = record d { blocks = slice_set d.blocks c (Quarantined keep false); mapping = slice_set d.mapping c None }
+after_act d Begin = record d { blocks = map begun d.blocks; running = d.mapping; committing = true }
+after_act d End = record d { blocks = map ended d.blocks; committed = d.running; committing = false }
+after_act d (Threshold n) = record d { threshold = n }
+
+-- an order may be given: its blocks are in no live order, and there is room
+pub record MayGive (d : Allocation) (o : LiveOrder) : Type 0 where
+  pub apart : ApartAll o d.orders
+  pub room : cost d.orders + o.sectors ≤ d.threshold
+  pub under : o.threshold ≡ d.threshold
+
+abbrev pub MayCome : Allocation → Act → Type 0
+MayCome d (Give o true) = MayGive d o × (slice_get d.blocks o.cache ≡ Some Free)
+MayCome d (Give o false) = MayGive d o
+MayCome d (Over i) = i < length d.orders
+MayCome d (Map b c) = (slice_get d.blocks c ≡ Some Reserved) × (c < length d.mapping) × ((k : ℕ) → names d.mapping k ≢ Some b)
+MayCome d (Unmap c false) = slice_get d.blocks c ≡ Some Mapped
+MayCome d (Unmap c true) = (slice_get d.blocks c ≡ Some Mapped) × Holds d.orders c
+MayCome d Begin = d.committing ≡ false
+MayCome d End = d.committing ≡ true
+MayCome d (Threshold n) = Unit {0}
+
+-- What one cache block is, what it is mapped for, and what the two images have there
+abbrev pub ImageSafe : Block → Option ℕ → Option ℕ → Option ℕ → Type 0
+ImageSafe Free now committed running = (now ≡ None) × (committed ≡ None) × (running ≡ None)
+ImageSafe Reserved now committed running = (now ≡ None) × (committed ≡ None) × (running ≡ None)
+ImageSafe Mapped now committed running = (b : ℕ) × (now ≡ Some b) × ((committed ≡ None) ⊎ (committed ≡ Some b)) × ((running ≡ None) ⊎ (running ≡ Some b))
+ImageSafe (Quarantined kept false) now committed running = now ≡ None
+ImageSafe (Quarantined kept true) now committed running = (now ≡ None) × (running ≡ None)
+
+-- The rule
+pub record AllocationInvariant (d : Allocation) : Type 0 where
+  pub sound : (c : ℕ) → ImageSafe (state d.blocks c) (names d.mapping c) (names d.committed c) (names d.running c)
+  pub idle : d.committing ≡ false → d.running ≡ d.committed
+  -- a reserved or kept block is that of a live order
+  pub held : (c : ℕ) → IsKept (state d.blocks c) → Holds d.orders c
+  pub shareless : Shareless d.orders
+  pub within : WithinFrom 0 d.orders
+  -- no origin block stands twice in the mapping or in an image
+  pub mapping_once : NoneTwice d.mapping
+  pub committed_once : NoneTwice d.committed
+  pub running_once : NoneTwice d.running
+
+abbrev pub IsRun : Allocation → List Act → Type 0
+IsRun d [] = Unit {0}
+IsRun d (a ∷ rest) = MayCome d a × IsRun (after_act d a) rest
+
+abbrev pub after_all : Allocation → List Act → Allocation
+after_all d [] = d
+after_all d (a ∷ rest) = after_all (after_act d a) rest
+
+-- A quarantined block stays so until the end of a commit, one that began after its removal: only a
+-- beginning marks it, and only an end frees what is marked.
+abbrev pub StaysOrEnds : Block → Act → Block → Type 0
+StaysOrEnds (Quarantined k false) a (Quarantined k' false) = Unit {0}
+StaysOrEnds (Quarantined k false) a (Quarantined k' true) = a ≡ Begin
+StaysOrEnds (Quarantined k false) a b = ⊥
+StaysOrEnds (Quarantined k true) a (Quarantined k' true) = Unit {0}
+StaysOrEnds (Quarantined k true) a (Quarantined k' false) = ⊥
+StaysOrEnds (Quarantined k true) a b = a ≡ End
+StaysOrEnds other a b = Unit {0}
+
+-- at an opening, each entry of the mapping is in the committed image too
+abbrev pub opened_entry : Option ℕ → Block
+opened_entry None = Free
+opened_entry (Some b) = Mapped
+
+abbrev pub opened : Image → ℕ → Allocation
+opened m n = record { blocks = map opened_entry m; mapping = m; committed = m; running = m; committing = false; orders = []; threshold = n }

@@ -1,0 +1,35 @@
+-- Which metadata places the images use.
+use Rattle.std.specs.Prelude.{◌+◌, ◌*◌, ◌-◌, ℕ, List, [], ◌∷◌, Bool, true, false, not, ◌&&◌, filter, length, get_or, slice_set, replicate}
+use Rattle.std.specs.List.{range_with_len}
+use Rattle.wb_types.specs.Limits.{node_count}
+use Rattle.wb_types.specs.declared.number.Place.{Place}
+
+-- the places that the committed and the running image use, each list by place
+pub record PlacesInUse : Type 0 where
+  pub committed : List Bool
+  pub running : List Bool
+
+-- no place
+abbrev pub unused : ℕ → List Bool
+unused count = replicate count false
+
+-- with these places, as far as the list goes
+abbrev pub noted : List Place → List Bool → List Bool
+noted [] uses = uses
+noted (p ∷ ps) uses = noted ps (slice_set uses p.0 true)
+
+-- no image uses it
+abbrev pub is_free_place : PlacesInUse → ℕ → Bool
+is_free_place places at = not (get_or places.committed at false) && not (get_or places.running at false)
+
+-- the free places, rising: 0 and 1 are the root slots
+abbrev pub free_places : PlacesInUse → List ℕ
+free_places places = filter (is_free_place places) (range_with_len 2 (length places.committed - 2))
+
+-- the place of this number
+abbrev pub place : ℕ → Place
+place at = record { 0 = at }
+
+-- the places that can ever be handed out: behind the root slots, room for two images of all nodes
+abbrev pub place_count : ℕ → ℕ
+place_count cache_blocks = 2 + 2 * node_count cache_blocks

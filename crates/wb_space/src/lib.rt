@@ -1,0 +1,20 @@
+//! The states of the cache blocks, and which metadata places the images use.
+//!
+//! A cache block whose entry was removed is kept away from new entries until no image can name it any more.
+#![tactic(auto)]
+
+mod allocation;
+mod bit_set;
+mod block;
+mod blocks;
+mod holding;
+mod places;
+mod space;
+
+pub use allocation::allocation_keeps_its_invariant;
+pub use bit_set::BitSet;
+pub use block::Block;
+pub use blocks::Blocks;
+pub use holding::Holding;
+pub use places::{Places, free_places_suffice};
+pub use space::Space;
