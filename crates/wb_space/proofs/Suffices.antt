@@ -17,7 +17,7 @@ uses a b = record { committed = a; running = b }
 same_count : (q r : ℕ → Bool) (s n : ℕ) → ((k : ℕ) → s ≤ k → q k ≡ r k) → chosen q (range_with_len s n) ≡ chosen r (range_with_len s n)
 same_count q r s zero h = refl
 same_count q r s (suc n) h = ap (λ (b : Bool). cond b (suc (chosen q (range_with_len (s + 1) n))) (chosen q (range_with_len (s + 1) n))) (h s (omega arith))
-  ∙ ap (λ (m : ℕ). cond (r s) (suc m) m) (same_count q r (s + 1) n (λ k l. h k (omega arith)))
+    ∙ ap (λ (m : ℕ). cond (r s) (suc m) m) (same_count q r (s + 1) n (λ k l. h k (omega arith)))
 
 one_at_most : (b c : Bool) (m n : ℕ) → m ≡ n → cond b (suc m) m ≤ suc (cond c (suc n) n)
 one_at_most true true m n e = omega (arith, e)
@@ -34,8 +34,9 @@ still_fewer false false m n e l = omega (arith, l)
 one_fewer : (q r : ℕ → Bool) (p s n : ℕ) → ((k : ℕ) → k ≢ p → q k ≡ r k) → chosen q (range_with_len s n) ≤ suc (chosen r (range_with_len s n))
 one_fewer q r p s zero h = omega arith
 one_fewer q r p s (suc n) h = elim (cases_eq s p) [
-    inl e ↦ one_at_most (q s) (r s) (chosen q (range_with_len (s + 1) n)) (chosen r (range_with_len (s + 1) n)) (same_count q r (s + 1) n (λ k l. h k (λ f. absurd (omega arith))))
-  | inr d ↦ still_fewer (q s) (r s) (chosen q (range_with_len (s + 1) n)) (chosen r (range_with_len (s + 1) n)) (h s d) (one_fewer q r p (s + 1) n h) ]
+  | inl e ↦ one_at_most (q s) (r s) (chosen q (range_with_len (s + 1) n)) (chosen r (range_with_len (s + 1) n)) (same_count q r (s + 1) n (λ k l. h k (λ f. absurd (omega arith))))
+  | inr d ↦ still_fewer (q s) (r s) (chosen q (range_with_len (s + 1) n)) (chosen r (range_with_len (s + 1) n)) (h s d) (one_fewer q r p (s + 1) n h)
+]
 
 all_count : (q : ℕ → Bool) (s n : ℕ) → ((k : ℕ) → q k ≡ true) → chosen q (range_with_len s n) ≡ n
 all_count q s zero h = refl
