@@ -59,36 +59,34 @@ fn sizes_past_a_limit_are_refused(rt: HostRuntime) -> Result<(), Fail> {
 }
 
 /// Each refusal as a user reads it.
-const TEXTS: [(Refusal, &str); 19] = [
-    (Refusal::Range, "1 Range"),
-    (Refusal::Crosses, "2 Crosses"),
-    (Refusal::Busy, "3 Busy"),
-    (Refusal::Defer, "4 Defer"),
-    (Refusal::Io(Dev::Metadata), "5 Io metadata"),
-    (Refusal::Io(Dev::Cache), "5 Io cache"),
-    (Refusal::Io(Dev::Origin), "5 Io origin"),
-    (Refusal::Failed, "6 Failed"),
-    (Refusal::Memory, "7 Memory"),
-    (Refusal::Worn, "8 Worn"),
-    (Refusal::Geometry, "9 Geometry"),
-    (Refusal::NotFormatted, "10 NotFormatted"),
-    (Refusal::Damaged(Place(3)), "11 Damaged 3"),
-    (Refusal::Mismatch, "12 Mismatch"),
-    (Refusal::NotClean, "13 NotClean"),
-    (Refusal::BadMessage, "14 BadMessage"),
-    (Refusal::WrongMode, "15 WrongMode"),
-    (Refusal::BadTable, "16 BadTable"),
-    (Refusal::GenerationEnd, "17 GenerationEnd"),
+const TEXTS: [(Refusal, u8, &str); 19] = [
+    (Refusal::Range, 1, "1 Range"),
+    (Refusal::Crosses, 2, "2 Crosses"),
+    (Refusal::Busy, 3, "3 Busy"),
+    (Refusal::Defer, 4, "4 Defer"),
+    (Refusal::Io(Dev::Metadata), 5, "5 Io metadata"),
+    (Refusal::Io(Dev::Cache), 5, "5 Io cache"),
+    (Refusal::Io(Dev::Origin), 5, "5 Io origin"),
+    (Refusal::Failed, 6, "6 Failed"),
+    (Refusal::Memory, 7, "7 Memory"),
+    (Refusal::Worn, 8, "8 Worn"),
+    (Refusal::Geometry, 9, "9 Geometry"),
+    (Refusal::NotFormatted, 10, "10 NotFormatted"),
+    (Refusal::Damaged(Place(3)), 11, "11 Damaged 3"),
+    (Refusal::Mismatch, 12, "12 Mismatch"),
+    (Refusal::NotClean, 13, "13 NotClean"),
+    (Refusal::BadMessage, 14, "14 BadMessage"),
+    (Refusal::WrongMode, 15, "15 WrongMode"),
+    (Refusal::BadTable, 16, "16 BadTable"),
+    (Refusal::GenerationEnd, 17, "17 GenerationEnd"),
 ];
 
 #[test]
 fn a_refusal_shows_its_number_and_name(rt: HostRuntime) -> Result<(), Fail> {
-    for (refusal, text) in TEXTS {
+    for (refusal, number, text) in TEXTS {
         let shown = format!(in rt.alloc(); "{refusal}")?;
         assert_eq!(rt; shown.as_str(), text);
-        let number = refusal.number();
-        let led = format!(in rt.alloc(); "{number} ")?;
-        assert!(rt; text.starts_with(led.as_str()), "{text}");
+        assert_eq!(rt; refusal.number(), number);
     }
     Ok(())
 }
