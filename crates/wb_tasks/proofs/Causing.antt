@@ -8,8 +8,9 @@ use Rattle.wb_types.specs.declared.refusal.Refusal.TheVariants.{Busy, Failed, Wo
 use Rattle.wb_types.specs.declared.word.Access.{Access}
 use Rattle.wb_types.specs.declared.word.Access.TheVariants.{Owned}
 use Rattle.wb_types.specs.declared.word.Word.TheVariants.{Cell as LockWord, Seal as SealWord, Number, Count as CountWord, Fail}
-use Rattle.wb_tasks.specs.Job.{Part, Job, Reading, Writing, part_of, access_of, place_in, dirty_in, work, read_step, write_step}
-use Rattle.wb_tasks.specs.Script.{Script, after, table, first_step, refused, release, can_take, is_worn, Fits}
+use Rattle.wb_types.specs.Words.{place_in, dirty_in, can_take}
+use Rattle.wb_tasks.specs.Job.{Part, Job, Reading, Writing, part_of, access_of, work, read_step, write_step}
+use Rattle.wb_tasks.specs.Script.{Script, after, table, first_step, refused, release, is_worn, Fits}
 use Rattle.wb_tasks.specs.Run.{IsRunOf}
 use Rattle.wb_tasks.specs.Causes.{Causes, GaveCause}
 use Rattle.wb_tasks.specs.declared.step.CellStep.{CellStep}

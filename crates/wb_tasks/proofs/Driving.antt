@@ -5,8 +5,9 @@ use Rattle.wb_types.specs.declared.word.Access.TheVariants.{Shared, Owned}
 use Rattle.wb_types.specs.declared.refusal.Refusal.TheVariants.{Busy, Failed, Worn}
 use Rattle.wb_types.specs.declared.word.Word.{Word as WordName}
 use Rattle.wb_types.specs.declared.word.Word.TheVariants.{Cell as LockWord, Seal as SealWord, Number, Count as CountWord, Fail}
-use Rattle.wb_tasks.specs.Job.{Part, Job, access_of, Reading, Writing, work, read_step, write_step, read_count, write_count, place_in, dirty_in}
-use Rattle.wb_tasks.specs.Script.{Script, want, after, after_look, release, Fits, IsStep, first_step, can_take, is_worn}
+use Rattle.wb_types.specs.Words.{place_in, dirty_in, can_take}
+use Rattle.wb_tasks.specs.Job.{Part, Job, access_of, Reading, Writing, work, read_step, write_step, read_count, write_count}
+use Rattle.wb_tasks.specs.Script.{Script, want, after, after_look, release, Fits, IsStep, first_step, is_worn}
 use Rattle.wb_tasks.specs.Run.{IsRunOf, Leads}
 use Rattle.wb_tasks.specs.Length.{longest_work, longest_of, longest}
 use Rattle.wb_tasks.specs.declared.step.CellStep.TheVariants.{Look, Take, Release, Seal, Finish, Count, SetFailed, SetSuspended}

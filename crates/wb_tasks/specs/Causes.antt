@@ -5,7 +5,7 @@ use Rattle.wb_types.specs.declared.refusal.Refusal.TheVariants.{Busy, Failed, Wo
 use Rattle.wb_types.specs.declared.word.Access.{Access}
 use Rattle.wb_types.specs.declared.word.Access.TheVariants.{Owned}
 use Rattle.wb_types.specs.declared.word.Word.TheVariants.{Cell as LockWord, Number, Fail}
-use Rattle.wb_tasks.specs.Script.{can_take}
+use Rattle.wb_types.specs.Words.{can_take}
 use Rattle.wb_tasks.specs.declared.step.CellStep.TheVariants.{Look, Take}
 use Rattle.wb_tasks.specs.declared.step.DeviceStep.{DeviceStep}
 use Rattle.wb_tasks.specs.declared.step.DeviceStep.TheVariants.{Read, Write, Sync}

@@ -1,4 +1,4 @@
-use Rattle.std.specs.Prelude.{◌+◌, ◌*◌, ◌/◌, ◌%◌, ◌^◌, ◌++◌, ℕ, zero, suc, Bool, true, false, List, [], ◌∷◌, Option, Some, None, map, nat_lt, if◌then◌else◌}
+use Rattle.std.specs.Prelude.{◌+◌, ◌*◌, ◌%◌, ◌++◌, ℕ, zero, suc, Bool, true, false, List, [], ◌∷◌, Option, Some, None, map}
 use Rattle.wb_types.specs.declared.mode.Dev.{Dev}
 use Rattle.wb_types.specs.declared.mode.Dev.TheVariants.{Cache, Origin}
 use Rattle.wb_types.specs.declared.number.OBlock.{OBlock}
@@ -36,23 +36,6 @@ part_of (Writing part) = part
 abbrev pub access_of : Job → Access
 access_of (Reading part) = Shared
 access_of (Writing part) = Owned
-
--- Where a block stands, as its seal tells: nowhere but on the origin, or in a cache block; and whether that copy
--- is dirty. A place past every number of a cache block is none.
-
-abbrev pub cached_at : ℕ → Option CBlock
-cached_at zero = None
-cached_at (suc place) = if nat_lt place (2 ^ 32) then Some (record { 0 = place }) else None
-
-abbrev pub place_in : ℕ → Option CBlock
-place_in seal = cached_at (seal / 2)
-
-abbrev pub flag : ℕ → Bool
-flag zero = false
-flag (suc n) = true
-
-abbrev pub dirty_in : ℕ → Bool
-dirty_in seal = flag (seal % 2)
 
 -- The route in write-back mode: an unmapped block is read and written on the origin, a mapped one on the cache.
 

@@ -1,10 +1,9 @@
-use Rattle.std.specs.Prelude.{◌-◌, ◌^◌, ◌%◌, ◌&&◌, ◌==◌, ℕ, Bool, false, List, [], ◌∷◌, if◌then◌else◌, nat_lt}
+use Rattle.std.specs.Prelude.{◌-◌, ◌^◌, ◌==◌, ℕ, Bool, false, List, [], ◌∷◌, if◌then◌else◌}
 use Rattle.wb_types.specs.declared.refusal.Refusal.{Refusal}
 use Rattle.wb_types.specs.declared.refusal.Refusal.TheVariants.{Busy, Failed, Worn, Io}
-use Rattle.wb_types.specs.declared.word.Access.{Access}
-use Rattle.wb_types.specs.declared.word.Access.TheVariants.{Shared, Owned}
 use Rattle.wb_types.specs.declared.word.Word.TheVariants.{Cell as LockWord, Seal as SealWord, Number, Fail}
-use Rattle.wb_tasks.specs.Job.{Job, Reading, Writing, part_of, access_of, place_in, dirty_in, acquire, work}
+use Rattle.wb_types.specs.Words.{can_take, place_in, dirty_in}
+use Rattle.wb_tasks.specs.Job.{Job, Reading, Writing, part_of, access_of, acquire, work}
 use Rattle.wb_tasks.specs.declared.step.CellStep.TheVariants.{Look, Take, Release, Seal, Finish, Count, SetFailed, SetSuspended}
 use Rattle.wb_tasks.specs.declared.step.DeviceStep.TheVariants.{Read, Write, Sync}
 use Rattle.wb_tasks.specs.declared.step.Answer.{Answer}
@@ -48,12 +47,6 @@ refused s steps refusal = record { job = s.job; steps = steps; answer = Refuses 
 -- giving the block back
 abbrev pub release : Job → Want
 release job = Cell (Release (access_of job) (part_of job).block)
-
--- Whether a block with this lock word can be taken: shared where nobody owns it and there is room for one sharer
--- more, owned where nobody has it.
-abbrev pub can_take : Access → ℕ → Bool
-can_take Shared word = (word % 2 == 0) && nat_lt word (2 ^ 21 - 2)
-can_take Owned word = word == 0
 
 -- a write needs a number for itself
 abbrev pub is_worn : Job → ℕ → Bool

@@ -1,12 +1,12 @@
 //! Acquiring a block: the fail word, the lock word, the exchange, the seal, the number.
 
 ghost use Rattle.std.specs.Prelude.{◌≡◌};
-ghost use Rattle.wb_tasks.specs.Job.{Job, place_in, dirty_in, part_of, access_of};
-ghost use Rattle.wb_tasks.specs.Script.{Script, want, after_look, can_take as can_take_word};
+ghost use Rattle.wb_tasks.specs.Job.{Job, part_of, access_of};
+ghost use Rattle.wb_tasks.specs.Script.{Script, want, after_look};
 ghost use Rattle.wb_tasks.specs.Phases.{acquiring, after_seeing};
 
 use crate::step::{CellStep, Want};
-use wb_types::{Access, CBlock, OBlock, Refusal, Word};
+use wb_types::{Access, CBlock, OBlock, Refusal, Word, can_take, is_dirty, place_in};
 
 /// Where a task stands on its way to its block.
 #[derive(Clone, Copy)]
@@ -54,30 +54,9 @@ impl Acquire {
             Acquire::Lock if can_take(access, word) => Seen::Next(Acquire::Exchange),
             Acquire::Lock => Seen::Refused(Refusal::Busy),
             Acquire::Exchange => Seen::Next(Acquire::Seal),
-            Acquire::Seal => Seen::Next(Acquire::Number(place_in(word), word % 2 == 1)),
+            Acquire::Seal => Seen::Next(Acquire::Number(place_in(word), is_dirty(word))),
             Acquire::Number(_, _) if access == Access::Owned && word == u64::MAX => Seen::Worn,
             Acquire::Number(place, dirty) => Seen::Holds(place, dirty),
         }
     }
-}
-
-/// Whether a block with this lock word can be taken.
-pub fn can_take(access: Access, word: u64) -> bool
-    ensures { result ≡ can_take_word access word }
-{
-    match access {
-        Access::Shared => word % 2 == 0 && word < (1 << 21) - 2,
-        Access::Owned => word == 0,
-    }
-}
-
-/// The place in a seal.
-fn place_in(seal: u64) -> Option<CBlock>
-    ensures { result ≡ place_in seal }
-{
-    let place = seal / 2;
-    if place == 0 || place > 1 << 32 {
-        return None;
-    }
-    Some(CBlock((place - 1) as u32))
 }

@@ -1,17 +1,17 @@
 //! The shared words of one owner, as plain lists.
 
 ghost use Rattle.std.specs.Prelude.{◌≡◌, slice_set, IfOk, IfErr};
-ghost use Rattle.wb_tasks.specs.Words.{fresh_words, value_of, cell_got, words_after, card_after, counted, failed_card, word_at as word_in, given_back, seal_word};
+ghost use Rattle.wb_types.specs.Words.{fresh_words, value_of, counted, word_at as word_in, given_back};
+ghost use Rattle.wb_tasks.specs.Words.{cell_got, words_after, card_after, failed_card};
 ghost use Rattle.wb_tasks.specs.Script.{Fits};
 ghost use Rattle.wb_tasks.specs.declared.step.Want.TheVariants.{Cell};
 ghost use Rattle.wb_tasks.specs.declared.step.CellStep.TheVariants.{Look, Take};
 
-use crate::acquire::can_take;
 use crate::card::{Card, Held};
 use crate::step::{CellStep, Got};
 use std::alloc::Global;
 use std::marker::Model;
-use wb_types::{Access, CBlock, Kind, OBlock, Refusal, Word};
+use wb_types::{Access, Kind, OBlock, Refusal, Word, can_take, seal_word};
 
 /// The shared words of one owner: by block of the origin its lock word, its seal and its number, four
 /// statistics, and the fail word. A block past the last one reads 0, and nothing is stored for it.
@@ -28,7 +28,7 @@ pub struct Words {
 }
 
 impl Model for Words {
-    ghost use Rattle.wb_tasks.specs.Words.{Words as WordLists};
+    ghost use Rattle.wb_types.specs.Words.{Words as WordLists};
 
     ghost Value = { WordLists };
 
@@ -191,17 +191,6 @@ fn given_back(access: Access, cell: u64) -> u64
         Access::Shared => cell.saturating_sub(2),
         Access::Owned => 0,
     }
-}
-
-/// The seal of a block that stands at this place.
-fn seal_word(place: Option<CBlock>, dirty: bool) -> u64
-    ensures { result ≡ seal_word place dirty }
-{
-    let place = match place {
-        None => 0,
-        Some(CBlock(c)) => u64::from(c) + 1,
-    };
-    2 * place + u64::from(dirty)
 }
 
 /// At a failure what is owned is kept for good.

@@ -19,7 +19,7 @@ pub use message::{CBlockRange, CBlockRanges, Key, Message};
 pub use mode::{Dev, Mode};
 pub use number::{CBlock, OBlock, Place, Sector};
 pub use refusal::Refusal;
-pub use word::{Access, Kind, Word};
+pub use word::{Access, Kind, Word, can_take, is_dirty, place_in, seal_word};
 
 /// How many bytes a sector has.
 pub const SECTOR_BYTES: usize = 512;

@@ -1,7 +1,7 @@
 -- The steps of a request that count, finish and answer, and those that read.
 use Rattle.std.proofs.Common.{◌≡◌, ℕ, List, [], ◌++◌, Option, Some, None, refl, sym, ap, ◌∙◌, slice_get, slice_set, map, append-nil}
 use Rattle.wb_types.specs.declared.word.Kind.TheVariants.{ReadMiss, WriteMiss}
-use Rattle.wb_tasks.specs.Words.{counted, word_at, one_more}
+use Rattle.wb_types.specs.Words.{counted, word_at, one_more}
 use Rattle.wb_tasks.specs.declared.card.Card.{Card}
 use Rattle.wb_tasks.specs.declared.step.Answer.{Answer}
 use Rattle.wb_tasks.specs.declared.step.Answer.TheVariants.{Done as Finished, Refused as Refuses}

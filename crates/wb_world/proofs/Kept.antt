@@ -4,7 +4,7 @@ use Rattle.std.proofs.lemmas.Bool.{cases_eq}
 use Rattle.wb_types.specs.declared.number.OBlock.{OBlock}
 use Rattle.wb_disk.specs.Device.{History}
 use Rattle.wb_tasks.specs.Script.{Script}
-use Rattle.wb_tasks.specs.Words.{Words, word_at}
+use Rattle.wb_types.specs.Words.{Words, word_at}
 use Rattle.wb_tasks.specs.declared.card.Card.{Card}
 use Rattle.wb_tasks.specs.declared.card.Held.TheVariants.{Nothing}
 use Rattle.wb_tasks.specs.declared.step.Want.{Want}

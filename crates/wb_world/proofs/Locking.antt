@@ -2,7 +2,7 @@
 use Rattle.std.proofs.Common.{◌≡◌, ◌≢◌, ◌<◌, ◌+◌, ◌==◌, ℕ, zero, suc, List, [], ◌∷◌, refl, sym, ap, ◌∙◌, arith, slice_get, slice_set, length}
 use Rattle.std.proofs.lemmas.Bool.{eq-eqb, ne_eqb}
 use Rattle.wb_types.specs.declared.number.OBlock.{OBlock}
-use Rattle.wb_tasks.specs.Words.{with_cell}
+use Rattle.wb_types.specs.Words.{with_cell}
 use Rattle.wb_tasks.specs.declared.card.Card.{Card}
 use Rattle.wb_world.specs.declared.job.Job.{Job}
 use Rattle.wb_world.specs.World.{Shape, State, task_job}

@@ -4,8 +4,8 @@ use Rattle.std.proofs.lemmas.Bool.{eqb-true}
 use Rattle.wb_types.specs.declared.refusal.Refusal.TheVariants.{Failed, Busy, Worn}
 use Rattle.wb_types.specs.declared.word.Word.TheVariants.{Cell as LockWord, Seal as SealWord, Number, Fail}
 use Rattle.wb_tasks.specs.Job.{access_of, work}
-use Rattle.wb_tasks.specs.Script.{Script, can_take, is_worn}
-use Rattle.wb_tasks.specs.Words.{Words, word_at}
+use Rattle.wb_types.specs.Words.{can_take, Words, word_at}
+use Rattle.wb_tasks.specs.Script.{Script, is_worn}
 use Rattle.wb_tasks.specs.declared.card.Card.{Card}
 use Rattle.wb_tasks.specs.declared.step.Answer.TheVariants.{Done as Finished, Refused as Refuses}
 use Rattle.wb_tasks.specs.declared.step.CellStep.TheVariants.{Look, Take}

@@ -5,7 +5,8 @@ use Rattle.std.specs.Int.Bits.{bit_or}
 use Rattle.wb_types.specs.declared.refusal.Refusal.{Refusal}
 use Rattle.wb_types.specs.declared.word.Access.TheVariants.{Shared, Owned}
 use Rattle.wb_tasks.specs.Job.{access_of}
-use Rattle.wb_tasks.specs.Words.{word_at, holding, failed_card}
+use Rattle.wb_types.specs.Words.{word_at}
+use Rattle.wb_tasks.specs.Words.{holding, failed_card}
 use Rattle.wb_tasks.specs.declared.card.Card.{Card}
 use Rattle.wb_tasks.specs.declared.card.Held.TheVariants.{Nothing, Shares, Owns}
 use Rattle.wb_tasks.specs.declared.step.Answer.{Answer}

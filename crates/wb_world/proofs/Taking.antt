@@ -4,7 +4,8 @@ use Rattle.std.proofs.lemmas.Bool.{eqb-true}
 use Rattle.std.specs.Prelude.{if◌then◌else◌}
 use Rattle.wb_types.specs.declared.word.Access.TheVariants.{Shared, Owned}
 use Rattle.wb_tasks.specs.Job.{access_of}
-use Rattle.wb_tasks.specs.Words.{word_at, wins}
+use Rattle.wb_types.specs.Words.{word_at}
+use Rattle.wb_tasks.specs.Words.{wins}
 use Rattle.wb_tasks.specs.declared.card.Card.{Card}
 use Rattle.wb_tasks.specs.declared.card.Held.TheVariants.{Shares, Owns}
 use Rattle.wb_tasks.specs.declared.step.CellStep.TheVariants.{Take}

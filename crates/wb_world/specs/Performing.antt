@@ -1,7 +1,7 @@
 -- What one step does to the device, the words and what an actor knows.
 use Rattle.std.specs.Prelude.{◌≡◌, Bool, List, Option, unwrap_or}
 use Rattle.wb_disk.specs.Device.{History}
-use Rattle.wb_tasks.specs.Words.{Words}
+use Rattle.wb_types.specs.Words.{Words}
 use Rattle.wb_tasks.specs.declared.card.Card.{Card}
 use Rattle.wb_tasks.specs.declared.step.Want.{Want}
 use Rattle.wb_tasks.specs.declared.step.Got.{Got}

@@ -8,7 +8,8 @@ use Rattle.wb_disk.specs.Memory.{blank}
 use Rattle.wb_disk.specs.Crash.{Applies, crashed}
 use Rattle.wb_tasks.specs.Job.{Job as TaskJob, Reading, Writing, Part, sectors_from}
 use Rattle.wb_tasks.specs.Script.{Script, table, want, after}
-use Rattle.wb_tasks.specs.Words.{Words, fresh_words, blank_card, cell_got, words_after, card_after}
+use Rattle.wb_types.specs.Words.{Words, fresh_words}
+use Rattle.wb_tasks.specs.Words.{blank_card, cell_got, words_after, card_after}
 use Rattle.wb_tasks.specs.declared.card.Card.{Card}
 use Rattle.wb_tasks.specs.declared.step.DeviceStep.TheVariants.{Read as ReadSector, Write as WriteSector}
 use Rattle.wb_tasks.specs.declared.step.Want.{Want}

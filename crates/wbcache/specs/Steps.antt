@@ -1,7 +1,8 @@
 use Rattle.std.specs.Prelude.{◌≡◌, ◌⊎◌, ◌≤◌, ◌-◌, List, slice_set}
 use Rattle.wb_types.specs.declared.mode.Dev.TheVariants.{Origin}
 use Rattle.wb_disk.specs.Device.{History, Content as SectorContent, Gives, written}
-use Rattle.wb_tasks.specs.Words.{Words, cell_got, words_after, card_after}
+use Rattle.wb_types.specs.Words.{Words}
+use Rattle.wb_tasks.specs.Words.{cell_got, words_after, card_after}
 use Rattle.wb_tasks.specs.declared.card.Card.{Card}
 use Rattle.wb_tasks.specs.declared.step.DeviceStep.TheVariants.{Read, Write}
 use Rattle.wb_tasks.specs.declared.step.Want.{Want}

@@ -1,7 +1,7 @@
 //! Reads and writes of one client on the origin.
 
 ghost use Rattle.std.specs.Prelude.{◌≡◌, ◌≢◌, ◌<◌, ◌≤◌, ◌+◌, ◌*◌, ◌^◌, IfOk, IfErr, OnOk, OnErr, IsErrOf, replicate};
-ghost use Rattle.wb_tasks.specs.Words.{fresh_words};
+ghost use Rattle.wb_types.specs.Words.{fresh_words};
 ghost use Rattle.wbcache.specs.Request.{IsInside, AsksInside};
 
 use crate::line::Line;

@@ -1,7 +1,8 @@
 //! Where one owner's requests are performed.
 
 ghost use Rattle.std.specs.Prelude.{◌≡◌, IfOk, IfErr};
-ghost use Rattle.wb_tasks.specs.Words.{fresh_words, blank_card};
+ghost use Rattle.wb_types.specs.Words.{fresh_words};
+ghost use Rattle.wb_tasks.specs.Words.{blank_card};
 ghost use Rattle.wb_tasks.specs.Script.{Fits};
 ghost use Rattle.wb_tasks.specs.declared.step.Want.TheVariants.{Device};
 ghost use Rattle.wb_tasks.specs.declared.step.DeviceStep.TheVariants.{Read, Write};
