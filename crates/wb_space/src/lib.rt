@@ -10,6 +10,8 @@ mod blocks;
 mod holding;
 mod places;
 mod space;
+#[cfg(test)]
+mod tests;
 
 pub use allocation::allocation_keeps_its_invariant;
 pub use bit_set::BitSet;
