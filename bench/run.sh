@@ -54,3 +54,33 @@ for blocks in 1024 1048575; do
   proved=$(seconds "$top/bin/wb_bench" sketch "$blocks" 20000000)
   printf '%-14s %9s %9s %9s\n' "$blocks blocks" "$plain" "$proved" "$(ratio "$proved" "$plain")"
 done
+
+printf '\n%-30s %9s %9s %9s %9s\n' 'space, calls' plain proved proved/plain 'ns a call'
+cc -O2 -o "$work/space" "$top/bench/space.c"
+turnover() { # cache blocks, rounds, removed blocks in a round
+  test "$("$work/space" "$1" 100 "$3")" = "$("$top/bin/wb_bench" space "$1" 100 "$3")" || { echo 'the spaces differ' >&2; exit 1; }
+  # A round begins and ends a commit. A removed block is removed, found as the least free one, reserved and mapped,
+  # and every second one is given back and reserved once more between.
+  calls=$(awk "BEGIN { print $2 * (2 + 5 * $3) }")
+  opening=$(seconds "$top/bin/wb_bench" space "$1" 0 "$3")
+  plain=$(seconds "$work/space" "$1" "$2" "$3")
+  proved=$(seconds "$top/bin/wb_bench" space "$1" "$2" "$3")
+  if test "$3" = 0; then plain=- against=-; else against=$(ratio "$proved" "$plain"); fi
+  printf '%-30s %9s %9s %9s %9s\n' "$1 blocks, $3 removed" "$plain" "$proved" "$against" \
+    "$(awk "BEGIN { printf \"%.1f\", ($proved - $opening) / $calls * 1e9 }")"
+}
+turnover 1024 1000000 8
+turnover 1048575 100000 8
+turnover 1024 10000000 0
+turnover 1048575 10000000 0
+
+resident() { # cache blocks: the KiB that are resident while the rounds run
+  "$top/bin/wb_bench" space "$1" 1000000000000 8 >/dev/null &
+  sleep 2
+  awk '/^VmRSS/ { print $2 }' "/proc/$!/status"
+  kill "$!"
+}
+few=$(resident 64)
+many=$(resident 1048575)
+printf '\nspace, resident: %s KiB with 64 blocks, %s KiB with 1048575, %s bytes a block\n' "$few" "$many" \
+  "$(awk "BEGIN { printf \"%.2f\", ($many - $few) * 1024 / (1048575 - 64) }")"

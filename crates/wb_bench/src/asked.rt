@@ -2,6 +2,8 @@
 
 ghost use Rattle.std.specs.Prelude.{◌≤◌};
 
+use crate::turnover::Turnover;
+
 /// Which way the sectors go.
 #[derive(Clone, Copy, Debug, PartialEq, Eq)]
 pub enum Direction {
@@ -25,6 +27,7 @@ pub struct Requests<'a> {
 pub enum Asked<'a> {
     Requests(Requests<'a>),
     Accesses { cache_blocks: u32, adds: u64 },
+    Turnover(Turnover),
 }
 
 /// Reads the words of the command line, the program's name first.
@@ -34,6 +37,13 @@ pub fn read_asked(words: &[String]) -> Option<Asked<'_>> {
             cache_blocks: cache_blocks.as_str().parse::<u32>().ok()?,
             adds: adds.as_str().parse::<u64>().ok()?,
         }),
+        [_, space, cache_blocks, rounds, removed] if space.as_str() == "space" => {
+            Some(Asked::Turnover(Turnover {
+                cache_blocks: cache_blocks.as_str().parse::<u32>().ok()?,
+                rounds: rounds.as_str().parse::<u64>().ok()?,
+                removed: removed.as_str().parse::<u64>().ok()?,
+            }))
+        }
         [_, file, direction, sectors, requests] => {
             let requests = requests.as_str().parse::<u64>().ok()?;
             let sectors = sectors.as_str().parse::<u64>().ok()?;

@@ -2,7 +2,9 @@
 //!
 //! `wb_bench FILE read|write SECTORS REQUESTS` drives so many requests of so many sectors each, up to a block of
 //! 64, one after another over all blocks of the file, and prints how many were done. `wb_bench sketch CACHE_BLOCKS
-//! ADDS` adds so many accesses to a frequency sketch, and prints the sum of every 1,024th estimate.
+//! ADDS` adds so many accesses to a frequency sketch, and prints the sum of every 1,024th estimate. `wb_bench space
+//! CACHE_BLOCKS ROUNDS REMOVED` removes so many blocks of a full cache in each round, commits, fills the cache again,
+//! and prints the sum of the blocks that were filled.
 #![tactic(auto)]
 
 ghost use Rattle.std.specs.Prelude.{◌<◌, ◌≤◌};
@@ -10,15 +12,17 @@ ghost use Rattle.std.specs.Prelude.{◌<◌, ◌≤◌};
 mod accesses;
 mod asked;
 mod stage;
+mod turnover;
 
 use crate::accesses::add_all;
 use crate::asked::{Asked, Direction, Requests, read_asked};
 use crate::stage::FileStage;
+use crate::turnover::turn_over;
 use std::env;
 use std::process::ExitCode;
 use wb_disk::{Disk, FileDisk};
 use wb_tasks::{Answer, ReadTask, WriteTask, drive};
-use wb_types::{OBlock, Sector};
+use wb_types::{OBlock, Refusal, Sector};
 
 /// Sectors of a block.
 const BLOCK: u32 = 64;
@@ -41,6 +45,11 @@ fn main(rt: HostRuntime) -> ExitCode {
         Asked::Requests(requests) => serve(&rt, &requests),
         Asked::Accesses { cache_blocks, adds } => match add_all(alloc, cache_blocks, adds) {
             Ok(sum) => print(&rt, sum),
+            Err(_) => failed(&rt, "out of memory"),
+        },
+        Asked::Turnover(turnover) => match turn_over(alloc, &turnover) {
+            Ok(sum) => print(&rt, sum),
+            Err(Refusal::Geometry) => failed(&rt, "no cache has so many blocks"),
             Err(_) => failed(&rt, "out of memory"),
         },
     }
@@ -102,7 +111,7 @@ fn drive_all(asked: &Requests<'_>, blocks: u64, stage: &mut FileStage) -> Option
 
 fn usage(rt: &HostRuntime) -> ExitCode {
     let _ = eprintln!(rt;
-        "usage: wb_bench FILE read|write SECTORS REQUESTS | sketch CACHE_BLOCKS ADDS"
+        "usage: wb_bench FILE read|write SECTORS REQUESTS | sketch CACHE_BLOCKS ADDS | space CACHE_BLOCKS ROUNDS REMOVED"
     );
     ExitCode::from(2)
 }

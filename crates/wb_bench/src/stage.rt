@@ -54,6 +54,8 @@ impl FileStage {
 }
 
 impl Stage for FileStage {
+    ghost ready = { λ stage want. Unit {0} };
+
     ghost led = { λ old want got new. Unit {0} };
 
     fn perform(&mut self, want: &Want) -> Got {

@@ -8,6 +8,7 @@ use Rattle.wb_types.specs.declared.word.Word.TheVariants.{Cell as LockWord, Seal
 use Rattle.wb_types.specs.Words.{place_in, dirty_in, can_take}
 use Rattle.wb_tasks.specs.Job.{Part, Job, access_of, Reading, Writing, work, read_step, write_step, read_count, write_count}
 use Rattle.wb_tasks.specs.Script.{Script, want, after, after_look, release, Fits, IsStep, first_step, is_worn}
+use Rattle.wb_tasks.specs.Ready.{AreFirst, left_by}
 use Rattle.wb_tasks.specs.Run.{IsRunOf, Leads}
 use Rattle.wb_tasks.specs.Length.{longest_work, longest_of, longest}
 use Rattle.wb_tasks.specs.declared.step.CellStep.TheVariants.{Look, Take, Release, Seal, Finish, Count, SetFailed, SetSuspended}
@@ -109,3 +110,17 @@ Leaves s steps t = (more : List (Want × Got)) (a : Answer) → IsRunOf t more a
 
 pub leaves_more : (s : Script) (steps : List (Want × Got)) (t : Script) (g : Got) → Leaves s steps t → Fits (want t) g → Leaves s (steps ++ (want t, g) ∷ []) (after t g)
 leaves_more s steps t g e h more a r = rw append_assoc (e ((want t, g) ∷ more) a (refl, h, r))
+
+-- they are the first steps of the task, and one more
+pub first_more : (s : Script) (steps : List (Want × Got)) (g : Got) → AreFirst s steps → Fits (want (left_by s steps)) g → AreFirst s (steps ++ (want (left_by s steps), g) ∷ [])
+first_more s [] g f h = (refl, h, tt)
+first_more s (step ∷ steps) g f h = (f.0, f.1, first_more (after s step.1) steps g f.2 h)
+
+pub left_more : (s : Script) (steps : List (Want × Got)) (w : Want) (g : Got) → left_by s (steps ++ (w, g) ∷ []) ≡ after (left_by s steps) g
+left_more s [] w g = refl
+left_more s (step ∷ steps) w g = left_more (after s step.1) steps w g
+
+-- a whole run is made of first steps
+pub run_first : (s : Script) (steps : List (Want × Got)) (answer : Answer) → IsRunOf s steps answer → AreFirst s steps × (want (left_by s steps) ≡ End answer)
+run_first s [] answer r = (tt, r)
+run_first s (step ∷ steps) answer r = let more = run_first (after s step.1) steps answer r.2 in ((r.0, r.1, more.0), more.1)

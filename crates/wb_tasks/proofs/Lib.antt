@@ -3,3 +3,5 @@ pub mod Reading
 pub mod Writing
 pub mod Driving
 pub mod Causing
+pub mod Crewing
+pub mod Readiness

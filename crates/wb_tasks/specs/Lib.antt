@@ -6,3 +6,5 @@ pub mod Causes
 pub mod Words
 pub mod Phases
 pub mod Requests
+pub mod Crews
+pub mod Ready

@@ -1,4 +1,4 @@
-use Rattle.std.specs.Prelude.{◌&&◌, ◌==◌, Bool, Some, None, slice_set, if◌then◌else◌}
+use Rattle.std.specs.Prelude.{◌&&◌, ◌==◌, ℕ, Bool, false, Option, Some, None, slice_set, if◌then◌else◌}
 use Rattle.std.specs.Int.Bits.{bit_or}
 use Rattle.wb_types.specs.declared.number.OBlock.{OBlock}
 use Rattle.wb_types.specs.declared.word.Access.{Access}
@@ -15,7 +15,7 @@ use Rattle.wb_tasks.specs.declared.step.Got.TheVariants.{Done, Word, Lost}
 
 -- an actor that has seen nothing yet
 abbrev pub blank_card : Card
-blank_card = record { held = Nothing; cell = 0; seal = 0; number = 0; kept = None }
+blank_card = record { held = Nothing; cell = 0; seal = 0; number = None; kept = None }
 
 -- whether the exchange of an actor that looked at this lock word succeeds
 abbrev pub wins : Words → Card → Access → OBlock → Bool
@@ -43,19 +43,30 @@ abbrev pub holding : Access → OBlock → Held
 holding Shared block = Shares block
 holding Owned block = Owns block
 
+-- whether it is this block that is held
+abbrev pub is_held : Held → OBlock → Bool
+is_held Nothing block = false
+is_held (Shares b) block = block.0 == b.0
+is_held (Owns b) block = block.0 == b.0
+
+-- one write more
+abbrev pub number_finished : Option ℕ → Option ℕ
+number_finished None = None
+number_finished (Some number) = Some (one_more number)
+
 -- at a failure what is owned is kept for good
 abbrev pub failed_card : Card → Held → Card
-failed_card card (Owns block) = record card { held = Nothing; kept = Some block }
+failed_card card (Owns block) = record card { held = Nothing; number = None; kept = Some block }
 failed_card card held = card
 
 -- What an actor knows after a cell step with this result.
 abbrev pub card_after : Card → CellStep → Got → Card
 card_after card (Look (LockWord block)) (Word value) = record card { cell = value }
 card_after card (Look (SealWord block)) (Word value) = record card { seal = value }
-card_after card (Look (Number block)) (Word value) = record card { number = value }
-card_after card (Take access block) Done = record card { held = holding access block }
-card_after card (Release access block) got = record card { held = Nothing }
+card_after card (Look (Number block)) (Word value) = record card { number = if is_held card.held block then Some value else card.number }
+card_after card (Take access block) Done = record card { held = holding access block; number = None }
+card_after card (Release access block) got = record card { held = Nothing; number = None }
 card_after card (Seal block place dirty) got = record card { seal = seal_word place dirty }
-card_after card (Finish block) got = record card { number = one_more card.number }
+card_after card (Finish block) got = record card { number = number_finished card.number }
 card_after card SetFailed got = failed_card card card.held
 card_after card step got = card

@@ -1,9 +1,14 @@
 //! What holds of every run of a request.
 
-ghost use Rattle.std.specs.Prelude.{◌≡◌, ◌+◌, ◌*◌, ◌≤◌, List, length};
+ghost use Rattle.std.specs.Prelude.{◌≡◌, ◌+◌, ◌*◌, ◌≤◌, ◌<◌, ℕ, List, length};
 ghost use Rattle.wb_types.specs.declared.refusal.Refusal.{Refusal as RefusalTerm};
 ghost use Rattle.wb_tasks.specs.Job.{Job, part_of, access_of};
-ghost use Rattle.wb_tasks.specs.Script.{table};
+ghost use Rattle.wb_tasks.specs.Script.{table, want};
+ghost use Rattle.wb_tasks.specs.Ready.{AreFirst, MayTake, card_by, left_by};
+ghost use Rattle.wb_tasks.specs.declared.card.Card.{Card as CardTerm};
+ghost use Rattle.wb_tasks.specs.declared.card.Held.TheVariants.{Nothing};
+ghost use Rattle.wb_tasks.specs.declared.step.Want.TheVariants.{End};
+ghost use Rattle.wb_tasks.specs.declared.step.Answer.{Answer as AnswerTerm};
 ghost use Rattle.wb_tasks.specs.Run.{IsRunOf};
 ghost use Rattle.wb_tasks.specs.Length.{longest};
 ghost use Rattle.wb_tasks.specs.Causes.{GaveCause};
@@ -24,4 +29,15 @@ pub fn step_bound()
 #[tactic(auto, using(crate::proofs::Causing::refuses_for_cause))]
 pub fn refusal_causes()
     ensures { (job : Job) (steps : List (WantTerm × GotTerm)) (refusal : RefusalTerm) → IsRunOf (table job) steps (Refuses refusal) → GaveCause (access_of job) refusal steps }
+{}
+
+/// The law that a read or write asks for a step on the shared words only where its actor is ready for it, whatever
+/// its steps have given so far: it has what it releases, seals or finishes, it takes a block where it has none, and
+/// a write finishes where its number has a next one. After the answer it has no block.
+#[tactic(auto, using(crate::proofs::Readiness::ends_holding_nothing))]
+pub fn steps_are_ready()
+    ensures ready { (blocks : ℕ) (job : Job) (card : CardTerm) (steps : List (WantTerm × GotTerm)) → (part_of job).block.0 < blocks → card.held ≡ Nothing → AreFirst (table job) steps →
+        MayTake blocks (card_by card steps) (want (left_by (table job) steps)) }
+    ensures ends { (job : Job) (card : CardTerm) (steps : List (WantTerm × GotTerm)) (answer : AnswerTerm) → card.held ≡ Nothing → AreFirst (table job) steps → want (left_by (table job) steps) ≡ End answer →
+        (card_by card steps).held ≡ Nothing }
 {}

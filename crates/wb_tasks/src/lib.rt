@@ -6,6 +6,7 @@
 
 mod acquire;
 mod card;
+mod crew;
 mod laws;
 mod read;
 mod request;
@@ -19,7 +20,8 @@ mod words;
 mod write;
 
 pub use card::{Card, Held};
-pub use laws::{refusal_causes, step_bound};
+pub use crew::step_in_crew;
+pub use laws::{refusal_causes, step_bound, steps_are_ready};
 pub use read::ReadTask;
 pub use request::RequestTask;
 pub use stage::{Stage, drive};

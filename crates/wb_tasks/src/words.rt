@@ -2,12 +2,13 @@
 
 ghost use Rattle.std.specs.Prelude.{◌≡◌, slice_set, IfOk, IfErr};
 ghost use Rattle.wb_types.specs.Words.{fresh_words, value_of, counted, word_at as word_in, given_back};
-ghost use Rattle.wb_tasks.specs.Words.{cell_got, words_after, card_after, failed_card};
+ghost use Rattle.wb_tasks.specs.Words.{card_after, cell_got, words_after};
 ghost use Rattle.wb_tasks.specs.Script.{Fits};
 ghost use Rattle.wb_tasks.specs.declared.step.Want.TheVariants.{Cell};
-ghost use Rattle.wb_tasks.specs.declared.step.CellStep.TheVariants.{Look, Take};
+ghost use Rattle.wb_tasks.specs.declared.step.CellStep.TheVariants.{Take};
+ghost use Rattle.wb_tasks.specs.declared.card.Card.{Card as CardTerm};
 
-use crate::card::{Card, Held};
+use crate::card::Card;
 use crate::step::{CellStep, Got};
 use std::alloc::Global;
 use std::marker::Model;
@@ -77,80 +78,56 @@ impl Words {
         ensures card { card.new ≡ card_after card.old step result }
         ensures kind { Fits (Cell step) result }
     {
+        let got = self.change(card.cell, step);
+        card.note(step, got);
+        got
+    }
+
+    /// What a cell step does to the words, by an actor that looked at this lock word.
+    fn change(&mut self, seen: u64, step: CellStep) -> Got
+        ensures result { (card : CardTerm) → card.cell ≡ seen → result ≡ cell_got self.old card step }
+        ensures words { (card : CardTerm) → card.cell ≡ seen → self.new ≡ words_after self.old card step result }
+        ensures kind { Fits (Cell step) result }
+    {
         match step {
-            CellStep::Look(word) => self.look_by(card, word),
-            CellStep::Take(access, block) => self.take(card, access, block),
+            CellStep::Look(word) => return Got::Word(self.look(word)),
+            CellStep::Take(access, block) => return self.take(seen, access, block),
             CellStep::Release(access, block) => {
                 let cell = given_back(access, word_at(self.cells.as_slice(), block));
                 store(&mut self.cells, block, cell);
-                card.held = Held::Nothing;
-                Got::Done
             }
             CellStep::Seal(block, place, dirty) => {
-                let seal = seal_word(place, dirty);
-                store(&mut self.seals, block, seal);
-                card.seal = seal;
-                Got::Done
+                store(&mut self.seals, block, seal_word(place, dirty));
             }
             CellStep::Finish(block) => {
                 let number = word_at(self.numbers.as_slice(), block).wrapping_add(1);
                 store(&mut self.numbers, block, number);
-                card.number = card.number.wrapping_add(1);
-                Got::Done
             }
             CellStep::Count(kind) => self.count(kind),
-            CellStep::SetFailed => {
-                self.fail |= 1;
-                keep(card);
-                Got::Done
-            }
-            CellStep::SetSuspended => {
-                self.fail |= 2;
-                Got::Done
-            }
-        }
-    }
-
-    fn look_by(&self, card: &mut Card, word: Word) -> Got
-        ensures result { result ≡ cell_got self.now card.old (Look word) }
-        ensures card { card.new ≡ card_after card.old (Look word) result }
-    {
-        let value = self.look(word);
-        match word {
-            Word::Cell(_) => card.cell = value,
-            Word::Seal(_) => card.seal = value,
-            Word::Number(_) => card.number = value,
-            Word::Count(_) | Word::Fail => {}
-        }
-        Got::Word(value)
-    }
-
-    fn take(&mut self, card: &mut Card, access: Access, block: OBlock) -> Got
-        ensures result { result ≡ cell_got self.old card.old (Take access block) }
-        ensures words { self.new ≡ words_after self.old card.old (Take access block) result }
-        ensures card { card.new ≡ card_after card.old (Take access block) result }
-        ensures kind { Fits (Cell (Take access block)) result }
-    {
-        let seen = card.cell;
-        if word_at(self.cells.as_slice(), block) != seen || !can_take(access, seen) {
-            return Got::Lost;
-        }
-        match access {
-            Access::Shared => {
-                store(&mut self.cells, block, seen + 2);
-                card.held = Held::Shares(block);
-            }
-            Access::Owned => {
-                store(&mut self.cells, block, 1);
-                card.held = Held::Owns(block);
-            }
+            CellStep::SetFailed => self.fail |= 1,
+            CellStep::SetSuspended => self.fail |= 2,
         }
         Got::Done
     }
 
-    fn count(&mut self, kind: Kind) -> Got
-        ensures result { result ≡ Got.Done }
-        ensures words { self.new ≡ counted self.old kind }
+    fn take(&mut self, seen: u64, access: Access, block: OBlock) -> Got
+        ensures result { (card : CardTerm) → card.cell ≡ seen → result ≡ cell_got self.old card (Take access block) }
+        ensures words { (card : CardTerm) → card.cell ≡ seen → self.new ≡ words_after self.old card (Take access block) result }
+        ensures kind { Fits (Cell (Take access block)) result }
+    {
+        if word_at(self.cells.as_slice(), block) != seen || !can_take(access, seen) {
+            return Got::Lost;
+        }
+        let cell = match access {
+            Access::Shared => seen + 2,
+            Access::Owned => 1,
+        };
+        store(&mut self.cells, block, cell);
+        Got::Done
+    }
+
+    fn count(&mut self, kind: Kind)
+        ensures { self.new ≡ counted self.old kind }
     {
         match kind {
             Kind::ReadHit => self.read_hits = self.read_hits.wrapping_add(1),
@@ -158,7 +135,6 @@ impl Words {
             Kind::WriteHit => self.write_hits = self.write_hits.wrapping_add(1),
             Kind::WriteMiss => self.write_misses = self.write_misses.wrapping_add(1),
         }
-        Got::Done
     }
 }
 
@@ -190,15 +166,5 @@ fn given_back(access: Access, cell: u64) -> u64
     match access {
         Access::Shared => cell.saturating_sub(2),
         Access::Owned => 0,
-    }
-}
-
-/// At a failure what is owned is kept for good.
-fn keep(card: &mut Card)
-    ensures { card.new ≡ failed_card card.old card.old.held }
-{
-    if let Held::Owns(block) = card.held {
-        card.held = Held::Nothing;
-        card.kept = Some(block);
     }
 }

@@ -3,7 +3,6 @@ use Rattle.std.proofs.Common.{◌≡◌, ◌≢◌, ◌≤◌, inl, inr, ℕ, Li
 use Rattle.std.proofs.lemmas.List.Elements.{Contains-append_left, Contains-append_right, Contains-append_cases}
 use Rattle.std.proofs.lemmas.Bool.{cases_eq}
 use Rattle.wb_disk.specs.Device.{Content, History, entries, last_of, newest, added, written, grown}
-use Rattle.wb_world.specs.Clerk.{with_entry, entered_in}
 use Rattle.wb_world.proofs.Lists.{get_set_same, get_set_other}
 
 -- the last of a list that grew
@@ -71,14 +70,6 @@ grown_other (Some h) c device at other n = get_set_other device at other (added 
 
 pub written_other : (device : List History) (at other : ℕ) (c : Content) → other ≢ at → slice_get (written device at c) other ≡ slice_get device other
 written_other device at other c n = grown_other (slice_get device at) c device at other n
-
--- the clerk enters a write as the device adds it
-pub entered-grown : (o : Option History) (histories : List History) (at : ℕ) (c : Content) → entered_in o c histories at ≡ grown o c histories at
-entered-grown None histories at c = refl
-entered-grown (Some h) histories at c = refl
-
-pub with_entry-written : (histories : List History) (at : ℕ) (c : Content) → with_entry histories at c ≡ written histories at c
-with_entry-written histories at c = entered-grown (slice_get histories at) histories at c
 
 -- Device and history both get the content.
 

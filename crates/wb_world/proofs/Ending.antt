@@ -2,6 +2,7 @@
 use Rattle.std.proofs.Common.{◌≡◌, ℕ, List, [], ◌++◌, Option, Some, None, refl, sym, ap, ◌∙◌, slice_get, slice_set, map, append-nil}
 use Rattle.wb_types.specs.declared.word.Kind.TheVariants.{ReadMiss, WriteMiss}
 use Rattle.wb_types.specs.Words.{counted, word_at, one_more}
+use Rattle.wb_tasks.specs.Words.{number_finished}
 use Rattle.wb_tasks.specs.declared.card.Card.{Card}
 use Rattle.wb_tasks.specs.declared.step.Answer.{Answer}
 use Rattle.wb_tasks.specs.declared.step.Answer.TheVariants.{Done as Finished, Refused as Refuses}
@@ -25,7 +26,7 @@ count_written shape w n a card (Read extent) doing k =
     let s = k.stands in
     good shape w n a (at_work shape card (Read extent) Counting) doing (Cell (Count ReadMiss)) Done k.actor k.noted
     (quietly shape w n a card card (Read extent) doing Counting (script_in (task_job shape (Read extent)) Releasing) (counted w.words ReadMiss) k
-    (acts shape card (Read extent) doing Releasing (slice_get n.doings a) k.noted (record { held_is = s.held_is; job_is = s.job_is; left_is = s.left_is; owns = tt; kept_is = s.kept_is; so_far = s.so_far; in_block = s.in_block; inside = s.inside }))
+    (acts shape card (Read extent) doing Releasing (slice_get n.doings a) k.noted (record { held_is = s.held_is; job_is = s.job_is; left_is = s.left_is; owns = tt; kept_is = s.kept_is; so_far = s.so_far; in_block = s.in_block; inside = s.inside; number_is = tt }))
     refl refl refl refl refl refl refl)
     tt
 count_written shape w n a card (Write extent content) doing k =
@@ -33,7 +34,7 @@ count_written shape w n a card (Write extent content) doing k =
     let job = Write extent content in
     good shape w n a (at_work shape card job Counting) doing (Cell (Count WriteMiss)) Done k.actor k.noted
     (quietly shape w n a card card job doing Counting (script_in (task_job shape job) Releasing) (counted w.words WriteMiss) k
-    (acts shape card job doing Releasing (slice_get n.doings a) k.noted (record { held_is = s.held_is; job_is = s.job_is; left_is = s.left_is; owns = tt; kept_is = s.kept_is; so_far = s.so_far; in_block = s.in_block; inside = s.inside }))
+    (acts shape card job doing Releasing (slice_get n.doings a) k.noted (record { held_is = s.held_is; job_is = s.job_is; left_is = s.left_is; owns = tt; kept_is = s.kept_is; so_far = s.so_far; in_block = s.in_block; inside = s.inside; number_is = tt }))
     refl refl refl refl refl refl refl)
     tt
 
@@ -45,17 +46,17 @@ moved_all shape w n a card (Read extent) doing k =
     let job = Read extent in
     good shape w n a (at_work shape card job (Moving [])) doing (Cell (Count ReadMiss)) Done k.actor k.noted
     (quietly shape w n a card card job doing (Moving []) (script_in (task_job shape job) Releasing) (counted w.words ReadMiss) k
-    (acts shape card job doing Releasing (slice_get n.doings a) k.noted (record { held_is = s.held_is; job_is = s.job_is; left_is = s.left_is; owns = tt; kept_is = s.kept_is; so_far = s.so_far; in_block = s.in_block; inside = s.inside }))
+    (acts shape card job doing Releasing (slice_get n.doings a) k.noted (record { held_is = s.held_is; job_is = s.job_is; left_is = s.left_is; owns = tt; kept_is = s.kept_is; so_far = s.so_far; in_block = s.in_block; inside = s.inside; number_is = tt }))
     refl refl refl refl refl refl refl)
     tt
 moved_all shape w n a card (Write extent content) doing k =
     let s = k.stands in
     let job = Write extent content in
     let block = block_of (task_job shape job) in
-    let card' : Card = record card { number = one_more card.number } in
+    let card' : Card = record card { number = number_finished card.number } in
     good shape w n a (at_work shape card job (Moving [])) doing (Cell (Finish block)) Done k.actor k.noted
     (quietly shape w n a card card' job doing (Moving []) (script_in (task_job shape job) Counting) (record w.words { numbers = slice_set w.words.numbers block.0 (one_more (word_at w.words.numbers block)) }) k
-    (acts shape card' job doing Counting (slice_get n.doings a) k.noted (record { held_is = s.held_is; job_is = s.job_is; left_is = s.left_is; owns = tt; kept_is = s.kept_is; so_far = s.so_far; in_block = s.in_block; inside = s.inside }))
+    (acts shape card' job doing Counting (slice_get n.doings a) k.noted (record { held_is = s.held_is; job_is = s.job_is; left_is = s.left_is; owns = tt; kept_is = s.kept_is; so_far = s.so_far; in_block = s.in_block; inside = s.inside; number_is = tt }))
     refl refl refl refl refl refl refl)
     tt
 

@@ -1,3 +1,4 @@
+pub mod Agreeing
 pub mod Contents
 pub mod Ending
 pub mod Happening
@@ -7,6 +8,7 @@ pub mod Locking
 pub mod Looking
 pub mod Phases
 pub mod Reading
+pub mod Ready
 pub mod Releasing
 pub mod Rule
 pub mod Runs

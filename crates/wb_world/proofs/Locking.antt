@@ -1,6 +1,7 @@
 -- The steps of a request that take a block, give it back, or keep it for good.
-use Rattle.std.proofs.Common.{◌≡◌, ◌≢◌, ◌<◌, ◌+◌, ◌==◌, ℕ, zero, suc, List, [], ◌∷◌, refl, sym, ap, ◌∙◌, arith, slice_get, slice_set, length}
+use Rattle.std.proofs.Common.{◌≡◌, ◌≢◌, ◌<◌, ◌+◌, ◌==◌, ℕ, refl, sym, ap, ◌∙◌, arith, slice_get, slice_set, length}
 use Rattle.std.proofs.lemmas.Bool.{eq-eqb, ne_eqb}
+use Rattle.std.proofs.lemmas.List.{length-set}
 use Rattle.wb_types.specs.declared.number.OBlock.{OBlock}
 use Rattle.wb_types.specs.Words.{with_cell}
 use Rattle.wb_tasks.specs.declared.card.Card.{Card}
@@ -33,7 +34,7 @@ locked shape w n a card card' job doing phase phase' v k l =
     moved shape w n a x y (with_cell w.words block v) w.device n k.kept k.actor (record {
       others = λ b m. refl;
       stands = acts shape card' job doing phase' (slice_get n.doings a) k.noted l.stands;
-      cells = length-slice_set w.words.cells block.0 v;
+      cells = length-set w.words.cells block.0 v;
       seals = refl;
       fail = omega arith;
       keeps = rw l.kept (k.kept.failed a x k.actor);
@@ -44,11 +45,6 @@ locked shape w n a card card' job doing phase phase' v k l =
       last = last_same shape w n a x y w.device n.histories k.actor l.stale (k.kept.last a x k.actor);
       floors = refl;
     })
-  where
-    length-slice_set : (xs : List ℕ) (i v : ℕ) → length (slice_set xs i v) ≡ length xs
-    length-slice_set [] i v = refl
-    length-slice_set (x ∷ xs) zero v = refl
-    length-slice_set (x ∷ xs) (suc i) v = ap suc (length-slice_set xs i v)
 
 -- a number is another block's, or it is not
 pub other_block : (b : ℕ) (block : OBlock) → b ≢ block.0 → one_if (block.0 == b) ≡ 0

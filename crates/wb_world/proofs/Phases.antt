@@ -8,6 +8,7 @@ use Rattle.wb_types.specs.declared.word.Kind.TheVariants.{ReadMiss, WriteMiss}
 use Rattle.wb_types.specs.declared.word.Word.TheVariants.{Cell as LockWord, Seal as SealWord, Number}
 use Rattle.wb_tasks.specs.Job.{Job as TaskJob, Reading, Writing, part_of, access_of, acquire, work}
 use Rattle.wb_tasks.specs.Script.{Script, release}
+use Rattle.wb_tasks.specs.Ready.{HasNext}
 use Rattle.wb_tasks.specs.Words.{holding}
 use Rattle.wb_tasks.specs.declared.card.Card.{Card}
 use Rattle.wb_tasks.specs.declared.card.Held.{Held}
@@ -105,6 +106,15 @@ abbrev pub OwnsIn : Phase → TaskJob → Type 0
 OwnsIn (Failing refusal) job = access_of job ≡ Owned
 OwnsIn phase job = Unit {0}
 
+-- a write knows the number of its block from the look at it on, and that there is a next one
+abbrev pub NumberKnown : TaskJob → Option ℕ → Type 0
+NumberKnown (Reading part) number = Unit {0}
+NumberKnown (Writing part) number = HasNext number
+
+abbrev pub NumberIn : Phase → TaskJob → Option ℕ → Type 0
+NumberIn (Moving left) job number = NumberKnown job number
+NumberIn phase job number = Unit {0}
+
 -- an actor that kept a block at a failure gets no further than the fail word
 abbrev pub KeptIn : Phase → Option OBlock → Type 0
 KeptIn FailLook kept = Unit {0}
@@ -131,3 +141,4 @@ pub record Stands (shape : Shape) (card : Card) (job : Job) (doing : Doing) (pha
   pub so_far : SoFar doing job
   pub in_block : AllIn shape.block_sectors (block_of (task_job shape job)).0 doing.left
   pub inside : (block_of (task_job shape job)).0 < shape.origin_blocks
+  pub number_is : NumberIn phase (task_job shape job) card.number

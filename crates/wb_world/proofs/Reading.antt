@@ -85,6 +85,7 @@ read_sector shape w n a card extent doing at left k (Some h) e =
         so_far = read_so_far doing extent at left (newest h) latest s.left_is is_last s.so_far;
         in_block = in_block.1;
         inside = s.inside;
+        number_is = s.number_is;
       });
       held = refl;
       kept = refl;
@@ -108,7 +109,7 @@ read_failed shape w n a landed card extent doing at left k true =
     good_fault shape w n a landed (at_work shape card job (Moving (at ∷ left))) doing (Device (ReadSector Origin at)) Fault k.actor k.noted
     (subst (λ (device : List History). Kept shape (record { device = device; words = w.words; actors = slice_set w.actors a (at_work shape card job (GivingBack (Io Origin))) }) n) (unchanged landed)
     (quietly shape w n a card card job doing (Moving (at ∷ left)) (script_in (task_job shape job) (GivingBack (Io Origin))) w.words k
-    (acts shape card job doing (GivingBack (Io Origin)) (slice_get n.doings a) k.noted (record { held_is = s.held_is; job_is = s.job_is; left_is = tt; owns = tt; kept_is = s.kept_is; so_far = s.so_far; in_block = s.in_block; inside = s.inside }))
+    (acts shape card job doing (GivingBack (Io Origin)) (slice_get n.doings a) k.noted (record { held_is = s.held_is; job_is = s.job_is; left_is = tt; owns = tt; kept_is = s.kept_is; so_far = s.so_far; in_block = s.in_block; inside = s.inside; number_is = tt }))
     refl refl refl refl refl refl refl))
   where
     unchanged : (landed : Bool) → w.device ≡ device_failed landed w.device (Read extent) (Device (ReadSector Origin at))

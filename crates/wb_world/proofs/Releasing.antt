@@ -46,18 +46,18 @@ pub record GivesBack (shape : Shape) (card : Card) (job : Job) (doing : Doing) (
 
 unshared : (shape : Shape) (w : State) (n : Notes) (a : ℕ) (card : Card) (job : Job) (doing : Doing) (phase : Phase) (answer : Answer) → access_of (task_job shape job) ≡ Shared →
     Working shape w n a card job doing phase → GivesBack shape card job doing phase answer →
-    Locks shape w n a card (record card { held = Nothing }) job doing phase (Ending answer) (word_at w.words.cells (block_of (task_job shape job)) - 2)
+    Locks shape w n a card (record card { held = Nothing; number = None }) job doing phase (Ending answer) (word_at w.words.cells (block_of (task_job shape job)) - 2)
 unshared shape w n a card job doing phase answer shared k g =
     let s = k.stands in
     let block = block_of (task_job shape job) in
-    let card' : Card = record card { held = Nothing } in
+    let card' : Card = record card { held = Nothing; number = None } in
     let x = at_work shape card job phase in
     let y = at_work shape card' job (Ending answer) in
     let held : card.held ≡ Shares block = s.held_is ∙ g.held ∙ ap (λ access. holding access block) shared in
     let one : shares block.0 x ≡ 1 = ap (shared_by block.0) held ∙ same_block block in
     let unowned : owns block.0 y ≡ owns block.0 x = ap (λ i. i + kept_by block.0 card.kept) (sym (ap (owned_by block.0) held)) in
     record {
-      stands = record { held_is = refl; job_is = s.job_is; left_is = g.left; owns = tt; kept_is = tt; so_far = s.so_far; in_block = s.in_block; inside = s.inside };
+      stands = record { held_is = refl; job_is = s.job_is; left_is = g.left; owns = tt; kept_is = tt; so_far = s.so_far; in_block = s.in_block; inside = s.inside; number_is = tt };
       kept = refl;
       others = λ b m. (sym (ap (shared_by b) held ∙ other_block b block m), sym (ap (owned_by b) held));
       stale = λ b. rw g.not_failing refl;
@@ -68,18 +68,18 @@ unshared shape w n a card job doing phase answer shared k g =
 
 disowned : (shape : Shape) (w : State) (n : Notes) (a : ℕ) (card : Card) (job : Job) (doing : Doing) (phase : Phase) (answer : Answer) → access_of (task_job shape job) ≡ Owned →
     Working shape w n a card job doing phase → GivesBack shape card job doing phase answer →
-    Locks shape w n a card (record card { held = Nothing }) job doing phase (Ending answer) 0
+    Locks shape w n a card (record card { held = Nothing; number = None }) job doing phase (Ending answer) 0
 disowned shape w n a card job doing phase answer owned k g =
     let s = k.stands in
     let block = block_of (task_job shape job) in
-    let card' : Card = record card { held = Nothing } in
+    let card' : Card = record card { held = Nothing; number = None } in
     let x = at_work shape card job phase in
     let y = at_work shape card' job (Ending answer) in
     let held : card.held ≡ Owns block = s.held_is ∙ g.held ∙ ap (λ access. holding access block) owned in
     let one : owned_by block.0 card.held ≡ 1 = ap (owned_by block.0) held ∙ same_block block in
     let unshared : shares block.0 y ≡ shares block.0 x = sym (ap (shared_by block.0) held) in
     record {
-      stands = record { held_is = refl; job_is = s.job_is; left_is = g.left; owns = tt; kept_is = tt; so_far = s.so_far; in_block = s.in_block; inside = s.inside };
+      stands = record { held_is = refl; job_is = s.job_is; left_is = g.left; owns = tt; kept_is = tt; so_far = s.so_far; in_block = s.in_block; inside = s.inside; number_is = tt };
       kept = refl;
       others = λ b m. (sym (ap (shared_by b) held), sym (ap (owned_by b) held ∙ other_block b block m));
       stale = λ b. rw g.not_failing refl;
@@ -95,14 +95,14 @@ releasing shape w n a card (Read extent) doing k =
     let job = Read extent in
     let block = block_of (task_job shape job) in
     good shape w n a (at_work shape card job Releasing) doing (Cell (Release Shared block)) Done k.actor k.noted
-    (locked shape w n a card (record card { held = Nothing }) job doing Releasing (Ending Finished) (word_at w.words.cells block - 2) k
+    (locked shape w n a card (record card { held = Nothing; number = None }) job doing Releasing (Ending Finished) (word_at w.words.cells block - 2) k
     (unshared shape w n a card job doing Releasing Finished refl k (record { held = refl; left = k.stands.left_is; not_failing = refl })))
     tt
 releasing shape w n a card (Write extent content) doing k =
     let job = Write extent content in
     let block = block_of (task_job shape job) in
     good shape w n a (at_work shape card job Releasing) doing (Cell (Release Owned block)) Done k.actor k.noted
-    (locked shape w n a card (record card { held = Nothing }) job doing Releasing (Ending Finished) 0 k
+    (locked shape w n a card (record card { held = Nothing; number = None }) job doing Releasing (Ending Finished) 0 k
     (disowned shape w n a card job doing Releasing Finished refl k (record { held = refl; left = k.stands.left_is; not_failing = refl })))
     tt
 
@@ -113,14 +113,14 @@ giving_back shape w n a card (Read extent) doing refusal k =
     let job = Read extent in
     let block = block_of (task_job shape job) in
     good shape w n a (at_work shape card job (GivingBack refusal)) doing (Cell (Release Shared block)) Done k.actor k.noted
-    (locked shape w n a card (record card { held = Nothing }) job doing (GivingBack refusal) (Ending (Refuses refusal)) (word_at w.words.cells block - 2) k
+    (locked shape w n a card (record card { held = Nothing; number = None }) job doing (GivingBack refusal) (Ending (Refuses refusal)) (word_at w.words.cells block - 2) k
     (unshared shape w n a card job doing (GivingBack refusal) (Refuses refusal) refl k (record { held = refl; left = tt; not_failing = refl })))
     tt
 giving_back shape w n a card (Write extent content) doing refusal k =
     let job = Write extent content in
     let block = block_of (task_job shape job) in
     good shape w n a (at_work shape card job (GivingBack refusal)) doing (Cell (Release Owned block)) Done k.actor k.noted
-    (locked shape w n a card (record card { held = Nothing }) job doing (GivingBack refusal) (Ending (Refuses refusal)) 0 k
+    (locked shape w n a card (record card { held = Nothing; number = None }) job doing (GivingBack refusal) (Ending (Refuses refusal)) 0 k
     (disowned shape w n a card job doing (GivingBack refusal) (Refuses refusal) refl k (record { held = refl; left = tt; not_failing = refl })))
     tt
 
@@ -132,7 +132,7 @@ failing shape w n a card job doing refusal k =
     let block = block_of (task_job shape job) in
     let held : card.held ≡ Owns block = s.held_is ∙ ap (λ access. holding access block) s.owns in
     let none : card.kept ≡ None = s.kept_is in
-    let card' : Card = record card { held = Nothing; kept = Some block } in
+    let card' : Card = record card { held = Nothing; number = None; kept = Some block } in
     let x = at_work shape card job (Failing refusal) in
     let y = at_work shape card' job (Ending (Refuses refusal)) in
     let words = record w.words { fail = bit_or w.words.fail 1 } in
@@ -141,7 +141,7 @@ failing shape w n a card job doing refusal k =
     good shape w n a x doing (Cell SetFailed) Done k.actor k.noted
     (rw now_kept (moved shape w n a x y words w.device n k.kept k.actor (record {
       others = λ b m. refl;
-      stands = acts shape card' job doing (Ending (Refuses refusal)) (slice_get n.doings a) k.noted (record { held_is = refl; job_is = s.job_is; left_is = tt; owns = tt; kept_is = tt; so_far = s.so_far; in_block = s.in_block; inside = s.inside });
+      stands = acts shape card' job doing (Ending (Refuses refusal)) (slice_get n.doings a) k.noted (record { held_is = refl; job_is = s.job_is; left_is = tt; owns = tt; kept_is = tt; so_far = s.so_far; in_block = s.in_block; inside = s.inside; number_is = tt });
       cells = refl;
       seals = refl;
       fail = le_or_l w.words.fail 1;

@@ -1,6 +1,7 @@
 -- Whole runs: each record keeps what is kept, so every answer is right and a crash leaves what was written.
-use Rattle.std.proofs.Common.{◌≡◌, ◌≤◌, ◌<◌, ◌+◌, ◌-◌, ◌*◌, ◌/◌, ◌&&◌, inl, inr, ℕ, zero, suc, Bool, true, false, List, [], ◌∷◌, Option, Some, None, refl, sym, ap, subst, ◌∙◌, arith, slice_get, slice_set, unwrap_or, length, replicate, Contains, mul_comm}
+use Rattle.std.proofs.Common.{◌≡◌, ◌≤◌, ◌<◌, ◌+◌, ◌-◌, ◌*◌, ◌/◌, ◌&&◌, inl, inr, ℕ, zero, suc, Bool, true, false, List, [], ◌∷◌, Option, Some, None, refl, sym, ap, subst, ◌∙◌, arith, slice_get, slice_set, unwrap_or, replicate, Contains, mul_comm}
 use Rattle.std.proofs.lemmas.Bool.{eqb-true, leb-true}
+use Rattle.std.proofs.lemmas.List.{length-replicate}
 use Rattle.std.proofs.lemmas.List.Elements.{Contains-push_cases}
 use Rattle.std.proofs.lemmas.Nat.{div_below, le-div}
 use Rattle.std.proofs.lemmas.Option.{slice_get-get_or}
@@ -28,7 +29,7 @@ use Rattle.wb_world.specs.declared.event.Record.{Record}
 use Rattle.wb_world.specs.World.{Shape, State, start, resting, task_job, extent_of, sector_count, job_refusal, is_in_one_block, started_or, free_outcome, start_outcome, task_outcome, step_outcome, task_failure, fault_outcome, MayBe, IsRun, after_what, after_record, after_all, after_crash, given}
 use Rattle.wb_world.specs.Clerk.{Notes, Doing, opened, begun, noted_what, note, noted}
 use Rattle.wb_world.specs.Headline.{AnswersRightly, ReadsLatest, IsAllowed, CrashConsistent}
-use Rattle.wb_world.proofs.Lists.{get_set_same, get_set_other}
+use Rattle.wb_world.proofs.Lists.{get_set_same, get_set_other, replicated}
 use Rattle.wb_world.proofs.Contents.{Holds, HoldsLast, Same}
 use Rattle.wb_world.proofs.Kept.{ActingOn, Kept, quiet, Good, GoodFault, stale_of}
 use Rattle.wb_world.proofs.Phases.{Phase, FailLook, LockLook, Taking, SealLook, NumberLook, Moving, Counting, Releasing, GivingBack, Failing, Ending, Stands, AllIn, script_in}
@@ -153,6 +154,7 @@ begun_stands shape card (Read extent) held m = record {
   so_far = (refl, λ k d b. absurd (omega arith));
   in_block = all_in shape.block_sectors (extent.first.0 / shape.block_sectors) extent.first.0 (extent.first.0 + extent.count - 1) extent.first.0 extent.count (some_sectors shape extent m) refl (sym m.one_block) (omega arith) (omega (arith, m.some));
   inside = div_below extent.first.0 shape.block_sectors shape.origin_blocks (some_sectors shape extent m) (first_inside shape extent m);
+  number_is = tt;
 }
 begun_stands shape card (Write extent content) held m = record {
   held_is = held;
@@ -163,6 +165,7 @@ begun_stands shape card (Write extent content) held m = record {
   so_far = refl;
   in_block = all_in shape.block_sectors (extent.first.0 / shape.block_sectors) extent.first.0 (extent.first.0 + extent.count - 1) extent.first.0 extent.count (some_sectors shape extent m) refl (sym m.one_block) (omega arith) (omega (arith, m.some));
   inside = div_below extent.first.0 shape.block_sectors shape.origin_blocks (some_sectors shape extent m) (first_inside shape extent m);
+  number_is = tt;
 }
 
 free_kept : (shape : Shape) (w : State) (n : Notes) (a : ℕ) (card : Card) (job : Job) (o : Option Refusal) → job_refusal shape (extent_of job) ≡ o → Kept shape w n → slice_get w.actors a ≡ Some (record { task = None; card = card }) → ActingOn shape card None (slice_get n.doings a) →
@@ -269,11 +272,6 @@ consistent shape w n i = record {
 
 -- At the start.
 
-replicated : {X : Type 0} (k i : ℕ) (x y : X) → slice_get (replicate k x) i ≡ Some y → x ≡ y
-replicated zero i x y e = absurd (cc)
-replicated (suc k) zero x y e = cc
-replicated (suc k) (suc i) x y e = replicated k i x y e
-
 replicated_both : {X Y : Type 0} (k i : ℕ) (x z : X) (y : Y) → slice_get (replicate k x) i ≡ Some z → slice_get (replicate k y) i ≡ Some y
 replicated_both zero i x z y e = absurd (cc)
 replicated_both (suc k) zero x z y e = refl
@@ -295,10 +293,6 @@ same_holds (Some h) = λ c m. m
 same_last : (o : Option History) (k : ℕ) → HoldsLast o o k
 same_last None k = tt
 same_last (Some h) k = Same refl
-
-length-replicate : (k v : ℕ) → length (replicate k v) ≡ k
-length-replicate zero v = refl
-length-replicate (suc k) v = ap suc (length-replicate k v)
 
 pub start_kept : (shape : Shape) → Kept shape (start shape) (opened shape)
 start_kept shape = record {

@@ -1,5 +1,5 @@
 -- The exchange that takes a block.
-use Rattle.std.proofs.Common.{◌≡◌, ◌+◌, ◌%◌, ◌&&◌, ℕ, Bool, true, false, refl, sym, ap, ◌∙◌, arith}
+use Rattle.std.proofs.Common.{◌≡◌, ◌+◌, ◌%◌, ◌&&◌, ℕ, Bool, true, false, None, refl, sym, ap, ◌∙◌, arith}
 use Rattle.std.proofs.lemmas.Bool.{eqb-true}
 use Rattle.std.specs.Prelude.{if◌then◌else◌}
 use Rattle.wb_types.specs.declared.word.Access.TheVariants.{Shared, Owned}
@@ -41,18 +41,18 @@ own_rule cell sharers owners sharers' owners' none r s o =
 
 share_taken : (shape : Shape) (w : State) (n : Notes) (a : ℕ) (card : Card) (job : Job) (doing : Doing) → access_of (task_job shape job) ≡ Shared → Working shape w n a card job doing Taking →
     word_at w.words.cells (block_of (task_job shape job)) ≡ card.cell → card.cell % 2 ≡ 0 →
-    Locks shape w n a card (record card { held = Shares (block_of (task_job shape job)) }) job doing Taking SealLook (card.cell + 2)
+    Locks shape w n a card (record card { held = Shares (block_of (task_job shape job)); number = None }) job doing Taking SealLook (card.cell + 2)
 share_taken shape w n a card job doing shared k seen even =
     let s = k.stands in
     let block = block_of (task_job shape job) in
-    let card' : Card = record card { held = Shares block } in
+    let card' : Card = record card { held = Shares block; number = None } in
     let x = at_work shape card job Taking in
     let y = at_work shape card' job SealLook in
     let one : shares block.0 y ≡ 1 = same_block block in
     let none : shares block.0 x ≡ 0 = ap (shared_by block.0) s.held_is in
     let unowned : owned_by block.0 card.held ≡ 0 = ap (owned_by block.0) s.held_is in
     record {
-      stands = record { held_is = rw shared refl; job_is = s.job_is; left_is = s.left_is; owns = tt; kept_is = s.kept_is; so_far = s.so_far; in_block = s.in_block; inside = s.inside };
+      stands = record { held_is = rw shared refl; job_is = s.job_is; left_is = s.left_is; owns = tt; kept_is = s.kept_is; so_far = s.so_far; in_block = s.in_block; inside = s.inside; number_is = tt };
       kept = refl;
       others = λ b m. (other_block b block m ∙ sym (ap (shared_by b) s.held_is), sym (ap (owned_by b) s.held_is));
       stale = λ b. refl;
@@ -63,18 +63,18 @@ share_taken shape w n a card job doing shared k seen even =
 
 own_taken : (shape : Shape) (w : State) (n : Notes) (a : ℕ) (card : Card) (job : Job) (doing : Doing) → access_of (task_job shape job) ≡ Owned → Working shape w n a card job doing Taking →
     word_at w.words.cells (block_of (task_job shape job)) ≡ 0 →
-    Locks shape w n a card (record card { held = Owns (block_of (task_job shape job)) }) job doing Taking SealLook 1
+    Locks shape w n a card (record card { held = Owns (block_of (task_job shape job)); number = None }) job doing Taking SealLook 1
 own_taken shape w n a card job doing owned k none =
     let s = k.stands in
     let block = block_of (task_job shape job) in
-    let card' : Card = record card { held = Owns block } in
+    let card' : Card = record card { held = Owns block; number = None } in
     let x = at_work shape card job Taking in
     let y = at_work shape card' job SealLook in
     let one : owned_by block.0 card'.held ≡ 1 = same_block block in
     let unowned : owned_by block.0 card.held ≡ 0 = ap (owned_by block.0) s.held_is in
     let unshared : shares block.0 y ≡ shares block.0 x = sym (ap (shared_by block.0) s.held_is) in
     record {
-      stands = record { held_is = rw owned refl; job_is = s.job_is; left_is = s.left_is; owns = tt; kept_is = s.kept_is; so_far = s.so_far; in_block = s.in_block; inside = s.inside };
+      stands = record { held_is = rw owned refl; job_is = s.job_is; left_is = s.left_is; owns = tt; kept_is = s.kept_is; so_far = s.so_far; in_block = s.in_block; inside = s.inside; number_is = tt };
       kept = refl;
       others = λ b m. (sym (ap (shared_by b) s.held_is), other_block b block m ∙ sym (ap (owned_by b) s.held_is));
       stale = λ b. refl;
@@ -94,7 +94,7 @@ taking shape w n a card (Read extent) doing k true e =
     let both = both_true _ _ e in
     let can = both_true _ _ both.1 in
     good shape w n a (at_work shape card job Taking) doing (Cell (Take Shared block)) Done k.actor k.noted
-    (locked shape w n a card (record card { held = Shares block }) job doing Taking SealLook (card.cell + 2) k
+    (locked shape w n a card (record card { held = Shares block; number = None }) job doing Taking SealLook (card.cell + 2) k
     (share_taken shape w n a card job doing refl k (eqb-true _ _ both.0) (eqb-true _ _ can.0)))
     tt
 taking shape w n a card (Write extent content) doing k true e =
@@ -103,6 +103,6 @@ taking shape w n a card (Write extent content) doing k true e =
     let both = both_true _ _ e in
     let free : card.cell ≡ 0 = eqb-true _ _ both.1 in
     good shape w n a (at_work shape card job Taking) doing (Cell (Take Owned block)) Done k.actor k.noted
-    (locked shape w n a card (record card { held = Owns block }) job doing Taking SealLook 1 k
+    (locked shape w n a card (record card { held = Owns block; number = None }) job doing Taking SealLook 1 k
     (own_taken shape w n a card job doing refl k (eqb-true _ _ both.0 ∙ free)))
     tt

@@ -15,7 +15,7 @@ use Rattle.wb_world.specs.declared.job.Job.TheVariants.{Write}
 use Rattle.wb_world.specs.World.{Shape, State, task_job, stepped_or, write_got, failed_or, device_failed}
 use Rattle.wb_world.specs.Clerk.{Notes, Doing, Position, write_on, entered_by, next_position}
 use Rattle.wb_world.proofs.Lists.{get_set_same, get_set_other}
-use Rattle.wb_world.proofs.Contents.{AllHold, AllHoldLast, last_more, with_entry-written, both_written, both_last, alone_written, alone_last}
+use Rattle.wb_world.proofs.Contents.{AllHold, AllHoldLast, last_more, both_written, both_last, alone_written, alone_last}
 use Rattle.wb_world.proofs.Kept.{Kept, moved, Good, good, GoodFault, good_fault, stale_of, last_same, stale_same}
 use Rattle.wb_world.proofs.Phases.{Phase, Moving, Failing, Stands, SoFar, AllIn, block_of}
 use Rattle.wb_world.proofs.Rule.{leaves_stale, owned_by, total_set, total_has, same_held}
@@ -50,7 +50,7 @@ wrote shape w n a card extent content doing at left phase device k d =
     let y = at_work shape card job phase in
     let doing' = write_noted doing at left n.histories in
     let entered : entered_by doing.job doing.left n.histories ≡ written n.histories at content =
-    ap (λ j. entered_by j doing.left n.histories) s.job_is ∙ ap (λ ss. entered_by job ss n.histories) s.left_is ∙ with_entry-written n.histories at content in
+    ap (λ j. entered_by j doing.left n.histories) s.job_is ∙ ap (λ ss. entered_by job ss n.histories) s.left_is in
     let noted : write_on doing doing.left n.histories ≡ doing' = ap (λ ss. write_on doing ss n.histories) s.left_is in
     rw (entered, noted) (moved shape w n a x y w.words device (record n { histories = written n.histories at content; doings = slice_set n.doings a (Some doing') }) k.kept k.actor (record {
       others = λ b m. get_set_other n.doings a b (Some doing') m;
@@ -80,7 +80,7 @@ write_sector shape w n a card extent content doing at left k (Some h) =
     let y = at_work shape card job (Moving left) in
     good shape w n a x doing (Device (WriteSector Origin at)) Done k.actor k.noted
     (wrote shape w n a card extent content doing at left (Moving left) (written w.device at content) k (record {
-      stands = record { held_is = s.held_is; job_is = s.job_is; left_is = refl; owns = tt; kept_is = s.kept_is; so_far = write_so_far doing extent content at left n.histories s.left_is s.so_far; in_block = (lies shape w n a card job doing at left k).1; inside = s.inside };
+      stands = record { held_is = s.held_is; job_is = s.job_is; left_is = refl; owns = tt; kept_is = s.kept_is; so_far = write_so_far doing extent content at left n.histories s.left_is s.so_far; in_block = (lies shape w n a card job doing at left k).1; inside = s.inside; number_is = s.number_is };
       holds = both_written w.device n.histories at content k.kept.holds;
       last = last_same shape w n a x y (written w.device at content) (written n.histories at content) k.actor (λ b. stale_same b x y refl (moves_on shape job left) refl)
           (both_last w.device n.histories (stale_of shape w.actors) at content k.kept.holds (k.kept.last a x k.actor));
@@ -112,7 +112,7 @@ write_failed shape w n a landed card extent content doing at left k true =
     let x = at_work shape card job (Moving (at ∷ left)) in
     let stale = failing_stale shape w n a card extent content doing at left k in
     let stands : Stands shape card job (write_noted doing at left n.histories) (Failing (Io Origin)) =
-    record { held_is = s.held_is; job_is = s.job_is; left_is = tt; owns = refl; kept_is = s.kept_is; so_far = write_so_far doing extent content at left n.histories s.left_is s.so_far; in_block = (lies shape w n a card job doing at left k).1; inside = s.inside } in
+    record { held_is = s.held_is; job_is = s.job_is; left_is = tt; owns = refl; kept_is = s.kept_is; so_far = write_so_far doing extent content at left n.histories s.left_is s.so_far; in_block = (lies shape w n a card job doing at left k).1; inside = s.inside; number_is = tt } in
     good_fault shape w n a landed x doing (Device (WriteSector Origin at)) Fault k.actor k.noted (by_landing landed stands stale)
   where
     y : Actor

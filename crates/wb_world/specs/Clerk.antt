@@ -2,7 +2,7 @@
 -- are finished, how far a crash may go back, and what each actor has been told to do. No device, no word and
 -- no task phase stands in it.
 use Rattle.std.specs.Prelude.{◌+◌, ℕ, List, [], ◌∷◌, ◌++◌, Option, Some, None, replicate, length, slice_get, slice_set, max, unwrap_or}
-use Rattle.wb_disk.specs.Device.{Content as Bytes, History, newest, added}
+use Rattle.wb_disk.specs.Device.{Content as Bytes, History, newest, written}
 use Rattle.wb_disk.specs.Memory.{blank}
 use Rattle.wb_tasks.specs.declared.step.Answer.TheVariants.{Done as Finished}
 use Rattle.wb_tasks.specs.declared.step.DeviceStep.TheVariants.{Read as ReadSector, Write as WriteSector}
@@ -67,14 +67,6 @@ abbrev pub next_position : Option History → ℕ
 next_position None = 0
 next_position (Some h) = length h.later + 1
 
--- the histories with one entry more of a sector
-abbrev pub entered_in : Option History → Bytes → List History → ℕ → List History
-entered_in None content histories sector = histories
-entered_in (Some h) content histories sector = slice_set histories sector (added h content)
-
-abbrev pub with_entry : List History → ℕ → Bytes → List History
-with_entry histories sector content = entered_in (slice_get histories sector) content histories sector
-
 -- what a read has read, with one sector more
 abbrev pub read_on : Doing → List ℕ → List History → Bytes → Doing
 read_on doing [] histories content = doing
@@ -91,10 +83,10 @@ write_on doing (sector ∷ left) histories = record doing {
   entered = doing.entered ++ record { sector = sector; position = next_position (slice_get histories sector) } ∷ [];
 }
 
--- the histories after a step of a write, which enters its content for the next sector
+-- the histories after a step of a write, which enters its content for the next sector as a device would add it
 abbrev pub entered_by : Job → List ℕ → List History → List History
 entered_by job [] histories = histories
-entered_by job (sector ∷ left) histories = with_entry histories sector (content_of job)
+entered_by job (sector ∷ left) histories = written histories sector (content_of job)
 
 -- the greater of what was finished of a sector and this position
 abbrev pub raised : List ℕ → Position → List ℕ

@@ -1,7 +1,11 @@
 -- What one step does to the device, the words and what an actor knows.
-use Rattle.std.specs.Prelude.{◌≡◌, Bool, List, Option, unwrap_or}
+use Rattle.std.specs.Prelude.{◌≡◌, ◌≤◌, ℕ, length, Bool, List, Option, Some, None, unwrap_or, slice_get}
 use Rattle.wb_disk.specs.Device.{History}
 use Rattle.wb_types.specs.Words.{Words}
+use Rattle.wb_cells.specs.Crews.{CrewState}
+use Rattle.wb_tasks.specs.Crews.{Agrees, card_of}
+use Rattle.wb_tasks.specs.Script.{Script, want}
+use Rattle.wb_tasks.specs.Ready.{MayTake, card_then}
 use Rattle.wb_tasks.specs.declared.card.Card.{Card}
 use Rattle.wb_tasks.specs.declared.step.Want.{Want}
 use Rattle.wb_tasks.specs.declared.step.Got.{Got}
@@ -10,7 +14,7 @@ use Rattle.wb_world.specs.declared.actor.Actor.{Actor}
 use Rattle.wb_world.specs.declared.event.What.{What}
 use Rattle.wb_world.specs.declared.event.What.TheVariants.{Started, Stepped}
 use Rattle.wb_world.specs.declared.job.Job.{Job}
-use Rattle.wb_world.specs.World.{performed, can_fail, device_by, device_failed, words_then, card_then, task_outcome, task_failure, changed_by, actor_then, Shape, given}
+use Rattle.wb_world.specs.World.{performed, can_fail, device_by, device_failed, words_then, task_outcome, task_failure, changed_by, actor_then, Shape, given}
 
 -- what was given, and nothing where a step does not apply
 abbrev pub Gave : Option Got → Got
@@ -64,3 +68,17 @@ pub record Falters (landed : Bool) (device : List History) (words : Words) (x : 
 abbrev pub actor_given : Shape → Actor → Job → What → Actor
 actor_given shape x job Started = given shape x job
 actor_given shape x job what = x
+
+-- what an actor wants next it may take
+abbrev pub NextIsReady : ℕ → Card → Option (Job × Script) → Type 0
+NextIsReady blocks card None = Unit {0}
+NextIsReady blocks card (Some doing) = MayTake blocks card (want doing.1)
+
+abbrev pub AllReady : ℕ → List Actor → Type 0
+AllReady blocks actors = (a : ℕ) (x : Actor) → slice_get actors a ≡ Some x → NextIsReady blocks x.card x.task
+
+-- Each actor's card in the crew has what the actor knows.
+pub record AllAgree (shape : Shape) (crew : CrewState) (actors : List Actor) : Type 0 where
+  pub blocks : crew.blocks ≡ shape.origin_blocks
+  pub many : length actors ≤ length crew.cards
+  pub agree : (a : ℕ) (x : Actor) → slice_get actors a ≡ Some x → Agrees (card_of crew a) x.card

@@ -9,7 +9,8 @@ use Rattle.wb_disk.specs.Crash.{Applies, crashed}
 use Rattle.wb_tasks.specs.Job.{Job as TaskJob, Reading, Writing, Part, sectors_from}
 use Rattle.wb_tasks.specs.Script.{Script, table, want, after}
 use Rattle.wb_types.specs.Words.{Words, fresh_words}
-use Rattle.wb_tasks.specs.Words.{blank_card, cell_got, words_after, card_after}
+use Rattle.wb_tasks.specs.Ready.{card_then}
+use Rattle.wb_tasks.specs.Words.{blank_card, cell_got, words_after}
 use Rattle.wb_tasks.specs.declared.card.Card.{Card}
 use Rattle.wb_tasks.specs.declared.step.DeviceStep.TheVariants.{Read as ReadSector, Write as WriteSector}
 use Rattle.wb_tasks.specs.declared.step.Want.{Want}
@@ -210,10 +211,6 @@ changed_by device (Some doing) change = change doing.0
 abbrev pub words_then : Words → Card → Want → Got → Words
 words_then words card (Cell step) got = words_after words card step got
 words_then words card next got = words
-
-abbrev pub card_then : Card → Want → Got → Card
-card_then card (Cell step) got = card_after card step got
-card_then card next got = card
 
 -- what is left of a task after a step; after the answer nothing
 abbrev pub task_then : Option (Job × Script) → Want → Got → Option (Job × Script)

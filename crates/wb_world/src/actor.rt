@@ -1,6 +1,6 @@
 //! One actor, and its steps.
 
-ghost use Rattle.std.specs.Prelude.{◌≡◌, IfOk, IfErr, OnErr};
+ghost use Rattle.std.specs.Prelude.{◌≡◌, ◌<◌, length, IfOk, IfErr, OnErr};
 ghost use Rattle.wb_types.specs.declared.refusal.Refusal.TheVariants.{Memory};
 
 use crate::Job;
@@ -21,7 +21,8 @@ impl Actor {
     ghost use Rattle.wb_world.specs.declared.world.TheConstants.{ACTORS};
     ghost use Rattle.wb_world.specs.Life.{shape_of};
     ghost use Rattle.wb_world.specs.World.{resting, free_outcome};
-    ghost use Rattle.wb_world.specs.Performing.{Steps, Falters, actor_given};
+    ghost use Rattle.wb_world.specs.Performing.{NextIsReady, Steps, Falters, actor_given};
+    ghost use Rattle.wb_tasks.specs.Crews.{Agrees, GoesOn, card_of};
 
     /// An actor with nothing to do.
     pub(crate) fn resting() -> Actor
@@ -50,17 +51,22 @@ impl Actor {
         }
     }
 
-    /// The next step of its task. `Memory` where a write wants more than there is; nothing has changed then.
-    pub(crate) fn step(&mut self, bench: &mut Bench) -> Result<What, Refusal>
-        ensures ok { IfOk result (λ what. Steps bench.old.disk.contents bench.old.words self.old what bench.new.disk.contents bench.new.words self.new) }
-        ensures err { OnErr result ((bench.new.disk.contents ≡ bench.old.disk.contents) × (bench.new.words ≡ bench.old.words) × (self.new ≡ self.old)) }
+    /// The next step of its task, as the actor of this number. `Memory` where a write wants more than there is;
+    /// nothing has changed then.
+    pub(crate) fn step(&mut self, number: usize, bench: &mut Bench) -> Result<What, Refusal>
+        requires there { number < length bench.old.crew.cards }
+        requires agrees { Agrees (card_of bench.old.crew number) self.old.card }
+        requires ready { NextIsReady bench.old.crew.blocks self.old.card self.old.task }
+        ensures ok { IfOk result (λ what. Steps bench.old.disk.contents bench.old.crew.words self.old what bench.new.disk.contents bench.new.crew.words self.new) }
+        ensures err { OnErr result ((bench.new.disk.contents ≡ bench.old.disk.contents) × (bench.new.crew ≡ bench.old.crew) × (self.new ≡ self.old)) }
+        ensures crew { GoesOn bench.old.crew number self.new.card bench.new.crew }
         ensures refusal { IfErr result (λ refusal. refusal ≡ Memory) }
     {
         let Some((job, task)) = &mut self.task else {
             return Ok(What::Skipped);
         };
         let want = task.want();
-        let Some(got) = bench.perform(&mut self.card, job, want)? else {
+        let Some(got) = bench.perform(number, &mut self.card, job, want)? else {
             return Ok(What::Skipped);
         };
         if let Want::End(_) = want {
@@ -74,8 +80,10 @@ impl Actor {
     /// The next step of its task, a step on the device, which fails; what it writes has landed or not. `Memory`
     /// where what lands wants more than there is; nothing has changed then.
     pub(crate) fn falter(&mut self, bench: &mut Bench, landed: bool) -> Result<What, Refusal>
-        ensures ok { IfOk result (λ what. Falters landed bench.old.disk.contents bench.old.words self.old what bench.new.disk.contents bench.new.words self.new) }
-        ensures err { OnErr result ((bench.new.disk.contents ≡ bench.old.disk.contents) × (bench.new.words ≡ bench.old.words) × (self.new ≡ self.old)) }
+        ensures ok { IfOk result (λ what. Falters landed bench.old.disk.contents bench.old.crew.words self.old what bench.new.disk.contents bench.new.crew.words self.new) }
+        ensures err { OnErr result ((bench.new.disk.contents ≡ bench.old.disk.contents) × (self.new ≡ self.old)) }
+        ensures crew { bench.new.crew ≡ bench.old.crew }
+        ensures card { self.new.card ≡ self.old.card }
         ensures refusal { IfErr result (λ refusal. refusal ≡ Memory) }
     {
         let Some((job, task)) = &mut self.task else {

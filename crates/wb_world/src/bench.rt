@@ -1,40 +1,48 @@
-//! The device and the shared words, and one step on them.
+//! The device and the actors' shared words, and one step on them.
 
-ghost use Rattle.std.specs.Prelude.{◌≡◌, IfOk, IfErr, OnOk, OnErr, slice_get};
+ghost use Rattle.std.specs.Prelude.{◌≡◌, ◌<◌, length, IfOk, IfErr, OnOk, OnErr, slice_get};
 ghost use Rattle.wb_types.specs.declared.refusal.Refusal.TheVariants.{Memory};
 ghost use Rattle.wb_tasks.specs.declared.step.Want.TheVariants.{Device as DeviceWant};
 ghost use Rattle.wb_tasks.specs.declared.step.DeviceStep.TheVariants.{Write as WriteSector};
 ghost use Rattle.wb_types.specs.declared.mode.Dev.TheVariants.{Origin as OriginDevice};
+ghost use Rattle.wb_tasks.specs.Crews.{Agrees, GoesOn, card_of};
+ghost use Rattle.wb_tasks.specs.Ready.{MayTake};
 ghost use Rattle.wb_world.specs.Performing.{Performs, Fails};
 ghost use Rattle.wb_world.specs.World.{read_got, write_got, device_by};
 
 use crate::Job;
+use wb_cells::Crew;
 use wb_disk::{Disk, MemDisk};
-use wb_tasks::{Card, DeviceStep, Got, Want, Words};
+use wb_tasks::{Card, DeviceStep, Got, Want, step_in_crew};
 use wb_types::{Content, Dev, Refusal};
 
-/// The device and the shared words.
+/// The device, and the shared words with a card for each actor.
 #[derive(Drop)]
 pub(crate) struct Bench {
     pub(crate) disk: MemDisk,
-    pub(crate) words: Words,
+    pub(crate) crew: Crew,
 }
 
 impl Bench {
-    /// One step of an actor on this job; None where it doesn't apply, and then nothing has changed. `Memory`
+    /// One step of an actor, which has this card, on this job; None where it doesn't apply, and then nothing has changed. `Memory`
     /// where a write wants more than there is; nothing has changed then, either.
     pub(crate) fn perform(
         &mut self,
+        actor: usize,
         card: &mut Card,
         job: &Job,
         want: Want,
     ) -> Result<Option<Got>, Refusal>
-        ensures ok { IfOk result (λ got. Performs self.old.disk.contents self.old.words card.old job.now want got self.new.disk.contents self.new.words card.new) }
-        ensures err { OnErr result ((self.new.disk.contents ≡ self.old.disk.contents) × (self.new.words ≡ self.old.words) × (card.new ≡ card.old)) }
+        requires actor { actor < length self.old.crew.cards }
+        requires agrees { Agrees (card_of self.old.crew actor) card.old }
+        requires ready { MayTake self.old.crew.blocks card.old want }
+        ensures ok { IfOk result (λ got. Performs self.old.disk.contents self.old.crew.words card.old job.now want got self.new.disk.contents self.new.crew.words card.new) }
+        ensures err { OnErr result ((self.new.disk.contents ≡ self.old.disk.contents) × (self.new.crew ≡ self.old.crew) × (card.new ≡ card.old)) }
+        ensures crew { GoesOn self.old.crew actor card.new self.new.crew }
         ensures refusal { IfErr result (λ refusal. refusal ≡ Memory) }
     {
         match want {
-            Want::Cell(step) => Ok(Some(self.words.step(card, step))),
+            Want::Cell(step) => Ok(Some(step_in_crew(&mut self.crew, actor, card, step))),
             Want::Device(DeviceStep::Read(Dev::Origin, at)) => Ok(self.read(at)),
             Want::Device(DeviceStep::Write(Dev::Origin, at)) => self.write(job, at),
             Want::End(_) => Ok(Some(Got::Done)),
@@ -48,7 +56,7 @@ impl Bench {
     fn read(&mut self, at: u64) -> Option<Got>
         ensures got { result ≡ read_got (slice_get self.old.disk.contents at) }
         ensures device { self.new.disk.contents ≡ self.old.disk.contents }
-        ensures words { self.new.words ≡ self.old.words }
+        ensures crew { self.new.crew ≡ self.old.crew }
     {
         if at >= self.disk.sectors() {
             return None;
@@ -64,7 +72,7 @@ impl Bench {
     fn write(&mut self, job: &Job, at: u64) -> Result<Option<Got>, Refusal>
         ensures got { IfOk result (λ got. got ≡ write_got job.now (slice_get self.old.disk.contents at)) }
         ensures device { OnOk result (self.new.disk.contents ≡ device_by self.old.disk.contents job.now (DeviceWant (WriteSector OriginDevice at))) }
-        ensures words { self.new.words ≡ self.old.words }
+        ensures crew { self.new.crew ≡ self.old.crew }
         ensures err { OnErr result (self.new.disk.contents ≡ self.old.disk.contents) }
         ensures refusal { IfErr result (λ refusal. refusal ≡ Memory) }
     {
@@ -85,7 +93,7 @@ impl Bench {
     /// be done, and then nothing has changed.
     pub(crate) fn fail(&mut self, job: &Job, want: Want, landed: bool) -> Result<bool, Refusal>
         ensures ok { IfOk result (λ applies. Fails landed self.old.disk.contents job.now want applies self.new.disk.contents) }
-        ensures words { self.new.words ≡ self.old.words }
+        ensures crew { self.new.crew ≡ self.old.crew }
         ensures err { OnErr result (self.new.disk.contents ≡ self.old.disk.contents) }
         ensures refusal { IfErr result (λ refusal. refusal ≡ Memory) }
     {

@@ -7,6 +7,7 @@ ghost use Rattle.wb_world.specs.World.{resting, IsRun, start, after_all};
 ghost use Rattle.wb_world.specs.Clerk.{opened, noted};
 ghost use Rattle.wb_world.specs.Headline.{ReadsLatest, CrashConsistent};
 ghost use Rattle.wb_world.specs.Life.{GoesOn, Happens, AreOf, shape_of, state_of, now};
+ghost use Rattle.wb_world.specs.Performing.{AllAgree, AllReady};
 
 use crate::actor::Actor;
 use crate::bench::Bench;
@@ -14,8 +15,8 @@ use crate::event::{Event, Record, What};
 use crate::trace::Trace;
 use std::alloc::Global;
 use std::marker::Model;
+use wb_cells::Crew;
 use wb_disk::MemDisk;
-use wb_tasks::Words;
 use wb_types::{Geometry, Refusal};
 
 /// How many actors a world has.
@@ -39,13 +40,15 @@ pub struct World {
 impl Model for World {
     ghost use Rattle.wb_world.specs.declared.world.TheConstants.{ACTORS};
     ghost use Rattle.wb_world.specs.Life.{Life, IsWhere, shape_of, state_of};
+    ghost use Rattle.wb_world.specs.Performing.{AllAgree};
 
     ghost Value = { Life };
 
     ghost view = { λ w. record { shape = shape_of w.geometry ACTORS; trace = w.trace.records } };
 
     ghost invariant = { λ w. IsWhere (record { shape = shape_of w.geometry ACTORS; trace = w.trace.records })
-        (state_of w.bench.disk.contents w.bench.words w.actors.items) };
+        (state_of w.bench.disk.contents w.bench.crew.words w.actors.items)
+        × AllAgree (shape_of w.geometry ACTORS) w.bench.crew w.actors.items };
 }
 
 impl World {
@@ -58,11 +61,11 @@ impl World {
     {
         let geometry = setup.geometry;
         let disk = MemDisk::new(alloc, geometry.origin_sectors())?;
-        let words = Words::new(alloc, geometry.origin_blocks)?;
+        let crew = Crew::new(alloc, geometry.origin_blocks, ACTORS)?;
         let actors = resting_actors(alloc)?;
         Ok(World {
             geometry,
-            bench: Bench { disk, words },
+            bench: Bench { disk, crew },
             actors,
             trace: Trace::new(alloc),
         })
@@ -142,11 +145,14 @@ fn happen(
     actors: &mut Vec<Actor>,
     event: &Event,
 ) -> Result<What, Refusal>
+    requires agree { AllAgree (shape_of geometry.now ACTORS) bench.old.crew actors.old.items }
+    requires ready { AllReady geometry.now.origin_blocks actors.old.items }
     ensures ok { IfOk result (λ what. Happens (shape_of geometry.now ACTORS)
-        (state_of bench.old.disk.contents bench.old.words actors.old.items) event.now what
-        (state_of bench.new.disk.contents bench.new.words actors.new.items)) }
-    ensures err { OnErr result (state_of bench.new.disk.contents bench.new.words actors.new.items
-        ≡ state_of bench.old.disk.contents bench.old.words actors.old.items) }
+        (state_of bench.old.disk.contents bench.old.crew.words actors.old.items) event.now what
+        (state_of bench.new.disk.contents bench.new.crew.words actors.new.items)) }
+    ensures err { OnErr result (state_of bench.new.disk.contents bench.new.crew.words actors.new.items
+        ≡ state_of bench.old.disk.contents bench.old.crew.words actors.old.items) }
+    ensures agree { AllAgree (shape_of geometry.now ACTORS) bench.new.crew actors.new.items }
     ensures refusal { IfErr result (λ refusal. refusal ≡ Memory) }
 {
     match event {
@@ -162,7 +168,7 @@ fn happen(
                 return Ok(What::Skipped);
             }
             let actor = &mut actors[*a];
-            actor.step(bench)
+            actor.step(*a, bench)
         }
         Event::FaultStep(a, landed) => {
             if *a >= actors.len() {

@@ -2,6 +2,7 @@
 
 ghost use Rattle.std.specs.Prelude.{◌≡◌, ◌≢◌, ◌<◌, ◌≤◌, ◌+◌, ◌*◌, ◌^◌, IfOk, IfErr, OnOk, OnErr, IsErrOf, replicate};
 ghost use Rattle.wb_types.specs.Words.{fresh_words};
+ghost use Rattle.wb_tasks.specs.declared.card.Held.TheVariants.{Nothing};
 ghost use Rattle.wbcache.specs.Request.{IsInside, AsksInside};
 
 use crate::line::Line;
@@ -17,13 +18,16 @@ use wb_types::{Geometry, Refusal, SECTOR_BYTES, Sector};
 pub struct Engine<D> {
     pub geometry: Geometry,
     pub stage: OwnerStage<D>,
+    ghost sized: { stage.origin_blocks ≡ geometry.origin_blocks },
+    // Between two requests it has no block.
+    ghost idle: { stage.card.held ≡ Nothing },
 }
 
 impl<D: Disk + Drop> Engine<D> {
     /// An engine over an origin of this geometry; `Memory` where there is no room for its words.
     pub fn new(alloc: Global, geometry: Geometry, origin: D) -> Result<Engine<D>, Refusal>
         ensures geometry { IfOk result (λ engine. engine.geometry ≡ geometry) }
-        ensures fresh { IfOk result (λ engine. (engine.stage.words ≡ fresh_words geometry.origin_blocks) × (engine.stage.origin ≡ origin)) }
+        ensures fresh { IfOk result (λ engine. (engine.stage.crew.words ≡ fresh_words geometry.origin_blocks) × (engine.stage.origin ≡ origin)) }
         ensures refused { IfErr result (λ refusal. refusal ≡ Refusal.Memory) }
     {
         Ok(Engine {
@@ -71,7 +75,8 @@ impl<D: Disk + Drop> Engine<D> {
     }
 
     fn read_part(&mut self, part: Part) -> Result<(), Refusal>
-        requires { part.first + part.count < 2 ^ 64 }
+        requires first { part.first + part.count < 2 ^ 64 }
+        requires block { part.block.0 < self.old.geometry.origin_blocks }
         ensures refused { IfErr result (λ refusal. refusal ≢ Refusal.Range) }
         ensures geometry { self.new.geometry ≡ self.old.geometry }
     {
@@ -102,7 +107,8 @@ impl<D: Disk + Drop> Engine<D> {
     }
 
     fn write_part(&mut self, part: Part) -> Result<(), Refusal>
-        requires { part.first + part.count < 2 ^ 64 }
+        requires first { part.first + part.count < 2 ^ 64 }
+        requires block { part.block.0 < self.old.geometry.origin_blocks }
         ensures refused { IfErr result (λ refusal. refusal ≢ Refusal.Range) }
         ensures content { self.new.stage.content ≡ self.old.stage.content }
         ensures geometry { self.new.geometry ≡ self.old.geometry }

@@ -1,8 +1,10 @@
 //! Where one owner's requests are performed.
 
-ghost use Rattle.std.specs.Prelude.{◌≡◌, IfOk, IfErr};
+ghost use Rattle.std.specs.Prelude.{◌≡◌, length, IfOk, IfErr};
 ghost use Rattle.wb_types.specs.Words.{fresh_words};
 ghost use Rattle.wb_tasks.specs.Words.{blank_card};
+ghost use Rattle.wb_tasks.specs.Crews.{Agrees, card_of};
+ghost use Rattle.wb_tasks.specs.Ready.{MayTake};
 ghost use Rattle.wb_tasks.specs.Script.{Fits};
 ghost use Rattle.wb_tasks.specs.declared.step.Want.TheVariants.{Device};
 ghost use Rattle.wb_tasks.specs.declared.step.DeviceStep.TheVariants.{Read, Write};
@@ -12,21 +14,26 @@ ghost use Rattle.wbcache.specs.Steps.{DoneOnWords, DoneOnOrigin, DoneOnFound};
 use crate::fill::Fill;
 use crate::found::Found;
 use std::alloc::Global;
+use wb_cells::Crew;
 use wb_disk::Disk;
-use wb_tasks::{Card, DeviceStep, Got, Stage, Want, Words};
+use wb_tasks::{Card, DeviceStep, Got, Stage, Want, step_in_crew};
 use wb_types::{Content, Dev, Refusal, SECTOR_BYTES};
 
-/// The shared words of one owner, and its origin. Nothing is cached, so no step asks for another device: one
-/// that does fails.
+/// The shared words, with one pass that has the whole of them, and the origin. Nothing is cached, so no step asks
+/// for another device: one that does fails.
 #[derive(Drop)]
 pub struct OwnerStage<D> {
-    pub words: Words,
+    pub crew: Crew,
     pub card: Card,
+    pub origin_blocks: u32,
     pub origin: D,
     /// What the running read has found.
     pub found: Found,
     /// What the running write fills each sector with.
     pub content: Content,
+    ghost alone: { length crew.cards ≡ 1 },
+    ghost sized: { crew.blocks ≡ origin_blocks },
+    ghost agrees: { Agrees (card_of crew 0) card },
 }
 
 impl<D: Disk> OwnerStage<D> {
@@ -34,13 +41,15 @@ impl<D: Disk> OwnerStage<D> {
     pub fn new(alloc: Global, blocks: u32, origin: D) -> Result<OwnerStage<D>, Refusal>
     where
         D: Drop,
-        ensures fresh { IfOk result (λ stage. (stage.words ≡ fresh_words blocks) × (stage.card ≡ blank_card)) }
+        ensures fresh { IfOk result (λ stage. (stage.crew.words ≡ fresh_words blocks) × (stage.card ≡ blank_card)) }
+        ensures sized { IfOk result (λ stage. stage.origin_blocks ≡ blocks) }
         ensures origin { IfOk result (λ stage. stage.origin ≡ origin) }
         ensures refused { IfErr result (λ refusal. refusal ≡ Refusal.Memory) }
     {
         Ok(OwnerStage {
-            words: Words::new(alloc, blocks)?,
+            crew: Crew::new(alloc, blocks, 1)?,
             card: Card::new(),
+            origin_blocks: blocks,
             origin,
             found: Found::new(alloc),
             content: [0; SECTOR_BYTES],
@@ -52,7 +61,8 @@ impl<D: Disk> OwnerStage<D> {
         ensures origin { D.tells → DoneOnOrigin (D.contents self.old.origin) self.old.content (Device step) result (D.contents self.new.origin) }
         ensures found { DoneOnFound self.old.found (Device step) result self.new.found }
         ensures content { self.new.content ≡ self.old.content }
-        ensures words { self.new.words ≡ self.old.words }
+        ensures crew { self.new.crew ≡ self.old.crew }
+        ensures origin_blocks { self.new.origin_blocks ≡ self.old.origin_blocks }
         ensures card { self.new.card ≡ self.old.card }
     {
         match step {
@@ -68,7 +78,8 @@ impl<D: Disk> OwnerStage<D> {
         ensures origin { D.tells → DoneOnOrigin (D.contents self.old.origin) self.old.content (Device (Read Origin at)) result (D.contents self.new.origin) }
         ensures found { DoneOnFound self.old.found (Device (Read Origin at)) result self.new.found }
         ensures content { self.new.content ≡ self.old.content }
-        ensures words { self.new.words ≡ self.old.words }
+        ensures crew { self.new.crew ≡ self.old.crew }
+        ensures origin_blocks { self.new.origin_blocks ≡ self.old.origin_blocks }
         ensures card { self.new.card ≡ self.old.card }
     {
         let mut content = [0; SECTOR_BYTES];
@@ -84,7 +95,8 @@ impl<D: Disk> OwnerStage<D> {
         ensures origin { D.tells → DoneOnOrigin (D.contents self.old.origin) self.old.content (Device (Write Origin at)) result (D.contents self.new.origin) }
         ensures found { DoneOnFound self.old.found (Device (Write Origin at)) result self.new.found }
         ensures content { self.new.content ≡ self.old.content }
-        ensures words { self.new.words ≡ self.old.words }
+        ensures crew { self.new.crew ≡ self.old.crew }
+        ensures origin_blocks { self.new.origin_blocks ≡ self.old.origin_blocks }
         ensures card { self.new.card ≡ self.old.card }
     {
         if at >= self.origin.sectors() || self.origin.write(at, &self.content).is_err() {
@@ -95,11 +107,13 @@ impl<D: Disk> OwnerStage<D> {
 }
 
 impl<D: Disk> Stage for OwnerStage<D> {
-    ghost led = { λ old want got new. (new.content ≡ old.content) × DoneOnWords old.words old.card want got new.words new.card × DoneOnFound old.found want got new.found × (D.tells → DoneOnOrigin (D.contents old.origin) old.content want got (D.contents new.origin)) };
+    ghost ready = { λ stage want. MayTake stage.origin_blocks stage.card want };
+
+    ghost led = { λ old want got new. (new.content ≡ old.content) × DoneOnWords old.crew.words old.card want got new.crew.words new.card × (new.origin_blocks ≡ old.origin_blocks) × DoneOnFound old.found want got new.found × (D.tells → DoneOnOrigin (D.contents old.origin) old.content want got (D.contents new.origin)) };
 
     fn perform(&mut self, want: &Want) -> Got {
         match want {
-            Want::Cell(step) => self.words.step(&mut self.card, *step),
+            Want::Cell(step) => step_in_crew(&mut self.crew, 0, &mut self.card, *step),
             Want::Device(step) => self.device_step(*step),
             Want::Desk(_) => Got::Refused(Refusal::Busy),
             Want::End(_) => unreachable!(),

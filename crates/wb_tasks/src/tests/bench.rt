@@ -118,6 +118,8 @@ impl Bench {
 }
 
 impl Stage for Bench {
+    ghost ready = { λ _ _. Unit {0} };
+
     ghost led = { λ _ _ _ _. Unit {0} };
 
     fn perform(&mut self, want: &Want) -> Got {

@@ -1,9 +1,11 @@
-use Rattle.std.proofs.Common.{◌+◌, ◌≤◌, List, [], ◌∷◌, ◌++◌, length, sym, subst, ◌∙◌, append-nil, arith, length-append}
+use Rattle.std.proofs.Common.{◌≡◌, ap, ◌+◌, ◌≤◌, List, [], ◌∷◌, ◌++◌, length, sym, subst, ◌∙◌, append-nil, arith, length-append}
 use Rattle.wb_tasks.specs.Script.{want, after, Fits}
 use Rattle.wb_tasks.specs.Length.{longest}
 use Rattle.wb_tasks.specs.declared.step.Want.{Want}
 use Rattle.wb_tasks.specs.declared.step.Got.{Got}
-use Rattle.wb_tasks.proofs.Driving.{falls, leads_more, leaves_more, longest_of-some, IsStep-no_answer}
+use Rattle.wb_tasks.specs.Ready.{left_by}
+use Rattle.wb_tasks.specs.Script.{Script, IsStep}
+use Rattle.wb_tasks.proofs.Driving.{falls, first_more, left_more, leads_more, leaves_more, longest_of-some, IsStep-no_answer}
 use Rattle.wb_tasks.proofs.stage.drive.Goals as goal
 
 pub returns-in-End : goal.returns-in-End
@@ -13,8 +15,16 @@ returns-in-End g c =
     let whole = so_far.1.3 [] c.in-End.answer (sym so_far.0 ∙ c.in-End.is) in
     record { run = (so_far.1.0, omega (arith, so_far.1.1, longest_of-some s.job s.steps), rw append-nil at whole, so_far.1.2) }
 
-pub perform-got-requires : goal.perform-got-requires
-perform-got-requires g c = IsStep-no_answer c.loop-want.want c.in_default.not-End
+pub perform-got-requires-clause-step : goal.perform-got-requires-clause-step
+perform-got-requires-clause-step g c = IsStep-no_answer c.loop-want.want c.in_default.not-End
+
+pub perform-got-requires-clause-ready : goal.perform-got-requires-clause-ready
+perform-got-requires-clause-ready g c =
+    let so_far = c.loop-want.invariant in
+    let t = g.T.Task.script c.args.task.now in
+    let next : c.loop-want.want ≡ want (left_by t so_far.1.0) = so_far.0 ∙ ap want so_far.1.5 in
+    rw next (c.requires so_far.1.0 c.loop-want.stage so_far.1.4 so_far.1.2
+    (subst (λ (w : Want). IsStep w) next (IsStep-no_answer c.loop-want.want c.in_default.not-End)))
 
 pub loop-want-smaller : goal.loop-want-smaller
 loop-want-smaller g c =
@@ -40,5 +50,7 @@ loop-want-preserved g c =
         rw c.next-want-in-loop-want.ensures.left shorter,
         leads_more g.S.Stage.led c.args.stage.now so_far.1.0 c.loop-want.stage (want s) got c.perform-got.new.self so_far.1.2 led,
         rw c.next-want-in-loop-want.ensures.left (leaves_more t so_far.1.0 s got so_far.1.3 fits),
+        rw so_far.1.5 (first_more t so_far.1.0 got so_far.1.4 (subst (λ (v : Script). Fits (want v) got) so_far.1.5 fits)),
+        c.next-want-in-loop-want.ensures.left ∙ ap (λ (v : Script). after v got) so_far.1.5 ∙ sym (left_more t so_far.1.0 (want s) got),
       ),
     )

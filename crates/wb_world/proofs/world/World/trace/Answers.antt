@@ -9,11 +9,11 @@ pub returns-clause-latest : goal.returns-clause-latest
 returns-clause-latest c =
     let w = c.self.inside in
     let shape = shape_of w.geometry ACTORS in
-    rw (← c.self.view_is) (all_latest shape (start shape) (opened shape) w.trace.records (start_kept shape) c.self.invariant.run)
+    rw (← c.self.view_is) (all_latest shape (start shape) (opened shape) w.trace.records (start_kept shape) c.self.invariant.0.run)
 
 pub returns-clause-consistent : goal.returns-clause-consistent
 returns-clause-consistent c =
     let w = c.self.inside in
     let shape = shape_of w.geometry ACTORS in
     rw (← c.self.view_is) (consistent shape (after_all shape (start shape) w.trace.records) (noted (opened shape) w.trace.records)
-    (all_kept shape (start shape) (opened shape) w.trace.records (start_kept shape) c.self.invariant.run))
+    (all_kept shape (start shape) (opened shape) w.trace.records (start_kept shape) c.self.invariant.0.run))

@@ -1,0 +1,9 @@
+pub mod Totals
+pub mod Decoding
+pub mod Halves
+pub mod KindsKept
+pub mod Flatten
+pub mod Core
+pub mod Allowed
+pub mod Passing
+pub mod Gripping

@@ -1,0 +1,14 @@
+use Rattle.std.proofs.Common.{◌≡◌}
+use Rattle.wb_cells.specs.Grips.{stages_left}
+use Rattle.wb_cells.proofs.Gripping.{OnTheWay}
+use Rattle.wb_cells.proofs.cells.Cells.grip.Given as goal
+
+abbrev pub invariant-loop-ended : goal.invariant-loop-ended
+invariant-loop-ended l = record {
+  way : OnTheWay l.initial.grip.access l.initial.grip.block l.initial.pass.card l.grip l.pass.card;
+  table : l.pass.table ≡ l.initial.pass.table;
+  part : l.pass.part ≡ l.initial.pass.part;
+}
+
+abbrev pub decreases-loop-ended : goal.decreases-loop-ended
+decreases-loop-ended l = stages_left l.grip.stage

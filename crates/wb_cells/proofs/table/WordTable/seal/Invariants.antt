@@ -1,0 +1,9 @@
+use Rattle.std.proofs.Common.{◌≡◌}
+use Rattle.wb_types.specs.declared.word.Word.TheVariants.{Seal as SealWord}
+use Rattle.wb_cells.specs.Flat.{put}
+use Rattle.wb_cells.specs.Cards.{sealing}
+use Rattle.wb_cells.specs.Steps.{SeatMoves}
+use Rattle.wb_cells.proofs.table.WordTable.seal.Given as goal
+
+abbrev pub ghosts-store : goal.ghosts-store
+ghosts-store a = record { then = λ st m x. SeatMoves a._actor (λ c d. d ≡ sealing a.seal c) (λ was now. now ≡ put was (SealWord a.block) a.seal) m }

@@ -1,0 +1,135 @@
+-- The five steps by which a block is taken: a look at the fail word, a look at the lock word, the exchange, a look
+-- at the seal, a look at the number.
+use Rattle.std.specs.Prelude.{◌≡◌, ◌≢◌, ◌⊎◌, ℕ, ◌==◌, Bool, true, false, cond, ◌∷◌, Option, Some, if◌then◌else◌}
+use Rattle.wb_types.specs.declared.number.OBlock.{OBlock}
+use Rattle.wb_types.specs.declared.number.CBlock.{CBlock}
+use Rattle.wb_types.specs.declared.refusal.Refusal.{Refusal}
+use Rattle.wb_types.specs.declared.refusal.Refusal.TheVariants.{Busy, Failed}
+use Rattle.wb_types.specs.declared.word.Access.{Access}
+use Rattle.wb_types.specs.declared.word.Access.TheVariants.{Shared, Owned}
+use Rattle.wb_types.specs.declared.word.Word.TheVariants.{Cell as LockWord, Seal as SealWord, Number, Fail}
+use Rattle.wb_types.specs.Words.{can_take, place_in, dirty_in}
+use Rattle.wb_cells.specs.declared.card.Hold.TheVariants.{Nothing, Held}
+use Rattle.wb_cells.specs.declared.card.Card.{Card}
+use Rattle.wb_cells.specs.declared.grip.Stage.{Stage}
+use Rattle.wb_cells.specs.declared.grip.Stage.TheVariants.{LookFail, LookLock, Exchange, LookSeal, LookNumber, Ended}
+use Rattle.wb_cells.specs.declared.grip.Grip.{Grip}
+use Rattle.wb_cells.specs.declared.grip.Gripped.{Gripped}
+use Rattle.wb_cells.specs.declared.grip.Gripped.TheVariants.{More, Shared as GrippedShared, Owned as GrippedOwned, Refused}
+use Rattle.wb_cells.specs.Cards.{looked, losing, holding}
+use Rattle.wb_cells.specs.Steps.{Finds, SawAtMost}
+
+-- what is told of a block that is held at last, from its seal and number words
+abbrev pub told_held : Access → OBlock → ℕ → ℕ → Gripped
+told_held Shared block seal number = GrippedShared (record { block = block; place = place_in seal; dirty = dirty_in seal; number = number })
+told_held Owned block seal number = GrippedOwned (record { block = block; place = place_in seal; dirty = dirty_in seal; number = number })
+
+-- what a step tells that found the word x
+abbrev pub told_at : Access → OBlock → Stage → ℕ → Gripped
+told_at access block LookFail x = cond (x == 0) (More x) (Refused Failed)
+told_at access block LookLock x = cond (can_take access x) (More x) (Refused Busy)
+told_at access block (Exchange seen) x = cond (x == seen) (More x) (Refused Busy)
+told_at access block LookSeal x = More x
+told_at access block (LookNumber seal) x = told_held access block seal x
+told_at access block Ended x = Refused Busy
+
+-- the stage after it
+abbrev pub stage_after : Access → Stage → ℕ → Stage
+stage_after access LookFail x = cond (x == 0) LookLock Ended
+stage_after access LookLock x = cond (can_take access x) (Exchange x) Ended
+stage_after access (Exchange seen) x = cond (x == seen) LookSeal Ended
+stage_after access LookSeal x = LookNumber x
+stage_after access (LookNumber seal) x = Ended
+stage_after access Ended x = Ended
+
+-- the card after it
+abbrev pub card_after : Access → OBlock → Stage → ℕ → Card → Card
+card_after access block LookFail x card = looked Fail x card
+card_after access block LookLock x card = looked (LockWord block) x card
+card_after access block (Exchange seen) x card = if x == seen then holding (Held access block) card else losing block x card
+card_after access block LookSeal x card = looked (SealWord block) x card
+card_after access block (LookNumber seal) x card = looked (Number block) x card
+card_after access block Ended x card = card
+
+-- what a look among the five finds
+abbrev pub FindsAt : OBlock → Stage → ℕ → Card → Type 0
+FindsAt block LookFail x card = Finds Fail x card
+FindsAt block LookLock x card = Finds (LockWord block) x card
+FindsAt block (Exchange seen) x card = Unit {0}
+FindsAt block LookSeal x card = Finds (SealWord block) x card
+FindsAt block (LookNumber seal) x card = Finds (Number block) x card
+FindsAt block Ended x card = Unit {0}
+
+-- a card that may make the next step
+abbrev pub FitsStage : Access → OBlock → Stage → Card → Type 0
+FitsStage access block LookFail card = card.hold ≡ Nothing
+FitsStage access block LookLock card = card.hold ≡ Nothing
+FitsStage access block (Exchange seen) card = (card.hold ≡ Nothing) × (can_take access seen ≡ true)
+FitsStage access block LookSeal card = card.hold ≡ Held access block
+FitsStage access block (LookNumber seal) card = (card.hold ≡ Held access block) × (card.seal ≡ Some seal)
+FitsStage access block Ended card = ⊥
+
+abbrev pub Fits : Grip → Card → Type 0
+Fits grip card = FitsStage grip.access grip.block grip.stage card
+
+-- One step of a grip: it found a word.
+pub record GripStep (grip : Grip) (card : Card) (result : Gripped) (next : Grip) (after : Card) : Type 0 where
+  pub found : ℕ
+  pub told : result ≡ told_at grip.access grip.block grip.stage found
+  pub next_is : next ≡ record grip { stage = stage_after grip.access grip.stage found }
+  pub after_is : after ≡ card_after grip.access grip.block grip.stage found card
+  pub finds : FindsAt grip.block grip.stage found card
+
+abbrev pub IsMore : Gripped → Type 0
+IsMore (More x) = Unit {0}
+IsMore (GrippedShared share) = ⊥
+IsMore (GrippedOwned own) = ⊥
+IsMore (Refused refusal) = ⊥
+
+abbrev pub stages_left : Stage → ℕ
+stages_left LookFail = 5
+stages_left LookLock = 4
+stages_left (Exchange seen) = 3
+stages_left LookSeal = 2
+stages_left (LookNumber seal) = 1
+stages_left Ended = 0
+
+-- the fail word was 0, and the lock word w
+abbrev pub tried : OBlock → ℕ → Card → Card
+tried block w card = looked (LockWord block) w (looked Fail 0 card)
+
+-- The block is held, what is told of it are its words, and the number is no less than any that was seen.
+pub record Holds (access : Access) (block : OBlock) (place : Option CBlock) (dirty : Bool) (number : ℕ) (card after : Card) : Type 0 where
+  pub hold : after.hold ≡ Held access block
+  pub seal : (seal : ℕ) × (after.seal ≡ Some seal) × (place ≡ place_in seal) × (dirty ≡ dirty_in seal)
+  pub number_is : after.number ≡ Some number
+  pub kept : after.kept ≡ card.kept
+  pub added : after.added ≡ card.added
+  pub lost : after.lost ≡ card.lost
+  pub saw : (w seal : ℕ) × (after.saw ≡ (Number block, number) ∷ ((SealWord block, seal) ∷ ((LockWord block, w) ∷ ((Fail, 0) ∷ card.saw))))
+  pub least : SawAtMost block number card.saw
+
+-- the lock word that was looked at rules the grip out, or another came between the look and the exchange
+abbrev pub IsLost : Access → OBlock → Card → Card → Type 0
+IsLost access block card after = (w : ℕ) × (((can_take access w ≡ false) × (after ≡ tried block w card)) ⊎ ((can_take access w ≡ true) × ((x : ℕ) × (x ≢ w) × (after ≡ losing block x (tried block w card)))))
+
+-- the fail word that was looked at was not 0
+abbrev pub IsFailed : Card → Card → Type 0
+IsFailed card after = (f : ℕ) × (f ≢ 0) × (after ≡ looked Fail f card)
+
+-- nothing is different but looks and losses
+pub record Stays (card after : Card) : Type 0 where
+  pub hold : after.hold ≡ card.hold
+  pub kept : after.kept ≡ card.kept
+  pub added : after.added ≡ card.added
+
+-- A refusal, and its cause.
+abbrev pub IsRefusal : Access → OBlock → Refusal → Card → Card → Type 0
+IsRefusal access block refusal card after = Stays card after × (((refusal ≡ Busy) × IsLost access block card after) ⊎ ((refusal ≡ Failed) × IsFailed card after))
+
+-- where a grip ends
+abbrev pub EndsAs : Access → OBlock → Gripped → Card → Card → Type 0
+EndsAs access block (More x) card after = ⊥
+EndsAs access block (GrippedShared share) card after = (access ≡ Shared) × (share.block ≡ block) × Holds access block share.place share.dirty share.number card after
+EndsAs access block (GrippedOwned own) card after = (access ≡ Owned) × (own.block ≡ block) × Holds access block own.place own.dirty own.number card after
+EndsAs access block (Refused refusal) card after = IsRefusal access block refusal card after

@@ -1,0 +1,9 @@
+pub mod Flat
+pub mod Cards
+pub mod Rule
+pub mod Parts
+pub mod Views
+pub mod Steps
+pub mod Crews
+pub mod Passes
+pub mod Grips

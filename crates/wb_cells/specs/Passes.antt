@@ -1,0 +1,39 @@
+-- What a caller sees of cells and of passes.
+use Rattle.std.specs.Prelude.{◌≡◌, ℕ, ◌+◌, ◌*◌, ◌%◌, ◌^◌, [], ◌∷◌}
+use Rattle.atomic_table.specs.Seated.{TableId}
+use Rattle.atomic_table.specs.Table.{Me}
+use Rattle.wb_types.specs.declared.word.Word.{Word as WordName}
+use Rattle.wb_types.specs.declared.word.Word.TheVariants.{Cell as LockWord, Seal as SealWord, Number, Count as CountWord, Fail}
+use Rattle.wb_cells.specs.declared.card.Card.{Card}
+use Rattle.wb_cells.specs.declared.card.Part.{Part}
+use Rattle.wb_cells.specs.declared.card.View.{View}
+use Rattle.wb_cells.specs.Cards.{writes_on, counts_of}
+use Rattle.wb_cells.specs.Steps.{card_at}
+
+-- which words they are, and of how many blocks
+pub record CellsState : Type 0 where
+  pub table : TableId
+  pub blocks : ℕ
+
+-- the words that it is for, its part of the whole, and its card
+pub record PassState : Type 0 where
+  pub table : TableId
+  pub part : Part
+  pub card : Card
+
+abbrev pub pass_state : TableId → Me ℕ View → PassState
+pass_state table me = record { table = table; part = me.0.part; card = card_at 0 me.0 }
+
+-- a seat of one card, which carries nothing else
+pub record IsPass (words : ℕ) (me : Me ℕ View) : Type 0 where
+  pub one : me.0.cards ≡ card_at 0 me.0 ∷ []
+  pub sized : words ≡ 3 * me.0.blocks + 5
+  pub bare : me.1 ≡ []
+
+-- A statistics word, or a number word, is what this one card has added to it.
+abbrev pub IsSum : WordName → ℕ → Card → Type 0
+IsSum (LockWord b) x card = Unit {0}
+IsSum (SealWord b) x card = Unit {0}
+IsSum (Number b) x card = x ≡ writes_on b.0 card
+IsSum (CountWord kind) x card = x ≡ counts_of kind card % 2 ^ 64
+IsSum Fail x card = Unit {0}

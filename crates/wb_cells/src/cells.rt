@@ -1,0 +1,199 @@
+//! The shared words as their users see them: each call makes its steps by a pass.
+
+ghost use Rattle.std.specs.Prelude.{◌≡◌, ℕ, ◌+◌, ◌-◌, ◌^◌, ◌<◌, ◌==◌, true, Some, if◌then◌else◌, IfOk, IfErr};
+ghost use Rattle.wb_types.specs.declared.refusal.Refusal.TheVariants.{Memory};
+ghost use Rattle.wb_types.specs.declared.word.Access.TheVariants.{Shared, Owned};
+ghost use Rattle.wb_types.specs.declared.word.Kind.{Kind as KindName};
+ghost use Rattle.wb_types.specs.Words.{can_take, seal_word as seal_of};
+ghost use Rattle.wb_cells.specs.declared.card.Hold.TheVariants.{Nothing, Held};
+ghost use Rattle.wb_cells.specs.Flat.{IsWord};
+ghost use Rattle.wb_cells.specs.Cards.{blank, looked, losing, holding, sealing, finishing, counting, failing, merged, counts_of, writes_on};
+ghost use Rattle.wb_cells.specs.Parts.{IsWhole, the_whole, half, together};
+ghost use Rattle.wb_cells.specs.Steps.{Finds};
+ghost use Rattle.wb_cells.specs.Passes.{IsSum};
+
+use crate::card::View;
+use crate::held::{Own, Share};
+use crate::pass::Pass;
+use crate::table::{FAILED, SUSPENDED, WordTable};
+use atomic_table::{Join, Split};
+use std::alloc::Global;
+use std::marker::Model;
+use wb_types::{Access, CBlock, Kind, OBlock, Refusal, Word, seal_word};
+
+/// How a seat's view is cut in two.
+pub(crate) struct Halving;
+
+impl Split<View> for Halving {
+    ghost use Rattle.wb_cells.specs.Views.{cut_left, cut_right};
+
+    ghost left = { cut_left };
+
+    ghost right = { cut_right };
+}
+
+/// How two seats' views become one.
+pub(crate) struct Merging;
+
+impl Join<View> for Merging {
+    ghost use Rattle.wb_cells.specs.Views.{joined, spent};
+
+    ghost both = { joined };
+
+    ghost spent = { spent };
+}
+
+/// The words that all threads share. Contracts see which words they are, and of how many blocks.
+#[derive(Drop)]
+pub struct Cells {
+    pub(crate) words: WordTable,
+}
+
+impl Model for Cells {
+    ghost use Rattle.wb_cells.specs.Passes.{CellsState};
+
+    ghost Value = { CellsState };
+
+    ghost view = { λ c. record { table = c.words.table.shared.table_id; blocks = c.words.blocks } };
+}
+
+impl Cells {
+    /// The words of so many origin blocks, all 0, and a pass that has the whole of them; `Memory` where
+    /// they find no room.
+    pub fn new(alloc: Global, origin_blocks: u32) -> Result<(Cells, Pass), Refusal>
+        ensures cells { IfOk result (λ r. r.0.blocks ≡ origin_blocks) }
+        ensures pass { IfOk result (λ r. r.1 ≡ record { table = r.0.table; part = the_whole; card = blank }) }
+        ensures refused { IfErr result (λ r. r ≡ Memory) }
+    {
+        let (words, seat) = WordTable::new(alloc, origin_blocks, 1)?;
+        Ok((Cells { words }, Pass { seat }))
+    }
+
+    /// Two passes of one that holds nothing, each with half its part. Each can be split again, any number
+    /// of times; no memory is taken.
+    pub fn split(&self, pass: Pass) -> (Pass, Pass)
+        requires at { pass.table ≡ self.now.table }
+        requires idle { pass.card.hold ≡ Nothing }
+        ensures first { result.0 ≡ record pass { part = half pass.part } }
+        ensures second { result.1 ≡ record { table = pass.table; part = half pass.part; card = blank } }
+    {
+        let Pass { mut seat } = pass;
+        let other = self.words.table.shared.split_seat::<Halving>(&mut seat);
+        (Pass { seat }, Pass { seat: other })
+    }
+
+    /// One pass of two that hold nothing: it has both their parts, and what both have done is on its card.
+    pub fn join(&self, pass: Pass, other: Pass) -> Pass
+        requires at { (pass.table ≡ self.now.table) × (other.table ≡ self.now.table) }
+        requires idle { (pass.card.hold ≡ Nothing) × (other.card.hold ≡ Nothing) }
+        ensures pass { result ≡ record { table = pass.table; part = together pass.part other.part; card = merged pass.card other.card } }
+        ensures counts { (kind : KindName) → counts_of kind result.card ≡ counts_of kind pass.card + counts_of kind other.card }
+        ensures writes { (b : ℕ) → writes_on b result.card ≡ writes_on b pass.card + writes_on b other.card }
+    {
+        let Pass { mut seat } = pass;
+        let Pass { seat: other } = other;
+        self.words
+            .table
+            .shared
+            .join_seat::<Merging>(&mut seat, other);
+        Pass { seat }
+    }
+
+    /// One look at a word. Who has the whole finds at a statistics word what its card counted, and at a
+    /// number word the writes that it finished.
+    pub fn look(&self, pass: &mut Pass, word: Word) -> u64
+        requires at { pass.old.table ≡ self.now.table }
+        requires word { IsWord self.now.blocks word }
+        ensures pass { pass.new ≡ record pass.old { card = looked word result pass.old.card } }
+        ensures known { Finds word result pass.old.card }
+        ensures sums { IsWhole pass.old.part → IsSum word result pass.old.card }
+    {
+        self.words.look(&mut pass.seat, 0, word)
+    }
+
+    // The exchange that takes a block, at the lock word that was seen, and what it found.
+    pub(crate) fn exchange(&self, pass: &mut Pass, access: Access, block: OBlock, seen: u64) -> u64
+        requires at { pass.old.table ≡ self.now.table }
+        requires block { block.0 < self.now.blocks }
+        requires idle { pass.old.card.hold ≡ Nothing }
+        requires free { can_take access seen ≡ true }
+        ensures { pass.new ≡ record pass.old { card = (if result == seen then holding (Held access block) pass.old.card else losing block result pass.old.card) } }
+    {
+        self.words.take(&mut pass.seat, 0, access, block, seen)
+    }
+
+    /// Gives back a block that the pass shares.
+    pub fn leave(&self, pass: &mut Pass, share: Share)
+        requires at { pass.old.table ≡ self.now.table }
+        requires block { share.block.0 < self.now.blocks }
+        requires shares { pass.old.card.hold ≡ Held Shared share.block }
+        ensures { pass.new ≡ record pass.old { card = holding Nothing pass.old.card } }
+    {
+        self.words
+            .release(&mut pass.seat, 0, Access::Shared, share.block);
+    }
+
+    /// Gives back a block that the pass owns.
+    pub fn disown(&self, pass: &mut Pass, own: Own)
+        requires at { pass.old.table ≡ self.now.table }
+        requires block { own.block.0 < self.now.blocks }
+        requires owns { pass.old.card.hold ≡ Held Owned own.block }
+        ensures { pass.new ≡ record pass.old { card = holding Nothing pass.old.card } }
+    {
+        self.words
+            .release(&mut pass.seat, 0, Access::Owned, own.block);
+    }
+
+    /// Stores where an owned block's newest copy stands, none being the origin alone, and whether it is
+    /// dirty.
+    pub fn seal(&self, pass: &mut Pass, own: &mut Own, place: Option<CBlock>, dirty: bool)
+        requires at { pass.old.table ≡ self.now.table }
+        requires block { own.old.block.0 < self.now.blocks }
+        requires owns { pass.old.card.hold ≡ Held Owned own.old.block }
+        ensures own { own.new ≡ record own.old { place = place; dirty = dirty } }
+        ensures pass { pass.new ≡ record pass.old { card = sealing (seal_of place dirty) pass.old.card } }
+    {
+        let seal = seal_word(place, dirty);
+        self.words.seal(&mut pass.seat, 0, own.block, seal);
+        own.place = place;
+        own.dirty = dirty;
+    }
+
+    /// Tells that a write has finished on an owned block: its number rises by one.
+    pub fn finish_write(&self, pass: &mut Pass, own: &mut Own)
+        requires at { pass.old.table ≡ self.now.table }
+        requires block { own.old.block.0 < self.now.blocks }
+        requires owns { (pass.old.card.hold ≡ Held Owned own.old.block) × (pass.old.card.number ≡ Some own.old.number) }
+        requires room { own.old.number < 2 ^ 64 - 1 }
+        ensures own { own.new ≡ record own.old { number = own.old.number + 1 } }
+        ensures pass { pass.new ≡ record pass.old { card = finishing own.old.block pass.old.card } }
+    {
+        self.words.finish(&mut pass.seat, 0, own.block);
+        own.number += 1;
+    }
+
+    /// Counts a part of a request, modulo 2^64.
+    pub fn count(&self, pass: &mut Pass, kind: Kind)
+        requires { pass.old.table ≡ self.now.table }
+        ensures { pass.new ≡ record pass.old { card = counting kind pass.old.card } }
+    {
+        self.words.count(&mut pass.seat, 0, kind);
+    }
+
+    /// Tells of a failure: from now on no block is taken. A block that the pass owns stays owned for good.
+    pub fn fail(&self, pass: &mut Pass)
+        requires { pass.old.table ≡ self.now.table }
+        ensures { pass.new ≡ record pass.old { card = failing pass.old.card } }
+    {
+        self.words.fail(&mut pass.seat, 0, FAILED);
+    }
+
+    /// Tells of a suspension: from now on no block is taken. A block that the pass owns stays owned for
+    /// good.
+    pub fn suspended(&self, pass: &mut Pass)
+        requires { pass.old.table ≡ self.now.table }
+        ensures { pass.new ≡ record pass.old { card = failing pass.old.card } }
+    {
+        self.words.fail(&mut pass.seat, 0, SUSPENDED);
+    }
+}
