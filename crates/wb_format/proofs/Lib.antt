@@ -1,0 +1,4 @@
+pub mod Numbers
+pub mod Values
+pub mod Spellings
+pub mod WordLemmas

@@ -1,0 +1,21 @@
+-- The sizes and the top node in a root.
+use Rattle.std.specs.Prelude.{◌≡◌, ◌≤◌, ◌<◌, ℕ, List, Option, Some, None}
+use Rattle.wb_types.specs.declared.geometry.Geometry.{Geometry}
+use Rattle.wb_types.specs.declared.number.Place.{Place}
+use Rattle.wb_format.specs.Bytes.{number_at}
+
+-- where the top node may stand on a device of so many sectors: in none of the two slots
+abbrev pub IsTop : ℕ → Option Place → Type 0
+IsTop meta_sectors top = (place : Place) → top ≡ Some place → (2 ≤ place.0) × (place.0 < meta_sectors)
+
+-- the place of the top node, 0 for an empty mapping
+abbrev pub top_number : Option Place → ℕ
+top_number None = 0
+top_number (Some place) = place.0
+
+-- the sizes in a root
+pub record SpellsGeometry (sector : List ℕ) (geometry : Geometry) : Type 0 where
+  pub block : number_at sector 24 4 ≡ geometry.block
+  pub cache_blocks : number_at sector 28 4 ≡ geometry.cache_blocks
+  pub origin_blocks : number_at sector 32 4 ≡ geometry.origin_blocks
+  pub meta_sectors : number_at sector 36 4 ≡ geometry.meta_sectors

@@ -1,0 +1,34 @@
+//! Versions of the metadata.
+
+ghost use Rattle.std.specs.Prelude.{◌≡◌, IfSome};
+
+/// The layout that a metadata device is written in.
+#[derive(Clone, Copy, Debug, PartialEq, Eq)]
+pub enum Version {
+    /// One tree, whose leaves hold the dirty bits.
+    One,
+}
+
+impl Version {
+    ghost use Rattle.wb_format.specs.Layout.{version_number};
+
+    /// Its number in a root.
+    pub(crate) fn number(&self) -> u32
+        ensures { result ≡ version_number self.now }
+    {
+        match self {
+            Version::One => 1,
+        }
+    }
+
+    /// The version of a number, where there is one.
+    pub(crate) fn of(number: u32) -> Option<Version>
+        ensures found { IfSome result (λ version. number ≡ version_number version) }
+        ensures only { (version : Version) → number ≡ version_number version → result ≡ Some version }
+    {
+        match number {
+            1 => Some(Version::One),
+            _ => None,
+        }
+    }
+}
