@@ -84,3 +84,14 @@ few=$(resident 64)
 many=$(resident 1048575)
 printf '\nspace, resident: %s KiB with 64 blocks, %s KiB with 1048575, %s bytes a block\n' "$few" "$many" \
   "$(awk "BEGIN { printf \"%.2f\", ($many - $few) * 1024 / (1048575 - 64) }")"
+
+printf '\n%-30s %9s %9s %9s %9s\n' 'shares, taken and left' plain proved proved/plain 'ns in C'
+cc -O2 -pthread -o "$work/cells" "$top/bench/cells.c"
+for blocks in same apart; do
+  for threads in 1 2 4; do
+    plain=$(seconds "$work/cells" "$blocks" "$threads" 5000000)
+    proved=$(seconds "$top/bin/wb_bench" shares "$blocks" "$threads" 5000000)
+    printf '%-30s %9s %9s %9s %9s\n' "$threads threads, $blocks" "$plain" "$proved" "$(ratio "$proved" "$plain")" \
+      "$(awk "BEGIN { printf \"%.1f\", $plain / 5000000 * 1e9 }")"
+  done
+done

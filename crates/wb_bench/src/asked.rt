@@ -2,6 +2,7 @@
 
 ghost use Rattle.std.specs.Prelude.{◌≤◌};
 
+use crate::shares::{Crowd, Shares};
 use crate::turnover::Turnover;
 
 /// Which way the sectors go.
@@ -28,6 +29,7 @@ pub enum Asked<'a> {
     Requests(Requests<'a>),
     Accesses { cache_blocks: u32, adds: u64 },
     Turnover(Turnover),
+    Shares(Shares),
 }
 
 /// Reads the words of the command line, the program's name first.
@@ -42,6 +44,13 @@ pub fn read_asked(words: &[String]) -> Option<Asked<'_>> {
                 cache_blocks: cache_blocks.as_str().parse::<u32>().ok()?,
                 rounds: rounds.as_str().parse::<u64>().ok()?,
                 removed: removed.as_str().parse::<u64>().ok()?,
+            }))
+        }
+        [_, shares, blocks, threads, rounds] if shares.as_str() == "shares" => {
+            Some(Asked::Shares(Shares {
+                crowd: read_crowd(threads.as_str())?,
+                apart: read_apart(blocks.as_str())?,
+                rounds: rounds.as_str().parse::<u32>().ok()?,
             }))
         }
         [_, file, direction, sectors, requests] => {
@@ -66,6 +75,24 @@ fn read_direction(word: &str) -> Option<Direction> {
     match word {
         "read" => Some(Direction::Read),
         "write" => Some(Direction::Write),
+        _ => None,
+    }
+}
+
+fn read_crowd(word: &str) -> Option<Crowd> {
+    match word {
+        "1" => Some(Crowd::One),
+        "2" => Some(Crowd::Two),
+        "4" => Some(Crowd::Four),
+        _ => None,
+    }
+}
+
+/// Whether each thread has a block of its own.
+fn read_apart(word: &str) -> Option<bool> {
+    match word {
+        "same" => Some(false),
+        "apart" => Some(true),
         _ => None,
     }
 }

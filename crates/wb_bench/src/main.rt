@@ -4,18 +4,21 @@
 //! 64, one after another over all blocks of the file, and prints how many were done. `wb_bench sketch CACHE_BLOCKS
 //! ADDS` adds so many accesses to a frequency sketch, and prints the sum of every 1,024th estimate. `wb_bench space
 //! CACHE_BLOCKS ROUNDS REMOVED` removes so many blocks of a full cache in each round, commits, fills the cache again,
-//! and prints the sum of the blocks that were filled.
+//! and prints the sum of the blocks that were filled. `wb_bench shares same|apart 1|2|4 ROUNDS` shares a block and leaves
+//! it so many times on so many threads, all the same block or each its own, and prints how many shares there were.
 #![tactic(auto)]
 
 ghost use Rattle.std.specs.Prelude.{◌<◌, ◌≤◌};
 
 mod accesses;
 mod asked;
+mod shares;
 mod stage;
 mod turnover;
 
 use crate::accesses::add_all;
 use crate::asked::{Asked, Direction, Requests, read_asked};
+use crate::shares::share_all;
 use crate::stage::FileStage;
 use crate::turnover::turn_over;
 use std::env;
@@ -50,6 +53,10 @@ fn main(rt: HostRuntime) -> ExitCode {
         Asked::Turnover(turnover) => match turn_over(alloc, &turnover) {
             Ok(sum) => print(&rt, sum),
             Err(Refusal::Geometry) => failed(&rt, "no cache has so many blocks"),
+            Err(_) => failed(&rt, "out of memory"),
+        },
+        Asked::Shares(shares) => match share_all(&rt, alloc, shares) {
+            Ok(count) => print(&rt, count),
             Err(_) => failed(&rt, "out of memory"),
         },
     }
@@ -111,7 +118,7 @@ fn drive_all(asked: &Requests<'_>, blocks: u64, stage: &mut FileStage) -> Option
 
 fn usage(rt: &HostRuntime) -> ExitCode {
     let _ = eprintln!(rt;
-        "usage: wb_bench FILE read|write SECTORS REQUESTS | sketch CACHE_BLOCKS ADDS | space CACHE_BLOCKS ROUNDS REMOVED"
+        "usage: wb_bench FILE read|write SECTORS REQUESTS | sketch CACHE_BLOCKS ADDS | space CACHE_BLOCKS ROUNDS REMOVED | shares same|apart 1|2|4 ROUNDS"
     );
     ExitCode::from(2)
 }

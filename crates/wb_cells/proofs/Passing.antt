@@ -1,5 +1,5 @@
 -- Steps of a seat of one card; seats cut in two and put together.
-use Rattle.std.proofs.Common.{◌≡◌, ◌≢◌, ℕ, zero, suc, ◌+◌, ◌-◌, ◌*◌, ◌%◌, ◌^◌, List, [], ◌∷◌, ◌++◌, get_or, set, sym, refl, ap, ◌∙◌, subst, ⊎_elim, arith, Some, None}
+use Rattle.std.proofs.Common.{◌≡◌, ◌≢◌, ℕ, zero, suc, ◌+◌, ◌-◌, ◌*◌, ◌%◌, ◌^◌, List, [], ◌∷◌, ◌++◌, get_or, set, sym, refl, ap, ◌∙◌, subst, ⊎_elim, arith, ◌≤◌, max}
 use Rattle.std.proofs.lemmas.Option.{none-some}
 use mathlib.Core.Option.{some, some-injective, some-ne-none}
 use lib.ListN.{get_elem?}
@@ -18,7 +18,7 @@ use Rattle.wb_cells.specs.Cards.{blank, total, is_block, is_write, is_count, sha
 use Rattle.wb_cells.specs.Rule.{block, AllSawNoMore, Knows, LockRule, IsLock}
 use Rattle.wb_cells.specs.Parts.{IsWhole, together}
 use Rattle.wb_cells.specs.Views.{Ruled, all_cards, cut_left, cut_right, merged_cards, joined, spent}
-use Rattle.wb_cells.specs.Steps.{card_at, SeatMoves, Finds}
+use Rattle.wb_cells.specs.Steps.{card_at, raised, SeatMoves, Finds}
 use Rattle.wb_cells.specs.Passes.{pass_state, IsPass, IsSum}
 use Rattle.wb_cells.proofs.Totals.{total-append}
 use Rattle.wb_cells.proofs.Halves.{crowd, split_parts, join_parts, doubled-le}
@@ -26,17 +26,17 @@ use Rattle.wb_cells.proofs.Flatten.{in_all, card_of_set, card_of_snoc, cards_sum
 use Rattle.wb_cells.proofs.Core.{has_part}
 use Rattle.wb_cells.proofs.Allowed.{blank_knows}
 
-module _ {how : Card → Card → Type 0} {change : Words → Words → Type 0} where
+module _ {bits : ℕ} {how : Card → Card → Type 0} {change : Words → Words → Type 0} where
   -- one card stays one card
-  pub passes : (words : ℕ) (m after : Me ℕ View) → IsPass words m → SeatMoves 0 how change m after → IsPass words after
+  pub passes : (words : ℕ) (m after : Me ℕ View) → IsPass words m → SeatMoves bits 0 how change m after → IsPass words after
   passes words m after p s = record {
     one = s.0.others ∙ ap (λ (l : List Card). set l 0 (card_at 0 after.0)) p.one;
     sized = p.sized ∙ ap (λ (n : ℕ). 3 * n + 5) (sym s.0.blocks);
     bare = s.1 ∙ p.bare;
   }
 
-  pub shows : (t u : TableId) (m after : Me ℕ View) (c : Card) → u ≡ t → SeatMoves 0 how change m after → card_at 0 after.0 ≡ c → pass_state u after ≡ record (pass_state t m) { card = c }
-  shows t u m after c same s is = λ i. record { table = same i; part = s.0.part i; card = is i }
+  pub shows : (t u : TableId) (m after : Me ℕ View) (c : Card) → u ≡ t → SeatMoves bits 0 how change m after → card_at 0 after.0 ≡ c → pass_state u after ≡ record (pass_state t m) { card = c; failed = raised bits m.0.fail }
+  shows t u m after c same s is = λ i. record { table = same i; part = s.0.part i; card = is i; failed = s.0.floor i }
 
 -- what a look finds where one card is all there is
 sum_of : (n : ℕ) (w : Words) (c : Card) (word : WordName) → IsWord n word → LockRule n w (c ∷ []) → IsSum word (value_of w word) c
@@ -47,7 +47,7 @@ sum_of n w c (CountWord kind) inside r = r.counts kind ∙ ap (λ (z : ℕ). z %
 sum_of n w c Fail inside r = tt
 
 pub look_sums : (words n : ℕ) (m after : Me ℕ View) (word : WordName) (x : ℕ) → IsPass words m → words ≡ 3 * n + 5 → IsWord n word
-    → SeatMoves 0 (λ c d. (d ≡ looked word x c) × Finds word x c) (λ was now. (x ≡ value_of was word) × (now ≡ was)) m after → IsWhole m.0.part → IsSum word x (card_at 0 m.0)
+    → SeatMoves 0 0 (λ c d. (d ≡ looked word x c) × Finds word x c × (word ≡ Fail → m.0.fail ≤ x)) (λ was now. (x ≡ value_of was word) × (now ≡ was)) m after → IsWhole m.0.part → IsSum word x (card_at 0 m.0)
 look_sums words n m after word x p sized inside s all = let told = s.0.words all in let z = p.sized in let same : m.0.blocks ≡ n = omega arith in
     subst (λ (y : ℕ). IsSum word y (card_at 0 m.0)) (sym told.changed.0)
     (sum_of n told.was (card_at 0 m.0) word inside (subst (λ (z : ℕ × List Card). LockRule z.0 told.was z.1) (λ i. (same i, p.one i)) told.rule_was))
@@ -89,6 +89,9 @@ splits n id v c one s r at =
       sized = λ j u e more. ⊎_elim
           (λ g. ⊎_elim (λ (t : (j ≡ id) × (left ≡ u)). ap (λ (y : View). y.blocks) (sym t.1) ∙ r.sized id v at some_part) (λ (t : (j ≢ id) × (get_elem? s.views j ≡ some u)). r.sized j u t.1 more) (at_set s.views id j left u g))
           (λ (t : right ≡ u). ap (λ (y : View). y.blocks) (sym t) ∙ r.sized id v at some_part) (at_snoc vs right u j e);
+      floor = λ j u e. ⊎_elim
+          (λ g. ⊎_elim (λ (t : (j ≡ id) × (left ≡ u)). let h : v.fail ≡ u.fail = ap (λ (y : View). y.fail) t.1 in let f = r.floor id v at in omega arith) (λ (t : (j ≢ id) × (get_elem? s.views j ≡ some u)). r.floor j u t.1) (at_set s.views id j left u g))
+          (λ (t : right ≡ u). let h : v.fail ≡ u.fail = ap (λ (y : View). y.fail) t in let f = r.floor id v at in omega arith) (at_snoc vs right u j e);
       known = λ j u ws e is. ⊎_elim
           (λ g. ⊎_elim (λ (t : (j ≡ id) × (left ≡ u)). absurd (none-some ws (ap (λ (y : View). y.words) t.1 ∙ is)))
           (λ (t : (j ≢ id) × (get_elem? s.views j ≡ some u)). absurd (crowd s.views r.parts id v j u at some_part t.0 t.1 (r.known j u ws t.1 is).1)) (at_set s.views id j left u g))
@@ -134,6 +137,10 @@ joins n id v other w c d vc wc ch dh s r at apart there =
       sized = λ j u e more. ⊎_elim (λ (t : (j ≡ other) × (spent ≡ u)). absurd (more (ap (λ (y : View). y.part.pieces) (sym t.1))))
           (λ (t : (j ≢ other) × (get_elem? vs j ≡ some u)). ⊎_elim (λ (q : (j ≡ id) × (both ≡ u)). ap (λ (y : View). y.blocks) (sym q.1) ∙ r.sized id v at some_part)
           (λ (q : (j ≢ id) × (get_elem? s.views j ≡ some u)). r.sized j u q.1 more) (at_set s.views id j both u t.1)) (at_set vs other j spent u e);
+      floor = λ j u e. ⊎_elim (λ (t : (j ≡ other) × (spent ≡ u)). let h : 0 ≡ u.fail = ap (λ (y : View). y.fail) t.1 in omega arith)
+          (λ (t : (j ≢ other) × (get_elem? vs j ≡ some u)). ⊎_elim (λ (q : (j ≡ id) × (both ≡ u)). let h : max v.fail w.fail ≡ u.fail = ap (λ (y : View). y.fail) q.1 in
+          let f = r.floor id v at in let g = r.floor other w stood in omega arith)
+          (λ (q : (j ≢ id) × (get_elem? s.views j ≡ some u)). r.floor j u q.1) (at_set s.views id j both u t.1)) (at_set vs other j spent u e);
       known = λ j u ws e is. ⊎_elim (λ (t : (j ≡ other) × (spent ≡ u)). absurd (none-some ws (ap (λ (y : View). y.words) t.1 ∙ is)))
           (λ (t : (j ≢ other) × (get_elem? vs j ≡ some u)). ⊎_elim (λ (q : (j ≡ id) × (both ≡ u)). absurd (none-some ws (ap (λ (y : View). y.words) q.1 ∙ is)))
           (λ (q : (j ≢ id) × (get_elem? s.views j ≡ some u)). absurd (crowd s.views r.parts id v j u at some_part q.0 q.1 (r.known j u ws q.1 is).1)) (at_set s.views id j both u t.1)) (at_set vs other j spent u e);

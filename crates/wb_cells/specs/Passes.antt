@@ -15,14 +15,16 @@ pub record CellsState : Type 0 where
   pub table : TableId
   pub blocks : ℕ
 
--- the words that it is for, its part of the whole, and its card
+-- The words that it is for, its part of the whole, its card, and the greatest bit of the fail word that was set by it
+-- or by a pass that it came from.
 pub record PassState : Type 0 where
   pub table : TableId
   pub part : Part
   pub card : Card
+  pub failed : ℕ
 
 abbrev pub pass_state : TableId → Me ℕ View → PassState
-pass_state table me = record { table = table; part = me.0.part; card = card_at 0 me.0 }
+pass_state table me = record { table = table; part = me.0.part; card = card_at 0 me.0; failed = me.0.fail }
 
 -- a seat of one card, which carries nothing else
 pub record IsPass (words : ℕ) (me : Me ℕ View) : Type 0 where

@@ -1,5 +1,5 @@
 -- What a step of an actor does to its seat's view.
-use Rattle.std.specs.Prelude.{◌≡◌, ℕ, ◌≤◌, List, [], ◌∷◌, slice_set, slice_index_or, Some}
+use Rattle.std.specs.Prelude.{◌≡◌, ℕ, zero, suc, max, ◌≤◌, List, [], ◌∷◌, slice_set, slice_index_or, Some}
 use Rattle.atomic_table.specs.Table.{Me}
 use Rattle.wb_types.specs.declared.number.OBlock.{OBlock}
 use Rattle.wb_types.specs.declared.word.Access.{Access}
@@ -37,14 +37,20 @@ pub record Tells (change : Words → Words → Type 0) (v w : View) : Type 0 whe
   pub rule : LockRule v.blocks (known_words w) w.cards
   pub same : v.words ≡ Some (words_or v.words) → was ≡ known_words v
 
--- The card k goes by `how`, and no other changes.
-pub record Moves (k : ℕ) (how : Card → Card → Type 0) (change : Words → Words → Type 0) (v w : View) : Type 0 where
+-- a floor under the fail word, raised by a bit that was set, 0 for none
+abbrev pub raised : ℕ → ℕ → ℕ
+raised zero floor = floor
+raised (suc bits) floor = max floor (suc bits)
+
+-- The card k goes by `how`, and no other changes; `bits` of the fail word were set.
+pub record Moves (bits k : ℕ) (how : Card → Card → Type 0) (change : Words → Words → Type 0) (v w : View) : Type 0 where
   pub card : how (card_at k v) (card_at k w)
   pub others : w.cards ≡ slice_set v.cards k (card_at k w)
   pub part : w.part ≡ v.part
   pub blocks : w.blocks ≡ v.blocks
+  pub floor : w.fail ≡ raised bits v.fail
   pub words : IsWhole v.part → Tells change v w
 
 -- the same of a seat, which carries nothing else
-abbrev pub SeatMoves : ℕ → (Card → Card → Type 0) → (Words → Words → Type 0) → Me ℕ View → Me ℕ View → Type 0
-SeatMoves k how change m after = Moves k how change m.0 after.0 × (after.1 ≡ m.1)
+abbrev pub SeatMoves : ℕ → ℕ → (Card → Card → Type 0) → (Words → Words → Type 0) → Me ℕ View → Me ℕ View → Type 0
+SeatMoves bits k how change m after = Moves bits k how change m.0 after.0 × (after.1 ≡ m.1)

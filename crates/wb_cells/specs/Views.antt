@@ -1,5 +1,5 @@
 -- The words and all views: what holds between any two steps.
-use Rattle.std.specs.Prelude.{◌≡◌, ℕ, ◌+◌, ◌*◌, ◌≤◌, List, [], ◌∷◌, ◌++◌, length, replicate, Option, Some, None}
+use Rattle.std.specs.Prelude.{◌≡◌, ℕ, ◌+◌, ◌*◌, ◌≤◌, max, List, [], ◌∷◌, ◌++◌, length, replicate, Option, Some, None}
 use mathlib.Core.Option.{some}
 use lib.ListN.{get_elem?}
 use Rattle.atomic_table.specs.Table.{State}
@@ -30,11 +30,12 @@ pub record Ruled (n : ℕ) (s : State ℕ View) : Type 0 where
   pub parts : MakeWhole s.views
   pub bare : (j : ℕ) (v : View) → get_elem? s.views j ≡ some v → v.part.pieces ≡ 0 → v.cards ≡ []
   pub sized : (j : ℕ) (v : View) → get_elem? s.views j ≡ some v → (v.part.pieces ≡ 0 → ⊥) → v.blocks ≡ n
+  pub floor : (j : ℕ) (v : View) → get_elem? s.views j ≡ some v → v.fail ≤ (decode s.words).fail
   pub known : (j : ℕ) (v : View) (ws : List ℕ) → get_elem? s.views j ≡ some v → v.words ≡ Some ws → (ws ≡ s.words) × IsWhole v.part
 
 -- the first view, which has the whole and knows that all words are 0
 abbrev pub opened : ℕ → ℕ → View
-opened n actors = record { part = the_whole; blocks = n; cards = replicate actors blank; words = Some (replicate (3 * n + 5) 0) }
+opened n actors = record { part = the_whole; blocks = n; cards = replicate actors blank; fail = 0; words = Some (replicate (3 * n + 5) 0) }
 
 abbrev pub words_or : Option (List ℕ) → List ℕ
 words_or None = []
@@ -49,7 +50,7 @@ abbrev pub cut_left : View → View
 cut_left v = record v { part = half v.part; words = None }
 
 abbrev pub cut_right : View → View
-cut_right v = record { part = half v.part; blocks = v.blocks; cards = blank ∷ []; words = None }
+cut_right v = record { part = half v.part; blocks = v.blocks; cards = blank ∷ []; fail = v.fail; words = None }
 
 abbrev pub merged_cards : List Card → List Card → List Card
 merged_cards (c ∷ cs) (d ∷ ds) = merged c d ∷ []
@@ -57,7 +58,7 @@ merged_cards [] ds = ds
 merged_cards (c ∷ cs) [] = c ∷ cs
 
 abbrev pub joined : View → View → View
-joined v w = record { part = together v.part w.part; blocks = v.blocks; cards = merged_cards v.cards w.cards; words = None }
+joined v w = record { part = together v.part w.part; blocks = v.blocks; cards = merged_cards v.cards w.cards; fail = max v.fail w.fail; words = None }
 
 abbrev pub spent : View
-spent = record { part = no_part; blocks = 0; cards = []; words = None }
+spent = record { part = no_part; blocks = 0; cards = []; fail = 0; words = None }

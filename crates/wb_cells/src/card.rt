@@ -38,6 +38,8 @@ pub struct View {
     /// How many blocks there are.
     pub blocks: u64,
     pub cards: [Card; 0],
+    /// The fail word is no less: the greatest bit that was set by it.
+    pub fail: u64,
     /// All words as they lie in the table, known to who has the whole.
     pub words: Option<[u64; 0]>,
 }

@@ -1,9 +1,10 @@
 //! The shared words as their users see them: each call makes its steps by a pass.
 
-ghost use Rattle.std.specs.Prelude.{◌≡◌, ℕ, ◌+◌, ◌-◌, ◌^◌, ◌<◌, ◌==◌, true, Some, if◌then◌else◌, IfOk, IfErr};
+ghost use Rattle.std.specs.Prelude.{◌≡◌, ℕ, ◌+◌, ◌-◌, ◌^◌, ◌<◌, ◌≤◌, max, ◌==◌, true, Some, if◌then◌else◌, IfOk, IfErr};
 ghost use Rattle.wb_types.specs.declared.refusal.Refusal.TheVariants.{Memory};
 ghost use Rattle.wb_types.specs.declared.word.Access.TheVariants.{Shared, Owned};
 ghost use Rattle.wb_types.specs.declared.word.Kind.{Kind as KindName};
+ghost use Rattle.wb_types.specs.declared.word.Word.TheVariants.{Fail as FailWord};
 ghost use Rattle.wb_types.specs.Words.{can_take, seal_word as seal_of};
 ghost use Rattle.wb_cells.specs.declared.card.Hold.TheVariants.{Nothing, Held};
 ghost use Rattle.wb_cells.specs.Flat.{IsWord};
@@ -62,7 +63,7 @@ impl Cells {
     /// they find no room.
     pub fn new(alloc: Global, origin_blocks: u32) -> Result<(Cells, Pass), Refusal>
         ensures cells { IfOk result (λ r. r.0.blocks ≡ origin_blocks) }
-        ensures pass { IfOk result (λ r. r.1 ≡ record { table = r.0.table; part = the_whole; card = blank }) }
+        ensures pass { IfOk result (λ r. r.1 ≡ record { table = r.0.table; part = the_whole; card = blank; failed = 0 }) }
         ensures refused { IfErr result (λ r. r ≡ Memory) }
     {
         let (words, seat) = WordTable::new(alloc, origin_blocks, 1)?;
@@ -75,7 +76,7 @@ impl Cells {
         requires at { pass.table ≡ self.now.table }
         requires idle { pass.card.hold ≡ Nothing }
         ensures first { result.0 ≡ record pass { part = half pass.part } }
-        ensures second { result.1 ≡ record { table = pass.table; part = half pass.part; card = blank } }
+        ensures second { result.1 ≡ record { table = pass.table; part = half pass.part; card = blank; failed = pass.failed } }
     {
         let Pass { mut seat } = pass;
         let other = self.words.table.shared.split_seat::<Halving>(&mut seat);
@@ -86,7 +87,7 @@ impl Cells {
     pub fn join(&self, pass: Pass, other: Pass) -> Pass
         requires at { (pass.table ≡ self.now.table) × (other.table ≡ self.now.table) }
         requires idle { (pass.card.hold ≡ Nothing) × (other.card.hold ≡ Nothing) }
-        ensures pass { result ≡ record { table = pass.table; part = together pass.part other.part; card = merged pass.card other.card } }
+        ensures pass { result ≡ record { table = pass.table; part = together pass.part other.part; card = merged pass.card other.card; failed = max pass.failed other.failed } }
         ensures counts { (kind : KindName) → counts_of kind result.card ≡ counts_of kind pass.card + counts_of kind other.card }
         ensures writes { (b : ℕ) → writes_on b result.card ≡ writes_on b pass.card + writes_on b other.card }
     {
@@ -100,12 +101,13 @@ impl Cells {
     }
 
     /// One look at a word. Who has the whole finds at a statistics word what its card counted, and at a
-    /// number word the writes that it finished.
+    /// number word the writes that it finished; who has failed finds at the fail word no less than its bit.
     pub fn look(&self, pass: &mut Pass, word: Word) -> u64
         requires at { pass.old.table ≡ self.now.table }
         requires word { IsWord self.now.blocks word }
         ensures pass { pass.new ≡ record pass.old { card = looked word result pass.old.card } }
         ensures known { Finds word result pass.old.card }
+        ensures failed { word ≡ FailWord → pass.old.failed ≤ result }
         ensures sums { IsWhole pass.old.part → IsSum word result pass.old.card }
     {
         self.words.look(&mut pass.seat, 0, word)
@@ -183,7 +185,7 @@ impl Cells {
     /// Tells of a failure: from now on no block is taken. A block that the pass owns stays owned for good.
     pub fn fail(&self, pass: &mut Pass)
         requires { pass.old.table ≡ self.now.table }
-        ensures { pass.new ≡ record pass.old { card = failing pass.old.card } }
+        ensures { pass.new ≡ record pass.old { card = failing pass.old.card; failed = max pass.old.failed 1 } }
     {
         self.words.fail(&mut pass.seat, 0, FAILED);
     }
@@ -192,7 +194,7 @@ impl Cells {
     /// good.
     pub fn suspended(&self, pass: &mut Pass)
         requires { pass.old.table ≡ self.now.table }
-        ensures { pass.new ≡ record pass.old { card = failing pass.old.card } }
+        ensures { pass.new ≡ record pass.old { card = failing pass.old.card; failed = max pass.old.failed 2 } }
     {
         self.words.fail(&mut pass.seat, 0, SUSPENDED);
     }

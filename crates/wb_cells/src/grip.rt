@@ -1,6 +1,7 @@
 //! Taking a block, a step at a time.
 
-ghost use Rattle.std.specs.Prelude.{◌≡◌, ◌<◌, cond, IfOk, IfErr};
+ghost use Rattle.std.specs.Prelude.{◌≡◌, ◌<◌, cond, Err, IfOk, IfErr};
+ghost use Rattle.wb_types.specs.declared.refusal.Refusal.TheVariants.{Failed};
 ghost use Rattle.wb_types.specs.declared.word.Access.TheVariants.{Shared as SharedAccess, Owned as OwnedAccess};
 ghost use Rattle.wb_cells.specs.declared.card.Hold.TheVariants.{Nothing};
 ghost use Rattle.wb_cells.specs.declared.grip.Stage.TheVariants.{LookFail, Ended};
@@ -145,6 +146,7 @@ impl Cells {
         ensures step { GripStep grip.old pass.old.card result grip.new pass.new.card }
         ensures pass { pass.new ≡ record pass.old { card = pass.new.card } }
         ensures fits { IsMore result → Fits grip.new pass.new.card }
+        ensures failed { grip.old.stage ≡ LookFail → 0 < pass.old.failed → result ≡ Refused Failed }
     {
         match grip.stage {
             Stage::LookFail => grip.advance(self.look(pass, Word::Fail)),
@@ -162,7 +164,8 @@ impl Cells {
     /// Shares a block: the steps of a grip to their end.
     ///
     /// `Failed` where the fail word was not 0; `Busy` where the lock word was owned or full, or changed
-    /// before the exchange. After either nothing is different but looks and losses.
+    /// before the exchange. After either nothing is different but looks and losses. A pass that has failed
+    /// or been suspended is always answered `Failed`.
     pub fn try_share(&self, pass: &mut Pass, block: OBlock) -> Result<Share, Refusal>
         requires at { pass.old.table ≡ self.now.table }
         requires block { block.0 < self.now.blocks }
@@ -171,6 +174,7 @@ impl Cells {
         ensures block { IfOk result (λ share. share.block ≡ block) }
         ensures shares { IfOk result (λ share. Holds SharedAccess block share.place share.dirty share.number pass.old.card pass.new.card) }
         ensures refused { IfErr result (λ refusal. IsRefusal SharedAccess block refusal pass.old.card pass.new.card) }
+        ensures failed { 0 < pass.old.failed → result ≡ Err Failed }
     {
         match self.grip(pass, Grip::share(block)) {
             Gripped::Shared(share) => Ok(share),
@@ -182,7 +186,8 @@ impl Cells {
     /// Owns a block: the steps of a grip to their end.
     ///
     /// `Failed` where the fail word was not 0; `Busy` where the lock word was owned or shared, or changed
-    /// before the exchange. After either nothing is different but looks and losses.
+    /// before the exchange. After either nothing is different but looks and losses. A pass that has failed
+    /// or been suspended is always answered `Failed`.
     pub fn try_own(&self, pass: &mut Pass, block: OBlock) -> Result<Own, Refusal>
         requires at { pass.old.table ≡ self.now.table }
         requires block { block.0 < self.now.blocks }
@@ -191,6 +196,7 @@ impl Cells {
         ensures block { IfOk result (λ own. own.block ≡ block) }
         ensures owns { IfOk result (λ own. Holds OwnedAccess block own.place own.dirty own.number pass.old.card pass.new.card) }
         ensures refused { IfErr result (λ refusal. IsRefusal OwnedAccess block refusal pass.old.card pass.new.card) }
+        ensures failed { 0 < pass.old.failed → result ≡ Err Failed }
     {
         match self.grip(pass, Grip::own(block)) {
             Gripped::Owned(own) => Ok(own),
@@ -207,6 +213,7 @@ impl Cells {
         requires begins { grip.stage ≡ LookFail }
         ensures pass { pass.new ≡ record pass.old { card = pass.new.card } }
         ensures ends { EndsAs grip.access grip.block result pass.old.card pass.new.card }
+        ensures failed { 0 < pass.old.failed → result ≡ Refused Failed }
     {
         loop {
             match self.grip_step(pass, &mut grip) {

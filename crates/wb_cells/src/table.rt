@@ -1,6 +1,6 @@
 //! The table of words, and each kind of step that an actor makes on it.
 
-ghost use Rattle.std.specs.Prelude.{◌≡◌, ◌≢◌, ℕ, ◌+◌, ◌-◌, ◌*◌, ◌%◌, ◌^◌, ◌<◌, ◌==◌, true, [], ◌∷◌, length, bit_or, Some, IfOk, if◌then◌else◌};
+ghost use Rattle.std.specs.Prelude.{◌≡◌, ◌≢◌, ℕ, ◌+◌, ◌-◌, ◌*◌, ◌%◌, ◌^◌, ◌<◌, ◌≤◌, ◌==◌, true, [], ◌∷◌, length, bit_or, Some, IfOk, if◌then◌else◌};
 ghost use prog.Atomic.{either};
 ghost use mathlib.Core.Option.{none};
 ghost use Rattle.atomic_table.specs.Table.{Allows, step};
@@ -96,7 +96,7 @@ impl WordTable {
         requires actor { actor < length seat.old.me.0.cards }
         requires word { IsWord self.now.blocks word }
         ensures at { (seat.new.table_id ≡ seat.old.table_id) × (seat.new.id ≡ seat.old.id) }
-        ensures step { SeatMoves actor (λ c d. (d ≡ looked word result c) × Finds word result c) (λ was now. (result ≡ value_of was word) × (now ≡ was)) seat.old.me seat.new.me }
+        ensures step { SeatMoves 0 actor (λ c d. (d ≡ looked word result c) × Finds word result c × (word ≡ Fail → seat.old.me.0.fail ≤ result)) (λ was now. (result ≡ value_of was word) × (now ≡ was)) seat.old.me seat.new.me }
     {
         self.load::<Brand>(seat, actor, word)
     }
@@ -116,7 +116,7 @@ impl WordTable {
         requires idle { (card_at actor seat.old.me.0).hold ≡ Nothing }
         requires free { can_take access seen ≡ true }
         ensures at { (seat.new.table_id ≡ seat.old.table_id) × (seat.new.id ≡ seat.old.id) }
-        ensures step { SeatMoves actor (λ c d. d ≡ (if result == seen then holding (Held access block) c else losing block result c)) (λ was now. (result ≡ word_at was.cells block) × (now ≡ (if result == seen then with_cell was block (taken access seen) else was))) seat.old.me seat.new.me }
+        ensures step { SeatMoves 0 actor (λ c d. d ≡ (if result == seen then holding (Held access block) c else losing block result c)) (λ was now. (result ≡ word_at was.cells block) × (now ≡ (if result == seen then with_cell was block (taken access seen) else was))) seat.old.me seat.new.me }
     {
         self.exchange::<Brand>(seat, actor, access, block, seen, seen + weight(access))
     }
@@ -134,7 +134,7 @@ impl WordTable {
         requires block { block.0 < self.now.blocks }
         requires holds { (card_at actor seat.old.me.0).hold ≡ Held access block }
         ensures at { (seat.new.table_id ≡ seat.old.table_id) × (seat.new.id ≡ seat.old.id) }
-        ensures step { SeatMoves actor (λ c d. d ≡ holding Nothing c) (λ was now. now ≡ with_cell was block (given_back access (word_at was.cells block))) seat.old.me seat.new.me }
+        ensures step { SeatMoves 0 actor (λ c d. d ≡ holding Nothing c) (λ was now. now ≡ with_cell was block (given_back access (word_at was.cells block))) seat.old.me seat.new.me }
     {
         self.subtract::<Brand>(seat, actor, access, block, weight(access));
     }
@@ -146,7 +146,7 @@ impl WordTable {
         requires block { block.0 < self.now.blocks }
         requires owns { (card_at actor seat.old.me.0).hold ≡ Held Owned block }
         ensures at { (seat.new.table_id ≡ seat.old.table_id) × (seat.new.id ≡ seat.old.id) }
-        ensures step { SeatMoves actor (λ c d. d ≡ sealing seal c) (λ was now. now ≡ put was (SealWord block) seal) seat.old.me seat.new.me }
+        ensures step { SeatMoves 0 actor (λ c d. d ≡ sealing seal c) (λ was now. now ≡ put was (SealWord block) seal) seat.old.me seat.new.me }
     {
         self.store::<Brand>(seat, actor, block, seal);
     }
@@ -159,7 +159,7 @@ impl WordTable {
         requires owns { (card_at actor seat.old.me.0).hold ≡ Held Owned block }
         requires room { (n : ℕ) × ((card_at actor seat.old.me.0).number ≡ Some n) × (n < 2 ^ 64 - 1) }
         ensures at { (seat.new.table_id ≡ seat.old.table_id) × (seat.new.id ≡ seat.old.id) }
-        ensures step { SeatMoves actor (λ c d. d ≡ finishing block c) (λ was now. now ≡ put was (Number block) (one_more (word_at was.numbers block))) seat.old.me seat.new.me }
+        ensures step { SeatMoves 0 actor (λ c d. d ≡ finishing block c) (λ was now. now ≡ put was (Number block) (one_more (word_at was.numbers block))) seat.old.me seat.new.me }
     {
         self.add_write::<Brand>(seat, actor, block);
     }
@@ -169,7 +169,7 @@ impl WordTable {
         requires at { seat.old.table_id ≡ self.now.table.shared.table_id }
         requires actor { actor < length seat.old.me.0.cards }
         ensures at { (seat.new.table_id ≡ seat.old.table_id) × (seat.new.id ≡ seat.old.id) }
-        ensures step { SeatMoves actor (λ c d. d ≡ counting kind c) (λ was now. now ≡ counted was kind) seat.old.me seat.new.me }
+        ensures step { SeatMoves 0 actor (λ c d. d ≡ counting kind c) (λ was now. now ≡ counted was kind) seat.old.me seat.new.me }
     {
         self.add_count::<Brand>(seat, actor, kind);
     }
@@ -179,7 +179,7 @@ impl WordTable {
         requires at { seat.old.table_id ≡ self.now.table.shared.table_id }
         requires actor { actor < length seat.old.me.0.cards }
         ensures at { (seat.new.table_id ≡ seat.old.table_id) × (seat.new.id ≡ seat.old.id) }
-        ensures step { SeatMoves actor (λ c d. d ≡ failing c) (λ was now. now ≡ put was Fail (bit_or was.fail bits)) seat.old.me seat.new.me }
+        ensures step { SeatMoves bits actor (λ c d. d ≡ failing c) (λ was now. now ≡ put was Fail (bit_or was.fail bits)) seat.old.me seat.new.me }
     {
         self.set_bits::<Brand>(seat, actor, bits);
     }

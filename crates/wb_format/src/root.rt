@@ -15,7 +15,7 @@ const MAGIC: [u8; 8] = *b"WBCROOT1";
 /// A root: which mapping the metadata device stands for.
 #[derive(Clone, Copy, Debug, PartialEq, Eq)]
 pub struct Root {
-    /// How many commits there were since formatting, this one included.
+    /// The number of this root: 0 from formatting, and one more with each root that follows.
     pub generation: u64,
     pub version: Version,
     /// Whether the dirty bits and hints of the mapping are right.

@@ -91,7 +91,7 @@ fn a_suspension_refuses_as_a_failure_does(rt: HostRuntime) -> Result<(), Fail> {
 #[test]
 fn who_fails_keeps_what_it_owns(rt: HostRuntime) -> Result<(), Fail> {
     let (cells, pass) = Cells::new(rt.alloc(), 1)?;
-    let (mut p, mut q) = cells.split(pass);
+    let (mut p, q) = cells.split(pass);
     let _own = cells.try_own(&mut p, OBlock(0))?;
     cells.fail(&mut p);
     let mut all = cells.join(p, q);

@@ -1,4 +1,5 @@
-use Rattle.std.proofs.Common.{◌≡◌}
+use Rattle.std.proofs.Common.{◌≡◌, ◌⊎◌}
+use Rattle.wb_cells.specs.declared.grip.Stage.TheVariants.{LookFail}
 use Rattle.wb_cells.specs.Grips.{stages_left}
 use Rattle.wb_cells.proofs.Gripping.{OnTheWay}
 use Rattle.wb_cells.proofs.cells.Cells.grip.Given as goal
@@ -8,6 +9,8 @@ invariant-loop-ended l = record {
   way : OnTheWay l.initial.grip.access l.initial.grip.block l.initial.pass.card l.grip l.pass.card;
   table : l.pass.table ≡ l.initial.pass.table;
   part : l.pass.part ≡ l.initial.pass.part;
+  failed : l.pass.failed ≡ l.initial.pass.failed;
+  sound : (l.grip.stage ≡ LookFail) ⊎ (l.initial.pass.failed ≡ 0);
 }
 
 abbrev pub decreases-loop-ended : goal.decreases-loop-ended

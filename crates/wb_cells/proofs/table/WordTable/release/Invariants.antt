@@ -6,4 +6,4 @@ use Rattle.wb_cells.specs.Steps.{SeatMoves}
 use Rattle.wb_cells.proofs.table.WordTable.release.Given as goal
 
 abbrev pub ghosts-subtract : goal.ghosts-subtract
-ghosts-subtract a = record { then = λ st m x. SeatMoves a._actor (λ c d. d ≡ holding Nothing c) (λ was now. now ≡ with_cell was a.block (given_back a._access (word_at was.cells a.block))) m }
+ghosts-subtract a = record { then = λ st m x. SeatMoves 0 a._actor (λ c d. d ≡ holding Nothing c) (λ was now. now ≡ with_cell was a.block (given_back a._access (word_at was.cells a.block))) m }

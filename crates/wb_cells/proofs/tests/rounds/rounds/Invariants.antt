@@ -7,6 +7,7 @@ abbrev pub invariant-loop : goal.invariant-loop
 invariant-loop g l = record {
   table : l.pass.table ≡ l.initial.pass.table;
   part : l.pass.part ≡ l.initial.pass.part;
+  failed : l.pass.failed ≡ l.initial.pass.failed;
   idle : l.pass.card.hold ≡ Nothing;
   small : l.done ≤ l.many;
   writes : writes_on 0 l.pass.card ≡ writes_on 0 l.initial.pass.card + l.done;

@@ -1,0 +1,23 @@
+-- What formatting leaves.
+use Rattle.std.specs.Prelude.{◌≡◌, true, None, List}
+use Rattle.wb_types.specs.declared.geometry.Geometry.{Geometry}
+use Rattle.wb_disk.specs.Device.{History}
+use Rattle.wb_format.specs.declared.root.Root.{Root}
+use Rattle.wb_format.specs.declared.version.Version.TheVariants.{One}
+use Rattle.wb_tree.specs.Reading.{nothing_found}
+use Rattle.wb_meta.specs.Crashes.{AfterEveryCrash}
+use Rattle.wb_meta.specs.Holding.{Holds}
+
+-- the root of the empty mapping, clean, in generation 0
+pub record IsFirstRoot (geometry : Geometry) (root : Root) : Type 0 where
+  pub generation : root.generation ≡ 0
+  pub version : root.version ≡ One
+  pub clean : root.clean ≡ true
+  pub geometry_is : root.geometry ≡ geometry
+  pub top : root.top ≡ None
+
+-- a device holds the empty mapping, clean, in generation 0, whatever a crash leaves of it
+pub record IsFormatted (geometry : Geometry) (device : List History) : Type 0 where
+  pub root : Root
+  pub first : IsFirstRoot geometry root
+  pub holds : AfterEveryCrash (λ sectors. Holds sectors root (nothing_found root)) device

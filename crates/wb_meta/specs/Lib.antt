@@ -1,0 +1,6 @@
+pub mod Crashes
+pub mod Holding
+pub mod Steps
+pub mod Placing
+pub mod Commits
+pub mod Formats

@@ -1,0 +1,17 @@
+//! The metadata device: formatting, and the commit of an image of the mapping tree.
+//!
+//! A commit writes the image's nodes to places that the tree on the device does not use, syncs, writes the root
+//! into the slot of its generation, and syncs. So a crash at any moment leaves the old mapping or the image's.
+#![tactic(auto)]
+
+mod commit_steps;
+mod formatting;
+mod law;
+mod sector;
+#[cfg(test)]
+mod tests;
+
+pub use commit_steps::{CommitSteps, commit};
+pub use formatting::format;
+pub use law::{commit_law, crash_law, holding_law};
+pub use wb_tree::Image;

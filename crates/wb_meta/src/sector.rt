@@ -1,0 +1,69 @@
+//! Single steps of the metadata device.
+
+ghost use Rattle.std.specs.Prelude.{◌≡◌, ◌<◌, ◌⊎◌, ℕ, List, OnOk, OnErr, IfErr};
+ghost use Rattle.wb_types.specs.declared.refusal.Refusal.TheVariants.{Io};
+ghost use Rattle.wb_types.specs.declared.mode.Dev.TheVariants.{Metadata};
+ghost use Rattle.wb_format.specs.Layout.{SpellsNode, SpellsRoot};
+ghost use Rattle.wb_disk.specs.Device.{written, synced, PartlySynced, OneMore};
+ghost use Rattle.wb_meta.specs.Steps.{Puts, MayPut, zero_sector};
+
+use wb_disk::Disk;
+use wb_format::{Node, Root};
+use wb_types::{Content, Dev, Refusal, SECTOR_BYTES};
+
+/// Writes a node. `Io` where the device fails; it may then have the node or not.
+pub(crate) fn put_node<D: Disk>(disk: &mut D, at: u64, node: &Node) -> Result<(), Refusal>
+    requires { at < D.size disk.old }
+    ensures size { D.size disk.new ≡ D.size disk.old }
+    ensures ok { D.tells → OnOk result (Puts (λ content. SpellsNode content node.now) at (D.contents disk.old) (D.contents disk.new)) }
+    ensures err { D.tells → OnErr result (MayPut (λ content. SpellsNode content node.now) at (D.contents disk.old) (D.contents disk.new)) }
+    ensures no_fault { D.tells → OnOk result (D.faults disk.new ≡ D.faults disk.old) }
+    ensures cause { D.tells → OnErr result (OneMore (D.faults disk.old) (D.faults disk.new)) }
+    ensures refused { IfErr result (λ refusal. refusal ≡ Io Metadata) }
+{
+    let mut content = [0; SECTOR_BYTES];
+    node.write(&mut content);
+    disk.write(at, &content)
+        .map_err(|_| Refusal::Io(Dev::Metadata))
+}
+
+/// Writes a root. `Io` where the device fails; it may then have the root or not.
+pub(crate) fn put_root<D: Disk>(disk: &mut D, at: u64, root: &Root) -> Result<(), Refusal>
+    requires { at < D.size disk.old }
+    ensures size { D.size disk.new ≡ D.size disk.old }
+    ensures ok { D.tells → OnOk result (Puts (λ content. SpellsRoot content root.now) at (D.contents disk.old) (D.contents disk.new)) }
+    ensures err { D.tells → OnErr result (MayPut (λ content. SpellsRoot content root.now) at (D.contents disk.old) (D.contents disk.new)) }
+    ensures no_fault { D.tells → OnOk result (D.faults disk.new ≡ D.faults disk.old) }
+    ensures cause { D.tells → OnErr result (OneMore (D.faults disk.old) (D.faults disk.new)) }
+    ensures refused { IfErr result (λ refusal. refusal ≡ Io Metadata) }
+{
+    let mut content = [0; SECTOR_BYTES];
+    root.write(&mut content);
+    disk.write(at, &content)
+        .map_err(|_| Refusal::Io(Dev::Metadata))
+}
+
+/// Writes a sector of zeros. `Io` where the device fails; it may then have them or not.
+pub(crate) fn put_zeros<D: Disk>(disk: &mut D, at: u64) -> Result<(), Refusal>
+    requires { at < D.size disk.old }
+    ensures size { D.size disk.new ≡ D.size disk.old }
+    ensures ok { D.tells → OnOk result (D.contents disk.new ≡ written (D.contents disk.old) at zero_sector) }
+    ensures no_fault { D.tells → OnOk result (D.faults disk.new ≡ D.faults disk.old) }
+    ensures cause { D.tells → OnErr result (OneMore (D.faults disk.old) (D.faults disk.new)) }
+    ensures refused { IfErr result (λ refusal. refusal ≡ Io Metadata) }
+{
+    disk.write(at, &[0; SECTOR_BYTES])
+        .map_err(|_| Refusal::Io(Dev::Metadata))
+}
+
+/// Makes all that was written safe. `Io` where the device fails; each sector is then safe or not.
+pub(crate) fn settle<D: Disk>(disk: &mut D) -> Result<(), Refusal>
+    ensures size { D.size disk.new ≡ D.size disk.old }
+    ensures ok { D.tells → OnOk result (D.contents disk.new ≡ synced (D.contents disk.old)) }
+    ensures err { D.tells → OnErr result (PartlySynced (D.contents disk.old) (D.contents disk.new)) }
+    ensures no_fault { D.tells → OnOk result (D.faults disk.new ≡ D.faults disk.old) }
+    ensures cause { D.tells → OnErr result (OneMore (D.faults disk.old) (D.faults disk.new)) }
+    ensures refused { IfErr result (λ refusal. refusal ≡ Io Metadata) }
+{
+    disk.sync().map_err(|_| Refusal::Io(Dev::Metadata))
+}

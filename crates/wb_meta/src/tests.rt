@@ -1,0 +1,128 @@
+//! The bytes of formatting and of a first commit, and crashes within that commit.
+
+ghost use Rattle.std.specs.Prelude.{◌≤◌, IsTrue, length};
+ghost use Rattle.wb_meta.specs.Placing.{HavePlaces};
+
+use super::*;
+use std::process::Abort;
+use std::test::Fail;
+use wb_disk::{Base, CrashChoice, Disk, MemDisk};
+use wb_format::{Node, Root, Version};
+use wb_types::{Content, Geometry, Place, Refusal};
+
+/// The root of a formatted device of 4 sectors: blocks of 64 sectors, 4 on the cache and 10 on the origin.
+const FORMATTED: [u8; 44] = [
+    0x57, 0x42, 0x43, 0x52, 0x4f, 0x4f, 0x54, 0x31, 0, 0, 0, 0, 0, 0, 0, 0, 1, 0, 0, 0, 1, 0, 0, 0,
+    0x40, 0, 0, 0, 4, 0, 0, 0, 10, 0, 0, 0, 4, 0, 0, 0, 0, 0, 0, 0,
+];
+
+/// The root of the first commit after it, whose top node stands at place 2.
+const COMMITTED: [u8; 44] = [
+    0x57, 0x42, 0x43, 0x52, 0x4f, 0x4f, 0x54, 0x31, 1, 0, 0, 0, 0, 0, 0, 0, 1, 0, 0, 0, 0, 0, 0, 0,
+    0x40, 0, 0, 0, 4, 0, 0, 0, 10, 0, 0, 0, 4, 0, 0, 0, 2, 0, 0, 0,
+];
+
+/// The one node of that commit: origin block 0 in cache block 0, clean, with hint 0.
+const LEAF: [u8; 40] = [
+    0x57, 0x42, 0x43, 0x4e, 0x4f, 0x44, 0x45, 0x31, 1, 0, 0, 0, 0, 0, 0, 0, 1, 0, 0, 0, 0, 0, 0, 0,
+    0, 0, 0, 0, 0, 0, 0, 0, 1, 0, 0, 0, 0, 0, 0, 0,
+];
+
+/// A sector that begins so, and has zeros behind it.
+fn sector_of(front: &[u8]) -> Content
+    requires { length front.now ≤ 512 }
+{
+    let mut content = [0; 512];
+    content[..front.len()].copy_from_slice(front);
+    content
+}
+
+/// What a sector of the device reads as; nothing where there is no such sector.
+fn sector_at(disk: &mut MemDisk, at: u64) -> Option<Content> {
+    let mut content = [0u8; 512];
+    if at >= disk.sectors() || disk.read(at, &mut content).is_err() {
+        return None;
+    }
+    Some(content)
+}
+
+/// Whether an image has one node, whose place is one of the device.
+fn one_node_fits(disk: &MemDisk, image: &Image) -> bool
+    ensures { IsTrue result → HavePlaces image.now.nodes.items (length disk.now.contents) }
+{
+    if image.nodes.len() != 1 {
+        return false;
+    }
+    let (Place(place), _) = image.nodes[0];
+    place >= 2 && u64::from(place) < disk.sectors()
+}
+
+/// A formatted device, and the image of the first commit.
+fn formatted(rt: &(impl Abort + AllocGlobal)) -> Result<(MemDisk, Image), Fail> {
+    let geometry = Geometry::new(64, 4, 10, 4)?;
+    let mut disk = MemDisk::new(rt.alloc(), 4)?;
+    format(&mut disk, &geometry)?;
+    let root = Root {
+        generation: 1,
+        version: Version::One,
+        clean: false,
+        geometry,
+        top: Some(Place(2)),
+    };
+    let leaf = Node::read(&sector_of(&LEAF)).ok_or("a leaf")?;
+    let mut nodes = Vec::new(rt.alloc());
+    nodes.push((Place(2), leaf))?;
+    let mut used = Vec::new(rt.alloc());
+    used.push(Place(2))?;
+    Ok((disk, Image { root, nodes, used }))
+}
+
+/// The generation that a device is left with by a crash after so many steps of the first commit.
+fn generation_after(rt: &(impl Abort + AllocGlobal), count: u64, base: Base) -> Result<u64, Fail> {
+    let (mut disk, image) = formatted(rt)?;
+    let mut steps = CommitSteps::new();
+    for _ in 0..count {
+        assert!(rt; one_node_fits(&disk, &image));
+        steps.next(&mut disk, &image)?;
+    }
+    assert!(rt; disk.stop(&CrashChoice::new(base, Vec::new(rt.alloc()))));
+    assert_eq!(rt; sector_at(&mut disk, 0), Some(sector_of(&FORMATTED)));
+    if sector_at(&mut disk, 1) == Some([0; 512]) {
+        return Ok(0);
+    }
+    assert_eq!(rt; sector_at(&mut disk, 1), Some(sector_of(&COMMITTED)));
+    assert_eq!(rt; sector_at(&mut disk, 2), Some(sector_of(&LEAF)));
+    Ok(1)
+}
+
+#[test]
+fn formatting_and_a_first_commit_write_these_sectors(rt: HostRuntime) -> Result<(), Fail> {
+    let (mut disk, image) = formatted(&rt)?;
+    assert_eq!(rt; sector_at(&mut disk, 0), Some(sector_of(&FORMATTED)));
+    assert_eq!(rt; sector_at(&mut disk, 1), Some([0; 512]));
+    assert!(rt; one_node_fits(&disk, &image));
+    commit(&mut disk, &image)?;
+    assert_eq!(rt; sector_at(&mut disk, 0), Some(sector_of(&FORMATTED)));
+    assert_eq!(rt; sector_at(&mut disk, 1), Some(sector_of(&COMMITTED)));
+    assert_eq!(rt; sector_at(&mut disk, 2), Some(sector_of(&LEAF)));
+    assert_eq!(rt; sector_at(&mut disk, 3), Some([0; 512]));
+    Ok(())
+}
+
+#[test]
+fn a_device_of_another_size_is_not_formatted(rt: HostRuntime) -> Result<(), Fail> {
+    let geometry = Geometry::new(64, 4, 10, 4)?;
+    let mut disk = MemDisk::new(rt.alloc(), 5)?;
+    assert_eq!(rt; format(&mut disk, &geometry), Err(Refusal::Geometry));
+    assert_eq!(rt; sector_at(&mut disk, 0), Some([0; 512]));
+    Ok(())
+}
+
+#[test]
+fn a_crash_leaves_the_empty_mapping_or_the_new_one(rt: HostRuntime) -> Result<(), Fail> {
+    for (count, oldest, newest) in [(0, 0, 0), (1, 0, 0), (2, 0, 0), (3, 0, 1), (4, 1, 1)] {
+        assert_eq!(rt; generation_after(&rt, count, Base::Durable)?, oldest);
+        assert_eq!(rt; generation_after(&rt, count, Base::Newest)?, newest);
+    }
+    Ok(())
+}

@@ -1,0 +1,15 @@
+use Rattle.std.proofs.Common.{◌∙◌, sym, subst, List}
+use Rattle.wb_tree.specs.declared.placed.PlacedNode.{PlacedNode}
+use Rattle.wb_tree.specs.Loading.{IsFresh}
+use Rattle.wb_tree.proofs.LoaderSteps.{top_node-is}
+use Rattle.wb_tree.proofs.loader.Loader.new.Goals as goal
+
+pub invariant_of-result : goal.invariant_of-result
+invariant_of-result g c = record {
+  ended = λ e. c.new-2.ensures.items;
+  entries = sym c.resize.new.self.ok.0 ∙ c.in_ok-resize.ensures.len;
+  mapped = sym c.resize-2.new.self.ok.0 ∙ c.in_ok-resize-2.ensures.len;
+  level_from = λ node e. (top_node-is c.args.root.now node (sym c.top_of.ensures ∙ e)).from;
+  level_to = λ node e. (top_node-is c.args.root.now node (sym c.top_of.ensures ∙ e)).to;
+  fresh = λ node e. subst (λ (reached : List PlacedNode). IsFresh c.args.root.now reached node.place) (sym c.new.ensures) (top_node-is c.args.root.now node (sym c.top_of.ensures ∙ e)).fresh;
+}

@@ -1,0 +1,20 @@
+use Rattle.std.proofs.Common.{◌≡◌, ◌∙◌, sym, ap, Some, false}
+use Rattle.wb_tree.specs.declared.placed.PlacedNode.{PlacedNode}
+use Rattle.wb_tree.specs.Loading.{Loading}
+use Rattle.wb_tree.specs.Reading.{is_node_of}
+use Rattle.wb_tree.proofs.LoaderSteps.{outcome-none, outcome-other, same_wanted}
+use Rattle.wb_tree.proofs.loader.Loader.tell.Goals as goal
+
+pub returns-in_default-node-clause-err : goal.returns-in_default-node-clause-err
+returns-in_default-node-clause-err g c wanted nodes e told =
+    let here : c.args.self.wanted ≡ Some c.in-Some.wanted = sym (ap (λ (m : Loading). m.wanted) c.self.view_is) ∙ c.in-Some.is in
+    let same = same_wanted c.in-Some.wanted wanted (sym here ∙ e) in
+    outcome-none c.args.self c.in-Some.wanted nodes here (ap (λ (w : PlacedNode). nodes w.place.0) same ∙ (told ∙ c.in_default-node.is))
+
+pub returns-then-not-is_node_of-clause-err : goal.returns-then-not-is_node_of-clause-err
+returns-then-not-is_node_of-clause-err g c wanted nodes e told =
+    let here : c.args.self.wanted ≡ Some c.in-Some.wanted = sym (ap (λ (m : Loading). m.wanted) c.self.view_is) ∙ c.in-Some.is in
+    let same = same_wanted c.in-Some.wanted wanted (sym here ∙ e) in
+    let wrong : is_node_of c.args.self.root c.in-Some.wanted.level c.in-Some.wanted.index c.in-Some-node.node ≡ false =
+    sym (ap (λ (m : Loading). is_node_of m.root c.in-Some.wanted.level c.in-Some.wanted.index c.in-Some-node.node) c.self.view_is) ∙ (sym c.is_node_of.ensures ∙ c.if-not-is_node_of.true) in
+    outcome-other c.args.self c.in-Some.wanted nodes c.in-Some-node.node here (ap (λ (w : PlacedNode). nodes w.place.0) same ∙ (told ∙ c.in-Some-node.is)) wrong

@@ -1,0 +1,5 @@
+pub mod Mapping
+pub mod Images
+pub mod Reading
+pub mod Loading
+pub mod Stored

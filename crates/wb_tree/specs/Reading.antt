@@ -1,0 +1,135 @@
+-- What metadata sectors represent, in reading order, with the first fault.
+--
+-- A tree is read from the top: of a node its text, level, index and generation first, then its words in rising
+-- order, with the whole child of a word before the next word.
+use Rattle.std.specs.Prelude.{◌≡◌, ◌<◌, ◌+◌, ◌*◌, ◌/◌, ◌%◌, ◌^◌, ◌&&◌, ◌==◌, ◌≢◌, ℕ, zero, suc, Bool, true, false, not, nat_lt, nat_le, if◌then◌else◌, Option, Some, None, Result, Ok, Err, List, [], ◌∷◌, ◌++◌, replicate, slice_get, slice_index, slice_index_or, slice_set}
+use Rattle.wb_types.specs.declared.entry.Entry.{Entry}
+use Rattle.wb_types.specs.declared.number.Place.{Place}
+use Rattle.wb_types.specs.Limits.{depth_of}
+use Rattle.wb_format.specs.declared.node.Node.{Node}
+use Rattle.wb_format.specs.declared.root.Root.{Root}
+use Rattle.wb_format.specs.Layout.{SpellsNode, IsValidIn}
+use Rattle.wb_tree.specs.declared.placed.PlacedNode.{PlacedNode}
+
+-- what the sectors of a device read as: at each place the node that is spelled there, if one is
+abbrev pub Nodes : Type 0
+Nodes = ℕ → Option Node
+
+-- a sector reads so
+abbrev pub ReadsAs : List ℕ → Option Node → Type 0
+ReadsAs sector None = (node : Node) → ¬ SpellsNode sector node
+ReadsAs sector (Some node) = SpellsNode sector node
+
+-- the sectors read so
+abbrev pub AreNodes : List (List ℕ) → Nodes → Type 0
+AreNodes sectors nodes = (place : ℕ) (sector : List ℕ) → slice_get sectors place ≡ Some sector → ReadsAs sector (nodes place)
+
+-- what has been read: the nodes in the order in which they were reached, the entries, and of each origin block
+-- whether it stands in one of them
+pub record Found : Type 0 where
+  pub reached : List PlacedNode
+  pub entries : List (Option Entry)
+  pub mapped : List Bool
+
+-- what is read, or the place that the first fault names
+abbrev pub Reading : Type 0
+Reading = Result Found Place
+
+-- goes on where there was no fault
+infixl 10 ◌then◌
+abbrev pub ◌then◌ : Reading → (Found → Reading) → Reading
+(Ok found) then next = next found
+(Err place) then next = Err place
+
+-- so many steps one after the other, with the numbers from one on
+unfoldable pub each_step : (ℕ → Found → Reading) → ℕ → ℕ → Found → Reading
+each_step step zero first found = Ok found
+each_step step (suc count) first found = step first found then each_step step count (suc first)
+
+-- the entry that the word of a leaf spells, bit by bit
+abbrev pub entry_in : ℕ → Option Entry
+entry_in zero = None
+entry_in (suc n) = Some (record { origin = record { 0 = suc n / 2 ^ 16 }; dirty = suc n / 2 % 2 == 1; hint = suc n / 2 ^ 4 % 2 ^ 5 })
+
+-- one of these nodes stands at this place
+abbrev pub is_reached : ℕ → List PlacedNode → Bool
+is_reached place [] = false
+is_reached place (node ∷ nodes) = if node.place.0 == place then true else is_reached place nodes
+
+-- a cache block may have an entry: both blocks are there, and the origin block stands in no entry before
+abbrev pub may_map : Root → List Bool → ℕ → Entry → Bool
+may_map root mapped block entry =
+    nat_lt block root.geometry.cache_blocks && nat_lt entry.origin.0 root.geometry.origin_blocks && not (slice_index_or mapped entry.origin.0 false)
+
+-- an entry in the leaf that stands here
+abbrev pub entry_read : Root → Place → ℕ → Option Entry → Found → Reading
+entry_read root here block None found = Ok found
+entry_read root here block (Some entry) found =
+    if may_map root found.mapped block entry
+    then Ok (record { reached = found.reached; entries = slice_set found.entries block (Some entry); mapped = slice_set found.mapped entry.origin.0 true })
+    else Err here
+
+-- A word names a child of this level and index: its place is behind the slots, on the device and was not reached
+-- before, and some cache block lies below the child.
+abbrev pub names_child : Root → List PlacedNode → ℕ → ℕ → ℕ → Bool
+names_child root reached level index word =
+    nat_le 2 word && nat_lt word root.geometry.meta_sectors && not (is_reached word reached) && nat_lt (index * 32 ^ level) root.geometry.cache_blocks
+
+-- a word of the node here that is no leaf, with the child that it names
+abbrev pub child_read : Root → Place → ℕ → ℕ → (ℕ → Place → Found → Reading) → ℕ → Found → Reading
+child_read root here level index read word found =
+    if word == 0 then Ok found
+    else (if names_child root found.reached level index word then read index (record { 0 = word }) found else Err here)
+
+-- a node is one that the tree has here: of this level and index, and not newer than the root
+abbrev pub is_node_of : Root → ℕ → ℕ → Node → Bool
+is_node_of root level index node = (node.level == level) && (node.index == index) && nat_le node.generation root.generation
+
+-- one node more was reached
+abbrev pub reached_at : ℕ → ℕ → Place → Found → Found
+reached_at level index place found = record found { reached = found.reached ++ record { level = level; index = index; place = place } ∷ [] }
+
+-- the words of what is spelled here, where that is the node that the tree has here
+abbrev pub words_read : Root → ℕ → ℕ → Place → (Node → Found → Reading) → Option Node → Found → Reading
+words_read root level index here read None found = Err here
+words_read root level index here read (Some node) found =
+    if is_node_of root level index node then read node (reached_at level index here found) else Err here
+
+-- the node that stands at a place, and all below it
+unfoldable pub node_read : Root → Nodes → ℕ → ℕ → Place → Found → Reading
+node_read root nodes zero index here found = Err here
+node_read root nodes (suc zero) index here found =
+    words_read root 1 index here (λ node. each_step (λ j. entry_read root here (32 * index + j) (entry_in (slice_index node.words j))) 32 0) (nodes here.0) found
+node_read root nodes (suc (suc level)) index here found =
+    words_read root (suc (suc level)) index here
+    (λ node. each_step (λ j. child_read root here (suc level) (32 * index + j) (node_read root nodes (suc level)) (slice_index node.words j)) 32 0) (nodes here.0) found
+
+-- before anything was read
+abbrev pub nothing_found : Root → Found
+nothing_found root = record { reached = []; entries = replicate root.geometry.cache_blocks None; mapped = replicate root.geometry.origin_blocks false }
+
+-- the tree of a root, from its top
+abbrev pub top_read : Root → Nodes → Option Place → Reading
+top_read root nodes None = Ok (nothing_found root)
+top_read root nodes (Some top) = node_read root nodes (depth_of root.geometry.cache_blocks) 0 top (nothing_found root)
+
+abbrev pub tree_read : Root → Nodes → Reading
+tree_read root nodes = top_read root nodes root.top
+
+-- The valid root of higher generation: it stands in its slot, and where the other slot has a valid root, that one's
+-- generation is lower.
+pub record IsNewestRoot (sectors : List (List ℕ)) (root : Root) : Type 0 where
+  pub slot : ℕ
+  pub sector : List ℕ
+  pub there : slice_get sectors slot ≡ Some sector
+  pub valid : IsValidIn slot sector root
+  pub newest : (other : ℕ) (another : List ℕ) (older : Root) → other ≢ slot → slice_get sectors other ≡ Some another → IsValidIn other another older
+      → older.generation < root.generation
+
+-- What sectors represent: the newest root, and what is read of its tree or where the first fault is. No other root
+-- counts.
+pub record Represents (sectors : List (List ℕ)) (root : Root) (reading : Reading) : Type 0 where
+  pub newest : IsNewestRoot sectors root
+  pub nodes : Nodes
+  pub are : AreNodes sectors nodes
+  pub reads : tree_read root nodes ≡ reading

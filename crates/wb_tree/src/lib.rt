@@ -1,0 +1,22 @@
+//! The mapping: which origin block each cache block holds, kept as a tree whose nodes are written to the metadata
+//! device.
+//!
+//! A contract sees a tree as the list of its entries, and as the places at which nodes are known to stand. The
+//! nodes that are not known are those that the next image writes.
+#![tactic(auto)]
+
+mod frame;
+mod image;
+mod leaf;
+mod loader;
+mod next;
+mod placed;
+mod reached;
+#[cfg(test)]
+mod tests;
+mod tree;
+
+pub use image::Image;
+pub use loader::Loader;
+pub use placed::PlacedNode;
+pub use tree::Tree;

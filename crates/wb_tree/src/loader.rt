@@ -1,0 +1,194 @@
+//! Reading of a tree, one node a call.
+
+ghost use Rattle.std.specs.Prelude.{◌≡◌, ◌≤◌, [], ◌∷◌, ◌++◌, true, Some, None, Ok, IfOk, IfErr, IfSome, IfNone, IsSome, length};
+ghost use Rattle.wb_types.specs.declared.refusal.Refusal.TheVariants.{Memory as OutOfMemory};
+ghost use Rattle.wb_tree.specs.declared.placed.PlacedNode.{PlacedNode as NodeAt};
+ghost use Rattle.wb_tree.specs.Reading.{Nodes, tree_read, is_node_of as is_right_node};
+ghost use Rattle.wb_tree.specs.Loading.{outcome, wanted_place, top_node, IsFresh, Fails};
+
+use crate::frame::Frame;
+use crate::leaf::read_entries;
+use crate::next::next_wanted;
+use crate::reached::Reached;
+use crate::{PlacedNode, Tree};
+use std::alloc::{Allocator, Global};
+use std::marker::Model;
+use wb_format::{Node, Root};
+use wb_types::{Entry, Place, Refusal};
+
+/// A tree that is being read from its top, each node's words in rising order, a child before the next word.
+///
+/// While `wanted` names a place, `tell` is to be called with what the sector there spells. No place is wanted
+/// twice, and each is a sector of the root's metadata device, so this ends.
+#[derive(Drop)]
+pub struct Loader<A: Allocator> {
+    root: Root,
+    entries: Vec<Option<Entry>, A>,
+    /// Of each origin block whether it stands in an entry.
+    mapped: Vec<bool>,
+    reached: Reached,
+    /// The nodes above the leaves whose words are being read, from the top down.
+    frames: Vec<Frame>,
+    wanted: Option<PlacedNode>,
+}
+
+impl<A: Allocator> Model for Loader<A> {
+    ghost use Rattle.wb_tree.specs.Loading.{Loading, IsLoading, loading_of};
+
+    ghost Value = { Loading };
+
+    ghost view = { λ l. loading_of l.root l.reached l.entries.items l.mapped.items l.frames.items l.wanted };
+
+    ghost invariant = { λ l. IsLoading (loading_of l.root l.reached l.entries.items l.mapped.items l.frames.items l.wanted) };
+}
+
+impl<A: Allocator> Loader<A> {
+    /// Begins to read the tree of a root. `Memory` where there is no room for its entries and for a mark for each
+    /// origin block.
+    pub fn new(alloc: A, global: Global, root: &Root) -> Result<Loader<A>, Refusal>
+        ensures begun { IfOk result (λ l. (nodes : Nodes) → outcome l nodes ≡ tree_read root.now nodes) }
+        ensures root { IfOk result (λ l. l.root ≡ root.now) }
+        ensures nothing { IfOk result (λ l. l.found.reached ≡ []) }
+        ensures refused { IfErr result (λ refusal. refusal ≡ OutOfMemory) }
+    {
+        let mut entries = Vec::new(alloc);
+        entries.resize(root.geometry.cache_blocks as usize, None)?;
+        let mut mapped = Vec::new(global);
+        mapped.resize(root.geometry.origin_blocks as usize, false)?;
+        Ok(Loader {
+            root: *root,
+            entries,
+            mapped,
+            reached: Reached::new(global),
+            frames: Vec::new(global),
+            wanted: top_of(root),
+        })
+    }
+
+    /// The place of the node to be read next; none where the tree was read.
+    pub fn wanted(&self) -> Option<Place>
+        ensures place { result ≡ wanted_place self.now.wanted }
+        ensures ended { IfNone result (self.now.wanted ≡ None) }
+        ensures fresh { IfSome result (IsFresh self.now.root self.now.found.reached) }
+    {
+        match self.wanted {
+            Some(node) => Some(node.place),
+            None => None,
+        }
+    }
+
+    /// Goes on with what the sector at the wanted place spells: a node, or none. Nothing is done where none is
+    /// wanted. `Damaged` with the place that the first fault of the tree names, `Memory` where there is no room for
+    /// what the node is remembered by.
+    pub fn tell(self, node: Option<Node>) -> Result<Loader<A>, Refusal>
+        ensures goes_on { IfOk result (λ l. (wanted : NodeAt) (nodes : Nodes) → self.wanted ≡ Some wanted → nodes wanted.place.0 ≡ node → outcome l nodes ≡ outcome self nodes) }
+        ensures reached { IfOk result (λ l. (wanted : NodeAt) → self.wanted ≡ Some wanted → l.found.reached ≡ self.found.reached ++ wanted ∷ []) }
+        ensures root { IfOk result (λ l. l.root ≡ self.root) }
+        ensures idle { IfOk result (λ l. self.wanted ≡ None → l ≡ self) }
+        ensures cause { IfErr result (λ _. IsSome self.wanted) }
+        ensures err { IfErr result (λ refusal. (wanted : NodeAt) (nodes : Nodes) → self.wanted ≡ Some wanted → nodes wanted.place.0 ≡ node → Fails refusal (outcome self nodes)) }
+    {
+        let Some(wanted) = self.wanted else {
+            return Ok(self);
+        };
+        let Some(node) = node else {
+            return Err(Refusal::Damaged(wanted.place));
+        };
+        if !is_node_of(&self.root, wanted, &node) {
+            return Err(Refusal::Damaged(wanted.place));
+        }
+        self.enter(wanted, &node)
+    }
+
+    /// The tree, and its nodes in the order in which they were read. No node is known to it, so the next image
+    /// writes all of them.
+    pub fn finish(self) -> (Tree<A>, Vec<PlacedNode>)
+        requires { self.wanted ≡ None }
+        ensures read { (nodes : Nodes) → outcome self nodes ≡ Ok self.found }
+        ensures entries { result.0.entries ≡ self.found.entries }
+        ensures blocks { length result.0.entries ≡ self.root.geometry.cache_blocks }
+        ensures known { result.0.known ≡ [] }
+        ensures nodes { result.1.items ≡ self.found.reached }
+    {
+        let Loader {
+            root,
+            entries,
+            reached,
+            ..
+        } = self;
+        (
+            Tree::of_entries(root.geometry.cache_blocks, entries),
+            reached.into_nodes(),
+        )
+    }
+
+    /// Goes on with the node that is wanted.
+    fn enter(self, wanted: PlacedNode, node: &Node) -> Result<Loader<A>, Refusal>
+        requires wanted { self.wanted ≡ Some wanted }
+        requires right { is_right_node self.root wanted.level wanted.index node.now ≡ true }
+        ensures goes_on { IfOk result (λ l. (nodes : Nodes) → nodes wanted.place.0 ≡ Some node.now → outcome l nodes ≡ outcome self nodes) }
+        ensures reached { IfOk result (λ l. l.found.reached ≡ self.found.reached ++ wanted ∷ []) }
+        ensures root { IfOk result (λ l. l.root ≡ self.root) }
+        ensures err { IfErr result (λ refusal. (nodes : Nodes) → nodes wanted.place.0 ≡ Some node.now → Fails refusal (outcome self nodes)) }
+    {
+        let Loader {
+            root,
+            mut entries,
+            mut mapped,
+            mut reached,
+            mut frames,
+            ..
+        } = self;
+        reached.push(wanted)?;
+        if wanted.level == 1 {
+            if let Err(refusal) = read_entries(
+                &root,
+                wanted,
+                &node.words,
+                &mut entries,
+                &mut mapped,
+            ) {
+                return Err(refusal);
+            }
+        } else {
+            frames.reserve(1)?;
+            frames.push_reserved(Frame {
+                node: wanted,
+                words: node.words,
+                next: 0,
+            });
+        }
+        match next_wanted(&root, &reached, &mut frames) {
+            Ok(wanted) => Ok(Loader {
+                root,
+                entries,
+                mapped,
+                reached,
+                frames,
+                wanted,
+            }),
+            Err(refusal) => Err(refusal),
+        }
+    }
+}
+
+/// The top node of a root's tree.
+fn top_of(root: &Root) -> Option<PlacedNode>
+    ensures { result ≡ top_node root.now }
+{
+    match root.top {
+        None => None,
+        Some(place) => Some(PlacedNode {
+            level: root.geometry.depth(),
+            index: 0,
+            place,
+        }),
+    }
+}
+
+/// Whether a node is the one that is wanted, and not newer than the root.
+fn is_node_of(root: &Root, wanted: PlacedNode, node: &Node) -> bool
+    ensures { result ≡ is_right_node root.now wanted.level wanted.index node.now }
+{
+    node.level == wanted.level && node.index == wanted.index && node.generation <= root.generation
+}
