@@ -6,3 +6,4 @@ pub mod Request
 pub mod Steps
 pub mod Fill
 pub mod Exit
+pub mod Performed

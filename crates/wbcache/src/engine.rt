@@ -3,7 +3,9 @@
 ghost use Rattle.std.specs.Prelude.{◌≡◌, ◌≢◌, ◌<◌, ◌≤◌, ◌+◌, ◌*◌, ◌^◌, IfOk, IfErr, OnOk, OnErr, IsErrOf, replicate};
 ghost use Rattle.wb_types.specs.Words.{fresh_words};
 ghost use Rattle.wb_tasks.specs.declared.card.Held.TheVariants.{Nothing};
-ghost use Rattle.wbcache.specs.Request.{IsInside, AsksInside};
+ghost use Rattle.wbcache.specs.Request.{IsInside, AsksInside, sectors_of};
+ghost use Rattle.wbcache.specs.Performed.{Performed};
+ghost use Rattle.wb_tasks.specs.Job.{Reading, Writing};
 
 use crate::line::Line;
 use crate::part::{Part, first_part};
@@ -77,6 +79,8 @@ impl<D: Disk + Drop> Engine<D> {
     fn read_part(&mut self, part: Part) -> Result<(), Refusal>
         requires first { part.first + part.count < 2 ^ 64 }
         requires block { part.block.0 < self.old.geometry.origin_blocks }
+        ensures done { OnOk result (Performed D.tells D.contents (Reading (sectors_of self.old.geometry.block part)) self.old.stage Answer.Done self.new.stage) }
+        ensures performed { IfErr result (λ refusal. Performed D.tells D.contents (Reading (sectors_of self.old.geometry.block part)) self.old.stage (Answer.Refused refusal) self.new.stage) }
         ensures refused { IfErr result (λ refusal. refusal ≢ Refusal.Range) }
         ensures geometry { self.new.geometry ≡ self.old.geometry }
     {
@@ -109,6 +113,8 @@ impl<D: Disk + Drop> Engine<D> {
     fn write_part(&mut self, part: Part) -> Result<(), Refusal>
         requires first { part.first + part.count < 2 ^ 64 }
         requires block { part.block.0 < self.old.geometry.origin_blocks }
+        ensures done { OnOk result (Performed D.tells D.contents (Writing (sectors_of self.old.geometry.block part)) self.old.stage Answer.Done self.new.stage) }
+        ensures performed { IfErr result (λ refusal. Performed D.tells D.contents (Writing (sectors_of self.old.geometry.block part)) self.old.stage (Answer.Refused refusal) self.new.stage) }
         ensures refused { IfErr result (λ refusal. refusal ≢ Refusal.Range) }
         ensures content { self.new.stage.content ≡ self.old.stage.content }
         ensures geometry { self.new.geometry ≡ self.old.geometry }

@@ -10,6 +10,7 @@ mod line;
 mod number;
 mod output;
 mod part;
+mod perform;
 mod script;
 mod stage;
 mod status;

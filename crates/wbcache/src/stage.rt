@@ -4,19 +4,18 @@ ghost use Rattle.std.specs.Prelude.{◌≡◌, length, IfOk, IfErr};
 ghost use Rattle.wb_types.specs.Words.{fresh_words};
 ghost use Rattle.wb_tasks.specs.Words.{blank_card};
 ghost use Rattle.wb_tasks.specs.Crews.{Agrees, card_of};
-ghost use Rattle.wb_tasks.specs.Ready.{MayTake};
 ghost use Rattle.wb_tasks.specs.Script.{Fits};
 ghost use Rattle.wb_tasks.specs.declared.step.Want.TheVariants.{Device};
 ghost use Rattle.wb_tasks.specs.declared.step.DeviceStep.TheVariants.{Read, Write};
 ghost use Rattle.wb_types.specs.declared.mode.Dev.TheVariants.{Origin};
-ghost use Rattle.wbcache.specs.Steps.{DoneOnWords, DoneOnOrigin, DoneOnFound};
+ghost use Rattle.wbcache.specs.Steps.{DoneOnOrigin, DoneOnFound};
 
 use crate::fill::Fill;
 use crate::found::Found;
 use std::alloc::Global;
 use wb_cells::Crew;
 use wb_disk::Disk;
-use wb_tasks::{Card, DeviceStep, Got, Stage, Want, step_in_crew};
+use wb_tasks::{Card, DeviceStep, Got};
 use wb_types::{Content, Dev, Refusal, SECTOR_BYTES};
 
 /// The shared words, with one pass that has the whole of them, and the origin. Nothing is cached, so no step asks
@@ -56,7 +55,8 @@ impl<D: Disk> OwnerStage<D> {
         })
     }
 
-    fn device_step(&mut self, step: DeviceStep) -> Got
+    /// One step on the origin; a step on another device fails.
+    pub(crate) fn device_step(&mut self, step: DeviceStep) -> Got
         ensures kind { Fits (Device step) result }
         ensures origin { D.tells → DoneOnOrigin (D.contents self.old.origin) self.old.content (Device step) result (D.contents self.new.origin) }
         ensures found { DoneOnFound self.old.found (Device step) result self.new.found }
@@ -103,20 +103,5 @@ impl<D: Disk> OwnerStage<D> {
             return Got::Fault;
         }
         Got::Done
-    }
-}
-
-impl<D: Disk> Stage for OwnerStage<D> {
-    ghost ready = { λ stage want. MayTake stage.origin_blocks stage.card want };
-
-    ghost led = { λ old want got new. (new.content ≡ old.content) × DoneOnWords old.crew.words old.card want got new.crew.words new.card × (new.origin_blocks ≡ old.origin_blocks) × DoneOnFound old.found want got new.found × (D.tells → DoneOnOrigin (D.contents old.origin) old.content want got (D.contents new.origin)) };
-
-    fn perform(&mut self, want: &Want) -> Got {
-        match want {
-            Want::Cell(step) => step_in_crew(&mut self.crew, 0, &mut self.card, *step),
-            Want::Device(step) => self.device_step(*step),
-            Want::Desk(_) => Got::Refused(Refusal::Busy),
-            Want::End(_) => unreachable!(),
-        }
     }
 }
