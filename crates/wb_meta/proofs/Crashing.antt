@@ -10,7 +10,7 @@ use Rattle.wb_tree.specs.declared.image.Image.{Image}
 use Rattle.wb_meta.specs.declared.commit_steps.CommitSteps.{CommitSteps}
 use Rattle.wb_meta.specs.declared.commit_steps.CommitSteps.TheVariants.{NodesWritten, NodesSynced, RootWritten, Done}
 use Rattle.wb_meta.specs.Crashes.{MayLeave, AfterEveryCrash}
-use Rattle.wb_meta.specs.Holding.{Holds, HoldsEither}
+use Rattle.wb_meta.specs.Holding.{Holds, HoldsOr}
 use Rattle.wb_meta.specs.Placing.{HavePlaces, IsNodeHere, IsRootHere, IsOfImage, FitsNodes, FitsRoot, MayCommit}
 use Rattle.wb_meta.specs.Commits.{WasThere, Grew, MayHaveRoot, SyncedRoot, HasCome, HasFailed}
 use Rattle.wb_meta.proofs.Lists.{element_beside, Chosen, chosen, Contains-first}
@@ -65,9 +65,9 @@ slot_was image sectors_of before sectors shade places at c slot e =
     ]
 
 -- with nothing new but nodes, the old mapping is there
-old_left : (image : Image) (sectors_of : ℕ) (before : List History) (root : Root) (found wanted : Found) (sectors : List Content) → HavePlaces image.nodes.items sectors_of → MayCommit image before root found wanted
+old_left : (image : Image) (sectors_of : ℕ) (before : List History) (root : Root) (found : Found) (New : List Content → Type 0) (sectors : List Content) → HavePlaces image.nodes.items sectors_of → MayCommit image before root found New
     → length sectors ≡ length before → ((at : ℕ) (c : Content) → slice_get sectors at ≡ Some c → WasThere before at c ⊎ IsNodeHere image.nodes.items at c) → Holds sectors root found
-old_left image sectors_of before root found wanted sectors places may size each =
+old_left image sectors_of before root found New sectors places may size each =
     let by = IsNodeHere image.nodes.items in
     let shade = shaded before by sectors size each in
     let held = may.old shade.list (shade_left before by sectors size shade) in
@@ -96,14 +96,15 @@ old_left image sectors_of before root found wanted sectors places may size each 
     }
 
 -- with all nodes and the root, the image's mapping is there
-new_left : (image : Image) (before : List History) (root : Root) (found wanted : Found) (sectors : List Content) → MayCommit image before root found wanted
+new_left : (image : Image) (before : List History) (root : Root) (found : Found) (New : List Content → Type 0) (sectors : List Content) → MayCommit image before root found New
     → length sectors ≡ length before → ((at : ℕ) (c : Content) → slice_get sectors at ≡ Some c → WasThere before at c ⊎ IsOfImage image at c)
     → ((at : ℕ) (c : Content) → slice_get sectors at ≡ Some c → FitsNodes image.nodes.items (length image.nodes.items) at c)
-    → ((at : ℕ) (c : Content) → slice_get sectors at ≡ Some c → FitsRoot image.root at c) → Holds sectors image.root wanted
-new_left image before root found wanted sectors may size each nodes in_slot =
+    → ((at : ℕ) (c : Content) → slice_get sectors at ≡ Some c → FitsRoot image.root at c) → New sectors
+new_left image before root found New sectors may size each nodes in_slot =
     let by = IsOfImage image in
     let shade = shaded before by sectors size each in
     may.new shade.list sectors (shade_left before by sectors size shade) (record {
+      size = sym shade.size;
       nodes = nodes;
       root = in_slot;
       others = λ at c e.
@@ -120,10 +121,10 @@ same_content sectors i j c d e f same =
     cc
 
 -- before the root was written
-pub nodes_crash : (image : Image) (sectors_of : ℕ) (before now : List History) (root : Root) (found wanted : Found) → HavePlaces image.nodes.items sectors_of → MayCommit image before root found wanted
-    → Grew (IsNodeHere image.nodes.items) before now → AfterEveryCrash (HoldsEither root found image.root wanted) now
-nodes_crash image sectors_of before now root found wanted places may grew sectors left =
-    inl (old_left image sectors_of before root found wanted sectors places may (left.size ∙ grew.size)
+pub nodes_crash : (image : Image) (sectors_of : ℕ) (before now : List History) (root : Root) (found : Found) (New : List Content → Type 0) → HavePlaces image.nodes.items sectors_of → MayCommit image before root found New
+    → Grew (IsNodeHere image.nodes.items) before now → AfterEveryCrash (HoldsOr root found New) now
+nodes_crash image sectors_of before now root found New places may grew sectors left =
+    inl (old_left image sectors_of before root found New sectors places may (left.size ∙ grew.size)
     (Every-left (λ at c. WasThere before at c ⊎ IsNodeHere image.nodes.items at c) now sectors grew.each left))
 
 -- the root's slot is not there, or has this content
@@ -139,14 +140,14 @@ no_root image before sectors in_slot each at c e = elim (each at c e) [
 ]
 
 -- when the root may have been written
-pub root_crash : (image : Image) (sectors_of : ℕ) (before now : List History) (root : Root) (found wanted : Found) → HavePlaces image.nodes.items sectors_of → MayCommit image before root found wanted
-    → MayHaveRoot image before now → AfterEveryCrash (HoldsEither root found image.root wanted) now
-root_crash image sectors_of before now root found wanted places may safe sectors left =
+pub root_crash : (image : Image) (sectors_of : ℕ) (before now : List History) (root : Root) (found : Found) (New : List Content → Type 0) → HavePlaces image.nodes.items sectors_of → MayCommit image before root found New
+    → MayHaveRoot image before now → AfterEveryCrash (HoldsOr root found New) now
+root_crash image sectors_of before now root found New places may safe sectors left =
     let slot = image.root.generation % 2 in
     let size : length sectors ≡ length before = left.size ∙ safe.grew.size in
     let each = Every-left (λ at c. WasThere before at c ⊎ IsOfImage image at c) now sectors safe.grew.each left in
     let old = λ (in_slot : (at : ℕ) (c : Content) → slice_get sectors at ≡ Some c → at ≡ image.root.generation % 2 → WasThere before at c).
-    old_left image sectors_of before root found wanted sectors places may size (no_root image before sectors in_slot each) in
+    old_left image sectors_of before root found New sectors places may size (no_root image before sectors in_slot each) in
     elim (slice_get_cases sectors slot).1 [
       | inl w ↦ elim (each slot w.0 w.2) [
         | inl was ↦ inl (old (λ at c e here.
@@ -158,7 +159,7 @@ root_crash image sectors_of before now root found wanted places may safe sectors
           | inl node ↦ absurd (
               let low : slot < 2 = omega arith in
               omega (arith, low, node.here, places.from node.number node.node node.listed))
-          | inr here ↦ inr (new_left image before root found wanted sectors may size each
+          | inr here ↦ inr (new_left image before root found New sectors may size each
               (Every-left (FitsNodes image.nodes.items (length image.nodes.items)) now sectors safe.nodes left)
               (λ at c e is.
               let same : w.0 ≡ c = same_content sectors slot at w.0 c w.2 e (sym is) in
@@ -173,26 +174,26 @@ root_crash image sectors_of before now root found wanted places may safe sectors
     ]
 
 -- when the root is safe
-pub done_crash : (image : Image) (before now : List History) (root : Root) (found wanted : Found) → MayCommit image before root found wanted
-    → SyncedRoot image before now → AfterEveryCrash (λ sectors. Holds sectors image.root wanted) now
-done_crash image before now root found wanted may done sectors left =
-    new_left image before root found wanted sectors may (left.size ∙ done.safe.grew.size)
+pub done_crash : (image : Image) (before now : List History) (root : Root) (found : Found) (New : List Content → Type 0) → MayCommit image before root found New
+    → SyncedRoot image before now → AfterEveryCrash New now
+done_crash image before now root found New may done sectors left =
+    new_left image before root found New sectors may (left.size ∙ done.safe.grew.size)
     (Every-left (λ at c. WasThere before at c ⊎ IsOfImage image at c) now sectors done.safe.grew.each left)
     (Every-left (FitsNodes image.nodes.items (length image.nodes.items)) now sectors done.safe.nodes left)
     (Every-left (FitsRoot image.root) now sectors done.root left)
 
 -- at any moment
-pub come_crash : (image : Image) (sectors_of : ℕ) (before now : List History) (steps : CommitSteps) (root : Root) (found wanted : Found) → HavePlaces image.nodes.items sectors_of → MayCommit image before root found wanted
-    → HasCome image before steps now → AfterEveryCrash (HoldsEither root found image.root wanted) now
-come_crash image sectors_of before now (NodesWritten count) root found wanted places may come = nodes_crash image sectors_of before now root found wanted places may come.grew
-come_crash image sectors_of before now NodesSynced root found wanted places may come = nodes_crash image sectors_of before now root found wanted places may come.grew
-come_crash image sectors_of before now RootWritten root found wanted places may come = root_crash image sectors_of before now root found wanted places may come.safe
-come_crash image sectors_of before now Done root found wanted places may come = root_crash image sectors_of before now root found wanted places may come.safe
+pub come_crash : (image : Image) (sectors_of : ℕ) (before now : List History) (steps : CommitSteps) (root : Root) (found : Found) (New : List Content → Type 0) → HavePlaces image.nodes.items sectors_of → MayCommit image before root found New
+    → HasCome image before steps now → AfterEveryCrash (HoldsOr root found New) now
+come_crash image sectors_of before now (NodesWritten count) root found New places may come = nodes_crash image sectors_of before now root found New places may come.grew
+come_crash image sectors_of before now NodesSynced root found New places may come = nodes_crash image sectors_of before now root found New places may come.grew
+come_crash image sectors_of before now RootWritten root found New places may come = root_crash image sectors_of before now root found New places may come.safe
+come_crash image sectors_of before now Done root found New places may come = root_crash image sectors_of before now root found New places may come.safe
 
 -- after a failure
-pub failed_crash : (image : Image) (sectors_of : ℕ) (before now : List History) (root : Root) (found wanted : Found) → HavePlaces image.nodes.items sectors_of → MayCommit image before root found wanted
-    → HasFailed image before now → AfterEveryCrash (HoldsEither root found image.root wanted) now
-failed_crash image sectors_of before now root found wanted places may failed = elim failed [
-  | inl grew ↦ nodes_crash image sectors_of before now root found wanted places may grew
-  | inr safe ↦ root_crash image sectors_of before now root found wanted places may safe
+pub failed_crash : (image : Image) (sectors_of : ℕ) (before now : List History) (root : Root) (found : Found) (New : List Content → Type 0) → HavePlaces image.nodes.items sectors_of → MayCommit image before root found New
+    → HasFailed image before now → AfterEveryCrash (HoldsOr root found New) now
+failed_crash image sectors_of before now root found New places may failed = elim failed [
+  | inl grew ↦ nodes_crash image sectors_of before now root found New places may grew
+  | inr safe ↦ root_crash image sectors_of before now root found New places may safe
 ]

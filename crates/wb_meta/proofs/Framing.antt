@@ -84,13 +84,13 @@ both_true : (t r : Bool) → r ≡ true → cond t true r ≡ true
 both_true true r e = refl
 both_true false r e = e
 
-reached_before : (place : ℕ) (xs : List PlacedNode) (node : PlacedNode) → is_reached place xs ≡ true → is_reached place (xs ++ node ∷ []) ≡ true
+pub reached_before : (place : ℕ) (xs : List PlacedNode) (node : PlacedNode) → is_reached place xs ≡ true → is_reached place (xs ++ node ∷ []) ≡ true
 reached_before place xs node r = is_reached-push place xs node ∙ both_true (nat_eq node.place.0 place) (is_reached place xs) r
 
-same_number : (n : ℕ) → nat_eq n n ≡ true
+pub same_number : (n : ℕ) → nat_eq n n ≡ true
 same_number n = grind (arith, nat_tests)
 
-reached_last : (node : PlacedNode) (xs : List PlacedNode) → is_reached node.place.0 (xs ++ node ∷ []) ≡ true
+pub reached_last : (node : PlacedNode) (xs : List PlacedNode) → is_reached node.place.0 (xs ++ node ∷ []) ≡ true
 reached_last node xs = is_reached-push node.place.0 xs node ∙ ap (λ t. cond t true (is_reached node.place.0 xs)) (same_number node.place.0)
 
 words_by : (test : Bool) (here : Place) (reading : Reading) (next : Found) → (if test then reading else Err here) ≡ Ok next → (test ≡ true) × (reading ≡ Ok next)
@@ -124,12 +124,12 @@ node_following a b root (suc (suc level)) index here found next e =
     (λ node. each_following a b _ _ (λ j. child_following a b root here (suc level) (32 * index + j) (node_read root a (suc level)) (node_read root b (suc level))
     (λ i place. node_following a b root (suc level) i place) (slice_index node.words j)) 32 0) (a here.0) refl found next e
 
-top_following : (a b : Nodes) (root : Root) (top : Option Place) (next : Found) → top_read root a top ≡ Ok next → Agree a b next.reached → top_read root b top ≡ Ok next
+pub top_following : (a b : Nodes) (root : Root) (top : Option Place) (next : Found) → top_read root a top ≡ Ok next → Agree a b next.reached → top_read root b top ≡ Ok next
 top_following a b root None next e agree = e
 top_following a b root (Some top) next e agree = (node_following a b root (depth_of root.geometry.cache_blocks) 0 top (nothing_found root) next e).same agree
 
 -- a sector reads as one node or none
-reads_one : (sector : Content) (a b : Option Node) → ReadsAs sector a → ReadsAs sector b → a ≡ b
+pub reads_one : (sector : Content) (a b : Option Node) → ReadsAs sector a → ReadsAs sector b → a ≡ b
 reads_one sector None None x y = refl
 reads_one sector None (Some node) x y = absurd (x node y)
 reads_one sector (Some node) None x y = absurd (y node x)

@@ -4,3 +4,10 @@ pub mod Stepping
 pub mod Crashing
 pub mod Formatted
 pub mod Framing
+pub mod Imaging
+pub mod Keeping
+pub mod Sectors
+pub mod Counting
+pub mod Loaded
+pub mod OneReading
+pub mod Reading

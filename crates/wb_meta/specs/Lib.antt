@@ -4,3 +4,7 @@ pub mod Steps
 pub mod Placing
 pub mod Commits
 pub mod Formats
+pub mod Imaging
+pub mod States
+pub mod Slots
+pub mod Reads

@@ -46,15 +46,17 @@ FitsNodes nodes count at content = (i : ℕ) (node : Place × Node) → i < coun
 abbrev pub FitsRoot : Root → ℕ → Content → Type 0
 FitsRoot root at content = at ≡ root.generation % 2 → SpellsRoot content root
 
--- the image is in place: the nodes and the root stand where they belong, and all other sectors are as they were
+-- the image is in place: there are as many sectors, the nodes and the root stand where they belong, and all other
+-- sectors are as they were
 pub record IsPlaced (image : Image) (before after : List Content) : Type 0 where
+  pub size : length after ≡ length before
   pub nodes : (at : ℕ) (content : Content) → slice_get after at ≡ Some content → FitsNodes image.nodes.items (length image.nodes.items) at content
   pub root : (at : ℕ) (content : Content) → slice_get after at ≡ Some content → FitsRoot image.root at content
   pub others : (at : ℕ) (content : Content) → slice_get after at ≡ Some content → (slice_get before at ≡ Some content) ⊎ IsOfImage image at content
 
 -- An image may be committed over a device: whatever a crash leaves of it, it holds this root and tree, and none of
--- the image's places is a place of that tree; and with the image in place it holds the image's root and this tree.
-pub record MayCommit (image : Image) (device : List History) (root : Root) (found wanted : Found) : Type 0 where
+-- the image's places is a place of that tree; and with the image in place it is as is wanted.
+pub record MayCommit (image : Image) (device : List History) (root : Root) (found : Found) (New : List Content → Type 0) : Type 0 where
   pub old : AfterEveryCrash (λ sectors. Holds sectors root found) device
   pub outside : (i : ℕ) (node : Place × Node) → slice_get image.nodes.items i ≡ Some node → is_reached node.0.0 found.reached ≡ false
-  pub new : (before after : List Content) → MayLeave device before → IsPlaced image before after → Holds after image.root wanted
+  pub new : (before after : List Content) → MayLeave device before → IsPlaced image before after → New after

@@ -5,9 +5,10 @@ ghost use Rattle.wb_types.specs.declared.refusal.Refusal.TheVariants.{Io};
 ghost use Rattle.wb_types.specs.declared.mode.Dev.TheVariants.{Metadata};
 ghost use Rattle.wb_disk.specs.Device.{History, OneMore};
 ghost use Rattle.wb_format.specs.declared.root.Root.{Root as RootValue};
+ghost use Rattle.wb_tree.specs.Mapping.{Mapping};
 ghost use Rattle.wb_tree.specs.Reading.{Found};
 ghost use Rattle.wb_meta.specs.Crashes.{AfterEveryCrash};
-ghost use Rattle.wb_meta.specs.Holding.{Holds, HoldsEither};
+ghost use Rattle.wb_meta.specs.Holding.{HoldsAndKeeps, HoldsOr};
 ghost use Rattle.wb_meta.specs.Placing.{HavePlaces, MayCommit};
 ghost use Rattle.wb_meta.specs.Commits.{HasCome, HasFailed, steps_left};
 
@@ -94,8 +95,8 @@ impl CommitSteps {
 pub fn commit<D: Disk>(disk: &mut D, image: &Image) -> Result<(), Refusal>
     requires { HavePlaces image.now.nodes.items (D.size disk.old) }
     ensures size { D.size disk.new ≡ D.size disk.old }
-    ensures ok { D.tells → (root : RootValue) (found wanted : Found) → MayCommit image.now (D.contents disk.old) root found wanted → OnOk result (AfterEveryCrash (λ sectors. Holds sectors image.now.root wanted) (D.contents disk.new)) }
-    ensures err { D.tells → (root : RootValue) (found wanted : Found) → MayCommit image.now (D.contents disk.old) root found wanted → OnErr result (AfterEveryCrash (HoldsEither root found image.now.root wanted) (D.contents disk.new)) }
+    ensures ok { D.tells → (root : RootValue) (found wanted : Found) (kept : Mapping) → MayCommit image.now (D.contents disk.old) root found (λ sectors. HoldsAndKeeps sectors image.now.root wanted kept) → OnOk result (AfterEveryCrash (λ sectors. HoldsAndKeeps sectors image.now.root wanted kept) (D.contents disk.new)) }
+    ensures err { D.tells → (root : RootValue) (found wanted : Found) (kept : Mapping) → MayCommit image.now (D.contents disk.old) root found (λ sectors. HoldsAndKeeps sectors image.now.root wanted kept) → OnErr result (AfterEveryCrash (HoldsOr root found (λ sectors. HoldsAndKeeps sectors image.now.root wanted kept)) (D.contents disk.new)) }
     ensures refused { IfErr result (λ refusal. refusal ≡ Io Metadata) }
     ensures no_fault { D.tells → OnOk result (D.faults disk.new ≡ D.faults disk.old) }
     ensures cause { D.tells → OnErr result (OneMore (D.faults disk.old) (D.faults disk.new)) }

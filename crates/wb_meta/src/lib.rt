@@ -7,11 +7,14 @@
 mod commit_steps;
 mod formatting;
 mod law;
+mod read_steps;
 mod sector;
+mod slot;
 #[cfg(test)]
 mod tests;
 
 pub use commit_steps::{CommitSteps, commit};
 pub use formatting::format;
-pub use law::{commit_law, crash_law, holding_law};
+pub use law::{commit_law, crash_law, holding_law, image_law, reading_law, represents_law};
+pub use read_steps::{ReadSteps, State, read_state};
 pub use wb_tree::Image;

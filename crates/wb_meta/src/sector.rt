@@ -1,10 +1,11 @@
 //! Single steps of the metadata device.
 
-ghost use Rattle.std.specs.Prelude.{◌≡◌, ◌<◌, ◌⊎◌, ℕ, List, OnOk, OnErr, IfErr};
+ghost use Rattle.std.specs.Prelude.{◌≡◌, ◌<◌, ◌⊎◌, ℕ, List, OnOk, OnErr, IfOk, IfErr, map};
 ghost use Rattle.wb_types.specs.declared.refusal.Refusal.TheVariants.{Io};
 ghost use Rattle.wb_types.specs.declared.mode.Dev.TheVariants.{Metadata};
 ghost use Rattle.wb_format.specs.Layout.{SpellsNode, SpellsRoot};
-ghost use Rattle.wb_disk.specs.Device.{written, synced, PartlySynced, OneMore};
+ghost use Rattle.wb_disk.specs.Device.{written, synced, PartlySynced, OneMore, newest};
+ghost use Rattle.wb_meta.specs.Holding.{ReadsThere};
 ghost use Rattle.wb_meta.specs.Steps.{Puts, MayPut, zero_sector};
 
 use wb_disk::Disk;
@@ -66,4 +67,21 @@ pub(crate) fn settle<D: Disk>(disk: &mut D) -> Result<(), Refusal>
     ensures refused { IfErr result (λ refusal. refusal ≡ Io Metadata) }
 {
     disk.sync().map_err(|_| Refusal::Io(Dev::Metadata))
+}
+
+/// The node that a sector spells, where it spells one. `Io` where the device fails.
+pub(crate) fn get_node<D: Disk>(disk: &mut D, at: u64) -> Result<Option<Node>, Refusal>
+    requires { at < D.size disk.old }
+    ensures size { D.size disk.new ≡ D.size disk.old }
+    ensures kept { D.tells → D.contents disk.new ≡ D.contents disk.old }
+    ensures found { D.tells → IfOk result (λ node. ReadsThere (map newest (D.contents disk.old)) (λ _. node) at) }
+    ensures refused { IfErr result (λ refusal. refusal ≡ Io Metadata) }
+    ensures no_fault { D.tells → OnOk result (D.faults disk.new ≡ D.faults disk.old) }
+    ensures cause { D.tells → OnErr result (OneMore (D.faults disk.old) (D.faults disk.new)) }
+{
+    let mut content = [0; SECTOR_BYTES];
+    if disk.read(at, &mut content).is_err() {
+        return Err(Refusal::Io(Dev::Metadata));
+    }
+    Ok(Node::read(&content))
 }

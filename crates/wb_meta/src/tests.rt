@@ -1,14 +1,18 @@
-//! The bytes of formatting and of a first commit, and crashes within that commit.
+//! The bytes of formatting and of a first commit, crashes within that commit, and what is read of sectors.
 
-ghost use Rattle.std.specs.Prelude.{◌≤◌, IsTrue, length};
+ghost use Rattle.std.specs.Prelude.{◌≡◌, ◌≤◌, IsTrue, length};
 ghost use Rattle.wb_meta.specs.Placing.{HavePlaces};
+
+mod damage;
+mod noise;
+mod reading;
 
 use super::*;
 use std::process::Abort;
 use std::test::Fail;
 use wb_disk::{Base, CrashChoice, Disk, MemDisk};
 use wb_format::{Node, Root, Version};
-use wb_types::{Content, Geometry, Place, Refusal};
+use wb_types::{Content, Dev, Geometry, Place, Refusal};
 
 /// The root of a formatted device of 4 sectors: blocks of 64 sectors, 4 on the cache and 10 on the origin.
 const FORMATTED: [u8; 44] = [
@@ -44,6 +48,16 @@ fn sector_at(disk: &mut MemDisk, at: u64) -> Option<Content> {
         return None;
     }
     Some(content)
+}
+
+/// Writes a sector; a failure of the device where there is no such sector.
+fn put(disk: &mut MemDisk, at: u64, content: &Content) -> Result<(), Refusal>
+    ensures { length disk.new.contents ≡ length disk.old.contents }
+{
+    if at >= disk.sectors() || disk.write(at, content).is_err() {
+        return Err(Refusal::Io(Dev::Metadata));
+    }
+    Ok(())
 }
 
 /// Whether an image has one node, whose place is one of the device.

@@ -1,8 +1,9 @@
 -- Entries up to some cache block, and none from there on.
-use Rattle.std.proofs.Common.{◌≡◌, ◌<◌, ◌≤◌, ◌+◌, ◌-◌, ℕ, zero, suc, Option, None, List, ◌++◌, length, take, set, get_or, replicate, refl, sym, ap, ◌∙◌, append_assoc, arith}
+use Rattle.std.proofs.Common.{◌≡◌, ◌<◌, ◌≤◌, ◌+◌, ◌-◌, ℕ, Option, None, List, ◌++◌, length, take, set, get_or, replicate, refl, sym, ap, ◌∙◌, append_assoc, arith}
 use Rattle.std.proofs.lemmas.List.{set-append_left, set-get_or, length-set, take_all, replicate-append-replicate, length-append, length-replicate, get_or-append_right, get_or_append_left, get_or_default}
 use Rattle.wb_types.specs.declared.entry.Entry.{Entry}
 use Rattle.wb_tree.specs.Stored.{padded}
+use Rattle.wb_tree.proofs.Steps.{nothing_there}
 
 -- a list in which an item is set to what it is
 pub set_same : {X : Type 0} (xs : List X) (i : ℕ) (x d : X) → get_or xs i d ≡ x → xs ≡ set xs i x
@@ -21,15 +22,10 @@ padded-grown blocks entries n from to =
     let sum : (n - length entries) + (blocks - n) ≡ blocks - length entries = omega arith in
     rw (take_all n entries from, long) (append_assoc entries more (replicate (blocks - n) None) ∙ ap (λ (x : List (Option Entry)). entries ++ x) (replicate-append-replicate (n - length entries) (blocks - n) None ∙ ap (λ k. replicate {A = Option Entry} k None) sum))
 
-nothing_there : (n i : ℕ) → get_or (replicate {A = Option Entry} n None) i None ≡ None
-nothing_there zero i = refl
-nothing_there (suc n) zero = refl
-nothing_there (suc n) (suc i) = nothing_there n i
-
 -- past the part that is kept there is no entry
 pub padded-past : (blocks : ℕ) (entries : List (Option Entry)) (i : ℕ) → length entries ≤ i → get_or (padded blocks entries) i None ≡ None
 padded-past blocks entries i past =
-    get_or-append_right entries (replicate (blocks - length entries) None) (length entries) i None refl past ∙ nothing_there (blocks - length entries) (i - length entries)
+    get_or-append_right entries (replicate (blocks - length entries) None) (length entries) i None refl past ∙ nothing_there (blocks - length entries) (i - length entries) None
 
 -- in the part that is kept the entry is the one there
 pub padded-here : (blocks : ℕ) (entries : List (Option Entry)) (i : ℕ) (entry : Option Entry) → i < length entries → entry ≡ get_or entries i entry → get_or (padded blocks entries) i None ≡ entry

@@ -1,15 +1,16 @@
 -- Steps of a reading, one after the other.
-use Rattle.std.proofs.Common.{◌≡◌, ◌≢◌, ◌≤◌, ◌<◌, ◌+◌, ◌-◌, ◌*◌, ◌^◌, ◌∙◌, ◌&&◌, ap, refl, ℕ, suc, Bool, true, false, not, nat_eq, ltb, leb, List, Option, Some, None, Ok, Err, arith, add-one}
+use Rattle.std.proofs.Common.{◌≡◌, ◌≢◌, ◌≤◌, ◌<◌, ◌+◌, ◌-◌, ◌*◌, ◌^◌, ◌∙◌, ◌&&◌, ap, refl, ℕ, zero, suc, get_or, replicate, Bool, true, false, not, nat_eq, ltb, leb, List, Option, Some, None, Ok, Err, arith, add-one}
 use Rattle.std.proofs.lemmas.Bool.{ne_eqb}
 use Rattle.std.proofs.lemmas.Grind.{common_steps}
 use borrow.Author.Tests.{ltb-true}
 use Rattle.std.proofs.Math.Nat.{one-le-pow, mul-le-mul_left}
-use Rattle.std.specs.Prelude.{slice_set}
+use Rattle.std.specs.Prelude.{slice_set, if◌then◌else◌}
 use Rattle.wb_types.specs.declared.entry.Entry.{Entry}
 use Rattle.wb_types.specs.declared.number.Place.{Place}
 use Rattle.wb_format.specs.declared.root.Root.{Root}
 use Rattle.wb_tree.specs.declared.placed.PlacedNode.{PlacedNode}
 use Rattle.wb_tree.specs.Reading.{Found, Reading, Nodes, node_read, ◌then◌, each_step, child_read, names_child, entry_read, may_map, is_reached}
+use Rattle.wb_tree.proofs.Truth.{and_true, not_is_true}
 
 -- the next of the steps that are left
 pub each_step-next : (step : ℕ → Found → Reading) (j : ℕ) (found : Found) → j < 32 → each_step step (32 - j) j found ≡ (step j found then each_step step (32 - (j + 1)) (j + 1))
@@ -39,14 +40,6 @@ pub child_read-unnamed : (root : Root) (here : Place) (level index : ℕ) (read 
     → child_read root here level index read word found ≡ Err here
 child_read-unnamed root here level index read word found some unnamed = rw (not_zero word some, unnamed) refl
 
-and_true : (a b : Bool) → (a && b) ≡ true → (a ≡ true) × (b ≡ true)
-and_true true b h = (refl, h)
-and_true false b h = absurd cc
-
-not_true : (a : Bool) → not a ≡ true → a ≡ false
-not_true true h = absurd cc
-not_true false h = refl
-
 -- what the test of a child means
 pub record IsChild (root : Root) (reached : List PlacedNode) (level index word : ℕ) : Type 0 where
   pub behind : 2 ≤ word
@@ -62,7 +55,7 @@ names_child-is root reached level index word h =
     record {
       behind = grind (arith, common_steps);
       inside = ltb-true _ _ d.1;
-      unread = not_true (is_reached word reached) b.1;
+      unread = not_is_true (is_reached word reached) b.1;
       below = ltb-true _ _ a.1;
     }
 
@@ -93,3 +86,20 @@ entry_read-fault root here block o entry found e may = rw (e, may) refl
 pub entry_read-none : (root : Root) (here : Place) (block : ℕ) (o : Option Entry) (found : Found) → ((entry : Entry) → o ≡ Some entry → ⊥) → entry_read root here block o found ≡ Ok found
 entry_read-none root here block None found none = refl
 entry_read-none root here block (Some entry) found none = absurd (none entry refl)
+
+-- ---- what was read without a fault
+
+pub then_ok : (reading : Reading) (go_on : Found → Reading) (next : Found) → (reading then go_on) ≡ Ok next → (found : Found) × (reading ≡ Ok found) × (go_on found ≡ Ok next)
+then_ok (Ok found) go_on next e = (found, refl, e)
+then_ok (Err place) go_on next e = absurd (cc)
+
+-- where a test has to come out true
+pub test_ok : (test : Bool) (here : Place) (reading : Reading) (next : Found) → (if test then reading else Err here) ≡ Ok next → (test ≡ true) × (reading ≡ Ok next)
+test_ok true here reading next e = (refl, e)
+test_ok false here reading next e = absurd (cc)
+
+-- nothing stands where nothing was found yet
+pub nothing_there : {X : Type 0} (n i : ℕ) (x : X) → get_or (replicate n x) i x ≡ x
+nothing_there {X} zero i x = refl
+nothing_there {X} (suc n) zero x = refl
+nothing_there {X} (suc n) (suc i) x = nothing_there n i x

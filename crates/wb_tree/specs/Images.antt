@@ -1,14 +1,15 @@
 -- What an image of a tree is, and what the sectors of a device keep of a tree.
-use Rattle.std.specs.Prelude.{◌≡◌, ◌≤◌, ◌<◌, ◌+◌, ◌*◌, ℕ, zero, suc, Bool, Option, Some, None, All, List, [], length, map, take, slice_get, slice_index}
+use Rattle.std.specs.Prelude.{◌≡◌, ◌↔◌, ◌≤◌, ◌<◌, ◌+◌, ◌*◌, ℕ, zero, suc, Bool, Option, Some, None, All, List, [], length, map, take, slice_get, slice_index, Contains}
 use Rattle.wb_types.specs.declared.number.Place.{Place}
 use Rattle.wb_types.specs.declared.geometry.Geometry.{Geometry}
-use Rattle.wb_types.specs.Limits.{depth_of}
+use Rattle.wb_types.specs.Limits.{depth_of, node_count}
 use Rattle.wb_format.specs.declared.node.Node.{Node}
 use Rattle.wb_format.specs.declared.root.Root.{Root}
 use Rattle.wb_format.specs.declared.version.Version.TheVariants.{One}
 use Rattle.wb_format.specs.Layout.{SpellsNode}
 use Rattle.wb_format.specs.Words.{entry_word}
-use Rattle.wb_tree.specs.Mapping.{Mapping, NodeName, entry_at, place_of, changed, nodes_of}
+use Rattle.wb_tree.specs.Mapping.{Mapping, NodeName, IsPlaceOf, entry_at, place_of, changed}
+use Rattle.wb_tree.specs.Reading.{Nodes}
 
 -- the number of a place that a word holds, 0 for none
 abbrev pub place_word : Option Place → ℕ
@@ -28,6 +29,15 @@ name_of node = record { level = node.level; index = node.index }
 abbrev pub HasWordsOf : Mapping → Node → Type 0
 HasWordsOf m node = (j : ℕ) → j < 32 → slice_index node.words j ≡ word_at m node.level node.index j
 
+-- A list of places from which an image may take its own: enough for every node that a tree of this geometry can have,
+-- behind the slots, on the device, none twice, and none at which a node of the tree stands.
+pub record AreFree (m : Mapping) (geometry : Geometry) (free : List Place) : Type 0 where
+  pub enough : node_count geometry.cache_blocks ≤ length free
+  pub behind : (i : ℕ) (place : Place) → slice_get free i ≡ Some place → 2 ≤ place.0
+  pub inside : (i : ℕ) (place : Place) → slice_get free i ≡ Some place → place.0 < geometry.meta_sectors
+  pub apart : (i j : ℕ) (place : Place) → slice_get free i ≡ Some place → slice_get free j ≡ Some place → i ≡ j
+  pub unused : (i : ℕ) (place : Place) → slice_get free i ≡ Some place → IsPlaceOf m place → ⊥
+
 -- A root and nodes with their places are the image that leads from the tree m to the tree n: it writes the changed
 -- nodes, and no others, to the first of the free places, and afterwards none counts as changed.
 pub record IsImage (m n : Mapping) (geometry : Geometry) (generation : ℕ) (clean : Bool) (free : List Place) (root : Root) (nodes : List (Place × Node)) (used : List Place) : Type 0 where
@@ -39,23 +49,39 @@ pub record IsImage (m n : Mapping) (geometry : Geometry) (generation : ℕ) (cle
   pub settled : All (λ node. place_of n node.1.level node.1.index ≡ Some node.0) nodes
   pub generations : All (λ node. node.1.generation ≡ generation) nodes
   pub words : All (λ node. HasWordsOf n node.1) nodes
-  pub used_are : map Some used ≡ map (λ node. place_of n node.level node.index) (nodes_of n.entries (depth_of geometry.cache_blocks))
+  pub used_are : (place : Place) → Contains used place ↔ IsPlaceOf n place
+  pub used_once : (i j : ℕ) (place : Place) → slice_get used i ≡ Some place → slice_get used j ≡ Some place → i ≡ j
   pub root_generation : root.generation ≡ generation
   pub root_version : root.version ≡ One
   pub root_clean : root.clean ≡ clean
   pub root_geometry : root.geometry ≡ geometry
   pub root_top : root.top ≡ place_of n (depth_of geometry.cache_blocks) 0
 
--- The sectors keep what is known of a tree: where a node is known to stand, the sector spells it, with the words of
--- the tree and a generation that is not above this one.
-pub record KeepsNode (sectors : List (List ℕ)) (m : Mapping) (generation level index place : ℕ) : Type 0 where
-  pub sector : List ℕ
-  pub node : Node
-  pub there : slice_get sectors place ≡ Some sector
-  pub spelled : SpellsNode sector node
+-- A node is the one that the tree has at this level and index: it has that name, the words of the tree, and a
+-- generation that is not above this one.
+pub record IsNodeOf (m : Mapping) (generation level index : ℕ) (node : Node) : Type 0 where
   pub name : name_of node ≡ record { level = level; index = index }
   pub not_newer : node.generation ≤ generation
   pub words : HasWordsOf m node
 
+-- a node of the tree is read at this place
+pub record ReadsNode (nodes : Nodes) (m : Mapping) (generation level index place : ℕ) : Type 0 where
+  pub node : Node
+  pub reads : nodes place ≡ Some node
+  pub right : IsNodeOf m generation level index node
+
+-- wherever a node is known to stand it is read
+abbrev pub AreRead : Nodes → Mapping → ℕ → Type 0
+AreRead nodes m generation = (level index : ℕ) (place : Place) → place_of m level index ≡ Some place → ReadsNode nodes m generation level index place.0
+
+-- a node of the tree is spelled at this place
+pub record KeepsNode (sectors : List (List ℕ)) (m : Mapping) (generation level index place : ℕ) : Type 0 where
+  pub sector : List ℕ
+  pub there : slice_get sectors place ≡ Some sector
+  pub node : Node
+  pub spelled : SpellsNode sector node
+  pub right : IsNodeOf m generation level index node
+
+-- The sectors keep what is known of a tree: wherever a node is known to stand it is spelled.
 abbrev pub Keeps : List (List ℕ) → Mapping → ℕ → Type 0
 Keeps sectors m generation = (level index : ℕ) (place : Place) → place_of m level index ≡ Some place → KeepsNode sectors m generation level index place.0

@@ -1,5 +1,8 @@
 pub mod Mapping
-pub mod Images
 pub mod Reading
+pub mod Images
+pub mod Whole
 pub mod Loading
 pub mod Stored
+pub mod Loaded
+pub mod Planning

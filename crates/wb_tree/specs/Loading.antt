@@ -1,5 +1,5 @@
 -- A reading that has come to some node, and what is left of it.
-use Rattle.std.specs.Prelude.{◌≡◌, ◌≤◌, ◌<◌, ◌+◌, ◌-◌, ◌*◌, ℕ, Bool, false, Option, Some, None, Ok, Err, List, [], ◌∷◌, length, slice_index, reverse}
+use Rattle.std.specs.Prelude.{◌≡◌, ◌≤◌, ◌<◌, ◌+◌, ◌-◌, ◌*◌, ℕ, Bool, true, false, Option, Some, None, Ok, Err, List, [], ◌∷◌, length, slice_index, reverse}
 use Rattle.wb_types.specs.Limits.{depth_of}
 use Rattle.wb_types.specs.declared.entry.Entry.{Entry}
 use Rattle.wb_types.specs.declared.number.Place.{Place}
@@ -8,7 +8,7 @@ use Rattle.wb_types.specs.declared.refusal.Refusal.TheVariants.{Memory, Damaged}
 use Rattle.wb_format.specs.declared.root.Root.{Root}
 use Rattle.wb_tree.specs.declared.placed.PlacedNode.{PlacedNode}
 use Rattle.wb_tree.specs.declared.frame.Frame.{Frame}
-use Rattle.wb_tree.specs.Reading.{Found, Reading, Nodes, ◌then◌, each_step, child_read, entry_read, entry_in, node_read, is_reached}
+use Rattle.wb_tree.specs.Reading.{Found, Reading, Nodes, ◌then◌, each_step, child_read, entry_read, entry_in, node_read, tree_read, is_reached}
 
 -- a reading so far: what was found, the nodes above the leaves whose words are being read, from the top down, and the
 -- node that is to be read next
@@ -18,9 +18,12 @@ pub record Loading : Type 0 where
   pub frames : List Frame
   pub wanted : Option PlacedNode
 
+abbrev pub found_with : List PlacedNode → List (Option Entry) → List Bool → Found
+found_with reached entries mapped = record { reached = reached; entries = entries; mapped = mapped }
+
 abbrev pub loading_of : Root → List PlacedNode → List (Option Entry) → List Bool → List Frame → Option PlacedNode → Loading
 loading_of root reached entries mapped frames wanted =
-    record { root = root; found = record { reached = reached; entries = entries; mapped = mapped }; frames = frames; wanted = wanted }
+    record { root = root; found = found_with reached entries mapped; frames = frames; wanted = wanted }
 
 -- the place of a node that is wanted
 abbrev pub wanted_place : Option PlacedNode → Option Place
@@ -74,8 +77,12 @@ Fails Memory reading = Unit {0}
 Fails (Damaged place) reading = reading ≡ Err place
 Fails _ reading = ⊥
 
--- What a reading keeps: it has ended where no node is wanted, what was found has the sizes of the root, and a node
--- that is wanted has a level of the tree.
+-- the same is read at the places that were reached
+abbrev pub AgreeAt : List PlacedNode → Nodes → Nodes → Type 0
+AgreeAt reached nodes others = (place : ℕ) → is_reached place reached ≡ true → nodes place ≡ others place
+
+-- What a reading keeps: it has ended where no node is wanted, what was found has the sizes of the root, a node that
+-- is wanted has a level of the tree, and what was told so far is what the tree is read from.
 pub record IsLoading (l : Loading) : Type 0 where
   pub ended : l.wanted ≡ None → l.frames ≡ []
   pub entries : length l.found.entries ≡ l.root.geometry.cache_blocks
@@ -83,3 +90,5 @@ pub record IsLoading (l : Loading) : Type 0 where
   pub level_from : (node : PlacedNode) → l.wanted ≡ Some node → 1 ≤ node.level
   pub level_to : (node : PlacedNode) → l.wanted ≡ Some node → node.level ≤ 4
   pub fresh : (node : PlacedNode) → l.wanted ≡ Some node → IsFresh l.root l.found.reached node.place
+  pub told : Nodes
+  pub goes_on : (nodes : Nodes) → AgreeAt l.found.reached told nodes → outcome l nodes ≡ tree_read l.root nodes

@@ -4,6 +4,7 @@ use Rattle.std.specs.Prelude.{◌≡◌, ◌≤◌, ◌<◌, ◌+◌, ◌*◌, �
 use Rattle.std.specs.List.{list_any}
 use Rattle.wb_types.specs.declared.entry.Entry.{Entry}
 use Rattle.wb_types.specs.declared.number.Place.{Place}
+use Rattle.wb_types.specs.Limits.{depth_of}
 use Rattle.wb_tree.specs.declared.placed.PlacedNode.{PlacedNode}
 
 pub record Mapping : Type 0 where
@@ -30,8 +31,20 @@ exists entries level index = list_any is_some (take (32 ^ level) (drop (index * 
 abbrev pub IsOnPath : ℕ → ℕ → ℕ → Type 0
 IsOnPath block level index = block / 32 ^ level ≡ index
 
+-- a node stands at this place
+pub record IsPlaceOf (m : Mapping) (place : Place) : Type 0 where
+  pub level : ℕ
+  pub index : ℕ
+  pub known : place_of m level index ≡ Some place
+
+-- all nodes stand at places of a device of so many sectors, behind the slots
+abbrev pub AreInside : ℕ → Mapping → Type 0
+AreInside meta_sectors m = (place : Place) → IsPlaceOf m place → (2 ≤ place.0) × (place.0 < meta_sectors)
+
 -- what every tree keeps
 pub record IsSound (m : Mapping) : Type 0 where
+  -- a node that is known is of a level of the tree
+  pub known_level : (level index : ℕ) (place : Place) → place_of m level index ≡ Some place → (1 ≤ level) × (level ≤ depth_of (length m.entries))
   -- a node that is known exists
   pub known_exist : (level index : ℕ) (place : Place) → place_of m level index ≡ Some place → exists m.entries level index ≡ true
   -- below a node that is known every child that exists is known

@@ -5,12 +5,15 @@
 //! nodes that are not known are those that the next image writes.
 #![tactic(auto)]
 
+mod below;
+mod entering;
 mod frame;
 mod image;
 mod leaf;
 mod loader;
 mod next;
 mod placed;
+mod planning;
 mod reached;
 #[cfg(test)]
 mod tests;

@@ -1,14 +1,17 @@
 //! Reading of a tree, one node a call.
 
-ghost use Rattle.std.specs.Prelude.{◌≡◌, ◌≤◌, [], ◌∷◌, ◌++◌, true, Some, None, Ok, IfOk, IfErr, IfSome, IfNone, IsSome, length};
+ghost use Rattle.std.specs.Prelude.{◌≡◌, ◌≤◌, [], ◌∷◌, ◌++◌, true, Some, None, Ok, IfOk, IfErr, IfSome, IfNone, IsSome, map};
 ghost use Rattle.wb_types.specs.declared.refusal.Refusal.TheVariants.{Memory as OutOfMemory};
 ghost use Rattle.wb_tree.specs.declared.placed.PlacedNode.{PlacedNode as NodeAt};
 ghost use Rattle.wb_tree.specs.Reading.{Nodes, tree_read, is_node_of as is_right_node};
+ghost use Rattle.wb_tree.specs.Mapping.{IsMapping};
 ghost use Rattle.wb_tree.specs.Loading.{outcome, wanted_place, top_node, IsFresh, Fails};
+ghost use Rattle.wb_tree.specs.Loaded.{IsLoaded};
 
+use crate::entering::take_in;
 use crate::frame::Frame;
-use crate::leaf::read_entries;
 use crate::next::next_wanted;
+use crate::placed::{all_exist, places_of};
 use crate::reached::Reached;
 use crate::{PlacedNode, Tree};
 use std::alloc::{Allocator, Global};
@@ -100,15 +103,17 @@ impl<A: Allocator> Loader<A> {
         self.enter(wanted, &node)
     }
 
-    /// The tree, and its nodes in the order in which they were read. No node is known to it, so the next image
-    /// writes all of them.
-    pub fn finish(self) -> (Tree<A>, Vec<PlacedNode>)
+    /// The tree, and the places of its nodes in the order in which they were read. All nodes are known to it, so that
+    /// the next image writes none of them that does not change; but where a node has no entry below it, which no
+    /// image has, none is, so that the next image writes all of them. `Memory` where there is no room for the places.
+    pub fn finish(self, global: Global) -> Result<(Tree<A>, Vec<Place>), Refusal>
         requires { self.wanted ≡ None }
         ensures read { (nodes : Nodes) → outcome self nodes ≡ Ok self.found }
-        ensures entries { result.0.entries ≡ self.found.entries }
-        ensures blocks { length result.0.entries ≡ self.root.geometry.cache_blocks }
-        ensures known { result.0.known ≡ [] }
-        ensures nodes { result.1.items ≡ self.found.reached }
+        ensures entries { IfOk result (λ loaded. loaded.0.entries ≡ self.found.entries) }
+        ensures mapping { IfOk result (λ loaded. IsMapping self.root.geometry.cache_blocks self.root.geometry.origin_blocks loaded.0.entries) }
+        ensures places { IfOk result (λ loaded. loaded.1.items ≡ map (λ node. node.place) self.found.reached) }
+        ensures known { IfOk result (λ loaded. IsLoaded self.root self.found loaded.0) }
+        ensures refused { IfErr result (λ refusal. refusal ≡ OutOfMemory) }
     {
         let Loader {
             root,
@@ -116,10 +121,15 @@ impl<A: Allocator> Loader<A> {
             reached,
             ..
         } = self;
-        (
-            Tree::of_entries(root.geometry.cache_blocks, entries),
-            reached.into_nodes(),
-        )
+        let nodes = reached.into_nodes();
+        let places = places_of(global, &nodes)?;
+        let known = if all_exist(&entries, &nodes) {
+            Some(nodes)
+        } else {
+            None
+        };
+        let tree = Tree::of_entries(root.geometry.cache_blocks, entries, known);
+        Ok((tree, places))
     }
 
     /// Goes on with the node that is wanted.
@@ -140,24 +150,7 @@ impl<A: Allocator> Loader<A> {
             ..
         } = self;
         reached.push(wanted)?;
-        if wanted.level == 1 {
-            if let Err(refusal) = read_entries(
-                &root,
-                wanted,
-                &node.words,
-                &mut entries,
-                &mut mapped,
-            ) {
-                return Err(refusal);
-            }
-        } else {
-            frames.reserve(1)?;
-            frames.push_reserved(Frame {
-                node: wanted,
-                words: node.words,
-                next: 0,
-            });
-        }
+        take_in(&root, wanted, node, &mut entries, &mut mapped, &mut frames)?;
         match next_wanted(&root, &reached, &mut frames) {
             Ok(wanted) => Ok(Loader {
                 root,

@@ -1,5 +1,7 @@
 //! Entries that come and go, and a tree of two leaves that is read, whole and with a fault in it.
 
+mod images;
+
 use super::*;
 use std::alloc::Global;
 use std::test::Fail;
@@ -96,8 +98,8 @@ fn read(alloc: Global, change: Change) -> Result<(usize, Option<Entry>), Refusal
         match loader.wanted() {
             Some(place) => loader = loader.tell(Node::read(&sector_at(place, change)))?,
             None => {
-                let (tree, nodes) = loader.finish();
-                return Ok((nodes.len(), tree.get(CBlock(33))));
+                let (tree, places) = loader.finish(alloc)?;
+                return Ok((places.len(), tree.get(CBlock(33))));
             }
         }
     }

@@ -1,13 +1,17 @@
 //! The mapping.
 
-ghost use Rattle.std.specs.Prelude.{◌≡◌, ◌≢◌, ◌<◌, ◌≤◌, [], Some, None, IsSome, IfErr, OnOk, OnErr, length, replicate, slice_set};
+ghost use Rattle.std.specs.Prelude.{◌≡◌, ◌≢◌, ◌<◌, ◌≤◌, [], Some, None, IsSome, IfOk, IfErr, OnOk, OnErr, length, replicate, slice_set};
 ghost use Rattle.wb_types.specs.declared.refusal.Refusal.TheVariants.{Memory as OutOfMemory};
-ghost use Rattle.wb_tree.specs.Mapping.{entry_at, Forgets, IsSound};
+ghost use Rattle.wb_tree.specs.Mapping.{entry_at, AreInside, Forgets, IsMapping, IsSound};
+ghost use Rattle.wb_tree.specs.Images.{AreFree, IsImage};
+ghost use Rattle.wb_tree.specs.Stored.{known_nodes, IsStored};
 
-use crate::PlacedNode;
-use std::alloc::Allocator;
+use crate::image::known_of;
+use crate::planning::{Planning, plan_nodes};
+use crate::{Image, PlacedNode};
+use std::alloc::{Allocator, Global};
 use std::marker::Model;
-use wb_types::{CBlock, Entry, Refusal};
+use wb_types::{CBlock, Entry, Geometry, Place, Refusal};
 
 /// The entries of a cache's blocks, and the places of the nodes that the last image wrote or that were read.
 ///
@@ -17,20 +21,19 @@ use wb_types::{CBlock, Entry, Refusal};
 pub struct Tree<A: Allocator> {
     cache_blocks: u32,
     entries: Vec<Option<Entry>, A>,
-    /// All nodes, in the order of an image; none where anything changed since it was taken.
+    /// All nodes, each once; none where anything changed since the last image.
     known: Option<Vec<PlacedNode>>,
 }
 
 impl<A: Allocator> Model for Tree<A> {
-    ghost use Rattle.std.specs.Prelude.{◌≤◌, length};
-    ghost use Rattle.wb_tree.specs.Mapping.{Mapping, IsSound};
-    ghost use Rattle.wb_tree.specs.Stored.{mapping_of};
+    ghost use Rattle.wb_tree.specs.Mapping.{Mapping};
+    ghost use Rattle.wb_tree.specs.Stored.{mapping_of, IsStored};
 
     ghost Value = { Mapping };
 
     ghost view = { λ t. mapping_of t.cache_blocks t.entries.items t.known };
 
-    ghost invariant = { λ t. (length t.entries.items ≤ t.cache_blocks) × IsSound (mapping_of t.cache_blocks t.entries.items t.known) };
+    ghost invariant = { λ t. IsStored t.cache_blocks t.entries.items t.known };
 }
 
 impl<A: Allocator> Tree<A> {
@@ -103,16 +106,61 @@ impl<A: Allocator> Tree<A> {
         }
     }
 
-    /// A tree of these entries, one for each cache block, of which no node is known.
-    pub(crate) fn of_entries(cache_blocks: u32, entries: Vec<Option<Entry>, A>) -> Tree<A>
-        requires { length entries.items ≡ cache_blocks }
+    /// The image of this generation: the nodes that changed since the last one, on the first of the free places, and
+    /// a root with this `clean` flag. After it no node counts as changed. It is on the caller to write it.
+    ///
+    /// `Memory` where there is no room for the image or for what the nodes are remembered by; the tree is then as it
+    /// was.
+    pub fn plan(
+        &mut self,
+        global: Global,
+        geometry: &Geometry,
+        generation: u64,
+        clean: bool,
+        free: &[Place],
+    ) -> Result<Image, Refusal>
+        requires mapping { IsMapping geometry.now.cache_blocks geometry.now.origin_blocks self.old.entries }
+        requires inside { AreInside geometry.now.meta_sectors self.old }
+        requires free { AreFree self.old geometry.now free.now }
+        ensures image { IfOk result (λ image. IsImage self.old self.new geometry.now generation clean free.now image.root image.nodes.items image.used.items) }
+        ensures err { OnErr result (self.new ≡ self.old) }
+        ensures refused { IfErr result (λ refusal. refusal ≡ OutOfMemory) }
+        ensures sound { IsSound self.new }
+        ensures inside { AreInside geometry.now.meta_sectors self.new }
+    {
+        if let Some(known) = &self.known {
+            let none = Vec::new(global);
+            return Image::new(global, geometry, generation, clean, none, known);
+        }
+        let plan = Planning {
+            entries: &self.entries,
+            depth: geometry.depth(),
+            generation,
+            free,
+        };
+        let nodes = plan_nodes(global, &plan)?;
+        let known = known_of(global, &nodes)?;
+        let image = Image::new(global, geometry, generation, clean, nodes, &known)?;
+        self.known = Some(known);
+        Ok(image)
+    }
+
+    /// A tree of these entries, one for each cache block, with these nodes, which are all or not known.
+    pub(crate) fn of_entries(
+        cache_blocks: u32,
+        entries: Vec<Option<Entry>, A>,
+        known: Option<Vec<PlacedNode>>,
+    ) -> Tree<A>
+        requires size { length entries.items ≡ cache_blocks }
+        requires stored { IsStored cache_blocks entries.items known }
         ensures entries { result.entries ≡ entries.items }
-        ensures known { result.known ≡ [] }
+        ensures known { result.known ≡ known_nodes known }
+        ensures sound { IsSound result }
     {
         Tree {
             cache_blocks,
             entries,
-            known: None,
+            known,
         }
     }
 }

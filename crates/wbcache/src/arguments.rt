@@ -6,6 +6,8 @@ use std::alloc::Global;
 /// What the program is asked to do.
 #[derive(Clone, Copy, Debug)]
 pub enum Asked<'a> {
+    /// To format the metadata over the files of a table.
+    Format(&'a str),
     /// To run a script over the files of a table.
     Run(&'a str),
 }
@@ -14,6 +16,7 @@ pub enum Asked<'a> {
 pub fn read_arguments<'a>(alloc: Global, words: &'a [String]) -> Result<Option<Asked<'a>>, Error> {
     let matches = command(alloc)?.try_get_matches_from(words)?;
     Ok(match matches.subcommand() {
+        Some(("format", given)) => given.get_str("TABLE").map(|table| Asked::Format(table)),
         Some(("run", given)) => given.get_str("TABLE").map(|table| Asked::Run(table)),
         _ => None,
     })
@@ -26,6 +29,7 @@ fn command<'a>(alloc: Global) -> Result<Command<'a>, Error> {
             .disable_version_flag(true)
             .disable_help_subcommand(true)
             .subcommand_required(true)
+            .subcommand(with_table(alloc, "format")?)?
             .subcommand(with_table(alloc, "run")?)?,
     )
 }

@@ -3,10 +3,10 @@
 ghost use Rattle.std.specs.Prelude.{◌≡◌, ◌<◌, ◌*◌, ◌^◌, ℕ, IfOk, IfErr};
 ghost use Rattle.wb_types.specs.Limits.{IsWithinLimits};
 
-use crate::table::Table;
+use crate::table::{Table, read_table};
 use std::fs::File;
 use std::rt::Files;
-use wb_disk::FileDisk;
+use wb_disk::{Disk, FileDisk};
 use wb_types::{Dev, Geometry, Refusal};
 
 /// The three devices of a target.
@@ -30,6 +30,22 @@ impl Disks<FileDisk> {
             origin: open_file(rt, table.origin, Dev::Origin)?,
         })
     }
+}
+
+/// Reads a table, opens its files and measures them: `BadTable`, `Io` for the first that cannot be opened, `Geometry`.
+pub fn open_table<R: Files<File = File>>(
+    rt: &R,
+    table: &str,
+) -> Result<(Disks<FileDisk>, Geometry), Refusal> {
+    let table = read_table(table)?;
+    let disks = Disks::open(rt, &table)?;
+    let geometry = measure(
+        table.block,
+        disks.metadata.sectors(),
+        disks.cache.sectors(),
+        disks.origin.sectors(),
+    )?;
+    Ok((disks, geometry))
 }
 
 fn open_file<R: Files<File = File>>(rt: &R, path: &str, device: Dev) -> Result<FileDisk, Refusal> {

@@ -1,10 +1,11 @@
-//! A write-back block cache over three files, served by a script.
+//! A write-back block cache over three files: it formats them, and serves a script.
 #![tactic(auto)]
 
 mod arguments;
 mod devices;
 mod engine;
 mod fill;
+mod format;
 mod found;
 mod line;
 mod number;
@@ -27,7 +28,7 @@ use std::{env, io};
 use wb_types::Refusal;
 
 /// What is asked of who calls the program otherwise.
-const USAGE: &str = "usage: wbcache run TABLE";
+const USAGE: &str = "usage: wbcache format TABLE | run TABLE";
 
 fn main(rt: HostRuntime) -> ExitCode {
     ExitCode::from(serve(&rt))
@@ -43,6 +44,9 @@ fn serve(rt: &HostRuntime) -> u8 {
         return no_memory(rt);
     };
     match read_arguments(alloc, words.as_slice()) {
+        Ok(Some(Asked::Format(table))) => {
+            format::format_files(rt, alloc, table, &mut io::writer(rt))
+        }
         Ok(Some(Asked::Run(table))) => match BufReader::new(alloc, rt.reader()) {
             Ok(mut reader) => script::run(rt, alloc, table, &mut reader, &mut io::writer(rt)),
             Err(_) => no_memory(rt),

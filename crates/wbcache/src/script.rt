@@ -1,11 +1,10 @@
 //! Scripts: a line in, its answer out.
 
-use crate::devices::{Disks, measure};
+use crate::devices::{Disks, open_table};
 use crate::engine::Engine;
 use crate::line::{Line, read_line};
 use crate::output::{StreamFailed, exit_code, print, print_bad_line, print_refusal, refuse};
 use crate::status::Status;
-use crate::table::read_table;
 use std::alloc::Global;
 use std::fs::File;
 use std::io::{BufRead, ErrorKind, Write};
@@ -41,19 +40,8 @@ fn open<R: Files<File = File>>(
     alloc: Global,
     table: &str,
 ) -> Result<Engine<FileDisk>, Refusal> {
-    let table = read_table(table)?;
-    let disks = Disks::open(rt, &table)?;
-    let geometry = measure(
-        table.block,
-        disks.metadata.sectors(),
-        disks.cache.sectors(),
-        disks.origin.sectors(),
-    )?;
-    let Disks {
-        metadata: _,
-        cache: _,
-        origin,
-    } = disks;
+    let (disks, geometry) = open_table(rt, table)?;
+    let Disks { origin, .. } = disks;
     Engine::new(alloc, geometry, origin)
 }
 

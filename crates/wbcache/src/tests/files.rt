@@ -1,5 +1,6 @@
 //! Scripts over files that the test makes.
 
+use super::make_file;
 use crate::script::run;
 use std::fs;
 use std::fs::File;
@@ -25,8 +26,7 @@ fn make<R: AllocGlobal + Files<File = File>>(
 ) -> Result<(), Fail> {
     for (device, bytes) in [("m", metadata), ("c", cache), ("o", origin)] {
         let path = format!(in rt.alloc(); "{name}.{device}.img")?;
-        let content = vec![in rt.alloc(); 0u8; bytes]?;
-        fs::write(rt, path.as_str(), content.as_slice())?;
+        make_file(rt, path.as_str(), bytes, 0)?;
     }
     Ok(())
 }

@@ -24,7 +24,7 @@ returns-clause-entries g c =
           let kept : old.entries.len ≤ c.args.c.0 = omega arith in (
             rw w.self-inside-is (omega (arith, long_now, grown.len)),
             ap (λ x. padded x.cache_blocks x.entries.items) w.self-inside-is
-                ∙ (padded-after_resize old.cache_blocks old.entries.items w.resize.new.self.items old.entries.len c.args.c.0 long kept requires c.self.invariant.0 grown.items
+                ∙ (padded-after_resize old.cache_blocks old.entries.items w.resize.new.self.items old.entries.len c.args.c.0 long kept requires c.self.invariant.size grown.items
                 ∙ ap (λ m. m.entries) c.self.view_is),
           )
       | else-at-len w ↦ (

@@ -1,0 +1,115 @@
+-- Places of which none stands twice, when one more is reached.
+use Rattle.std.proofs.Common.{◌≡◌, ◌≤◌, ◌<◌, ◌+◌, ◌-◌, ◌==◌, ◌||◌, ℕ, Bool, true, false, cond, nat_eq, List, [], ◌∷◌, ◌++◌, length, map, refl, sym, ◌∙◌, ap, subst, arith}
+use Rattle.std.specs.List.{AllByRecursion, IsDistinct, list_any}
+use Rattle.std.proofs.lemmas.Bool.Decides.{nat_tests}
+use Rattle.std.proofs.lemmas.List.{map-append, length-map, length-append}
+use Rattle.std.proofs.lemmas.Map.Steps.{length-le_from_distinct_below}
+use Rattle.wb_types.specs.declared.number.Place.{Place}
+use Rattle.wb_format.specs.declared.root.Root.{Root}
+use Rattle.wb_tree.specs.declared.placed.PlacedNode.{PlacedNode}
+use Rattle.wb_tree.specs.Reading.{is_reached}
+use Rattle.wb_tree.specs.Loading.{Loading, IsFresh}
+use Rattle.wb_meta.specs.States.{places_of}
+use Rattle.wb_meta.specs.Reads.{AreApart, IsTreeOn}
+
+all_pushed : {X : Type 0} (P : X → Type 0) (xs : List X) (x : X) → AllByRecursion P xs → P x → AllByRecursion P (xs ++ x ∷ [])
+all_pushed P [] x all p = (p, tt)
+all_pushed P (y ∷ xs) x all p = (all.0, all_pushed P xs x all.1 p)
+
+-- a list of which no element is equal to one after it, and an element that is equal to none
+distinct_pushed : {X : Type 0} (same : X → X → Bool) (xs : List X) (x : X) → IsDistinct same xs → AllByRecursion (λ y. same y x ≡ false) xs → IsDistinct same (xs ++ x ∷ [])
+unfolding IsDistinct
+distinct_pushed same [] x distinct new = (tt, tt)
+distinct_pushed same (y ∷ xs) x distinct new = (all_pushed (λ z. same y z ≡ false) xs x distinct.0 new.0, distinct_pushed same xs x distinct.1 new.1)
+
+unread_parts : (here : Bool) (rest : Bool) → cond here true rest ≡ false → (here ≡ false) × (rest ≡ false)
+unread_parts true rest e = absurd cc
+unread_parts false rest e = (refl, e)
+
+-- a place that was not reached is equal to none that was
+unread_apart : (place : Place) (nodes : List PlacedNode) → is_reached place.0 nodes ≡ false → AllByRecursion (λ (other : Place). (other.0 == place.0) ≡ false) (places_of nodes)
+unread_apart place [] e = tt
+unread_apart place (node ∷ nodes) e =
+    let w = unread_parts (nat_eq node.place.0 place.0) (is_reached place.0 nodes) e in
+    (w.0, unread_apart place nodes w.1)
+
+pub places_pushed : (nodes : List PlacedNode) (node : PlacedNode) → places_of (nodes ++ node ∷ []) ≡ places_of nodes ++ node.place ∷ []
+places_pushed nodes node = map-append (λ (n : PlacedNode). n.place) nodes (node ∷ [])
+
+-- one place more that was not reached
+pub apart_pushed : (sectors : ℕ) (nodes : List PlacedNode) (node : PlacedNode) → AreApart sectors (places_of nodes) → 2 ≤ node.place.0 → node.place.0 < sectors → is_reached node.place.0 nodes ≡ false
+    → AreApart sectors (places_of (nodes ++ node ∷ []))
+apart_pushed sectors nodes node was from to unread =
+    let P : List Place → Type 0 = λ places. AreApart sectors places in
+    subst P (sym (places_pushed nodes node)) (record {
+      from = all_pushed _ (places_of nodes) node.place was.from from;
+      to = all_pushed _ (places_of nodes) node.place was.to to;
+      apart = distinct_pushed _ (places_of nodes) node.place was.apart (unread_apart node.place nodes unread);
+    })
+
+abbrev numbers : List Place → List ℕ
+numbers places = map (λ (p : Place). p.0) places
+
+all_numbers : (place : ℕ) (places : List Place) → AllByRecursion (λ (other : Place). nat_eq place other.0 ≡ false) places → AllByRecursion (λ n. nat_eq place n ≡ false) (numbers places)
+all_numbers place [] all = tt
+all_numbers place (p ∷ places) all = (all.0, all_numbers place places all.1)
+
+distinct_numbers : (places : List Place) → IsDistinct (λ (a b : Place). a.0 == b.0) places → IsDistinct nat_eq (numbers places)
+unfolding IsDistinct
+distinct_numbers [] distinct = tt
+distinct_numbers (p ∷ places) distinct = (all_numbers p.0 places distinct.0, distinct_numbers places distinct.1)
+
+is_here : (q n : ℕ) (rest : Bool) (sectors : ℕ) → n < sectors → (rest ≡ true → q < sectors) → (nat_eq q n || rest) ≡ true → q < sectors
+is_here q n rest sectors here there e = grind (arith, nat_tests)
+
+numbers_below : (sectors : ℕ) (places : List Place) → AllByRecursion (λ (p : Place). p.0 < sectors) places → (q : ℕ) → list_any (nat_eq q) (numbers places) ≡ true → q < sectors
+numbers_below sectors [] all q e = absurd cc
+numbers_below sectors (p ∷ places) all q e = is_here q p.0 (list_any (nat_eq q) (numbers places)) sectors all.0 (numbers_below sectors places all.1 q) e
+
+-- a device has no more places than sectors
+pub length-apart : (sectors : ℕ) (places : List Place) → AreApart sectors places → length places ≤ sectors
+length-apart sectors places apart =
+    let count = length-le_from_distinct_below (numbers places) sectors (distinct_numbers places apart.apart) (numbers_below sectors places apart.to) in
+    let same : length (numbers places) ≡ length places = length-map places (λ (p : Place). p.0) in
+    omega (arith, count, same)
+
+pub length_pushed : (nodes : List PlacedNode) (node : PlacedNode) → length (nodes ++ node ∷ []) ≡ length nodes + 1
+length_pushed nodes node = length-append nodes (node ∷ [])
+
+-- where a node is still to be read, not all sectors were read
+pub room_left : (sectors : ℕ) (nodes : List PlacedNode) (node : PlacedNode) → AreApart sectors (places_of (nodes ++ node ∷ [])) → length nodes < sectors
+room_left sectors nodes node apart =
+    let count = length-apart sectors (places_of (nodes ++ node ∷ [])) apart in
+    let same : length (places_of (nodes ++ node ∷ [])) ≡ length (nodes ++ node ∷ []) = length-map (nodes ++ node ∷ []) (λ (n : PlacedNode). n.place) in
+    let more = length_pushed nodes node in
+    omega (arith, count, same, more)
+
+-- the tree that is read, with one node more
+pub tree_pushed : (sectors : ℕ) (root : Root) (l more : Loading) (node : PlacedNode) → IsTreeOn sectors root l → IsFresh l.root l.found.reached node.place → more.root ≡ l.root
+    → more.found.reached ≡ l.found.reached ++ node ∷ [] → IsTreeOn sectors root more
+tree_pushed sectors root l more node on fresh same reached =
+    let P : List PlacedNode → Type 0 = λ nodes. AreApart sectors (places_of nodes) in
+    let size : l.root.geometry.meta_sectors ≡ sectors = ap (λ (r : Root). r.geometry.meta_sectors) on.root_is ∙ on.size in
+    let Q : ℕ → Type 0 = λ n. node.place.0 < n in
+    record {
+      size = on.size;
+      root_is = same ∙ on.root_is;
+      used = subst P (sym reached) (apart_pushed sectors l.found.reached node on.used fresh.behind (subst Q size fresh.inside) fresh.unread);
+    }
+
+-- and with less left
+pub fewer_left : (sectors : ℕ) (root : Root) (l more : Loading) (node : PlacedNode) → IsTreeOn sectors root l → IsFresh l.root l.found.reached node.place → more.root ≡ l.root
+    → more.found.reached ≡ l.found.reached ++ node ∷ [] → sectors - length more.found.reached < sectors - length l.found.reached
+fewer_left sectors root l more node on fresh same reached =
+    let made = tree_pushed sectors root l more node on fresh same reached in
+    let P : List PlacedNode → Type 0 = λ nodes. AreApart sectors (places_of nodes) in
+    let room = room_left sectors l.found.reached node (subst P reached made.used) in
+    let count : length more.found.reached ≡ length l.found.reached + 1 = ap (λ (nodes : List PlacedNode). length nodes) reached ∙ length_pushed l.found.reached node in
+    omega (arith, room, count)
+
+-- the tree of which nothing was read
+pub tree_begun : (sectors : ℕ) (root : Root) (l : Loading) → root.geometry.meta_sectors ≡ sectors → l.root ≡ root → l.found.reached ≡ [] → IsTreeOn sectors root l
+unfolding IsDistinct
+tree_begun sectors root l size same nothing =
+    let P : List PlacedNode → Type 0 = λ nodes. AreApart sectors (places_of nodes) in
+    record { size = size; root_is = same; used = subst P (sym nothing) (record { from = tt; to = tt; apart = tt }) }

@@ -1,0 +1,162 @@
+-- A reading that goes on with what a sector spells.
+use Rattle.std.proofs.Common.{◌≡◌, ◌⊎◌, ℕ, Bool, true, false, cond, nat_eq, List, [], ◌∷◌, ◌++◌, Option, Some, None, Ok, Err, length, refl, sym, ◌∙◌, ap, subst, arith, inl, inr}
+use Rattle.std.specs.List.{slice_get}
+use Rattle.std.proofs.lemmas.Bool.Decides.{nat_tests}
+use Rattle.wb_types.specs.declared.number.Place.{Place}
+use Rattle.wb_types.specs.declared.refusal.Refusal.{Refusal}
+use Rattle.wb_types.specs.declared.refusal.Refusal.TheVariants.{Range, Crosses, Busy, Defer, Io, Failed, Memory, Worn, Geometry, NotFormatted, Damaged, Mismatch, NotClean, BadMessage, WrongMode, BadTable, GenerationEnd}
+use Rattle.wb_disk.specs.Device.{Content}
+use Rattle.wb_format.specs.declared.node.Node.{Node}
+use Rattle.wb_format.specs.declared.root.Root.{Root}
+use Rattle.wb_tree.specs.declared.placed.PlacedNode.{PlacedNode}
+use Rattle.wb_tree.specs.Reading.{Reading, Nodes, ReadsAs, IsNewestRoot, is_reached, tree_read}
+use Rattle.wb_tree.specs.Loading.{Loading, outcome, wanted_place, Fails}
+use Rattle.std.specs.Prelude.{Result, IfErr}
+use Rattle.std.specs.Result.{IsErrAnd}
+use Rattle.wb_tree.proofs.ReachedLemmas.{is_reached-push}
+use Rattle.wb_meta.specs.Holding.{ReadsThere}
+use Rattle.wb_meta.specs.States.{ReadThere, IsDamagedAt, IsRefusedBy, IsOfReading, CountsFault}
+use Rattle.wb_meta.specs.Reads.{HasLoaded}
+use Rattle.wb_meta.proofs.Framing.{reads_one, reached_before, reached_last}
+
+-- a refusal of damage names the place of the first fault
+pub record NamesFault (refusal : Refusal) (reading : Reading) : Type 0 where
+  pub place : Place
+  pub damaged : refusal ≡ Damaged place
+  pub fault : reading ≡ Err place
+
+-- the refusals that a tree gives
+pub fails_by : (refusal : Refusal) (reading : Reading) → Fails refusal reading → (refusal ≡ Memory) ⊎ NamesFault refusal reading
+fails_by Range reading fails = absurd fails
+fails_by Crosses reading fails = absurd fails
+fails_by Busy reading fails = absurd fails
+fails_by Defer reading fails = absurd fails
+fails_by (Io device) reading fails = absurd fails
+fails_by Failed reading fails = absurd fails
+fails_by Memory reading fails = inl refl
+fails_by Worn reading fails = absurd fails
+fails_by Geometry reading fails = absurd fails
+fails_by NotFormatted reading fails = absurd fails
+fails_by (Damaged place) reading fails = inr (record { place = place; damaged = refl; fault = fails })
+fails_by Mismatch reading fails = absurd fails
+fails_by NotClean reading fails = absurd fails
+fails_by BadMessage reading fails = absurd fails
+fails_by WrongMode reading fails = absurd fails
+fails_by BadTable reading fails = absurd fails
+fails_by GenerationEnd reading fails = absurd fails
+
+-- the node whose place is wanted
+pub record IsWanted (wanted : Option PlacedNode) (place : Place) : Type 0 where
+  pub node : PlacedNode
+  pub some : wanted ≡ Some node
+  pub there : node.place ≡ place
+
+pub wanted_node : (wanted : Option PlacedNode) (place : Place) → wanted_place wanted ≡ Some place → IsWanted wanted place
+wanted_node None place e = absurd cc
+wanted_node (Some node) place e = record { node = node; some = refl; there = cc }
+
+-- what holds of the refusal that a `?` hands on
+pub IfErr-handed : {T E : Type 0} (r : Result T E) (refusal : E) (P : E → Type 0) → IsErrAnd r (λ e. e ≡ refusal) → P refusal → IfErr r P
+IfErr-handed (Ok x) refusal P handed holds = tt
+IfErr-handed (Err e) refusal P handed holds = subst P (sym handed) holds
+
+-- a sector reads alike in all ways to read it
+pub there_one : (sectors : List Content) (a b : Nodes) (place : ℕ) → ReadsThere sectors a place → ReadsThere sectors b place → a place ≡ b place
+there_one sectors a b place x y =
+    let same : x.sector ≡ y.sector = (let both : Some x.sector ≡ Some y.sector = sym x.there ∙ y.there in cc) in
+    let P : Content → Type 0 = λ s. ReadsAs s (a place) in
+    reads_one y.sector (a place) (b place) (subst P same x.reads) y.reads
+
+-- what was read, with one node more
+abbrev pub with_node : Nodes → ℕ → Option Node → Nodes
+with_node nodes here node place = cond (nat_eq here place) node (nodes place)
+
+with_node_there : (sectors : List Content) (nodes : Nodes) (here : ℕ) (node : Option Node) (place : ℕ) (test : Bool) → (nat_eq here place) ≡ test → ReadsThere sectors (λ _. node) here
+    → (test ≡ false → ReadsThere sectors nodes place) → ReadsThere sectors (with_node nodes here node) place
+with_node_there sectors nodes here node place true e there others =
+    let same : here ≡ place = grind (arith, nat_tests) in
+    let is : node ≡ with_node nodes here node place = sym (ap (λ (b : Bool). cond b node (nodes place)) e) in
+    let P : Option Node → Type 0 = λ o. ReadsAs there.sector o in
+    record { sector = there.sector; there = ap (λ (n : ℕ). slice_get sectors n) (sym same) ∙ there.there; reads = subst P is there.reads }
+with_node_there sectors nodes here node place false e there others =
+    let was = others refl in
+    let is : nodes place ≡ with_node nodes here node place = sym (ap (λ (b : Bool). cond b node (nodes place)) e) in
+    let P : Option Node → Type 0 = λ o. ReadsAs was.sector o in
+    record { sector = was.sector; there = was.there; reads = subst P is was.reads }
+
+not_here : (test rest : Bool) → cond test true rest ≡ true → test ≡ false → rest ≡ true
+not_here true rest e f = absurd cc
+not_here false rest e f = e
+
+pub there_pushed : (sectors : List Content) (nodes : Nodes) (reached : List PlacedNode) (wanted : PlacedNode) (node : Option Node) → ReadThere sectors nodes reached → ReadsThere sectors (λ _. node) wanted.place.0
+    → ReadThere sectors (with_node nodes wanted.place.0 node) (reached ++ wanted ∷ [])
+there_pushed sectors nodes reached wanted node was there place r =
+    let split : cond (nat_eq wanted.place.0 place) true (is_reached place reached) ≡ true = sym (is_reached-push place reached wanted) ∙ r in
+    with_node_there sectors nodes wanted.place.0 node place (nat_eq wanted.place.0 place) refl there (λ off. was place (not_here (nat_eq wanted.place.0 place) (is_reached place reached) split off))
+
+-- other sectors that read so at the nodes that were reached do so at those before, and there as the node that was told
+before_there : (sectors : List Content) (others : Nodes) (reached : List PlacedNode) (wanted : PlacedNode) → ReadThere sectors others (reached ++ wanted ∷ []) → ReadThere sectors others reached
+before_there sectors others reached wanted there place r = there place (reached_before place reached wanted r)
+
+told_there : (sectors : List Content) (others : Nodes) (reached : List PlacedNode) (wanted : PlacedNode) (node : Option Node) → ReadThere sectors others (reached ++ wanted ∷ []) → ReadsThere sectors (λ _. node) wanted.place.0
+    → others wanted.place.0 ≡ node
+told_there sectors others reached wanted node there here = there_one sectors others (λ _. node) wanted.place.0 (there wanted.place.0 (reached_last wanted reached)) here
+
+-- nothing of the tree was read
+pub loaded_none : (sectors : List Content) (root : Root) (l : Loading) → IsNewestRoot sectors root → l.found.reached ≡ [] → ((nodes : Nodes) → outcome l nodes ≡ tree_read root nodes) → HasLoaded sectors root l
+loaded_none sectors root l newest nothing begun = record {
+  newest = newest;
+  nodes = λ _. None;
+  reached = λ place r. absurd (let e : is_reached place [] ≡ true = ap (λ (list : List PlacedNode). is_reached place list) (sym nothing) ∙ r in cc);
+  rest = λ others there. begun others;
+}
+
+-- the loader was told what its wanted sector spells
+pub loaded_more : (sectors : List Content) (root : Root) (l more : Loading) (wanted : PlacedNode) (node : Option Node) → HasLoaded sectors root l → ReadsThere sectors (λ _. node) wanted.place.0
+    → more.found.reached ≡ l.found.reached ++ wanted ∷ [] → ((nodes : Nodes) → nodes wanted.place.0 ≡ node → outcome more nodes ≡ outcome l nodes) → HasLoaded sectors root more
+loaded_more sectors root l more wanted node loaded here reached goes_on =
+    let P : List PlacedNode → Type 0 = λ list. ReadThere sectors (with_node loaded.nodes wanted.place.0 node) list in
+    record {
+      newest = loaded.newest;
+      nodes = with_node loaded.nodes wanted.place.0 node;
+      reached = subst P (sym reached) (there_pushed sectors loaded.nodes l.found.reached wanted node loaded.reached here);
+      rest = λ others there.
+          let Q : List PlacedNode → Type 0 = λ list. ReadThere sectors others list in
+          let all = subst Q reached there in
+          goes_on others (told_there sectors others l.found.reached wanted node all here) ∙ loaded.rest others (before_there sectors others l.found.reached wanted all);
+    }
+
+-- it was refused
+pub loaded_refused : (sectors : List Content) (root : Root) (l : Loading) (wanted : PlacedNode) (node : Option Node) (refusal : Refusal) → root.geometry.meta_sectors ≡ length sectors → HasLoaded sectors root l
+    → ReadsThere sectors (λ _. node) wanted.place.0 → ((nodes : Nodes) → nodes wanted.place.0 ≡ node → Fails refusal (outcome l nodes)) → IsRefusedBy sectors refusal
+loaded_refused sectors root l wanted node refusal size loaded here fails = elim (fails_by refusal (outcome l (λ _. node)) (fails (λ _. node) refl)) [
+  | inl memory ↦ let P : Refusal → Type 0 = λ r. IsRefusedBy sectors r in subst P (sym memory) tt
+  | inr named ↦
+      let P : Refusal → Type 0 = λ r. IsRefusedBy sectors r in
+      let Q : Refusal → Nodes → Type 0 = λ r others. Fails r (outcome l others) in
+      let made : IsDamagedAt sectors named.place = record {
+        root = root;
+        newest = loaded.newest;
+        size = size;
+        nodes = with_node loaded.nodes wanted.place.0 node;
+        reached = l.found.reached ++ wanted ∷ [];
+        there = there_pushed sectors loaded.nodes l.found.reached wanted node loaded.reached here;
+        reads = λ others all.
+            sym (loaded.rest others (before_there sectors others l.found.reached wanted all))
+            ∙ subst (λ (r : Refusal). Q r others) named.damaged (fails others (told_there sectors others l.found.reached wanted node all here));
+      } in
+      subst P (sym named.damaged) made
+]
+
+-- a refusal of a tree is one of reading, and of no failure of the device
+pub fails_kind : (refusal : Refusal) (reading : Reading) → Fails refusal reading → IsOfReading refusal
+fails_kind refusal reading fails = elim (fails_by refusal reading fails) [
+  | inl memory ↦ let P : Refusal → Type 0 = λ r. IsOfReading r in subst P (sym memory) tt
+  | inr named ↦ let P : Refusal → Type 0 = λ r. IsOfReading r in subst P (sym named.damaged) tt
+]
+
+pub fails_cause : (refusal : Refusal) (reading : Reading) (old new : ℕ) → Fails refusal reading → new ≡ old → CountsFault refusal old new
+fails_cause refusal reading old new fails same = elim (fails_by refusal reading fails) [
+  | inl memory ↦ let P : Refusal → Type 0 = λ r. CountsFault r old new in subst P (sym memory) same
+  | inr named ↦ let P : Refusal → Type 0 = λ r. CountsFault r old new in subst P (sym named.damaged) same
+]

@@ -1,0 +1,161 @@
+-- Sectors are read in one way alone.
+use Rattle.std.proofs.Common.{◌≡◌, ◌≢◌, ◌⊎◌, ℕ, Bool, true, false, cond, nat_eq, List, Option, Some, Ok, Err, length, refl, sym, ◌∙◌, ap, subst, arith, inl, inr}
+use Rattle.std.specs.List.{slice_get}
+use Rattle.std.proofs.lemmas.Bool.Decides.{nat_tests}
+use Rattle.wb_types.specs.declared.number.Place.{Place}
+use Rattle.wb_types.specs.declared.refusal.Refusal.{Refusal}
+use Rattle.wb_types.specs.declared.refusal.Refusal.TheVariants.{Range, Crosses, Busy, Defer, Io, Failed, Memory, Worn, Geometry, NotFormatted, Damaged, Mismatch, NotClean, BadMessage, WrongMode, BadTable, GenerationEnd}
+use Rattle.wb_disk.specs.Device.{Content}
+use Rattle.wb_format.specs.declared.root.Root.{Root}
+use Rattle.wb_format.specs.Layout.{SpellsRoot}
+use Rattle.wb_format.proofs.Values.{one_root}
+use Rattle.wb_tree.specs.declared.placed.PlacedNode.{PlacedNode}
+use Rattle.wb_tree.specs.Mapping.{Mapping}
+use Rattle.wb_tree.specs.Reading.{Found, Reading, Nodes, ReadsAs, AreNodes, IsNewestRoot, Represents, is_reached, tree_read}
+use Rattle.wb_meta.specs.Holding.{Holds, ReadsThere}
+use Rattle.wb_meta.specs.States.{ReadThere, IsStateOf, HasNoRoot, HasOtherSize, IsDamagedAt, IsRefusedBy, SpeaksOfSectors}
+use Rattle.wb_meta.proofs.Framing.{Holds-read, top_following}
+use Rattle.wb_meta.proofs.Loaded.{there_one}
+
+newest_by : (sectors : List Content) (a b : Root) (test : Bool) (x : IsNewestRoot sectors a) (y : IsNewestRoot sectors b) → nat_eq x.slot y.slot ≡ test → a ≡ b
+newest_by sectors a b true x y e =
+    let slots : x.slot ≡ y.slot = grind (arith, nat_tests) in
+    let there : Some x.sector ≡ Some y.sector = sym x.there ∙ (ap (λ (n : ℕ). slice_get sectors n) slots ∙ y.there) in
+    let same : x.sector ≡ y.sector = cc in
+    let P : Content → Type 0 = λ s. SpellsRoot s a in
+    one_root y.sector a b (subst P same x.valid.spelled) y.valid.spelled
+newest_by sectors a b false x y e =
+    let apart : y.slot ≢ x.slot = grind (arith, nat_tests) in
+    let lower = x.newest y.slot y.sector b apart y.there y.valid in
+    let higher = y.newest x.slot x.sector a (λ same. apart (sym same)) x.there x.valid in
+    absurd (omega (arith, lower, higher))
+
+-- there is one newest root
+pub one_newest : (sectors : List Content) (a b : Root) → IsNewestRoot sectors a → IsNewestRoot sectors b → a ≡ b
+one_newest sectors a b x y = newest_by sectors a b (nat_eq x.slot y.slot) x y refl
+
+-- what these nodes read as, and elsewhere what others do
+joined : Nodes → Nodes → List PlacedNode → Nodes
+joined a b reached place = cond (is_reached place reached) (a place) (b place)
+
+there_as : (sectors : List Content) (a b : Nodes) (place : ℕ) → a place ≡ b place → ReadsThere sectors a place → ReadsThere sectors b place
+there_as sectors a b place same there =
+    let P : Option _ → Type 0 = λ o. ReadsAs there.sector o in
+    record { sector = there.sector; there = there.there; reads = subst P same there.reads }
+
+joined_first : (a b : Nodes) (reached : List PlacedNode) (place : ℕ) → is_reached place reached ≡ true → a place ≡ joined a b reached place
+unfolding joined
+joined_first a b reached place e = sym (ap (λ (test : Bool). cond test (a place) (b place)) e)
+
+joined_second : (a b : Nodes) (reached : List PlacedNode) (place : ℕ) → is_reached place reached ≡ false → b place ≡ joined a b reached place
+unfolding joined
+joined_second a b reached place e = sym (ap (λ (test : Bool). cond test (a place) (b place)) e)
+
+joined_by : (sectors : List Content) (a b : Nodes) (reached : List PlacedNode) (place : ℕ) (test : Bool) → is_reached place reached ≡ test → ReadThere sectors a reached → ReadsThere sectors b place
+    → ReadsThere sectors (joined a b reached) place
+joined_by sectors a b reached place true e first second = there_as sectors a (joined a b reached) place (joined_first a b reached place e) (first place e)
+joined_by sectors a b reached place false e first second = there_as sectors b (joined a b reached) place (joined_second a b reached place e) second
+
+there_first : (sectors : List Content) (a b : Nodes) (reached : List PlacedNode) → ReadThere sectors a reached → ReadThere sectors (joined a b reached) reached
+there_first sectors a b reached first place r = there_as sectors a (joined a b reached) place (joined_first a b reached place r) (first place r)
+
+there_second : (sectors : List Content) (a b : Nodes) (reached other : List PlacedNode) → ReadThere sectors a reached → ReadThere sectors b other → ReadThere sectors (joined a b reached) other
+there_second sectors a b reached other first second place r = joined_by sectors a b reached place (is_reached place reached) refl first (second place r)
+
+-- what is held is read of whatever reads alike at its nodes
+held_read : (sectors : List Content) (root : Root) (found : Found) (others : Nodes) → Holds sectors root found → ReadThere sectors others found.reached → tree_read root others ≡ Ok found
+held_read sectors root found others held there =
+    top_following held.nodes others root root.top found held.reads (λ place r. there_one sectors held.nodes others place (held.reached place r) (there place r))
+
+-- ---- one state, or one refusal
+
+pub one_fault : (sectors : List Content) (a b : Place) → IsDamagedAt sectors a → IsDamagedAt sectors b → a ≡ b
+one_fault sectors a b x y =
+    let nodes = joined x.nodes y.nodes x.reached in
+    let root = one_newest sectors x.root y.root x.newest y.newest in
+    let first : tree_read x.root nodes ≡ Err a = x.reads nodes (there_first sectors x.nodes y.nodes x.reached x.there) in
+    let second : tree_read y.root nodes ≡ Err b = y.reads nodes (there_second sectors x.nodes y.nodes x.reached y.reached x.there y.there) in
+    let both : ◌≡◌ {A = Reading} (Err a) (Err b) = sym first ∙ (ap (λ (r : Root). tree_read r nodes) root ∙ second) in
+    cc
+
+no_fault : (sectors : List Content) (root : Root) (found : Found) (place : Place) → Holds sectors root found → IsDamagedAt sectors place → ⊥
+no_fault sectors root found place held damage =
+    let nodes = joined held.nodes damage.nodes found.reached in
+    let same = one_newest sectors root damage.root held.newest damage.newest in
+    let first : tree_read root nodes ≡ Ok found = held_read sectors root found nodes held (there_first sectors held.nodes damage.nodes found.reached held.reached) in
+    let second : tree_read damage.root nodes ≡ Err place = damage.reads nodes (there_second sectors held.nodes damage.nodes found.reached damage.reached held.reached damage.there) in
+    let both : ◌≡◌ {A = Reading} (Ok found) (Err place) = sym first ∙ (ap (λ (r : Root). tree_read r nodes) same ∙ second) in
+    absurd cc
+
+pub no_root : (sectors : List Content) (root : Root) → IsNewestRoot sectors root → HasNoRoot sectors → ⊥
+no_root sectors root newest none = none newest.slot newest.sector root newest.there newest.valid
+
+other_size : (sectors : List Content) (root : Root) → IsNewestRoot sectors root → root.geometry.meta_sectors ≡ length sectors → HasOtherSize sectors → ⊥
+other_size sectors root newest size other = other.other (ap (λ (r : Root). r.geometry.meta_sectors) (one_newest sectors other.root root other.newest newest) ∙ size)
+
+-- the refusals that speak of the sectors
+record IsDamage (sectors : List Content) (refusal : Refusal) : Type 0 where
+  pub place : Place
+  pub is : refusal ≡ Damaged place
+  pub damage : IsDamagedAt sectors place
+
+abbrev Spoken : List Content → Refusal → Type 0
+Spoken sectors refusal = ((refusal ≡ NotFormatted) × HasNoRoot sectors) ⊎ (((refusal ≡ Mismatch) × HasOtherSize sectors) ⊎ IsDamage sectors refusal)
+
+spoken : (sectors : List Content) (refusal : Refusal) → SpeaksOfSectors refusal → IsRefusedBy sectors refusal → Spoken sectors refusal
+spoken sectors Range speaks by = absurd speaks
+spoken sectors Crosses speaks by = absurd speaks
+spoken sectors Busy speaks by = absurd speaks
+spoken sectors Defer speaks by = absurd speaks
+spoken sectors (Io device) speaks by = absurd speaks
+spoken sectors Failed speaks by = absurd speaks
+spoken sectors Memory speaks by = absurd speaks
+spoken sectors Worn speaks by = absurd speaks
+spoken sectors Geometry speaks by = absurd speaks
+spoken sectors NotFormatted speaks by = inl (refl, by)
+spoken sectors (Damaged place) speaks by = inr (inr (record { place = place; is = refl; damage = by }))
+spoken sectors Mismatch speaks by = inr (inl (refl, by))
+spoken sectors NotClean speaks by = absurd speaks
+spoken sectors BadMessage speaks by = absurd speaks
+spoken sectors WrongMode speaks by = absurd speaks
+spoken sectors BadTable speaks by = absurd speaks
+spoken sectors GenerationEnd speaks by = absurd speaks
+
+pub one_refusal : (sectors : List Content) (a b : Refusal) → SpeaksOfSectors a → SpeaksOfSectors b → IsRefusedBy sectors a → IsRefusedBy sectors b → a ≡ b
+one_refusal sectors a b speaks_a speaks_b by_a by_b = elim (spoken sectors a speaks_a by_a) [
+  | inl x ↦ elim (spoken sectors b speaks_b by_b) [
+    | inl y ↦ x.0 ∙ sym y.0
+    | inr (inl y) ↦ absurd (no_root sectors y.1.root y.1.newest x.1)
+    | inr (inr y) ↦ absurd (no_root sectors y.damage.root y.damage.newest x.1)
+  ]
+  | inr (inl x) ↦ elim (spoken sectors b speaks_b by_b) [
+    | inl y ↦ absurd (no_root sectors x.1.root x.1.newest y.1)
+    | inr (inl y) ↦ x.0 ∙ sym y.0
+    | inr (inr y) ↦ absurd (other_size sectors y.damage.root y.damage.newest y.damage.size x.1)
+  ]
+  | inr (inr x) ↦ elim (spoken sectors b speaks_b by_b) [
+    | inl y ↦ absurd (no_root sectors x.damage.root x.damage.newest y.1)
+    | inr (inl y) ↦ absurd (other_size sectors x.damage.root x.damage.newest x.damage.size y.1)
+    | inr (inr y) ↦ x.is ∙ (ap (λ (p : Place). Damaged p) (one_fault sectors x.place y.place x.damage y.damage) ∙ sym y.is)
+  ]
+]
+
+pub state_only : (sectors : List Content) (root : Root) (tree : Mapping) (used : List Place) (refusal : Refusal) → IsStateOf sectors root tree used → SpeaksOfSectors refusal → IsRefusedBy sectors refusal → ⊥
+state_only sectors root tree used refusal state speaks by = elim (spoken sectors refusal speaks by) [
+  | inl x ↦ no_root sectors root state.holds.newest x.1
+  | inr (inl x) ↦ other_size sectors root state.holds.newest state.size x.1
+  | inr (inr x) ↦ no_fault sectors root state.found x.place state.holds x.damage
+]
+
+-- ---- what all sectors represent
+
+pub state_represents : (sectors : List Content) (nodes : Nodes) (root : Root) (tree : Mapping) (used : List Place) (state : IsStateOf sectors root tree used) → AreNodes sectors nodes → Represents sectors root (Ok state.found)
+state_represents sectors nodes root tree used state are = record { newest = state.holds.newest; nodes = nodes; are = are; reads = Holds-read sectors root state.found nodes state.holds are }
+
+pub damage_represents : (sectors : List Content) (nodes : Nodes) (place : Place) (damage : IsDamagedAt sectors place) → AreNodes sectors nodes → Represents sectors damage.root (Err place)
+damage_represents sectors nodes place damage are = record {
+  newest = damage.newest;
+  nodes = nodes;
+  are = are;
+  reads = damage.reads nodes (λ here r. let w = damage.there here r in record { sector = w.sector; there = w.there; reads = are here w.sector w.there });
+}

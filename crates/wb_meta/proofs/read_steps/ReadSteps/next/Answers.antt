@@ -1,0 +1,110 @@
+use Rattle.std.proofs.Common.{◌≡◌, ◌∙◌, ◌-◌, ◌+◌, ℕ, List, length, map, refl, sym, ap, arith, subst, inr}
+use Rattle.std.proofs.lemmas.Result.{IfOk-weaker}
+use Rattle.std.proofs.lemmas.List.{length-map}
+use Rattle.wb_disk.specs.Device.{History, newest}
+use Rattle.wb_meta.specs.Holding.{ReadsThere}
+use Rattle.wb_tree.specs.Loading.{IsFresh}
+use Rattle.wb_types.specs.declared.number.Place.{Place}
+use Rattle.wb_meta.specs.declared.read_steps.ReadSteps.{ReadSteps}
+use Rattle.wb_meta.specs.States.{IsRefusedBy, IsOfReading, CountsFault}
+use Rattle.wb_meta.specs.Reads.{AreStepsOn, HasRead, IsTreeOn, steps_left}
+use Rattle.wb_meta.proofs.Loaded.{loaded_none, loaded_more, loaded_refused, fails_kind, fails_cause, wanted_node, IfErr-handed}
+use Rattle.wb_meta.proofs.Counting.{tree_begun, tree_pushed, fewer_left}
+use Rattle.wb_meta.proofs.read_steps.ReadSteps.next.Goals as goal
+
+-- as many sectors are read as the device has
+sectors_read : (device : List History) (size : ℕ) → length device ≡ size → length (map newest device) ≡ size
+sectors_read device size e = length-map device newest ∙ e
+
+pub returns-in_err-tell-in-Some-clause-refused : goal.returns-in_err-tell-in-Some-clause-refused
+returns-in_err-tell-in-Some-clause-refused g c tells has =
+    let device = g.D.Disk.contents c.args.disk.now in
+    let sectors = map newest device in
+    let wanted = wanted_node c.in-RootFound.loader.wanted c.in-Some.field-0 (sym c.wanted.ensures.place ∙ c.in-Some.is) in
+    let Q : ReadSteps _ → Type 0 = λ s. AreStepsOn (g.D.Disk.size c.args.disk.now) s in
+    let on = (subst Q c.in-RootFound.is c.requires).0 in
+    let R : ReadSteps _ → Type 0 = λ s. HasRead sectors s in
+    let loaded = subst R c.in-RootFound.is has in
+    let S : ℕ → Type 0 = λ at. ReadsThere sectors (λ _. c.in_ok-node-in-Some.node) at in
+    let here = subst S (c.from.ensures ∙ sym (ap (λ (p : Place). p.0) wanted.there)) (c.in_ok-node-in-Some.ensures.found tells) in
+    IfErr-handed c.from_residual-in_err-tell-in-Some.result c.in_err-tell-in-Some.field-0.0 (IsRefusedBy sectors) c.from_residual-in_err-tell-in-Some.ensures.1
+    (loaded_refused sectors c.in-RootFound.root c.in-RootFound.loader wanted.node c.in_ok-node-in-Some.node c.in_err-tell-in-Some.field-0.0 (on.size ∙ sym (sectors_read device _ (g.met.D.Disk.whole c.args.disk.now tells))) loaded here
+    (λ nodes. c.in_err-tell-in-Some.ensures.err wanted.node nodes wanted.some))
+
+pub returns-in_err-tell-in-Some-clause-kinds : goal.returns-in_err-tell-in-Some-clause-kinds
+returns-in_err-tell-in-Some-clause-kinds g c =
+    let wanted = wanted_node c.in-RootFound.loader.wanted c.in-Some.field-0 (sym c.wanted.ensures.place ∙ c.in-Some.is) in
+    IfErr-handed c.from_residual-in_err-tell-in-Some.result c.in_err-tell-in-Some.field-0.0 IsOfReading c.from_residual-in_err-tell-in-Some.ensures.1
+    (fails_kind c.in_err-tell-in-Some.field-0.0 _ (c.in_err-tell-in-Some.ensures.err wanted.node (λ _. c.in_ok-node-in-Some.node) wanted.some refl))
+
+pub returns-in_err-tell-in-Some-clause-cause : goal.returns-in_err-tell-in-Some-clause-cause
+returns-in_err-tell-in-Some-clause-cause g c tells =
+    let wanted = wanted_node c.in-RootFound.loader.wanted c.in-Some.field-0 (sym c.wanted.ensures.place ∙ c.in-Some.is) in
+    IfErr-handed c.from_residual-in_err-tell-in-Some.result c.in_err-tell-in-Some.field-0.0 (λ refusal. CountsFault refusal (g.D.Disk.faults c.args.disk.now) (g.D.Disk.faults c.get_node.new.disk)) c.from_residual-in_err-tell-in-Some.ensures.1
+    (fails_cause c.in_err-tell-in-Some.field-0.0 _ _ _ (c.in_err-tell-in-Some.ensures.err wanted.node (λ _. c.in_ok-node-in-Some.node) wanted.some refl) (c.in_ok-node-in-Some.ensures.no_fault tells))
+
+pub returns-in_ok-loader-in-FirstSlotRead-clause-on : goal.returns-in_ok-loader-in-FirstSlotRead-clause-on
+returns-in_ok-loader-in-FirstSlotRead-clause-on g c =
+    c.go_on.ensures.on (g.D.Disk.size c.args.disk.now) (tree_begun (g.D.Disk.size c.args.disk.now) c.in_ok-root-in-FirstSlotRead.root c.in_ok-loader-in-FirstSlotRead.loader
+    (c.in_ok-root-in-FirstSlotRead.ensures.size ∙ (c.sectors.ensures ∙ c.in_ok-second-in-FirstSlotRead.ensures.size)) c.in_ok-loader-in-FirstSlotRead.ensures.root c.in_ok-loader-in-FirstSlotRead.ensures.nothing)
+
+pub returns-in_ok-loader-in-FirstSlotRead-clause-left : goal.returns-in_ok-loader-in-FirstSlotRead-clause-left
+returns-in_ok-loader-in-FirstSlotRead-clause-left g c =
+    let sectors = g.D.Disk.size c.args.disk.now in
+    let self : steps_left sectors c.args.self ≡ sectors + 1 = ap (λ s. steps_left sectors s) c.in-FirstSlotRead.is in
+    IfOk-weaker c.go_on.result _ _ (λ steps fewer. inr (omega (arith, fewer, self))) (c.go_on.ensures.left sectors)
+
+pub returns-in_ok-tell-in-Some-clause-on : goal.returns-in_ok-tell-in-Some-clause-on
+returns-in_ok-tell-in-Some-clause-on g c =
+    let sectors = g.D.Disk.size c.args.disk.now in
+    let wanted = wanted_node c.in-RootFound.loader.wanted c.in-Some.field-0 (sym c.wanted.ensures.place ∙ c.in-Some.is) in
+    let P : Place → Type 0 = λ place. IsFresh c.in-RootFound.loader.root c.in-RootFound.loader.found.reached place in
+    let Q : ReadSteps _ → Type 0 = λ s. AreStepsOn sectors s in
+    let on = (subst Q c.in-RootFound.is c.requires).0 in
+    let told = c.in_ok-tell-in-Some.ensures in
+    c.go_on-in-Some.ensures.on sectors (tree_pushed sectors c.in-RootFound.root c.in-RootFound.loader c.in_ok-tell-in-Some.field-0 wanted.node on (subst P (sym wanted.there) c.in-Some.ensures.fresh) told.root (told.reached wanted.node wanted.some))
+
+pub returns-in_ok-tell-in-Some-clause-left : goal.returns-in_ok-tell-in-Some-clause-left
+returns-in_ok-tell-in-Some-clause-left g c =
+    let sectors = g.D.Disk.size c.args.disk.now in
+    let wanted = wanted_node c.in-RootFound.loader.wanted c.in-Some.field-0 (sym c.wanted.ensures.place ∙ c.in-Some.is) in
+    let P : Place → Type 0 = λ place. IsFresh c.in-RootFound.loader.root c.in-RootFound.loader.found.reached place in
+    let Q : ReadSteps _ → Type 0 = λ s. AreStepsOn sectors s in
+    let on = (subst Q c.in-RootFound.is c.requires).0 in
+    let told = c.in_ok-tell-in-Some.ensures in
+    let less = fewer_left sectors c.in-RootFound.root c.in-RootFound.loader c.in_ok-tell-in-Some.field-0 wanted.node on (subst P (sym wanted.there) c.in-Some.ensures.fresh) told.root (told.reached wanted.node wanted.some) in
+    let self : steps_left sectors c.args.self ≡ sectors - length c.in-RootFound.loader.found.reached = ap (λ s. steps_left sectors s) c.in-RootFound.is in
+    IfOk-weaker c.go_on-in-Some.result _ _ (λ steps fewer. inr (omega (arith, fewer, less, self))) (c.go_on-in-Some.ensures.left sectors)
+
+pub returns-in_ok-loader-in-FirstSlotRead-clause-read : goal.returns-in_ok-loader-in-FirstSlotRead-clause-read
+returns-in_ok-loader-in-FirstSlotRead-clause-read g c tells has =
+    let device = g.D.Disk.contents c.args.disk.now in
+    let sectors = map newest device in
+    let R : ReadSteps _ → Type 0 = λ s. HasRead sectors s in
+    let first = subst R c.in-FirstSlotRead.is has in
+    let second = c.in_ok-second-in-FirstSlotRead.ensures.found tells in
+    let newer = c.in_ok-root-in-FirstSlotRead.ensures.newest sectors first second in
+    let size = c.in_ok-root-in-FirstSlotRead.ensures.size ∙ (c.sectors.ensures ∙ c.in_ok-second-in-FirstSlotRead.ensures.size) in
+    let told = c.in_ok-loader-in-FirstSlotRead.ensures in
+    c.go_on.ensures.read sectors
+    (tree_begun (length sectors) c.in_ok-root-in-FirstSlotRead.root c.in_ok-loader-in-FirstSlotRead.loader (size ∙ sym (sectors_read device _ (g.met.D.Disk.whole c.args.disk.now tells))) told.root told.nothing)
+    (loaded_none sectors c.in_ok-root-in-FirstSlotRead.root c.in_ok-loader-in-FirstSlotRead.loader newer told.nothing told.begun)
+
+pub returns-in_ok-tell-in-Some-clause-read : goal.returns-in_ok-tell-in-Some-clause-read
+returns-in_ok-tell-in-Some-clause-read g c tells has =
+    let device = g.D.Disk.contents c.args.disk.now in
+    let sectors = map newest device in
+    let wanted = wanted_node c.in-RootFound.loader.wanted c.in-Some.field-0 (sym c.wanted.ensures.place ∙ c.in-Some.is) in
+    let Q : ReadSteps _ → Type 0 = λ s. AreStepsOn (g.D.Disk.size c.args.disk.now) s in
+    let on = (subst Q c.in-RootFound.is c.requires).0 in
+    let R : ReadSteps _ → Type 0 = λ s. HasRead sectors s in
+    let loaded = subst R c.in-RootFound.is has in
+    let S : ℕ → Type 0 = λ at. ReadsThere sectors (λ _. c.in_ok-node-in-Some.node) at in
+    let here = subst S (c.from.ensures ∙ sym (ap (λ (p : Place). p.0) wanted.there)) (c.in_ok-node-in-Some.ensures.found tells) in
+    let P : Place → Type 0 = λ place. IsFresh c.in-RootFound.loader.root c.in-RootFound.loader.found.reached place in
+    let told = c.in_ok-tell-in-Some.ensures in
+    let made = tree_pushed (g.D.Disk.size c.args.disk.now) c.in-RootFound.root c.in-RootFound.loader c.in_ok-tell-in-Some.field-0 wanted.node on (subst P (sym wanted.there) c.in-Some.ensures.fresh) told.root (told.reached wanted.node wanted.some) in
+    let T : ℕ → Type 0 = λ n. IsTreeOn n c.in-RootFound.root c.in_ok-tell-in-Some.field-0 in
+    c.go_on-in-Some.ensures.read sectors
+    (subst T (sym (sectors_read device _ (g.met.D.Disk.whole c.args.disk.now tells))) made)
+    (loaded_more sectors c.in-RootFound.root c.in-RootFound.loader c.in_ok-tell-in-Some.field-0 wanted.node c.in_ok-node-in-Some.node loaded here (told.reached wanted.node wanted.some) (λ nodes. told.goes_on wanted.node nodes wanted.some))

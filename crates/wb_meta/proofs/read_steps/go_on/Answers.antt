@@ -1,0 +1,34 @@
+use Rattle.std.proofs.Common.{◌≡◌, ◌∙◌, List, Ok, sym, subst}
+use Rattle.wb_types.specs.declared.number.Place.{Place}
+use Rattle.wb_format.specs.declared.root.Root.{Root}
+use Rattle.wb_tree.specs.Mapping.{IsMapping, AreInside}
+use Rattle.wb_tree.specs.Reading.{tree_read}
+use Rattle.wb_tree.specs.Loaded.{IsLoaded}
+use Rattle.wb_meta.specs.Reads.{AreApart}
+use Rattle.wb_meta.proofs.Reading.{read_keeps}
+use Rattle.wb_meta.proofs.read_steps.go_on.Goals as goal
+
+pub returns-clause-on : goal.returns-clause-on
+returns-clause-on g c sectors on =
+    let loaded : IsLoaded c.args.root c.args.loader.found c.in_ok-tree.tree = subst (λ (r : Root). IsLoaded r c.args.loader.found c.in_ok-tree.tree) on.root_is c.in_ok-tree.ensures.known in
+    record {
+      size = on.size;
+      mapping = subst (λ (r : Root). IsMapping r.geometry.cache_blocks r.geometry.origin_blocks c.in_ok-tree.tree.entries) on.root_is c.in_ok-tree.ensures.mapping;
+      sound = loaded.sound;
+      inside = subst (λ n. AreInside n c.in_ok-tree.tree) on.size loaded.inside;
+      used_are = subst (λ (places : List Place). AreApart sectors places) (sym c.in_ok-tree.ensures.places) on.used;
+    }
+
+pub returns-clause-read : goal.returns-clause-read
+returns-clause-read g c sectors on has =
+    let loaded : IsLoaded c.args.root c.args.loader.found c.in_ok-tree.tree = subst (λ (r : Root). IsLoaded r c.args.loader.found c.in_ok-tree.tree) on.root_is c.in_ok-tree.ensures.known in
+    let reads : tree_read c.args.root has.nodes ≡ Ok c.args.loader.found = sym (has.rest has.nodes has.reached) ∙ c.in_ok-tree.ensures.read has.nodes in
+    record {
+      found = c.args.loader.found;
+      holds = record { newest = has.newest; nodes = has.nodes; reached = has.reached; reads = reads };
+      size = on.size;
+      entries = c.in_ok-tree.ensures.entries;
+      used_are = c.in_ok-tree.ensures.places;
+      loaded = loaded;
+      keeps = read_keeps sectors has.nodes c.in_ok-tree.tree c.args.root.generation (loaded.read has.nodes reads) (λ place known. has.reached place.0 (loaded.reached place known));
+    }

@@ -1,0 +1,86 @@
+-- What sectors stand for, and why nothing is read of others.
+use Rattle.std.specs.Prelude.{◌≡◌, ◌≢◌, ℕ, true, Some, Err, List, length, map, slice_get}
+use Rattle.wb_types.specs.declared.number.Place.{Place}
+use Rattle.wb_types.specs.declared.refusal.Refusal.{Refusal}
+use Rattle.wb_types.specs.declared.refusal.Refusal.TheVariants.{Io, Memory, NotFormatted, Mismatch, Damaged}
+use Rattle.wb_types.specs.declared.mode.Dev.TheVariants.{Metadata}
+use Rattle.wb_disk.specs.Device.{Content, OneMore}
+use Rattle.wb_format.specs.declared.root.Root.{Root}
+use Rattle.wb_format.specs.Layout.{IsValidIn}
+use Rattle.wb_tree.specs.declared.placed.PlacedNode.{PlacedNode}
+use Rattle.wb_tree.specs.Mapping.{Mapping}
+use Rattle.wb_tree.specs.Reading.{Found, Nodes, IsNewestRoot, is_reached, tree_read}
+use Rattle.wb_tree.specs.Images.{Keeps}
+use Rattle.wb_tree.specs.Loaded.{IsLoaded}
+use Rattle.wb_meta.specs.Holding.{Holds, ReadsThere}
+
+-- the places of these nodes read so
+abbrev pub ReadThere : List Content → Nodes → List PlacedNode → Type 0
+ReadThere sectors nodes reached = (place : ℕ) → is_reached place reached ≡ true → ReadsThere sectors nodes place
+
+-- the places of nodes, in the same order
+abbrev pub places_of : List PlacedNode → List Place
+places_of nodes = map (λ node. node.place) nodes
+
+-- What the sectors stand for: a root of a device of their number, and a tree of these entries, whose nodes have
+-- these places in the order in which they are read. The sectors keep what the tree knows of them.
+pub record IsStateOf (sectors : List Content) (root : Root) (tree : Mapping) (used : List Place) : Type 0 where
+  pub found : Found
+  pub holds : Holds sectors root found
+  pub size : root.geometry.meta_sectors ≡ length sectors
+  pub entries : tree.entries ≡ found.entries
+  pub used_are : used ≡ places_of found.reached
+  pub loaded : IsLoaded root found tree
+  pub keeps : Keeps sectors tree root.generation
+
+-- no sector is a valid root of its slot
+abbrev pub HasNoRoot : List Content → Type 0
+HasNoRoot sectors = (slot : ℕ) (sector : Content) (root : Root) → slice_get sectors slot ≡ Some sector → ¬ IsValidIn slot sector root
+
+-- the newest root is one of a device of another size
+pub record HasOtherSize (sectors : List Content) : Type 0 where
+  pub root : Root
+  pub newest : IsNewestRoot sectors root
+  pub other : root.geometry.meta_sectors ≢ length sectors
+
+-- The tree of the newest root has its first fault at this place, whatever other sectors than those of these nodes
+-- read as.
+pub record IsDamagedAt (sectors : List Content) (place : Place) : Type 0 where
+  pub root : Root
+  pub newest : IsNewestRoot sectors root
+  pub size : root.geometry.meta_sectors ≡ length sectors
+  pub nodes : Nodes
+  pub reached : List PlacedNode
+  pub there : ReadThere sectors nodes reached
+  pub reads : (others : Nodes) → ReadThere sectors others reached → tree_read root others ≡ Err place
+
+-- Why nothing is read of these sectors. A device that fails, and want of memory, say nothing of them, and no other
+-- refusal comes.
+abbrev pub IsRefusedBy : List Content → Refusal → Type 0
+IsRefusedBy sectors (Io Metadata) = Unit {0}
+IsRefusedBy sectors Memory = Unit {0}
+IsRefusedBy sectors NotFormatted = HasNoRoot sectors
+IsRefusedBy sectors Mismatch = HasOtherSize sectors
+IsRefusedBy sectors (Damaged place) = IsDamagedAt sectors place
+IsRefusedBy sectors _ = ⊥
+
+-- the refusals that say something of the sectors
+abbrev pub SpeaksOfSectors : Refusal → Type 0
+SpeaksOfSectors NotFormatted = Unit {0}
+SpeaksOfSectors Mismatch = Unit {0}
+SpeaksOfSectors (Damaged place) = Unit {0}
+SpeaksOfSectors _ = ⊥
+
+-- the refusals of a reading
+abbrev pub IsOfReading : Refusal → Type 0
+IsOfReading (Io Metadata) = Unit {0}
+IsOfReading Memory = Unit {0}
+IsOfReading NotFormatted = Unit {0}
+IsOfReading Mismatch = Unit {0}
+IsOfReading (Damaged place) = Unit {0}
+IsOfReading _ = ⊥
+
+-- the count of faults rose by one exactly where the refusal says that the device failed
+abbrev pub CountsFault : Refusal → ℕ → ℕ → Type 0
+CountsFault (Io device) old new = OneMore old new
+CountsFault _ old new = new ≡ old

@@ -1,0 +1,168 @@
+//! Reading of a device.
+
+ghost use Rattle.std.specs.Prelude.{◌≡◌, ◌≤◌, ◌<◌, ◌↔◌, ◌⊎◌, ◌+◌, ◌-◌, ℕ, List, map, length, IsTrue, IsFalse, IsSome, OnOk, IfOk, IfErr};
+ghost use Rattle.wb_types.specs.declared.refusal.Refusal.TheVariants.{Memory as OutOfMemory};
+ghost use Rattle.wb_disk.specs.Device.{Content, newest};
+ghost use Rattle.wb_meta.specs.States.{IsStateOf, IsRefusedBy, IsOfReading, CountsFault};
+ghost use Rattle.wb_meta.specs.Reads.{IsTreeOn, FitsDevice, AreStepsOn, HasLoaded, HasRead, IsDone, steps_left};
+
+use crate::sector::get_node;
+use crate::slot::{newest_root, read_slot};
+use std::alloc::{Allocator, Global};
+use wb_disk::Disk;
+use wb_format::Root;
+use wb_tree::{Loader, Tree};
+use wb_types::{Place, Refusal};
+
+/// What a metadata device stands for.
+#[derive(Drop)]
+pub struct State<A: Allocator> {
+    /// The valid root of higher generation.
+    pub root: Root,
+    /// The mapping of its tree.
+    pub tree: Tree<A>,
+    /// The places of the tree's nodes, in the order in which they were read.
+    pub used: Vec<Place>,
+}
+
+/// A reading by single steps of the metadata device: it reads the first slot, the second, and each node of the newest
+/// root's tree. It writes nothing, and what is done to other devices between the steps changes nothing of it.
+#[derive(Drop)]
+pub enum ReadSteps<A: Allocator> {
+    /// Nothing was read.
+    Begun {
+        alloc: A,
+        global: Global,
+    },
+    /// The first slot was read, and this is its valid root.
+    FirstSlotRead {
+        alloc: A,
+        global: Global,
+        first: Option<Root>,
+    },
+    /// The newest root is known, and a node of its tree is to be read.
+    RootFound {
+        global: Global,
+        root: Root,
+        loader: Loader<A>,
+    },
+    /// All was read.
+    Done(State<A>),
+}
+
+impl<A: Allocator> ReadSteps<A> {
+    /// A reading that has read nothing.
+    pub fn new(alloc: A, global: Global) -> ReadSteps<A>
+        ensures on { (sectors : ℕ) → AreStepsOn sectors result }
+        ensures begins { (sectors : List Content) → HasRead sectors result }
+        ensures left { (sectors : ℕ) → steps_left sectors result ≡ sectors + 2 }
+    {
+        ReadSteps::Begun { alloc, global }
+    }
+
+    /// Whether no step is left.
+    pub fn is_done(&self) -> bool
+        ensures { IsTrue result ↔ IsDone self.now }
+    {
+        matches!(self, ReadSteps::Done(_))
+    }
+
+    /// Does the next step; where none is left, nothing. A step reads one sector; a slot that the device is too small
+    /// for has no root.
+    ///
+    /// `Io` where the device fails, `NotFormatted` where neither slot has a valid root, `Mismatch` where the newest
+    /// root is one of a device of another size, `Damaged` with the place of the first fault of its tree, `Memory`
+    /// where there is no room for the mapping.
+    pub fn next<D: Disk>(self, disk: &mut D) -> Result<ReadSteps<A>, Refusal>
+        requires { AreStepsOn (D.size disk.old) self }
+        ensures size { D.size disk.new ≡ D.size disk.old }
+        ensures kept { D.tells → D.contents disk.new ≡ D.contents disk.old }
+        ensures on { IfOk result (AreStepsOn (D.size disk.old)) }
+        ensures left { IfOk result (λ steps. IsDone self ⊎ (steps_left (D.size disk.old) steps < steps_left (D.size disk.old) self)) }
+        ensures read { D.tells → HasRead (map newest (D.contents disk.old)) self → IfOk result (HasRead (map newest (D.contents disk.old))) }
+        ensures refused { D.tells → HasRead (map newest (D.contents disk.old)) self → IfErr result (IsRefusedBy (map newest (D.contents disk.old))) }
+        ensures kinds { IfErr result IsOfReading }
+        ensures no_fault { D.tells → OnOk result (D.faults disk.new ≡ D.faults disk.old) }
+        ensures cause { D.tells → IfErr result (λ refusal. CountsFault refusal (D.faults disk.old) (D.faults disk.new)) }
+    {
+        match self {
+            ReadSteps::Begun { alloc, global } => {
+                let first = read_slot(disk, 0)?;
+                Ok(ReadSteps::FirstSlotRead {
+                    alloc,
+                    global,
+                    first,
+                })
+            }
+            ReadSteps::FirstSlotRead {
+                alloc,
+                global,
+                first,
+            } => {
+                let second = read_slot(disk, 1)?;
+                let root = newest_root(first, second, disk.sectors())?;
+                let loader = Loader::new(alloc, global, &root)?;
+                go_on(global, root, loader)
+            }
+            ReadSteps::RootFound {
+                global,
+                root,
+                loader,
+            } => match loader.wanted() {
+                Some(Place(place)) => {
+                    let node = get_node(disk, u64::from(place))?;
+                    go_on(global, root, loader.tell(node)?)
+                }
+                None => go_on(global, root, loader),
+            },
+            ReadSteps::Done(state) => Ok(ReadSteps::Done(state)),
+        }
+    }
+}
+
+/// Goes on with the next node of a root's tree; where there is none, the reading is done.
+fn go_on<A: Allocator>(
+    global: Global,
+    root: Root,
+    loader: Loader<A>,
+) -> Result<ReadSteps<A>, Refusal>
+    ensures on { (sectors : ℕ) → IsTreeOn sectors root loader → IfOk result (AreStepsOn sectors) }
+    ensures left { (sectors : ℕ) → IfOk result (λ steps. steps_left sectors steps ≤ sectors - length loader.found.reached) }
+    ensures read { (sectors : List Content) → IsTreeOn (length sectors) root loader → HasLoaded sectors root loader → IfOk result (HasRead sectors) }
+    ensures refused { IfErr result (λ refusal. refusal ≡ OutOfMemory) }
+{
+    if loader.wanted().is_some() {
+        return Ok(ReadSteps::RootFound {
+            global,
+            root,
+            loader,
+        });
+    }
+    let (tree, used) = loader.finish(global)?;
+    Ok(ReadSteps::Done(State { root, tree, used }))
+}
+
+/// Reads what a metadata device stands for: all steps of `ReadSteps`, with the refusals that they give. The older
+/// root counts for nothing, whatever the newer one's tree is.
+pub fn read_state<A: Allocator, D: Disk>(
+    alloc: A,
+    global: Global,
+    disk: &mut D,
+) -> Result<State<A>, Refusal>
+    ensures size { D.size disk.new ≡ D.size disk.old }
+    ensures kept { D.tells → D.contents disk.new ≡ D.contents disk.old }
+    ensures fits { IfOk result (λ state. FitsDevice (D.size disk.old) state.root state.tree state.used.items) }
+    ensures read { D.tells → IfOk result (λ state. IsStateOf (map newest (D.contents disk.old)) state.root state.tree state.used.items) }
+    ensures refused { D.tells → IfErr result (IsRefusedBy (map newest (D.contents disk.old))) }
+    ensures kinds { IfErr result IsOfReading }
+    ensures no_fault { D.tells → OnOk result (D.faults disk.new ≡ D.faults disk.old) }
+    ensures cause { D.tells → IfErr result (λ refusal. CountsFault refusal (D.faults disk.old) (D.faults disk.new)) }
+{
+    let mut steps = ReadSteps::new(alloc, global);
+    loop {
+        match steps {
+            ReadSteps::Done(state) => return Ok(state),
+            left => steps = left.next(disk)?,
+        }
+    }
+}

@@ -1,0 +1,143 @@
+use Rattle.std.proofs.Common.{◌≡◌, ◌<◌, ◌+◌, ◌-◌, ◌*◌, ◌++◌, ◌∙◌, sym, ap, refl, true, List, length, arith}
+use Rattle.std.proofs.lemmas.List.{length-set, append-nil}
+use Rattle.wb_format.specs.Words.{IsInnerWord}
+use Rattle.wb_tree.specs.Mapping.{NodeName, exists, nodes_below, place_of}
+use Rattle.wb_tree.specs.Images.{place_word}
+use Rattle.wb_tree.specs.Planning.{planned, names}
+use Rattle.wb_tree.proofs.Listing.{nodes_below-shut, each_from-none, exists-before, leaf-children}
+use Rattle.wb_tree.proofs.PlanWords.{word_more, words_everywhere, IsInnerWord-zero}
+use Rattle.wb_tree.proofs.PlanSteps.{planned-none, begins-children, next-child, child-more, leaf-word, inner-word, next-is, next-there, next-written, names-pushed}
+use Rattle.wb_tree.proofs.planning.+nodes.Goals as goal
+
+pub plan_node-returns-then-not-exists-clause-names : goal.plan_node-returns-then-not-exists-clause-names
+plan_node-returns-then-not-exists-clause-names t c =
+    let front : List NodeName = names c.args.nodes.now.items in
+    sym (append-nil front) ∙ ap (λ (ns : List NodeName). front ++ ns) (sym (nodes_below-shut c.args.plan.now.entries.now c.args.level c.args.index (sym c.exists.ensures ∙ c.if-not-exists.true)))
+
+pub plan_node-returns-then-not-exists-clause-place : goal.plan_node-returns-then-not-exists-clause-place
+plan_node-returns-then-not-exists-clause-place t c =
+    sym (planned-none c.args.plan.now.entries.now c.args.plan.now.depth c.args.plan.now.free.now c.args.level c.args.index (sym c.exists.ensures ∙ c.if-not-exists.true))
+
+pub plan_node-plan_words-requires : goal.plan_node-plan_words-requires
+plan_node-plan_words-requires t c =
+    let es = c.args.plan.now.entries.now in
+    let some : exists es c.args.level c.args.index ≡ true = sym c.exists.ensures ∙ c.if-not-exists.false in
+    let few = c.requires.can.few in
+    let before = exists-before es c.args.level c.args.index some in (
+      omega arith,
+      (
+        c.requires.can,
+        (
+          c.requires.level_from,
+          (
+            c.requires.level_to,
+            (
+              omega arith,
+              (begins-children es c.args.plan.now.depth (names c.args.nodes.now.items) c.args.level c.args.index c.requires.level_from some c.requires.next, c.requires.planned),
+            ),
+          ),
+        ),
+      ),
+    )
+
+pub plan_node-bounds-plan-len : goal.plan_node-bounds-plan-len
+plan_node-bounds-plan-len t c =
+    let next = next-is c.args.plan.now.entries.now c.args.plan.now.depth c.args.plan.now.free.now (names c.args.nodes.now.items) c.args.level c.args.index c.plan_words.new.nodes.items
+    c.requires.can c.requires.level_from (sym c.exists.ensures ∙ c.if-not-exists.false) c.requires.next c.in_ok-words.ensures.names in
+    let inside = next.inside in
+    let long : length c.reserve.new.self.items ≡ length c.plan_words.new.nodes.items = ap length c.in_ok-reserve.ensures.items in
+    omega (arith, c.reserve.new.self.ok.0)
+
+pub plan_node-returns-clause-names : goal.plan_node-returns-clause-names
+plan_node-returns-clause-names t c =
+    let next = next-is c.args.plan.now.entries.now c.args.plan.now.depth c.args.plan.now.free.now (names c.args.nodes.now.items) c.args.level c.args.index c.plan_words.new.nodes.items
+    c.requires.can c.requires.level_from (sym c.exists.ensures ∙ c.if-not-exists.false) c.requires.next c.in_ok-words.ensures.names in
+    names-pushed c.plan_words.new.nodes.items c.reserve.new.self.items c.push_reserved.new.self.items _ c.in_ok-reserve.ensures.items c.push_reserved.ensures.items ∙ next.listed
+
+pub plan_node-returns-clause-planned : goal.plan_node-returns-clause-planned
+plan_node-returns-clause-planned t c =
+    let next = next-is c.args.plan.now.entries.now c.args.plan.now.depth c.args.plan.now.free.now (names c.args.nodes.now.items) c.args.level c.args.index c.plan_words.new.nodes.items
+    c.requires.can c.requires.level_from (sym c.exists.ensures ∙ c.if-not-exists.false) c.requires.next c.in_ok-words.ensures.names in
+    let es = c.args.plan.now.entries.now in
+    let free = c.args.plan.now.free.now in
+    let long : c.len.result ≡ length c.plan_words.new.nodes.items = let same = ap length c.in_ok-reserve.ensures.items in c.len.ensures ∙ (c.reserve.new.self.ok.0 ∙ same) in
+    next-written es c.args.plan.now.depth free (names c.args.nodes.now.items) c.args.plan.now.generation c.args.level c.args.index c.plan_words.new.nodes.items c.reserve.new.self.items c.push_reserved.new.self.items _
+    next c.in_ok-words.ensures.planned c.in_ok-reserve.ensures.items c.push_reserved.ensures.items refl refl
+    (record {
+      settled = next-there es c.args.plan.now.depth free (names c.args.nodes.now.items) c.args.level c.args.index c.plan_words.new.nodes.items c.len.result (record { 0 = 0 }) next long;
+      written_in = refl;
+      words = c.in_ok-words.ensures.words;
+    })
+
+pub plan_node-returns-clause-place : goal.plan_node-returns-clause-place
+plan_node-returns-clause-place t c =
+    let next = next-is c.args.plan.now.entries.now c.args.plan.now.depth c.args.plan.now.free.now (names c.args.nodes.now.items) c.args.level c.args.index c.plan_words.new.nodes.items
+    c.requires.can c.requires.level_from (sym c.exists.ensures ∙ c.if-not-exists.false) c.requires.next c.in_ok-words.ensures.names in
+    let long : c.len.result ≡ length c.plan_words.new.nodes.items = let same = ap length c.in_ok-reserve.ensures.items in c.len.ensures ∙ (c.reserve.new.self.ok.0 ∙ same) in
+    sym (next-there c.args.plan.now.entries.now c.args.plan.now.depth c.args.plan.now.free.now (names c.args.nodes.now.items) c.args.level c.args.index c.plan_words.new.nodes.items c.len.result (record { 0 = 0 }) next long)
+
+pub plan_words-returns-then-level-eq1-clause-names : goal.plan_words-returns-then-level-eq1-clause-names
+plan_words-returns-then-level-eq1-clause-names t c =
+    let front : List NodeName = names c.args.nodes.now.items in
+    sym (append-nil front) ∙ ap (λ (ns : List NodeName). front ++ ns) (sym (leaf-children c.args.plan.now.entries.now c.args.level (32 * c.args.index) c.if-level-eq1.true))
+
+pub plan_words-returns-then-level-eq1-clause-words : goal.plan_words-returns-then-level-eq1-clause-words
+plan_words-returns-then-level-eq1-clause-words t c j below =
+    c.leaf_words.ensures.words j below ∙ sym (leaf-word c.args.plan.now.entries.now c.args.plan.now.depth c.args.plan.now.free.now c.args.level c.args.index j c.if-level-eq1.true)
+
+pub plan_words-loop-j-init : goal.plan_words-loop-j-init
+plan_words-loop-j-init t c = record {
+  size = refl;
+  listed = each_from-none (names c.args.nodes.now.items) (nodes_below c.args.plan.now.entries.now (c.args.level - 1)) (32 * c.args.index);
+  written = c.requires.planned;
+  words = λ k below. absurd (omega arith);
+  spelled = λ k below. absurd (omega arith);
+}
+
+pub plan_words-plan_node-requires : goal.plan_words-plan_node-requires
+plan_words-plan_node-requires t c =
+    let es = c.args.plan.now.entries.now in (
+      omega arith,
+      (
+        c.requires.can,
+        (
+          omega arith,
+          (
+            omega arith,
+            (
+              omega arith,
+              (
+                next-child es c.args.plan.now.depth (names c.args.nodes.now.items) (nodes_below es (c.args.level - 1)) c.loop-j.j (32 * c.args.index) (names c.loop-j.nodes.items) c.loop-j-test.true
+                    c.requires.next c.loop-j.invariant.listed,
+                c.loop-j.invariant.written,
+              ),
+            ),
+          ),
+        ),
+      ),
+    )
+
+pub plan_words-loop-j-preserved : goal.plan_words-loop-j-preserved
+plan_words-loop-j-preserved t c =
+    let es = c.args.plan.now.entries.now in
+    let inv = c.loop-j.invariant in
+    let j = c.loop-j.j in
+    let inside : c.loop-j.j < length c.loop-j.words = omega arith in
+    let told = c.in_ok-child.ensures in
+    let number = c.number_of.ensures in
+    record {
+      size = length-set c.loop-j.words j c.number_of.result ∙ inv.size;
+      listed = told.names ∙ child-more (names c.args.nodes.now.items) (nodes_below es (c.args.level - 1)) j (32 * c.args.index) (names c.loop-j.nodes.items) inv.listed;
+      written = told.planned;
+      words = word_more (λ k word. word ≡ place_word (place_of (planned es c.args.plan.now.depth c.args.plan.now.free.now) (c.args.level - 1) (32 * c.args.index + k))) c.loop-j.words j c.number_of.result inside inv.words
+          (number.number ∙ ap place_word told.place);
+      spelled = word_more (λ k word. IsInnerWord word) c.loop-j.words j c.number_of.result inside inv.spelled
+          (inner-word es c.args.plan.now.depth c.args.plan.now.free.now (c.args.level - 1) (32 * c.args.index + j) c.in_ok-child.child c.number_of.result c.requires.can told.place number.number number.at_most);
+    }
+
+pub plan_words-returns-clause-spelled : goal.plan_words-returns-clause-spelled
+plan_words-returns-clause-spelled t c j =
+    record {
+      leaf = λ e. absurd (c.if-level-eq1.false e);
+      inner = λ e. words_everywhere IsInnerWord c.loop-j.words (λ k below. c.loop-j.invariant.spelled k (omega (arith, c.loop-j.invariant.size))) IsInnerWord-zero j;
+    }
