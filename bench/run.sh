@@ -95,3 +95,21 @@ for blocks in same apart; do
       "$(awk "BEGIN { printf \"%.1f\", $plain / 5000000 * 1e9 }")"
   done
 done
+
+printf '\n%-30s %9s %9s %9s %9s\n' 'state, read' plain proved proved/plain 'peak KiB'
+state() { # cache blocks, sectors of the metadata device
+  truncate -s 0 "$work/state.img"
+  truncate -s $(($2 * 512)) "$work/state.img"
+  nodes=$("$top/bin/wb_bench" "$work/state.img" mapping "$1")
+  test "$("$top/bin/wb_bench" "$work/state.img" state)" = "$nodes" || { echo 'the nodes differ' >&2; exit 1; }
+  plain=$(seconds "$work/plain" "$work/o.img" read 1 "$((nodes + 2))")
+  proved=$(seconds "$top/bin/wb_bench" "$work/state.img" state)
+  peak=-
+  if test -x /usr/bin/time; then
+    /usr/bin/time -f %M -o "$work/peak" "$top/bin/wb_bench" "$work/state.img" state >/dev/null
+    peak=$(cat "$work/peak")
+  fi
+  printf '%-30s %9s %9s %9s %9s\n' "$1 blocks, $nodes nodes" "$plain" "$proved" "$(ratio "$proved" "$plain")" "$peak"
+}
+state 1024 68
+state 1048575 67652

@@ -30,6 +30,10 @@ pub enum Asked<'a> {
     Accesses { cache_blocks: u32, adds: u64 },
     Turnover(Turnover),
     Shares(Shares),
+    /// Write a full mapping of so many cache blocks to a file.
+    Mapping { file: &'a str, cache_blocks: u32 },
+    /// Read what the metadata device in a file stands for.
+    State { file: &'a str },
 }
 
 /// Reads the words of the command line, the program's name first.
@@ -53,6 +57,13 @@ pub fn read_asked(words: &[String]) -> Option<Asked<'_>> {
                 rounds: rounds.as_str().parse::<u32>().ok()?,
             }))
         }
+        [_, file, mapping, cache_blocks] if mapping.as_str() == "mapping" => Some(Asked::Mapping {
+            file: file.as_str(),
+            cache_blocks: cache_blocks.as_str().parse::<u32>().ok()?,
+        }),
+        [_, file, state] if state.as_str() == "state" => Some(Asked::State {
+            file: file.as_str(),
+        }),
         [_, file, direction, sectors, requests] => {
             let requests = requests.as_str().parse::<u64>().ok()?;
             let sectors = sectors.as_str().parse::<u64>().ok()?;

@@ -6,18 +6,22 @@
 //! CACHE_BLOCKS ROUNDS REMOVED` removes so many blocks of a full cache in each round, commits, fills the cache again,
 //! and prints the sum of the blocks that were filled. `wb_bench shares same|apart 1|2|4 ROUNDS` shares a block and leaves
 //! it so many times on so many threads, all the same block or each its own, and prints how many shares there were.
+//! `wb_bench FILE mapping CACHE_BLOCKS` makes the file a metadata device that holds a full mapping of so many cache
+//! blocks, and `wb_bench FILE state` reads what it stands for; both print the number of nodes.
 #![tactic(auto)]
 
 ghost use Rattle.std.specs.Prelude.{◌<◌, ◌≤◌};
 
 mod accesses;
 mod asked;
+mod mapping;
 mod shares;
 mod stage;
 mod turnover;
 
 use crate::accesses::add_all;
 use crate::asked::{Asked, Direction, Requests, read_asked};
+use crate::mapping::{read_mapping, write_mapping};
 use crate::shares::share_all;
 use crate::stage::FileStage;
 use crate::turnover::turn_over;
@@ -59,6 +63,25 @@ fn main(rt: HostRuntime) -> ExitCode {
             Ok(count) => print(&rt, count),
             Err(_) => failed(&rt, "out of memory"),
         },
+        Asked::Mapping { file, cache_blocks } => match FileDisk::open(&rt, file) {
+            Ok(mut disk) => tell(&rt, write_mapping(&mut disk, cache_blocks)),
+            Err(_) => failed(&rt, "the file cannot be opened"),
+        },
+        Asked::State { file } => match FileDisk::open(&rt, file) {
+            Ok(mut disk) => tell(&rt, read_mapping(alloc, &mut disk)),
+            Err(_) => failed(&rt, "the file cannot be opened"),
+        },
+    }
+}
+
+/// Prints the number of nodes of a mapping, or why there is none.
+fn tell(rt: &HostRuntime, nodes: Result<u64, Refusal>) -> ExitCode {
+    match nodes {
+        Ok(nodes) => print(rt, nodes),
+        Err(refusal) => {
+            let _ = eprintln!(rt; "wb_bench: {refusal}");
+            ExitCode::FAILURE
+        }
     }
 }
 
@@ -118,7 +141,7 @@ fn drive_all(asked: &Requests<'_>, blocks: u64, stage: &mut FileStage) -> Option
 
 fn usage(rt: &HostRuntime) -> ExitCode {
     let _ = eprintln!(rt;
-        "usage: wb_bench FILE read|write SECTORS REQUESTS | sketch CACHE_BLOCKS ADDS | space CACHE_BLOCKS ROUNDS REMOVED | shares same|apart 1|2|4 ROUNDS"
+        "usage: wb_bench FILE read|write SECTORS REQUESTS | sketch CACHE_BLOCKS ADDS | space CACHE_BLOCKS ROUNDS REMOVED | shares same|apart 1|2|4 ROUNDS | FILE mapping CACHE_BLOCKS | FILE state"
     );
     ExitCode::from(2)
 }

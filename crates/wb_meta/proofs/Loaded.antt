@@ -126,11 +126,17 @@ loaded_more sectors root l more wanted node loaded here reached goes_on =
           goes_on others (told_there sectors others l.found.reached wanted node all here) ∙ loaded.rest others (before_there sectors others l.found.reached wanted all);
     }
 
+-- memory was wanted for a tree
+pub memory_refused : (sectors : List Content) (root : Root) (refusal : Refusal) → IsNewestRoot sectors root → root.geometry.meta_sectors ≡ length sectors → refusal ≡ Memory → IsRefusedBy sectors refusal
+memory_refused sectors root refusal newest size memory =
+    let P : Refusal → Type 0 = λ r. IsRefusedBy sectors r in
+    subst P (sym memory) (record { root = root; newest = newest; size = size })
+
 -- it was refused
 pub loaded_refused : (sectors : List Content) (root : Root) (l : Loading) (wanted : PlacedNode) (node : Option Node) (refusal : Refusal) → root.geometry.meta_sectors ≡ length sectors → HasLoaded sectors root l
     → ReadsThere sectors (λ _. node) wanted.place.0 → ((nodes : Nodes) → nodes wanted.place.0 ≡ node → Fails refusal (outcome l nodes)) → IsRefusedBy sectors refusal
 loaded_refused sectors root l wanted node refusal size loaded here fails = elim (fails_by refusal (outcome l (λ _. node)) (fails (λ _. node) refl)) [
-  | inl memory ↦ let P : Refusal → Type 0 = λ r. IsRefusedBy sectors r in subst P (sym memory) tt
+  | inl memory ↦ memory_refused sectors root refusal loaded.newest size memory
   | inr named ↦
       let P : Refusal → Type 0 = λ r. IsRefusedBy sectors r in
       let Q : Refusal → Nodes → Type 0 = λ r others. Fails r (outcome l others) in

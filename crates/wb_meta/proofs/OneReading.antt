@@ -13,7 +13,7 @@ use Rattle.wb_tree.specs.declared.placed.PlacedNode.{PlacedNode}
 use Rattle.wb_tree.specs.Mapping.{Mapping}
 use Rattle.wb_tree.specs.Reading.{Found, Reading, Nodes, ReadsAs, AreNodes, IsNewestRoot, Represents, is_reached, tree_read}
 use Rattle.wb_meta.specs.Holding.{Holds, ReadsThere}
-use Rattle.wb_meta.specs.States.{ReadThere, IsStateOf, HasNoRoot, HasOtherSize, IsDamagedAt, IsRefusedBy, SpeaksOfSectors}
+use Rattle.wb_meta.specs.States.{ReadThere, IsStateOf, HasNoRoot, HasOtherSize, HasFittingRoot, IsDamagedAt, IsRefusedBy, SpeaksOfSectors}
 use Rattle.wb_meta.proofs.Framing.{Holds-read, top_following}
 use Rattle.wb_meta.proofs.Loaded.{there_one}
 
@@ -92,6 +92,10 @@ no_root sectors root newest none = none newest.slot newest.sector root newest.th
 
 other_size : (sectors : List Content) (root : Root) → IsNewestRoot sectors root → root.geometry.meta_sectors ≡ length sectors → HasOtherSize sectors → ⊥
 other_size sectors root newest size other = other.other (ap (λ (r : Root). r.geometry.meta_sectors) (one_newest sectors other.root root other.newest newest) ∙ size)
+
+-- a root of this device leaves neither of the other two faults
+pub fitting_only : (sectors : List Content) → HasFittingRoot sectors → (HasNoRoot sectors → ⊥) × (HasOtherSize sectors → ⊥)
+fitting_only sectors fitting = (no_root sectors fitting.root fitting.newest, other_size sectors fitting.root fitting.newest fitting.size)
 
 -- the refusals that speak of the sectors
 record IsDamage (sectors : List Content) (refusal : Refusal) : Type 0 where

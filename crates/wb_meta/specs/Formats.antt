@@ -1,11 +1,12 @@
 -- What formatting leaves.
-use Rattle.std.specs.Prelude.{◌≡◌, true, None, List}
+use Rattle.std.specs.Prelude.{◌≡◌, ◌≤◌, true, None, List}
 use Rattle.wb_types.specs.declared.geometry.Geometry.{Geometry}
-use Rattle.wb_disk.specs.Device.{History}
+use Rattle.wb_disk.specs.Device.{History, Gives}
 use Rattle.wb_format.specs.declared.root.Root.{Root}
 use Rattle.wb_format.specs.declared.version.Version.TheVariants.{One}
 use Rattle.wb_tree.specs.Reading.{nothing_found}
 use Rattle.wb_meta.specs.Crashes.{AfterEveryCrash}
+use Rattle.wb_meta.specs.Commits.{Newest}
 use Rattle.wb_meta.specs.Holding.{Holds}
 
 -- the root of the empty mapping, clean, in generation 0
@@ -21,3 +22,7 @@ pub record IsFormatted (geometry : Geometry) (device : List History) : Type 0 wh
   pub root : Root
   pub first : IsFirstRoot geometry root
   pub holds : AfterEveryCrash (λ sectors. Holds sectors root (nothing_found root)) device
+
+-- behind the slots a read gives what it gave before
+abbrev pub SlotsAlone : List History → List History → Type 0
+SlotsAlone old new = Newest (λ at content. 2 ≤ at → Gives old at content) new

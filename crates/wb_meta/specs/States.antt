@@ -54,11 +54,17 @@ pub record IsDamagedAt (sectors : List Content) (place : Place) : Type 0 where
   pub there : ReadThere sectors nodes reached
   pub reads : (others : Nodes) → ReadThere sectors others reached → tree_read root others ≡ Err place
 
--- Why nothing is read of these sectors. A device that fails, and want of memory, say nothing of them, and no other
--- refusal comes.
+-- the newest root is one of this device
+pub record HasFittingRoot (sectors : List Content) : Type 0 where
+  pub root : Root
+  pub newest : IsNewestRoot sectors root
+  pub size : root.geometry.meta_sectors ≡ length sectors
+
+-- Why nothing is read of these sectors. A device that fails says nothing of them; memory is wanted for a tree alone;
+-- and no other refusal comes.
 abbrev pub IsRefusedBy : List Content → Refusal → Type 0
 IsRefusedBy sectors (Io Metadata) = Unit {0}
-IsRefusedBy sectors Memory = Unit {0}
+IsRefusedBy sectors Memory = HasFittingRoot sectors
 IsRefusedBy sectors NotFormatted = HasNoRoot sectors
 IsRefusedBy sectors Mismatch = HasOtherSize sectors
 IsRefusedBy sectors (Damaged place) = IsDamagedAt sectors place

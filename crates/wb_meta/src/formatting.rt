@@ -4,14 +4,14 @@ ghost use Rattle.std.specs.Prelude.{◌≡◌, ◌≢◌, ◌⊎◌, List, OnOk,
 ghost use Rattle.wb_types.specs.declared.refusal.Refusal.TheVariants.{Io, Geometry as WrongSize};
 ghost use Rattle.wb_types.specs.declared.mode.Dev.TheVariants.{Metadata};
 ghost use Rattle.wb_disk.specs.Device.{OneMore};
-ghost use Rattle.wb_meta.specs.Formats.{IsFormatted};
+ghost use Rattle.wb_meta.specs.Formats.{IsFormatted, SlotsAlone};
 
 use crate::sector::{put_root, put_zeros, settle};
 use wb_disk::Disk;
 use wb_format::{Root, Version};
 use wb_types::{Geometry, Refusal};
 
-/// Makes a metadata device hold the empty mapping, clean.
+/// Makes a metadata device hold the empty mapping, clean. It writes the two slots and no other sector.
 ///
 /// `Geometry` where the device has another size than the geometry says, and nothing was done; `Io` where it
 /// fails, and formatting has to be repeated.
@@ -19,6 +19,7 @@ pub fn format<D: Disk>(disk: &mut D, geometry: &Geometry) -> Result<(), Refusal>
     ensures size { D.size disk.new ≡ D.size disk.old }
     ensures fits { IfOk result (λ _. geometry.now.meta_sectors ≡ D.size disk.old) }
     ensures empty { D.tells → OnOk result (IsFormatted geometry.now (D.contents disk.new)) }
+    ensures slots { D.tells → OnOk result (SlotsAlone (D.contents disk.old) (D.contents disk.new)) }
     ensures no_fault { D.tells → OnOk result (D.faults disk.new ≡ D.faults disk.old) }
     ensures cause { D.tells → IfErr result (λ refusal. refusal ≡ Io Metadata → OneMore (D.faults disk.old) (D.faults disk.new)) }
     ensures refused { IfErr result (λ refusal. (refusal ≡ Io Metadata) ⊎ (refusal ≡ WrongSize)) }

@@ -16,7 +16,7 @@ ghost use Rattle.wb_meta.specs.Holding.{Holds, HoldsAndKeeps, HoldsOr, Stands};
 ghost use Rattle.wb_meta.specs.Placing.{HavePlaces, MayCommit};
 ghost use Rattle.wb_meta.specs.Commits.{HasCome, HasFailed};
 ghost use Rattle.wb_meta.specs.Imaging.{IsNextImage};
-ghost use Rattle.wb_meta.specs.States.{IsStateOf, IsDamagedAt, IsRefusedBy, SpeaksOfSectors};
+ghost use Rattle.wb_meta.specs.States.{IsStateOf, HasNoRoot, HasOtherSize, HasFittingRoot, IsDamagedAt, IsRefusedBy, SpeaksOfSectors};
 
 /// However far a commit has come, a crash leaves the old mapping or the image's, and so it does after a failure;
 /// when the commit is done, the image's alone.
@@ -44,11 +44,12 @@ pub fn holding_law()
 {}
 
 /// Of the state that is read of sectors and the refusals that speak of them, one alone is right: so each comes exactly
-/// where it is.
+/// where it is. Memory is wanted only where a root is there and the device has its size.
 pub fn reading_law()
     ensures one_root { (sectors : List Content) (a b : Root) → IsNewestRoot sectors a → IsNewestRoot sectors b → a ≡ b }
     ensures one_refusal { (sectors : List Content) (a b : Refusal) → SpeaksOfSectors a → SpeaksOfSectors b → IsRefusedBy sectors a → IsRefusedBy sectors b → a ≡ b }
     ensures state_only { (sectors : List Content) (root : Root) (tree : Mapping) (used : List Place) (refusal : Refusal) → IsStateOf sectors root tree used → SpeaksOfSectors refusal → ¬ IsRefusedBy sectors refusal }
+    ensures fitting_only { (sectors : List Content) → HasFittingRoot sectors → (¬ HasNoRoot sectors) × (¬ HasOtherSize sectors) }
 {}
 
 /// The state that is read of sectors, and the fault, are what they represent.

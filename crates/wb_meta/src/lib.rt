@@ -1,7 +1,10 @@
-//! The metadata device: formatting, and the commit of an image of the mapping tree.
+//! The metadata device: formatting, the commit of an image of the mapping tree, and its reading.
 //!
 //! A commit writes the image's nodes to places that the tree on the device does not use, syncs, writes the root
 //! into the slot of its generation, and syncs. So a crash at any moment leaves the old mapping or the image's.
+//!
+//! A reading takes the valid root of higher generation and reads its tree, or names the first fault of it. The older
+//! root never counts.
 #![tactic(auto)]
 
 mod commit_steps;

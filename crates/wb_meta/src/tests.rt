@@ -4,6 +4,7 @@ ghost use Rattle.std.specs.Prelude.{◌≡◌, ◌≤◌, IsTrue, length};
 ghost use Rattle.wb_meta.specs.Placing.{HavePlaces};
 
 mod damage;
+mod failing;
 mod noise;
 mod reading;
 

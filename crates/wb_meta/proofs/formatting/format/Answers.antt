@@ -1,6 +1,6 @@
 use Rattle.std.proofs.Common.{◌≡◌, ◌≤◌, length, refl, arith}
 use Rattle.std.proofs.lemmas.Result.{on_ok_weaker}
-use Rattle.wb_meta.proofs.Formatted.{formatted_left}
+use Rattle.wb_meta.proofs.Formatted.{formatted_left, slots_alone}
 use Rattle.wb_meta.proofs.formatting.format.Goals as goal
 
 pub returns-clause-empty : goal.returns-clause-empty
@@ -12,5 +12,12 @@ returns-clause-empty g c tells =
     on_ok_weaker c.settle-2.result
     (λ s5. formatted_left c.args.geometry.now _ d0 (g.D.Disk.contents c.put_zeros.new.disk) (g.D.Disk.contents c.put_zeros-2.new.disk) (g.D.Disk.contents c.settle.new.disk) (g.D.Disk.contents c.put_root.new.disk) (g.D.Disk.contents c.settle-2.new.disk)
     (record { generation = refl; version = refl; clean = refl; geometry_is = refl; top = refl }) size
+    (c.in_ok-put_zeros.ensures.ok tells) (c.in_ok-put_zeros-2.ensures.ok tells) (c.in_ok-settle.ensures.ok tells) (c.in_ok-put_root.ensures.ok tells) s5)
+    (c.settle-2.ensures.ok tells)
+
+pub returns-clause-slots : goal.returns-clause-slots
+returns-clause-slots g c tells =
+    on_ok_weaker c.settle-2.result
+    (λ s5. slots_alone _ (g.D.Disk.contents c.args.disk.now) (g.D.Disk.contents c.put_zeros.new.disk) (g.D.Disk.contents c.put_zeros-2.new.disk) (g.D.Disk.contents c.settle.new.disk) (g.D.Disk.contents c.put_root.new.disk) (g.D.Disk.contents c.settle-2.new.disk)
     (c.in_ok-put_zeros.ensures.ok tells) (c.in_ok-put_zeros-2.ensures.ok tells) (c.in_ok-settle.ensures.ok tells) (c.in_ok-put_root.ensures.ok tells) s5)
     (c.settle-2.ensures.ok tells)

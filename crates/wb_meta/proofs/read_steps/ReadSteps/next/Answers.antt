@@ -1,5 +1,5 @@
-use Rattle.std.proofs.Common.{◌≡◌, ◌∙◌, ◌-◌, ◌+◌, ℕ, List, length, map, refl, sym, ap, arith, subst, inr}
-use Rattle.std.proofs.lemmas.Result.{IfOk-weaker}
+use Rattle.std.proofs.Common.{◌≡◌, ◌≤◌, ◌<◌, ◌⊎◌, ◌∙◌, ◌-◌, ◌+◌, ℕ, List, length, map, refl, sym, ap, arith, subst, inr}
+use Rattle.std.proofs.lemmas.Result.{IfErr-weaker, IfOk-weaker}
 use Rattle.std.proofs.lemmas.List.{length-map}
 use Rattle.wb_disk.specs.Device.{History, newest}
 use Rattle.wb_meta.specs.Holding.{ReadsThere}
@@ -7,8 +7,8 @@ use Rattle.wb_tree.specs.Loading.{IsFresh}
 use Rattle.wb_types.specs.declared.number.Place.{Place}
 use Rattle.wb_meta.specs.declared.read_steps.ReadSteps.{ReadSteps}
 use Rattle.wb_meta.specs.States.{IsRefusedBy, IsOfReading, CountsFault}
-use Rattle.wb_meta.specs.Reads.{AreStepsOn, HasRead, IsTreeOn, steps_left}
-use Rattle.wb_meta.proofs.Loaded.{loaded_none, loaded_more, loaded_refused, fails_kind, fails_cause, wanted_node, IfErr-handed}
+use Rattle.wb_meta.specs.Reads.{AreStepsOn, HasRead, IsDone, IsTreeOn, steps_left}
+use Rattle.wb_meta.proofs.Loaded.{loaded_none, loaded_more, loaded_refused, memory_refused, fails_kind, fails_cause, wanted_node, IfErr-handed}
 use Rattle.wb_meta.proofs.Counting.{tree_begun, tree_pushed, fewer_left}
 use Rattle.wb_meta.proofs.read_steps.ReadSteps.next.Goals as goal
 
@@ -31,6 +31,36 @@ returns-in_err-tell-in-Some-clause-refused g c tells has =
     (loaded_refused sectors c.in-RootFound.root c.in-RootFound.loader wanted.node c.in_ok-node-in-Some.node c.in_err-tell-in-Some.field-0.0 (on.size ∙ sym (sectors_read device _ (g.met.D.Disk.whole c.args.disk.now tells))) loaded here
     (λ nodes. c.in_err-tell-in-Some.ensures.err wanted.node nodes wanted.some))
 
+pub returns-in_err-loader-in-FirstSlotRead-clause-refused : goal.returns-in_err-loader-in-FirstSlotRead-clause-refused
+returns-in_err-loader-in-FirstSlotRead-clause-refused g c tells has =
+    let device = g.D.Disk.contents c.args.disk.now in
+    let sectors = map newest device in
+    let R : ReadSteps _ → Type 0 = λ s. HasRead sectors s in
+    let newer = c.in_ok-root-in-FirstSlotRead.ensures.newest sectors (subst R c.in-FirstSlotRead.is has) (c.in_ok-second-in-FirstSlotRead.ensures.found tells) in
+    let size = c.in_ok-root-in-FirstSlotRead.ensures.size ∙ (c.sectors.ensures ∙ c.in_ok-second-in-FirstSlotRead.ensures.size) ∙ sym (sectors_read device _ (g.met.D.Disk.whole c.args.disk.now tells)) in
+    IfErr-handed c.from_residual-in_err-loader-in-FirstSlotRead.result c.in_err-loader-in-FirstSlotRead.field-0.0 (IsRefusedBy sectors) c.from_residual-in_err-loader-in-FirstSlotRead.ensures.1
+    (memory_refused sectors c.in_ok-root-in-FirstSlotRead.root c.in_err-loader-in-FirstSlotRead.field-0.0 newer size c.in_err-loader-in-FirstSlotRead.ensures.refused)
+
+pub returns-in_ok-loader-in-FirstSlotRead-clause-refused : goal.returns-in_ok-loader-in-FirstSlotRead-clause-refused
+returns-in_ok-loader-in-FirstSlotRead-clause-refused g c tells has =
+    let device = g.D.Disk.contents c.args.disk.now in
+    let sectors = map newest device in
+    let R : ReadSteps _ → Type 0 = λ s. HasRead sectors s in
+    let newer = c.in_ok-root-in-FirstSlotRead.ensures.newest sectors (subst R c.in-FirstSlotRead.is has) (c.in_ok-second-in-FirstSlotRead.ensures.found tells) in
+    let size = c.in_ok-root-in-FirstSlotRead.ensures.size ∙ (c.sectors.ensures ∙ c.in_ok-second-in-FirstSlotRead.ensures.size) ∙ sym (sectors_read device _ (g.met.D.Disk.whole c.args.disk.now tells)) in
+    IfErr-weaker c.go_on.result _ _ (λ refusal memory. memory_refused sectors c.in_ok-root-in-FirstSlotRead.root refusal newer size memory) c.go_on.ensures.refused
+
+pub returns-in_ok-tell-in-Some-clause-refused : goal.returns-in_ok-tell-in-Some-clause-refused
+returns-in_ok-tell-in-Some-clause-refused g c tells has =
+    let device = g.D.Disk.contents c.args.disk.now in
+    let sectors = map newest device in
+    let R : ReadSteps _ → Type 0 = λ s. HasRead sectors s in
+    let loaded = subst R c.in-RootFound.is has in
+    let Q : ReadSteps _ → Type 0 = λ s. AreStepsOn (g.D.Disk.size c.args.disk.now) s in
+    let on = (subst Q c.in-RootFound.is c.requires).0 in
+    let size = on.size ∙ sym (sectors_read device _ (g.met.D.Disk.whole c.args.disk.now tells)) in
+    IfErr-weaker c.go_on-in-Some.result _ _ (λ refusal memory. memory_refused sectors c.in-RootFound.root refusal loaded.newest size memory) c.go_on-in-Some.ensures.refused
+
 pub returns-in_err-tell-in-Some-clause-kinds : goal.returns-in_err-tell-in-Some-clause-kinds
 returns-in_err-tell-in-Some-clause-kinds g c =
     let wanted = wanted_node c.in-RootFound.loader.wanted c.in-Some.field-0 (sym c.wanted.ensures.place ∙ c.in-Some.is) in
@@ -52,7 +82,9 @@ pub returns-in_ok-loader-in-FirstSlotRead-clause-left : goal.returns-in_ok-loade
 returns-in_ok-loader-in-FirstSlotRead-clause-left g c =
     let sectors = g.D.Disk.size c.args.disk.now in
     let self : steps_left sectors c.args.self ≡ sectors + 1 = ap (λ s. steps_left sectors s) c.in-FirstSlotRead.is in
-    IfOk-weaker c.go_on.result _ _ (λ steps fewer. inr (omega (arith, fewer, self))) (c.go_on.ensures.left sectors)
+    let Fewer : ReadSteps _ → Type 0 = λ steps. steps_left sectors steps ≤ sectors - length c.in_ok-loader-in-FirstSlotRead.loader.found.reached in
+    let Falls : ReadSteps _ → Type 0 = λ steps. IsDone c.args.self ⊎ (steps_left sectors steps < steps_left sectors c.args.self) in
+    IfOk-weaker c.go_on.result Fewer Falls (λ steps fewer. inr (omega (arith, fewer, self))) (c.go_on.ensures.left sectors)
 
 pub returns-in_ok-tell-in-Some-clause-on : goal.returns-in_ok-tell-in-Some-clause-on
 returns-in_ok-tell-in-Some-clause-on g c =
