@@ -1,6 +1,6 @@
 #!/bin/sh
-# Makes three image files (10 origin blocks of 64 sectors, 4 cache blocks, 4 metadata sectors) in images/, and
-# runs a script over them that writes a sector and reads it back. It prints 'ok' and '0 11'.
+# Makes three image files (10 origin blocks of 64 sectors, 4 cache blocks, 4 metadata sectors) in images/, formats the
+# metadata, and runs a script that writes a sector and reads it back. It prints 'formatted 4 10', 'ok' and '0 11'.
 set -eu
 top=$(cd "$(dirname "$0")/.." && pwd)
 test -x "$top/bin/wbcache" || sh "$top/scripts/build.sh"
@@ -10,4 +10,6 @@ rm -f m.img c.img o.img
 truncate -s 2048 m.img
 truncate -s 131072 c.img
 truncate -s 327680 o.img
-printf 'w 0 1 11\nr 0 1\n' | "$top/bin/wbcache" run 'cache m.img c.img o.img 64 0 tinylfu 0'
+table='cache m.img c.img o.img 64 0 tinylfu 0'
+"$top/bin/wbcache" format "$table"
+printf 'w 0 1 11\nr 0 1\n' | "$top/bin/wbcache" run "$table"

@@ -16,13 +16,16 @@ use Rattle.wb_format.proofs.Values.{one_root}
 use Rattle.wb_tree.specs.declared.image.Image.{Image}
 use Rattle.wb_tree.specs.Mapping.{Mapping, NodeName, IsMapping, IsSound, AreInside, place_of, exists, changed}
 use Rattle.wb_tree.specs.Reading.{Found, IsNewestRoot}
-use Rattle.wb_tree.specs.Images.{KeepsNode, Keeps, HasWordsOf, name_of, place_word, word_at}
+use Rattle.wb_tree.specs.Images.{AreFree, KeepsNode, Keeps, HasWordsOf, name_of, place_word, word_at}
 use Rattle.wb_tree.proofs.Names.{has, same_name}
 use Rattle.wb_tree.proofs.Listed.{unknown_changed}
-use Rattle.wb_meta.specs.Crashes.{MayLeave}
-use Rattle.wb_meta.specs.Holding.{Stands}
+use Rattle.wb_meta.specs.declared.commit_steps.CommitSteps.{CommitSteps}
+use Rattle.wb_meta.specs.Commits.{SyncedRoot, HasCome, HasFailed}
+use Rattle.wb_meta.specs.Crashes.{MayLeave, AfterEveryCrash}
+use Rattle.wb_meta.specs.Holding.{Stands, HoldsOr}
 use Rattle.wb_meta.specs.Placing.{HavePlaces, IsPlaced, MayCommit}
 use Rattle.wb_meta.specs.Imaging.{IsNextImage}
+use Rattle.wb_meta.proofs.Crashing.{come_crash, failed_crash, done_crash}
 use Rattle.wb_meta.proofs.Keeping.{same_place, Holds-kept}
 
 -- ---- lists
@@ -80,20 +83,29 @@ same_words m n old new same kept (suc zero) index j here below known = ap (λ (e
 same_words m n old new same kept (suc (suc level)) index j here below known =
     ap place_word (child_word m n old new same kept (suc level) index (32 * index + j) here (omega arith) known (omega arith) (place_of m (suc level) (32 * index + j)) (place_of n (suc level) (32 * index + j)) refl refl)
 
+-- ---- places
+
+-- the place of a node of an image is one of the free ones
+from_free : (free : List Place) (nodes : List (Place × Node)) → map (λ node. node.0) nodes ≡ take (length nodes) free → (i : ℕ) (node : Place × Node) → slice_get nodes i ≡ Some node → slice_get free i ≡ Some node.0
+from_free free nodes are i node h =
+    taken free (length nodes) i node.0 (ap (λ (places : List Place). slice_get places i) (sym are) ∙ mapped_at (λ (n : Place × Node). n.0) nodes i node h)
+
+-- the nodes of an image have places of the device
+pub have_places : (m : Mapping) (geometry : Geometry) (free : List Place) (nodes : List (Place × Node)) → AreFree m geometry free → map (λ node. node.0) nodes ≡ take (length nodes) free → HavePlaces nodes geometry.meta_sectors
+have_places m geometry free nodes frees are = record {
+  slots = let from = geometry.within.meta_from in omega arith;
+  from = λ i node h. frees.behind i node.0 (from_free free nodes are i node h);
+  to = λ i node h. frees.inside i node.0 (from_free free nodes are i node h);
+  apart = λ i j node other h k e. frees.apart i j node.0 (from_free free nodes are i node h) (from_free free nodes are j other k ∙ ap Some (same_place other.0 node.0 (sym e)));
+}
+
 module _ (m n : Mapping) (geometry : Geometry) (generation : ℕ) (clean : Bool) (free : List Place) (image : Image) (device : List History) (root : Root) (found : Found) (next : IsNextImage m n geometry generation clean free image device root found) where
   -- a node's place is one of the free ones
   free_place : (i : ℕ) (node : Place × Node) → slice_get image.nodes.items i ≡ Some node → slice_get free i ≡ Some node.0
-  free_place i node h =
-      taken free (length image.nodes.items) i node.0
-      (ap (λ (places : List Place). slice_get places i) (sym next.image_is.places_are) ∙ mapped_at (λ (n : Place × Node). n.0) image.nodes.items i node h)
+  free_place i node h = from_free free image.nodes.items next.image_is.places_are i node h
 
   pub places : HavePlaces image.nodes.items (length device)
-  places = record {
-    slots = let size = next.size in let from = geometry.within.meta_from in omega arith;
-    from = λ i node h. next.free_are.behind i node.0 (free_place i node h);
-    to = λ i node h. let size = next.size in let inside = next.free_are.inside i node.0 (free_place i node h) in omega arith;
-    apart = λ i j node other h k e. next.free_are.apart i j node.0 (free_place i node h) (free_place j other k ∙ ap Some (same_place other.0 node.0 (sym e)));
-  }
+  places = subst (HavePlaces image.nodes.items) (sym next.size) (have_places m geometry free image.nodes.items next.free_are next.image_is.places_are)
 
   -- a node of the new tree that the old one does not know is one of the image's
   written_node : (level index : ℕ) (place : Place) → place_of n level index ≡ Some place → place_of m level index ≡ None → Named image.nodes.items level index
@@ -247,3 +259,15 @@ module _ (m n : Mapping) (geometry : Geometry) (generation : ℕ) (clean : Bool)
     outside = λ i node listed. next.outside i node.0 (free_place i node listed);
     new = λ before after left placed. stands_new before after left placed;
   }
+
+  -- however far its commit has come
+  pub come_next : (now : List History) (steps : CommitSteps) → HasCome image device steps now → AfterEveryCrash (HoldsOr root found (λ sectors. Stands sectors image.root n)) now
+  come_next now steps come = come_crash image (length device) device now steps root found (λ sectors. Stands sectors image.root n) places may_commit come
+
+  -- after a failure
+  pub failed_next : (now : List History) → HasFailed image device now → AfterEveryCrash (HoldsOr root found (λ sectors. Stands sectors image.root n)) now
+  failed_next now failed = failed_crash image (length device) device now root found (λ sectors. Stands sectors image.root n) places may_commit failed
+
+  -- when the root is safe
+  pub done_next : (now : List History) → SyncedRoot image device now → AfterEveryCrash (λ sectors. Stands sectors image.root n) now
+  done_next now done = done_crash image device now root found (λ sectors. Stands sectors image.root n) may_commit done

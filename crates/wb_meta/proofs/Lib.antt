@@ -1,6 +1,7 @@
 pub mod Lists
 pub mod Histories
 pub mod Stepping
+pub mod TestTrees
 pub mod Crashing
 pub mod Formatted
 pub mod Framing
@@ -10,4 +11,5 @@ pub mod Sectors
 pub mod Counting
 pub mod Loaded
 pub mod OneReading
+pub mod Settled
 pub mod Reading

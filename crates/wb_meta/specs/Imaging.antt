@@ -1,5 +1,5 @@
 -- The image of a tree, over a device that holds the tree before.
-use Rattle.std.specs.Prelude.{◌≡◌, ◌+◌, ℕ, Bool, false, List, Some, length, slice_get}
+use Rattle.std.specs.Prelude.{◌≡◌, ◌+◌, ℕ, Bool, true, false, List, Some, length, slice_get, Contains}
 use Rattle.wb_types.specs.declared.number.Place.{Place}
 use Rattle.wb_types.specs.declared.geometry.Geometry.{Geometry}
 use Rattle.wb_disk.specs.Device.{History}
@@ -36,3 +36,14 @@ pub record IsNextImage (m n : Mapping) (geometry : Geometry) (generation : ℕ) 
   pub keeps : AfterEveryCrash (λ sectors. Keeps sectors m root.generation) device
   -- no free place is one that the root's tree reaches
   pub outside : (i : ℕ) (place : Place) → slice_get free i ≡ Some place → is_reached place.0 found.reached ≡ false
+
+-- A device holds a root and what is read of its tree, and keeps what a tree knows, whatever a crash leaves of it; and
+-- every place that is read is told.
+pub record IsKept (m : Mapping) (geometry : Geometry) (device : List History) (root : Root) (found : Found) (used : List Place) : Type 0 where
+  pub sound : IsSound m
+  pub inside : AreInside geometry.meta_sectors m
+  pub size : length device ≡ geometry.meta_sectors
+  pub same_geometry : root.geometry ≡ geometry
+  pub holds : AfterEveryCrash (λ sectors. Holds sectors root found) device
+  pub keeps : AfterEveryCrash (λ sectors. Keeps sectors m root.generation) device
+  pub told : (place : Place) → is_reached place.0 found.reached ≡ true → Contains used place

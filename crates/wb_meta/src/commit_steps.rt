@@ -1,6 +1,8 @@
 //! The commit of an image.
 
-ghost use Rattle.std.specs.Prelude.{◌≡◌, ◌≤◌, ◌↔◌, ◌+◌, ◌-◌, ℕ, List, OnOk, OnErr, IfErr, IsTrue, IsFalse, length};
+ghost use Rattle.std.specs.Prelude.{◌≡◌, ◌≤◌, ◌↔◌, ◌+◌, ◌-◌, ℕ, Bool, List, OnOk, OnErr, IfErr, IsTrue, IsFalse, length};
+ghost use Rattle.wb_types.specs.declared.geometry.Geometry.{Geometry};
+ghost use Rattle.wb_types.specs.declared.number.Place.{Place as PlaceValue};
 ghost use Rattle.wb_types.specs.declared.refusal.Refusal.TheVariants.{Io};
 ghost use Rattle.wb_types.specs.declared.mode.Dev.TheVariants.{Metadata};
 ghost use Rattle.wb_disk.specs.Device.{History, OneMore};
@@ -8,7 +10,8 @@ ghost use Rattle.wb_format.specs.declared.root.Root.{Root as RootValue};
 ghost use Rattle.wb_tree.specs.Mapping.{Mapping};
 ghost use Rattle.wb_tree.specs.Reading.{Found};
 ghost use Rattle.wb_meta.specs.Crashes.{AfterEveryCrash};
-ghost use Rattle.wb_meta.specs.Holding.{HoldsAndKeeps, HoldsOr};
+ghost use Rattle.wb_meta.specs.Holding.{HoldsAndKeeps, HoldsOr, Stands};
+ghost use Rattle.wb_meta.specs.Imaging.{IsNextImage};
 ghost use Rattle.wb_meta.specs.Placing.{HavePlaces, MayCommit};
 ghost use Rattle.wb_meta.specs.Commits.{HasCome, HasFailed, steps_left};
 
@@ -90,11 +93,14 @@ impl CommitSteps {
     }
 }
 
-/// Commits an image: all steps of `CommitSteps`. `Io` where the device fails; a crash then leaves the old mapping or
-/// the image's, as it does at any moment before.
+/// Commits an image: all steps of `CommitSteps`. The next image of the tree on the device then stands there, whatever a
+/// crash leaves. `Io` where the device fails; a crash then leaves the old mapping or the image's, as it does at any
+/// moment before.
 pub fn commit<D: Disk>(disk: &mut D, image: &Image) -> Result<(), Refusal>
     requires { HavePlaces image.now.nodes.items (D.size disk.old) }
     ensures size { D.size disk.new ≡ D.size disk.old }
+    ensures stands { D.tells → (m n : Mapping) (geometry : Geometry) (generation : ℕ) (clean : Bool) (free : List PlaceValue) (root : RootValue) (found : Found) → IsNextImage m n geometry generation clean free image.now (D.contents disk.old) root found → OnOk result (AfterEveryCrash (λ sectors. Stands sectors image.now.root n) (D.contents disk.new)) }
+    ensures stands_or_old { D.tells → (m n : Mapping) (geometry : Geometry) (generation : ℕ) (clean : Bool) (free : List PlaceValue) (root : RootValue) (found : Found) → IsNextImage m n geometry generation clean free image.now (D.contents disk.old) root found → OnErr result (AfterEveryCrash (HoldsOr root found (λ sectors. Stands sectors image.now.root n)) (D.contents disk.new)) }
     ensures ok { D.tells → (root : RootValue) (found wanted : Found) (kept : Mapping) → MayCommit image.now (D.contents disk.old) root found (λ sectors. HoldsAndKeeps sectors image.now.root wanted kept) → OnOk result (AfterEveryCrash (λ sectors. HoldsAndKeeps sectors image.now.root wanted kept) (D.contents disk.new)) }
     ensures err { D.tells → (root : RootValue) (found wanted : Found) (kept : Mapping) → MayCommit image.now (D.contents disk.old) root found (λ sectors. HoldsAndKeeps sectors image.now.root wanted kept) → OnErr result (AfterEveryCrash (HoldsOr root found (λ sectors. HoldsAndKeeps sectors image.now.root wanted kept)) (D.contents disk.new)) }
     ensures refused { IfErr result (λ refusal. refusal ≡ Io Metadata) }

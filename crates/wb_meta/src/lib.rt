@@ -18,6 +18,9 @@ mod tests;
 
 pub use commit_steps::{CommitSteps, commit};
 pub use formatting::format;
-pub use law::{commit_law, crash_law, holding_law, image_law, reading_law, represents_law};
+pub use law::{
+    commit_law, crash_law, cycle_law, formatted_law, holding_law, image_law, reading_law,
+    represents_law, settled_law,
+};
 pub use read_steps::{ReadSteps, State, read_state};
 pub use wb_tree::Image;

@@ -3,6 +3,7 @@
 ghost use Rattle.std.specs.Prelude.{◌≡◌, ◌≤◌, IsTrue, length};
 ghost use Rattle.wb_meta.specs.Placing.{HavePlaces};
 
+mod cycle;
 mod damage;
 mod failing;
 mod noise;

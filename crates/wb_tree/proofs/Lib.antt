@@ -1,4 +1,5 @@
 pub mod Counting
+pub mod Edited
 pub mod Equality
 pub mod FrameSteps
 pub mod Fronts

@@ -1,6 +1,6 @@
 -- What a tree is to its callers, whatever holds it: the entries of the cache blocks, and which nodes are known to
 -- stand where. A node that is not known was changed since the last image.
-use Rattle.std.specs.Prelude.{◌≡◌, ◌≤◌, ◌<◌, ◌+◌, ◌*◌, ◌/◌, ◌^◌, ◌&&◌, ◌==◌, ℕ, zero, suc, Bool, true, if◌then◌else◌, Option, Some, None, IsSome, is_some, List, [], ◌∷◌, ◌++◌, length, take, drop, slice_index_or}
+use Rattle.std.specs.Prelude.{◌≡◌, ◌≤◌, ◌<◌, ◌+◌, ◌*◌, ◌/◌, ◌^◌, ◌&&◌, ◌==◌, ℕ, zero, suc, Bool, true, if◌then◌else◌, Option, Some, None, IsSome, is_some, List, [], ◌∷◌, ◌++◌, length, take, drop, replicate, slice_index_or}
 use Rattle.std.specs.List.{list_any}
 use Rattle.wb_types.specs.declared.entry.Entry.{Entry}
 use Rattle.wb_types.specs.declared.number.Place.{Place}
@@ -10,6 +10,10 @@ use Rattle.wb_tree.specs.declared.placed.PlacedNode.{PlacedNode}
 pub record Mapping : Type 0 where
   pub entries : List (Option Entry)
   pub known : List PlacedNode
+
+-- the mapping in which none of so many cache blocks is mapped
+abbrev pub empty_mapping : ℕ → Mapping
+empty_mapping cache_blocks = record { entries = replicate cache_blocks None; known = [] }
 
 -- the entry of a cache block
 abbrev pub entry_at : Mapping → ℕ → Option Entry

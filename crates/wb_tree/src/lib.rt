@@ -9,6 +9,7 @@ mod below;
 mod entering;
 mod frame;
 mod image;
+mod law;
 mod leaf;
 mod loader;
 mod next;
@@ -20,6 +21,7 @@ mod tests;
 mod tree;
 
 pub use image::Image;
+pub use law::edit_law;
 pub use loader::Loader;
 pub use placed::PlacedNode;
 pub use tree::Tree;

@@ -5,6 +5,7 @@ use Rattle.wb_meta.specs.Commits.{HasCome, steps_left}
 use Rattle.wb_meta.specs.declared.commit_steps.CommitSteps.{CommitSteps}
 use Rattle.wb_meta.proofs.Stepping.{OnErr-always}
 use Rattle.wb_meta.proofs.Crashing.{failed_crash, done_crash}
+use Rattle.wb_meta.proofs.Imaging.{failed_next, done_next}
 use Rattle.wb_meta.proofs.commit_steps.commit.Goals as goal
 
 pub loop-steps-init : goal.loop-steps-init
@@ -40,6 +41,12 @@ pub returns-in_err-next-clause-cause : goal.returns-in_err-next-clause-cause
 returns-in_err-next-clause-cause g c tells =
     OnErr-always c.from_residual.result (c.in_err-next.ensures.cause tells ∙ ap (λ n. (n + 1) % 2 ^ 64) (c.loop-steps.invariant.2 tells))
 
+pub returns-in_err-next-clause-stands_or_old : goal.returns-in_err-next-clause-stands_or_old
+returns-in_err-next-clause-stands_or_old g c tells m n geometry generation clean free root found next =
+    let before = g.D.Disk.contents c.args.disk.now in
+    let failed = c.in_err-next.ensures.failed tells before (c.loop-steps.invariant.1 tells) in
+    OnErr-always c.from_residual.result (failed_next m n geometry generation clean free c.args.image.now before root found next (g.D.Disk.contents c.next.new.disk) failed)
+
 pub returns-clause-size : goal.returns-clause-size
 returns-clause-size g c = c.loop-steps.invariant.0
 
@@ -50,6 +57,14 @@ returns-clause-ok g c tells root found wanted kept may sectors left =
     let P : CommitSteps → Type 0 = λ s. HasCome c.args.image.now before s now in
     let done = subst P (c.is_done.ensures.done.0 c.loop-steps-test.false) (c.loop-steps.invariant.1 tells) in
     done_crash c.args.image.now before now root found (λ sectors. HoldsAndKeeps sectors c.args.image.now.root wanted kept) may done sectors left
+
+pub returns-clause-stands : goal.returns-clause-stands
+returns-clause-stands g c tells m n geometry generation clean free root found next sectors left =
+    let before = g.D.Disk.contents c.args.disk.now in
+    let now = g.D.Disk.contents c.loop-steps.disk in
+    let P : CommitSteps → Type 0 = λ s. HasCome c.args.image.now before s now in
+    let done = subst P (c.is_done.ensures.done.0 c.loop-steps-test.false) (c.loop-steps.invariant.1 tells) in
+    done_next m n geometry generation clean free c.args.image.now before root found next now done sectors left
 
 pub returns-clause-no_fault : goal.returns-clause-no_fault
 returns-clause-no_fault g c tells = c.loop-steps.invariant.2 tells
