@@ -1,7 +1,7 @@
 -- What stands on a device that was formatted, and on one that was synced; and how an image follows on another.
 use Rattle.std.proofs.Common.{◌≡◌, ◌+◌, ◌∙◌, sym, ap, subst, refl, ℕ, zero, suc, Bool, true, false, List, [], ◌∷◌, Option, Some, None, cond, nat_eq, length, map, replicate, slice_get, slice_set, arith}
 use Rattle.std.specs.Prelude.{Contains}
-use Rattle.std.proofs.lemmas.Bool.{eqb-true}
+use Rattle.std.proofs.lemmas.Bool.{eqb-true, false_from_ne_true}
 use Rattle.wb_types.specs.Limits.{depth_of}
 use Rattle.wb_types.specs.declared.entry.Entry.{Entry}
 use Rattle.wb_types.specs.declared.geometry.Geometry.{Geometry}
@@ -14,7 +14,6 @@ use Rattle.wb_tree.specs.Images.{AreFree, IsImage, Keeps}
 use Rattle.wb_tree.specs.declared.image.Image.{Image}
 use Rattle.wb_tree.specs.Reading.{Found, is_reached, nothing_found}
 use Rattle.wb_tree.proofs.Edited.{keeps-edited, inside-edited}
-use Rattle.wb_tree.proofs.Names.{not_both}
 use Rattle.wb_tree.proofs.Whole.{reached_below-known}
 use Rattle.wb_tree.specs.Whole.{found_of, marked, reached_below}
 use Rattle.wb_meta.specs.Crashes.{MayLeave, AfterEveryCrash}
@@ -164,7 +163,7 @@ next_planned m n geometry generation clean free used image device root found kep
   next = next;
   holds = kept.holds;
   keeps = kept.keeps;
-  outside = λ i place h. not_both (is_reached place.0 found.reached) (λ r. apart i place h (kept.told place r));
+  outside = λ i place h. false_from_ne_true (is_reached place.0 found.reached) (λ r. apart i place h (kept.told place r));
 }
 
 pub kept_committed : (m n : Mapping) (geometry : Geometry) (generation : ℕ) (clean : Bool) (free : List Place) (image : Image) (before now : List History) (root : Root) (found : Found)

@@ -1,4 +1,5 @@
 -- How many nodes a tree has at most.
+use Rattle.std.proofs.lemmas.Bool.{cases_Bool}
 use Rattle.std.proofs.Common.{◌≡◌, ◌≤◌, ◌<◌, ◌+◌, ◌*◌, ◌^◌, ℕ, zero, suc, List, [], ◌∷◌, Option, min, length, arith, inl, inr}
 use Rattle.std.proofs.lemmas.Grind.{div_ceil_times}
 use Rattle.std.proofs.lemmas.List.{length-append}
@@ -7,7 +8,6 @@ use Rattle.wb_types.specs.declared.entry.Entry.{Entry}
 use Rattle.wb_types.specs.Limits.{depth_of, node_count, nodes_at, nodes_up_to}
 use Rattle.wb_tree.specs.Mapping.{NodeName, exists, each_from, nodes_below, nodes_of}
 use Rattle.wb_tree.proofs.Listing.{exists-starts}
-use Rattle.wb_tree.proofs.Truth.{bool_cases}
 
 -- how many nodes of a level and below it stand before one of its nodes, where every cache block has an entry
 before : ℕ → ℕ → ℕ → ℕ
@@ -45,7 +45,7 @@ each-counted entries level blocks each (suc count) first =
 below-counted : (entries : List (Option Entry)) (blocks : ℕ) → length entries ≤ blocks → (level index : ℕ) → length (nodes_below entries level index) + before level blocks index ≤ before level blocks (index + 1)
 unfolding before nodes_below
 below-counted entries blocks long zero index = omega arith
-below-counted entries blocks long (suc level) index = elim (bool_cases (exists entries (suc level) index)) [
+below-counted entries blocks long (suc level) index = elim (cases_Bool (exists entries (suc level) index)) [
   | inl some ↦
       let children : List NodeName = each_from (nodes_below entries level) 32 (32 * index) in
       let starts = exists-starts entries (suc level) index some in

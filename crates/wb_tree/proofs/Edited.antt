@@ -2,7 +2,7 @@
 use Rattle.std.proofs.Common.{◌≡◌, ◌≤◌, ◌<◌, ◌⊎◌, ◌+◌, ◌*◌, ◌/◌, ◌^◌, ◌∙◌, sym, ap, ℕ, suc, Bool, true, false, List, Option, Some, None, take, drop, set, slice_set, arith, add-one, get_or, ◌-◌, inl, inr}
 use Rattle.std.specs.Prelude.{IsSome, is_some}
 use Rattle.std.specs.List.{list_any}
-use Rattle.std.proofs.lemmas.Bool.{cases_lt}
+use Rattle.std.proofs.lemmas.Bool.{cases_lt, cases_Bool}
 use Rattle.std.proofs.lemmas.List.{take-set-le, drop-set-lt, drop-set-add, get_or-set_other}
 use Rattle.std.proofs.lemmas.Nat.{div-mul-add}
 use Rattle.wb_types.specs.declared.entry.Entry.{Entry}
@@ -11,7 +11,6 @@ use Rattle.wb_format.specs.declared.node.Node.{Node}
 use Rattle.wb_tree.specs.Mapping.{Mapping, NodeName, IsSound, IsPlaceOf, IsOnPath, AreInside, Forgets, exists, place_of}
 use Rattle.wb_tree.specs.Images.{Keeps, IsNodeOf, word_at}
 use Rattle.wb_tree.proofs.Grown.{up_block, word_same, no_place}
-use Rattle.wb_tree.proofs.Truth.{bool_cases}
 use Rattle.wb_tree.proofs.PlacedLists.{option_cases, some_of}
 
 -- ---- entries
@@ -65,7 +64,7 @@ child_same old new block entry sound sound' is forgets level index child place f
   | inl some ↦ forgets.kept level child some.0 some.1 ∙ sym some.1
   | inr none ↦
       let off : IsOnPath block level child → ⊥ = λ on. off_path old new block (level + 1) index place forgets (omega arith) known (ap (λ n. block / 32 ^ n) (add-one level) ∙ (up_block block level ∙ (ap (λ n. n / 32) on ∙ below))) in
-      let gone : exists new.entries level child ≡ false = elim (bool_cases (exists new.entries level child)) [
+      let gone : exists new.entries level child ≡ false = elim (cases_Bool (exists new.entries level child)) [
         | inl there ↦ absurd (missing_exist (place_of new level child) none (sound'.known_below level index child place from known below there))
         | inr not ↦ not
       ] in

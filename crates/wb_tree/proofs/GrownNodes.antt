@@ -1,7 +1,7 @@
 -- What the reading of one node adds, by its level.
 use Rattle.std.proofs.Common.{◌≡◌, ◌≢◌, ◌≤◌, ◌<◌, ◌+◌, ◌-◌, ◌*◌, ◌/◌, ◌%◌, ◌^◌, ◌∙◌, ◌&&◌, ◌==◌, sym, ap, subst, refl, ℕ, zero, suc, Bool, true, false, cond, nat_eq, List, [], ◌∷◌, Option, Some, None, Ok, Err, length, append_assoc, arith, inl, inr, ltb}
 use Rattle.std.specs.Prelude.{◌⊎◌, IsSome, slice_index, slice_index_or, if◌then◌else◌, not, is_some}
-use Rattle.std.proofs.lemmas.Bool.{cases_lt, eqb-true}
+use Rattle.std.proofs.lemmas.Bool.{cases_lt, eqb-true, false_from_ne_true}
 use Rattle.std.proofs.lemmas.Bool.Decides.{nat_tests}
 use Rattle.std.proofs.lemmas.List.{length-set, get_or-set_same, get_or-set_other}
 use Rattle.std.proofs.Math.Nat.{div-one}
@@ -18,7 +18,7 @@ use Rattle.wb_tree.specs.Images.{word_at, place_word}
 use Rattle.wb_tree.proofs.Names.{IsBelow, below_up}
 use Rattle.wb_tree.proofs.PlacedLists.{named-itself, unnamed, is_some_of, some_of, place_in-first, place_in-later, place_in-cases, reached-first, unreached-both, some-append_right}
 use Rattle.wb_tree.proofs.Grown.{Grown, WasRead, at, tree_with, up_block, below-self, word_same, no_place}
-use Rattle.wb_tree.proofs.Truth.{and_true, yes, not_true}
+use Rattle.wb_tree.proofs.Truth.{and_true, yes}
 use Rattle.wb_tree.proofs.Steps.{then_ok}
 
 -- ---- the entries of a leaf
@@ -235,7 +235,7 @@ grown_inner root nodes level index here node found next some new reads right kid
       ];
       once = (no_place (place_in kids.sub (suc level) index) (λ place h. let b = (kids.below (suc level) index place h).to in absurd (omega arith)), kids.once);
       apart = (
-        not_true _ (λ r.
+        false_from_ne_true _ (λ r.
             let e = (unreached here.0 r).1 in
             let first : is_reached here.0 (self ∷ []) ≡ true = rw (yes here.0) refl in
             let both : true ≡ false = sym first ∙ e in

@@ -1,14 +1,14 @@
 -- Nodes of which none comes twice, with their places.
 use Rattle.std.proofs.Common.{◌≡◌, ◌∙◌, ◌&&◌, ◌==◌, sym, ap, subst, refl, ℕ, zero, suc, Bool, true, false, cond, List, [], ◌∷◌, Option, Some, None, map, arith, inl, inr}
 use Rattle.std.specs.Prelude.{◌↔◌, Contains, slice_get}
-use Rattle.std.proofs.lemmas.Bool.{eqb-true}
+use Rattle.std.proofs.lemmas.Bool.{eqb-true, cases_Bool}
 use Rattle.std.proofs.lemmas.Option.{slice_get-get_or}
 use Rattle.wb_types.specs.declared.number.Place.{Place}
 use Rattle.wb_tree.specs.declared.placed.PlacedNode.{PlacedNode}
 use Rattle.wb_tree.specs.Mapping.{Mapping, IsSound, IsPlaceOf, place_in}
 use Rattle.wb_tree.specs.Stored.{AreApart}
 use Rattle.wb_tree.proofs.Placing.{either_place}
-use Rattle.wb_tree.proofs.Truth.{and_true, bool_cases, yes}
+use Rattle.wb_tree.proofs.Truth.{and_true, yes}
 
 -- the places of nodes, in their order
 abbrev pub places : List PlacedNode → List Place
@@ -23,7 +23,7 @@ none_or_some o place a b = absurd cc
 -- a node in front changes no place of the others
 pub known-behind : (node : PlacedNode) (known : List PlacedNode) (level index : ℕ) (place : Place) → place_in known node.level node.index ≡ None → place_in known level index ≡ Some place
     → place_in (node ∷ known) level index ≡ Some place
-known-behind node known level index place apart h = elim (bool_cases ((node.level == level) && (node.index == index))) [
+known-behind node known level index place apart h = elim (cases_Bool ((node.level == level) && (node.index == index))) [
   | inl same ↦
       let e = same_names node.level level node.index index same in
       let none : place_in known level index ≡ None = subst (λ i. place_in known level i ≡ None) e.1 (subst (λ l. place_in known l node.index ≡ None) e.0 apart) in

@@ -1,7 +1,7 @@
 -- The entries that are read are a mapping: each is within the sizes, and no origin block stands in two.
 use Rattle.std.proofs.Common.{◌≡◌, ◌≢◌, ◌≤◌, ◌<◌, ◌+◌, ◌*◌, ◌∙◌, ◌&&◌, ◌==◌, sym, ap, subst, refl, ℕ, zero, suc, Bool, true, false, ltb, List, Option, Some, None, Ok, Err, length, arith, inl, inr}
 use Rattle.std.specs.Prelude.{◌⊎◌, slice_index, slice_index_or, slice_set, if◌then◌else◌, not}
-use Rattle.std.proofs.lemmas.Bool.{cases_lt, eqb-true}
+use Rattle.std.proofs.lemmas.Bool.{cases_lt, eqb-true, not-true}
 use Rattle.std.proofs.lemmas.List.{length-set, length-replicate, get_or-set_same, get_or-set_other}
 use borrow.Author.Tests.{ltb-true}
 use Rattle.wb_types.specs.declared.entry.Entry.{Entry}
@@ -13,7 +13,7 @@ use Rattle.wb_format.specs.Words.{IsLeafWord}
 use Rattle.wb_tree.specs.Mapping.{IsMapping}
 use Rattle.wb_tree.specs.Reading.{Found, Reading, Nodes, ◌then◌, each_step, entry_in, entry_read, may_map, child_read, names_child, is_node_of, reached_at, words_read, node_read, nothing_found, top_read, tree_read}
 use Rattle.wb_tree.proofs.Grown.{at}
-use Rattle.wb_tree.proofs.Truth.{and_true, not_is_true}
+use Rattle.wb_tree.proofs.Truth.{and_true}
 use Rattle.wb_tree.proofs.Steps.{then_ok, test_ok, nothing_there}
 
 -- what a reading leaves true
@@ -85,7 +85,7 @@ may_stand : (root : Root) (mapped : List Bool) (block : ℕ) (entry : Entry) →
 may_stand root mapped block entry h =
     let a = and_true (ltb block root.geometry.cache_blocks && ltb entry.origin.0 root.geometry.origin_blocks) (not (slice_index_or mapped entry.origin.0 false)) h in
     let b = and_true (ltb block root.geometry.cache_blocks) (ltb entry.origin.0 root.geometry.origin_blocks) a.0 in
-    record { inside = ltb-true _ _ b.0; low = ltb-true _ _ b.1; free = not_is_true _ a.1 }
+    record { inside = ltb-true _ _ b.0; low = ltb-true _ _ b.1; free = not-true _ a.1 }
 
 same_or_not : (a b : ℕ) → (a ≡ b) ⊎ (a ≢ b)
 same_or_not a b = elim (cases_lt a b) [

@@ -2,7 +2,7 @@
 use Rattle.std.proofs.Common.{◌≡◌, ◌≤◌, ◌<◌, ◌+◌, ◌-◌, ◌*◌, ◌/◌, ◌^◌, ◌&&◌, ◌∙◌, sym, ap, subst, refl, ℕ, zero, suc, Bool, true, false, cond, ◌==◌, List, [], ◌∷◌, ◌++◌, Option, arith, inl, inr}
 use Rattle.std.specs.Prelude.{◌⊎◌, if◌then◌else◌}
 use Rattle.std.specs.List.{AllByRecursion}
-use Rattle.std.proofs.lemmas.Bool.{eqb-true, cases_lt}
+use Rattle.std.proofs.lemmas.Bool.{eqb-true, cases_lt, false_from_ne_true}
 use Rattle.std.proofs.Math.Nat.{div-div-eq-div-mul, div-one, pow-suc}
 use Rattle.wb_types.specs.declared.entry.Entry.{Entry}
 use Rattle.wb_tree.specs.Mapping.{NodeName, exists, each_from, nodes_below}
@@ -93,17 +93,12 @@ same_name node level index h =
 same_cases : (b r : Bool) → (b ≡ false) → r ≡ false → cond b true r ≡ false
 same_cases b r e h = rw (e, h) refl
 
--- a test that is not true is false
-pub not_both : (b : Bool) → (b ≡ true → ⊥) → b ≡ false
-not_both true h = absurd (h refl)
-not_both false h = refl
-
 -- a node without a property that each of these has is none of these
 pub has_not : (P : NodeName → Type 0) (nodes : List NodeName) (level index : ℕ) → AllByRecursion P nodes → (P (record { level = level; index = index }) → ⊥) → has nodes level index ≡ false
 has_not P [] level index each none = refl
 has_not P (node ∷ nodes) level index each none =
     same_cases ((node.level == level) && (node.index == index)) (has nodes level index)
-    (not_both _ (λ t. none (subst P (same_name node level index t) each.0)))
+    (false_from_ne_true _ (λ t. none (subst P (same_name node level index t) each.0)))
     (has_not P nodes level index each.1 none)
 
 has-append_false : (xs ys : List NodeName) (level index : ℕ) → has xs level index ≡ false → has ys level index ≡ false → has (xs ++ ys) level index ≡ false

@@ -1,13 +1,13 @@
 -- Lists of nodes with their places: which places they name, one list behind another.
 use Rattle.std.proofs.Common.{◌≡◌, ◌<◌, ◌&&◌, ◌∙◌, sym, ap, refl, ℕ, zero, suc, length, get_or, Bool, true, false, cond, nat_eq, ◌==◌, List, [], ◌∷◌, ◌++◌, Option, Some, None, arith, inl, inr}
-use Rattle.std.proofs.lemmas.Bool.{eqb-true}
+use Rattle.std.proofs.lemmas.Bool.{eqb-true, cases_Bool, false_from_ne_true}
 use Rattle.std.specs.Prelude.{◌⊎◌, IsSome}
 use Rattle.wb_types.specs.declared.number.Place.{Place}
 use Rattle.wb_tree.specs.declared.placed.PlacedNode.{PlacedNode}
 use Rattle.wb_tree.specs.Mapping.{place_in}
 use Rattle.wb_tree.specs.Reading.{is_reached}
 use Rattle.wb_tree.specs.Stored.{AreApart}
-use Rattle.wb_tree.proofs.Truth.{and_true, yes, bool_cases, not_true}
+use Rattle.wb_tree.proofs.Truth.{and_true, yes}
 
 -- no place comes twice
 abbrev pub PlacesApart : List PlacedNode → Type 0
@@ -25,7 +25,7 @@ pub named-is : (node : PlacedNode) (level index : ℕ) → is_named node level i
 named-is node level index h = let both = and_true (node.level == level) (node.index == index) h in (eqb-true _ _ both.0, eqb-true _ _ both.1)
 
 pub unnamed : (node : PlacedNode) (level index : ℕ) → ((node.level ≡ level) → (node.index ≡ index) → ⊥) → is_named node level index ≡ false
-unnamed node level index h = not_true _ (λ t. let both = named-is node level index t in h both.0 both.1)
+unnamed node level index h = false_from_ne_true _ (λ t. let both = named-is node level index t in h both.0 both.1)
 
 -- the first node
 pub place_in-first : (node : PlacedNode) (nodes : List PlacedNode) (level index : ℕ) → is_named node level index ≡ true → place_in (node ∷ nodes) level index ≡ Some node.place
@@ -37,7 +37,7 @@ place_in-later node nodes level index e = rw e refl
 -- a node is the first, or one behind it
 pub place_in-cases : (node : PlacedNode) (nodes : List PlacedNode) (level index : ℕ) (place : Place) → place_in (node ∷ nodes) level index ≡ Some place
     → ((node.level ≡ level) × (node.index ≡ index) × (node.place ≡ place)) ⊎ (place_in nodes level index ≡ Some place)
-place_in-cases node nodes level index place h = elim (bool_cases (is_named node level index)) [
+place_in-cases node nodes level index place h = elim (cases_Bool (is_named node level index)) [
   | inl first ↦
       let both = named-is node level index first in
       let e : ◌≡◌ {A = Option Place} (Some node.place) (Some place) = sym (place_in-first node nodes level index first) ∙ h in
@@ -166,7 +166,7 @@ one_name (node ∷ nodes) level index level' index' place apart h h' =
 pub apart-append : (xs ys : List PlacedNode) → PlacesApart xs → PlacesApart ys → ((place : ℕ) → is_reached place ys ≡ true → is_reached place xs ≡ false) → PlacesApart (xs ++ ys)
 apart-append [] ys a b f = b
 apart-append (x ∷ xs) ys a b f =
-    let none : is_reached x.place.0 ys ≡ false = not_true _ (λ r.
+    let none : is_reached x.place.0 ys ≡ false = false_from_ne_true _ (λ r.
     let e = f x.place.0 r in
     let first : is_reached x.place.0 (x ∷ xs) ≡ true = rw (yes x.place.0) refl in
     let both : true ≡ false = sym first ∙ e in
@@ -210,7 +210,7 @@ member-named (node ∷ nodes) zero d apart inside = place_in-first node nodes no
 member-named (node ∷ nodes) (suc k) d apart inside =
     let later = member-named nodes k d apart.1 (omega arith) in
     let it : PlacedNode = get_or nodes k d in
-    let other : is_named node (get_or nodes k d).level (get_or nodes k d).index ≡ false = not_true _ (λ t.
+    let other : is_named node (get_or nodes k d).level (get_or nodes k d).index ≡ false = false_from_ne_true _ (λ t.
     let same = named-is node (get_or nodes k d).level (get_or nodes k d).index t in
     let none : place_in nodes (get_or nodes k d).level (get_or nodes k d).index ≡ None = ap (λ l. place_in nodes l (get_or nodes k d).index) (sym same.0) ∙ (ap (λ i. place_in nodes node.level i) (sym same.1) ∙ apart.0) in
     let both : ◌≡◌ {A = Option Place} (Some (get_or nodes k d).place) None = sym later ∙ none in

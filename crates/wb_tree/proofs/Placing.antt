@@ -1,4 +1,5 @@
 -- The nodes of a tree with the places that they are given.
+use Rattle.std.proofs.lemmas.Bool.{cases_Bool, false_from_ne_true}
 use Rattle.std.proofs.Common.{◌≡◌, ◌≤◌, ◌<◌, ◌∙◌, ◌&&◌, sym, ap, subst, refl, ℕ, suc, Bool, true, false, cond, nat_eq, ◌==◌, List, [], ◌∷◌, ◌++◌, Option, Some, None, map, take, length, arith, inl, inr}
 use Rattle.std.specs.Prelude.{◌⊎◌, IsSome, slice_get}
 use Rattle.std.proofs.lemmas.Bool.Decides.{nat_tests}
@@ -7,8 +8,8 @@ use Rattle.wb_tree.specs.declared.placed.PlacedNode.{PlacedNode}
 use Rattle.wb_tree.specs.Mapping.{NodeName, place_in}
 use Rattle.wb_tree.specs.Planning.{placed}
 use Rattle.wb_tree.specs.Stored.{AreApart as AreKnownApart}
-use Rattle.wb_tree.proofs.Names.{has, had_right, AreApart, same_name, not_both}
-use Rattle.wb_tree.proofs.Truth.{bool_cases, yes}
+use Rattle.wb_tree.proofs.Names.{has, had_right, AreApart, same_name}
+use Rattle.wb_tree.proofs.Truth.{yes}
 
 -- what is not listed has no place
 pub placed-none : (nodes : List NodeName) (places : List Place) (level index : ℕ) → has nodes level index ≡ false → place_in (placed nodes places) level index ≡ None
@@ -32,7 +33,7 @@ placed-some (node ∷ nodes) (place ∷ places) level index long h = go ((node.l
 
 -- what has a place is listed
 pub placed-had : (nodes : List NodeName) (places : List Place) (level index : ℕ) (place : Place) → place_in (placed nodes places) level index ≡ Some place → has nodes level index ≡ true
-placed-had nodes places level index place h = elim (bool_cases (has nodes level index)) [
+placed-had nodes places level index place h = elim (cases_Bool (has nodes level index)) [
   | inl listed ↦ listed
   | inr none ↦ let e = placed-none nodes places level index none in absurd cc
 ]
@@ -106,7 +107,7 @@ placed-behind (first ∷ front) rest node [] apart long = absurd (omega arith)
 placed-behind (first ∷ front) rest node (place ∷ places) apart long =
     let there : has (front ++ node ∷ rest) node.level node.index ≡ true = had_right front (node ∷ rest) node.level node.index (first_had node rest) in
     let other : ((first.level == node.level) && (first.index == node.index)) ≡ false =
-    not_both ((first.level == node.level) && (first.index == node.index)) (λ t.
+    false_from_ne_true ((first.level == node.level) && (first.index == node.index)) (λ t.
     let same = same_name first node.level node.index t in
     let listed : has (front ++ node ∷ rest) first.level first.index ≡ true = subst (λ (n : NodeName). has (front ++ node ∷ rest) n.level n.index ≡ true) (sym same) there in
     absurd cc) in

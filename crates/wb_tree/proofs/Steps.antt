@@ -1,6 +1,6 @@
 -- Steps of a reading, one after the other.
 use Rattle.std.proofs.Common.{◌≡◌, ◌≢◌, ◌≤◌, ◌<◌, ◌+◌, ◌-◌, ◌*◌, ◌^◌, ◌∙◌, ◌&&◌, ap, refl, ℕ, zero, suc, get_or, replicate, Bool, true, false, not, nat_eq, ltb, leb, List, Option, Some, None, Ok, Err, arith, add-one}
-use Rattle.std.proofs.lemmas.Bool.{ne_eqb}
+use Rattle.std.proofs.lemmas.Bool.{ne_eqb, not-true}
 use Rattle.std.proofs.lemmas.Grind.{common_steps}
 use borrow.Author.Tests.{ltb-true}
 use Rattle.std.proofs.Math.Nat.{one-le-pow, mul-le-mul_left}
@@ -10,7 +10,7 @@ use Rattle.wb_types.specs.declared.number.Place.{Place}
 use Rattle.wb_format.specs.declared.root.Root.{Root}
 use Rattle.wb_tree.specs.declared.placed.PlacedNode.{PlacedNode}
 use Rattle.wb_tree.specs.Reading.{Found, Reading, Nodes, node_read, ◌then◌, each_step, child_read, names_child, entry_read, may_map, is_reached}
-use Rattle.wb_tree.proofs.Truth.{and_true, not_is_true}
+use Rattle.wb_tree.proofs.Truth.{and_true}
 
 -- the next of the steps that are left
 pub each_step-next : (step : ℕ → Found → Reading) (j : ℕ) (found : Found) → j < 32 → each_step step (32 - j) j found ≡ (step j found then each_step step (32 - (j + 1)) (j + 1))
@@ -55,7 +55,7 @@ names_child-is root reached level index word h =
     record {
       behind = grind (arith, common_steps);
       inside = ltb-true _ _ d.1;
-      unread = not_is_true (is_reached word reached) b.1;
+      unread = not-true (is_reached word reached) b.1;
       below = ltb-true _ _ a.1;
     }
 
