@@ -1,6 +1,5 @@
 -- What is read of a tree depends on the places that it reaches alone.
-use Rattle.std.proofs.Common.{◌≡◌, ◌+◌, ◌*◌, ◌==◌, ℕ, zero, suc, Bool, true, false, cond, nat_eq, List, [], ◌∷◌, ◌++◌, Option, Some, None, Ok, Err, refl, sym, ◌∙◌, ap, subst, arith}
-use Rattle.std.proofs.lemmas.Bool.Decides.{nat_tests}
+use Rattle.std.proofs.Common.{◌≡◌, ◌+◌, ◌*◌, ◌==◌, ℕ, zero, suc, Bool, true, false, cond, nat_eq, List, [], ◌∷◌, ◌++◌, Option, Some, None, Ok, Err, refl, sym, ◌∙◌, ap, subst}
 use Rattle.std.specs.Prelude.{slice_index, if◌then◌else◌}
 use Rattle.wb_types.specs.declared.entry.Entry.{Entry}
 use Rattle.wb_types.specs.declared.number.Place.{Place}
@@ -12,23 +11,18 @@ use Rattle.wb_tree.specs.declared.placed.PlacedNode.{PlacedNode}
 use Rattle.wb_tree.specs.Reading.{Found, Reading, Nodes, ReadsAs, AreNodes, ◌then◌, each_step, entry_in, entry_read, may_map, child_read, names_child, is_node_of, reached_at, words_read, node_read, is_reached, nothing_found, top_read, tree_read}
 use Rattle.wb_format.proofs.Values.{one_node}
 use Rattle.wb_tree.proofs.ReachedLemmas.{is_reached-push}
+use Rattle.wb_tree.proofs.Steps.{then_ok, test_ok}
+use Rattle.wb_tree.proofs.Truth.{yes}
+use Rattle.wb_tree.specs.Loading.{AgreeAt}
 use Rattle.wb_meta.specs.Holding.{Holds}
-
--- the same is read at the places that were reached
-abbrev pub Agree : Nodes → Nodes → List PlacedNode → Type 0
-Agree a b reached = (place : ℕ) → is_reached place reached ≡ true → a place ≡ b place
 
 -- what was reached is still reached, and where the same is read there, another reading gives the same
 record Follows (a b : Nodes) (other : Reading) (found next : Found) : Type 0 where
   pub more : (place : ℕ) → is_reached place found.reached ≡ true → is_reached place next.reached ≡ true
-  pub same : Agree a b next.reached → other ≡ Ok next
+  pub same : AgreeAt next.reached a b → other ≡ Ok next
 
 abbrev Following : Nodes → Nodes → (Found → Reading) → (Found → Reading) → Type 0
 Following a b read other = (found next : Found) → read found ≡ Ok next → Follows a b (other found) found next
-
-then_ok : (reading : Reading) (go_on : Found → Reading) (next : Found) → (reading then go_on) ≡ Ok next → (found : Found) × (reading ≡ Ok found) × (go_on found ≡ Ok next)
-then_ok (Ok found) go_on next e = (found, refl, e)
-then_ok (Err place) go_on next e = absurd (cc)
 
 -- a reading gives this
 abbrev Gives : Reading → Found → Type 0
@@ -87,21 +81,14 @@ both_true false r e = e
 pub reached_before : (place : ℕ) (xs : List PlacedNode) (node : PlacedNode) → is_reached place xs ≡ true → is_reached place (xs ++ node ∷ []) ≡ true
 reached_before place xs node r = is_reached-push place xs node ∙ both_true (nat_eq node.place.0 place) (is_reached place xs) r
 
-pub same_number : (n : ℕ) → nat_eq n n ≡ true
-same_number n = grind (arith, nat_tests)
-
 pub reached_last : (node : PlacedNode) (xs : List PlacedNode) → is_reached node.place.0 (xs ++ node ∷ []) ≡ true
-reached_last node xs = is_reached-push node.place.0 xs node ∙ ap (λ t. cond t true (is_reached node.place.0 xs)) (same_number node.place.0)
-
-words_by : (test : Bool) (here : Place) (reading : Reading) (next : Found) → (if test then reading else Err here) ≡ Ok next → (test ≡ true) × (reading ≡ Ok next)
-words_by true here reading next e = (refl, e)
-words_by false here reading next e = absurd (cc)
+reached_last node xs = is_reached-push node.place.0 xs node ∙ ap (λ t. cond t true (is_reached node.place.0 xs)) (yes node.place.0)
 
 words_following : (a b : Nodes) (root : Root) (level index : ℕ) (here : Place) (read other : Node → Found → Reading) → ((node : Node) → Following a b (read node) (other node)) → (was : Option Node) → a here.0 ≡ was → (found next : Found)
     → words_read root level index here read was found ≡ Ok next → Follows a b (words_read root level index here other (b here.0) found) found next
 words_following a b root level index here read other h None is found next e = absurd (cc)
 words_following a b root level index here read other h (Some node) is found next e =
-    let w = words_by (is_node_of root level index node) here (read node (reached_at level index here found)) next e in
+    let w = test_ok (is_node_of root level index node) here (read node (reached_at level index here found)) next e in
     let rest = h node (reached_at level index here found) next w.1 in
     let placed : PlacedNode = record { level = level; index = index; place = here } in
     record {
@@ -124,7 +111,7 @@ node_following a b root (suc (suc level)) index here found next e =
     (λ node. each_following a b _ _ (λ j. child_following a b root here (suc level) (32 * index + j) (node_read root a (suc level)) (node_read root b (suc level))
     (λ i place. node_following a b root (suc level) i place) (slice_index node.words j)) 32 0) (a here.0) refl found next e
 
-pub top_following : (a b : Nodes) (root : Root) (top : Option Place) (next : Found) → top_read root a top ≡ Ok next → Agree a b next.reached → top_read root b top ≡ Ok next
+pub top_following : (a b : Nodes) (root : Root) (top : Option Place) (next : Found) → top_read root a top ≡ Ok next → AgreeAt next.reached a b → top_read root b top ≡ Ok next
 top_following a b root None next e agree = e
 top_following a b root (Some top) next e agree = (node_following a b root (depth_of root.geometry.cache_blocks) 0 top (nothing_found root) next e).same agree
 

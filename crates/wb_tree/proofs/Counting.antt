@@ -7,7 +7,7 @@ use Rattle.std.proofs.Math.Nat.{one-le-pow, lt_of_mul-lt-mul_right}
 use Rattle.wb_types.specs.declared.entry.Entry.{Entry}
 use Rattle.wb_types.specs.Limits.{depth_of, node_count, nodes_at, nodes_up_to}
 use Rattle.wb_tree.specs.Mapping.{NodeName, exists, each_from, nodes_below, nodes_of}
-use Rattle.wb_tree.proofs.Listing.{exists-starts}
+use Rattle.wb_tree.proofs.Fronts.{begins_inside}
 
 -- how many nodes of a level and below it stand before one of its nodes, where every cache block has an entry
 before : ℕ → ℕ → ℕ → ℕ
@@ -48,7 +48,7 @@ below-counted entries blocks long zero index = omega arith
 below-counted entries blocks long (suc level) index = elim (cases_Bool (exists entries (suc level) index)) [
   | inl some ↦
       let children : List NodeName = each_from (nodes_below entries level) 32 (32 * index) in
-      let starts = exists-starts entries (suc level) index some in
+      let starts = begins_inside entries (suc level) index some in
       let counted = index-counted (suc level) blocks index (omega arith) in
       let each = each-counted entries level blocks (below-counted entries blocks long level) 32 (32 * index) in
       let last : 32 * index + 32 ≡ 32 * (index + 1) = omega arith in

@@ -1,9 +1,9 @@
 -- The list of a tree's nodes, one part after the other.
-use Rattle.std.proofs.Common.{◌≡◌, ◌≤◌, ◌<◌, ◌+◌, ◌-◌, ◌*◌, ◌^◌, ◌∙◌, sym, ap, refl, ℕ, zero, suc, Bool, true, false, cond, List, [], ◌∷◌, ◌++◌, Option, take, drop, length, append_assoc, arith, inl, inr}
-use Rattle.std.proofs.lemmas.Bool.{cases_lt}
-use Rattle.std.proofs.lemmas.List.{append-nil, drop_all, take_all}
+use Rattle.std.proofs.Common.{◌≡◌, ◌≤◌, ◌<◌, ◌+◌, ◌-◌, ◌*◌, ◌∙◌, sym, ap, refl, ℕ, zero, suc, Bool, true, false, cond, List, [], ◌∷◌, ◌++◌, Option, length, append_assoc, arith}
+use Rattle.std.proofs.lemmas.List.{append-nil}
 use Rattle.wb_types.specs.declared.entry.Entry.{Entry}
 use Rattle.wb_tree.specs.Mapping.{NodeName, exists, each_from, nodes_below}
+use Rattle.wb_tree.proofs.Fronts.{begins_inside}
 use Rattle.wb_tree.proofs.Steps.{index_below}
 
 -- one list more
@@ -73,21 +73,6 @@ leaf-children entries level first e = ap (λ l. each_from (nodes_below entries (
 
 -- ---- where a node begins
 
-none_any : (entries : List (Option Entry)) (level index : ℕ) → length entries ≤ index * 32 ^ level → exists entries level index ≡ false
-unfolding exists
-none_any entries level index past =
-    let none : drop (index * 32 ^ level) entries ≡ [] = drop_all (index * 32 ^ level) entries past in
-    let nothing : List (Option Entry) = [] in
-    let few : take (32 ^ level) nothing ≡ nothing = take_all (32 ^ level) nothing (omega arith) in
-    rw (none, few) refl
-
--- a node that exists begins before the last entry
-pub exists-starts : (entries : List (Option Entry)) (level index : ℕ) → exists entries level index ≡ true → index * 32 ^ level < length entries
-exists-starts entries level index e = elim (cases_lt (index * 32 ^ level) (length entries)) [
-  | inl inside ↦ inside
-  | inr past ↦ let none = none_any entries level index past in absurd cc
-]
-
--- so its index is below the number of entries
+-- a node that exists has an index below the number of entries
 pub exists-before : (entries : List (Option Entry)) (level index : ℕ) → exists entries level index ≡ true → index < length entries
-exists-before entries level index e = index_below index level (length entries) (exists-starts entries level index e)
+exists-before entries level index e = index_below index level (length entries) (begins_inside entries level index e)

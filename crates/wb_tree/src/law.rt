@@ -1,4 +1,4 @@
-//! What an edit of one entry keeps, and what follows of it for the image after it.
+//! What an edit of one entry keeps.
 
 ghost use Rattle.std.specs.Prelude.{◌≡◌, ℕ, Option, List, slice_set};
 ghost use Rattle.wb_types.specs.declared.entry.Entry.{Entry};
