@@ -9,27 +9,30 @@ use lib.ListN.{get_elem?}
 use prog.Atomic.{either}
 use Rattle.atomic_table.specs.Table.{Me, Allows, opening}
 use Rattle.wb_types.specs.declared.number.OBlock.{OBlock}
-use Rattle.wb_types.specs.declared.word.Access.{Access}
-use Rattle.wb_types.specs.declared.word.Access.TheVariants.{Shared, Owned}
-use Rattle.wb_types.specs.declared.word.Kind.{Kind}
-use Rattle.wb_types.specs.declared.word.Kind.TheVariants.{ReadHit, ReadMiss, WriteHit, WriteMiss}
-use Rattle.wb_types.specs.declared.word.Word.{Word as WordName}
-use Rattle.wb_types.specs.declared.word.Word.TheVariants.{Cell as LockWord, Seal as SealWord, Number, Count as CountWord, Fail}
-use Rattle.wb_types.specs.Words.{Words, word_at, value_of, count_in, with_cell, can_take, taken, given_back, one_more, fresh_words, counted}
-use Rattle.wb_cells.specs.declared.card.Hold.TheVariants.{Nothing, Held}
-use Rattle.wb_cells.specs.declared.card.Card.{Card}
-use Rattle.wb_cells.specs.declared.card.View.{View}
-use Rattle.wb_cells.specs.Flat.{index_of, IsWord, put, decode}
-use Rattle.wb_cells.specs.Cards.{blank, total, sharers, owners, writes_on, counts_of, looked, losing, holding, sealing, finishing, counting, failing}
-use Rattle.wb_cells.specs.Rule.{block, Knows, LockRule}
-use Rattle.wb_cells.specs.Parts.{IsWhole}
+use Rattle.wb_words.specs.declared.word.Access.{Access}
+use Rattle.wb_words.specs.declared.word.Access.TheVariants.{Shared, Owned}
+use Rattle.wb_words.specs.declared.word.Kind.{Kind}
+use Rattle.wb_words.specs.declared.word.Kind.TheVariants.{ReadHit, ReadMiss, WriteHit, WriteMiss}
+use Rattle.wb_words.specs.declared.word.Word.{Word as WordName}
+use Rattle.wb_words.specs.declared.word.Word.TheVariants.{Cell as LockWord, Seal as SealWord, Number, Count as CountWord, Fail}
+use Rattle.wb_words.specs.SharedWords.{Words, word_at, value_of, count_in, with_cell, can_take, taken, given_back, one_more, fresh_words, counted}
+use Rattle.wb_words.specs.declared.card.Hold.TheVariants.{Nothing, Held}
+use Rattle.wb_words.specs.declared.card.Card.{Card}
+use Rattle.wb_cells.specs.declared.view.View.{View}
+use Rattle.wb_words.specs.SharedWords.{IsWord, put}
+use Rattle.wb_cells.specs.Flat.{index_of, decode}
+use Rattle.wb_words.specs.Cards.{blank, total, sharers, owners, writes_on, counts_of, looked, losing, holding, sealing, finishing, counting, failing}
+use Rattle.wb_words.specs.Rule.{block, Knows, LockRule}
+use Rattle.wb_cells.specs.Fractions.{IsWhole}
 use Rattle.wb_cells.specs.Views.{Ruled, opened}
 use Rattle.wb_cells.specs.Crews.{IsCrew}
-use Rattle.wb_cells.specs.Steps.{card_at, SeatMoves, Finds}
-use Rattle.wb_cells.proofs.Totals.{total-replicate}
-use Rattle.wb_cells.proofs.Decoding.{word_at_is, decode_fresh, put_same, put_count}
+use Rattle.wb_words.specs.Looks.{Finds}
+use Rattle.wb_cells.specs.Moves.{card_at, SeatMoves}
+use Rattle.wb_words.proofs.Totals.{total-replicate}
+use Rattle.wb_words.proofs.Values.{word_at_is, put_same, put_count}
+use Rattle.wb_cells.proofs.Decoding.{decode_fresh}
 use Rattle.wb_cells.proofs.Core.{steps, some_is}
-use Rattle.wb_cells.proofs.KindsKept.{look_keeps, loss_keeps, take_keeps, release_keeps, seal_keeps, finish_keeps, count_keeps, fail_keeps, finds, both_of}
+use Rattle.wb_words.proofs.RuleKept.{look_keeps, loss_keeps, take_keeps, release_keeps, seal_keeps, finish_keeps, count_keeps, fail_keeps, finds, both_of}
 
 -- a step that leaves the fail word
 same_fail : (old new : ℕ) → new ≡ old → (old ≤ new) × (0 ≤ new)
@@ -184,25 +187,25 @@ starts n m = record {
   known = λ j v ws e is. first_words j v ws e is;
 }
   where
-    first_deep : (j : ℕ) (v : View) → get_elem? (opened n m ∷ []) j ≡ some v → v.part.halvings ≤ 0
-    first_deep zero v e = let h : 0 ≡ v.part.halvings = ap (λ (u : View). u.part.halvings) (some-injective (opened n m) v e) in omega arith
+    first_deep : (j : ℕ) (v : View) → get_elem? (opened n m ∷ []) j ≡ some v → v.fraction.halvings ≤ 0
+    first_deep zero v e = let h : 0 ≡ v.fraction.halvings = ap (λ (u : View). u.fraction.halvings) (some-injective (opened n m) v e) in omega arith
     first_deep (suc j) v e = absurd (some-ne-none v (sym e))
 
     first_floor : (j : ℕ) (v : View) → get_elem? (opened n m ∷ []) j ≡ some v → v.fail ≤ (decode (replicate (3 * n + 5) 0)).fail
     first_floor zero v e = let h : 0 ≡ v.fail = ap (λ (u : View). u.fail) (some-injective (opened n m) v e) in omega arith
     first_floor (suc j) v e = absurd (some-ne-none v (sym e))
 
-    first_parts : (j : ℕ) (v : View) → get_elem? (opened n m ∷ []) j ≡ some v → v.part.pieces ≡ 0 → ⊥
-    first_parts zero v e z = let w : 1 ≡ v.part.pieces = ap (λ (u : View). u.part.pieces) (some-injective (opened n m) v e) in omega arith
+    first_parts : (j : ℕ) (v : View) → get_elem? (opened n m ∷ []) j ≡ some v → v.fraction.pieces ≡ 0 → ⊥
+    first_parts zero v e z = let w : 1 ≡ v.fraction.pieces = ap (λ (u : View). u.fraction.pieces) (some-injective (opened n m) v e) in omega arith
     first_parts (suc j) v e z = some-ne-none v (sym e)
 
     first_blocks : (j : ℕ) (v : View) → get_elem? (opened n m ∷ []) j ≡ some v → v.blocks ≡ n
     first_blocks zero v e = ap (λ (u : View). u.blocks) (sym (some-injective (opened n m) v e))
     first_blocks (suc j) v e = absurd (some-ne-none v (sym e))
 
-    first_words : (j : ℕ) (v : View) (ws : List ℕ) → get_elem? (opened n m ∷ []) j ≡ some v → v.words ≡ Some ws → (ws ≡ replicate (3 * n + 5) 0) × IsWhole v.part
+    first_words : (j : ℕ) (v : View) (ws : List ℕ) → get_elem? (opened n m ∷ []) j ≡ some v → v.words ≡ Some ws → (ws ≡ replicate (3 * n + 5) 0) × IsWhole v.fraction
     first_words zero v ws e is = let same : Some (replicate (3 * n + 5) 0) ≡ Some ws = ap (λ (u : View). u.words) (some-injective (opened n m) v e) ∙ is in
-        (some_is _ _ (sym same), subst (λ (u : View). IsWhole u.part) (some-injective (opened n m) v e) refl)
+        (some_is _ _ (sym same), subst (λ (u : View). IsWhole u.fraction) (some-injective (opened n m) v e) refl)
     first_words (suc j) v ws e is = absurd (some-ne-none v (sym e))
 
 pub crew_opened : (n b m : ℕ) (v : View) → b ≡ n → v ≡ opened n m → IsCrew b v

@@ -7,22 +7,23 @@ use native.Mathlib.Decide.{ℕ_discrete}
 use lib.ListN.{get_elem?}
 use Rattle.atomic_table.specs.Table.{State, Me, keeps, Allows}
 use Rattle.atomic_table.proofs.Lists.{at_set, at_index}
-use Rattle.wb_types.specs.declared.word.Word.{Word as WordName}
-use Rattle.wb_types.specs.Words.{Words, value_of}
-use Rattle.wb_cells.specs.declared.card.Card.{Card}
-use Rattle.wb_cells.specs.declared.card.View.{View}
-use Rattle.wb_cells.specs.Flat.{index_of, IsWord, decode, put}
-use Rattle.wb_cells.specs.Cards.{blank}
-use Rattle.wb_cells.specs.Rule.{LockRule}
-use Rattle.wb_cells.specs.Parts.{IsWhole}
+use Rattle.wb_words.specs.declared.word.Word.{Word as WordName}
+use Rattle.wb_words.specs.SharedWords.{Words, value_of}
+use Rattle.wb_words.specs.declared.card.Card.{Card}
+use Rattle.wb_cells.specs.declared.view.View.{View}
+use Rattle.wb_words.specs.SharedWords.{IsWord, put}
+use Rattle.wb_cells.specs.Flat.{index_of, decode}
+use Rattle.wb_words.specs.Cards.{blank}
+use Rattle.wb_words.specs.Rule.{LockRule}
+use Rattle.wb_cells.specs.Fractions.{IsWhole}
 use Rattle.wb_cells.specs.Views.{Ruled, all_cards, view_pieces, words_or}
-use Rattle.wb_cells.specs.Steps.{card_at, raised, SeatMoves}
+use Rattle.wb_cells.specs.Moves.{card_at, raised, SeatMoves}
 use Rattle.wb_cells.proofs.Decoding.{decode_get, decode_set}
 use Rattle.wb_cells.proofs.Halves.{crowd, whole_sum, same_parts, some_pieces}
 use Rattle.wb_cells.proofs.Flatten.{flat, alone}
 
 abbrev fitted : View → ℕ → List Card → Option (List ℕ) → View
-fitted v fail ds ws = record { part = v.part; blocks = v.blocks; cards = ds; fail = fail; words = ws }
+fitted v fail ds ws = record { fraction = v.fraction; blocks = v.blocks; cards = ds; fail = fail; words = ws }
 
 pub some_is : (a b : List ℕ) → Some a ≡ Some b → a ≡ b
 some_is a b e = cc
@@ -33,30 +34,30 @@ here (y ∷ ys) zero v w e = refl
 here (y ∷ ys) (suc k) v w e = here ys k v w e
 
 -- a seat with a card has a part
-pub has_part : (n : ℕ) (s : State ℕ View) → Ruled n s → (id k : ℕ) (v : View) (c : Card) → get_elem? s.views id ≡ some v → get_elem? v.cards k ≡ some c → v.part.pieces ≢ 0
+pub has_part : (n : ℕ) (s : State ℕ View) → Ruled n s → (id k : ℕ) (v : View) (c : Card) → get_elem? s.views id ≡ some v → get_elem? v.cards k ≡ some c → v.fraction.pieces ≢ 0
 has_part n s r id k v c at e z = some-ne-none c (sym e ∙ ap (λ (l : List Card). get_elem? l k) (r.bare id v at z))
 
 -- all cards are those of the seat that has the whole
-pub all_its_own : (n : ℕ) (s : State ℕ View) (r : Ruled n s) (id : ℕ) (v : View) → get_elem? s.views id ≡ some v → IsWhole v.part → all_cards s.views ≡ v.cards
-all_its_own n s r id v at all = alone (view_pieces r.parts.depth) s.views id v at (whole_sum s.views r.parts id v at all) (λ j u e z. r.bare j u e (some_pieces r.parts.depth u.part z))
+pub all_its_own : (n : ℕ) (s : State ℕ View) (r : Ruled n s) (id : ℕ) (v : View) → get_elem? s.views id ≡ some v → IsWhole v.fraction → all_cards s.views ≡ v.cards
+all_its_own n s r id v at all = alone (view_pieces r.parts.depth) s.views id v at (whole_sum s.views r.parts id v at all) (λ j u e z. r.bare j u e (some_pieces r.parts.depth u.fraction z))
 
-module _ (n id i x : ℕ) (s : State ℕ View) (r : Ruled n s) (v : View) (at : get_elem? s.views id ≡ some v) (some_part : v.part.pieces ≢ 0) where
+module _ (n id i x : ℕ) (s : State ℕ View) (r : Ruled n s) (v : View) (at : get_elem? s.views id ≡ some v) (some_part : v.fraction.pieces ≢ 0) where
   -- the rule where the cards of the seat id become ds, and the word i becomes x
   after : (fail : ℕ) (ds : List Card) (ws : Option (List ℕ)) → fail ≤ (decode (set s.words i x)).fail → (decode s.words).fail ≤ (decode (set s.words i x)).fail → LockRule n (decode (set s.words i x)) (all_cards (set s.views id (fitted v fail ds ws)))
-      → ((xs : List ℕ) → ws ≡ Some xs → (xs ≡ set s.words i x) × IsWhole v.part)
+      → ((xs : List ℕ) → ws ≡ Some xs → (xs ≡ set s.words i x) × IsWhole v.fraction)
       → Ruled n record { words = set s.words i x; homes = s.homes; views = set s.views id (fitted v fail ds ws) }
   after fail ds ws low grown rule new = let w : View = fitted v fail ds ws in record {
     wide = length-set s.words i x ∙ r.wide;
     rule = rule;
     parts = same_parts s.views id v w at refl r.parts;
-    bare = λ j u e z. ⊎_elim (λ (t : (j ≡ id) × (w ≡ u)). absurd (some_part (ap (λ (y : View). y.part.pieces) t.1 ∙ z)))
+    bare = λ j u e z. ⊎_elim (λ (t : (j ≡ id) × (w ≡ u)). absurd (some_part (ap (λ (y : View). y.fraction.pieces) t.1 ∙ z)))
         (λ (t : (j ≢ id) × (get_elem? s.views j ≡ some u)). r.bare j u t.1 z) (at_set s.views id j w u e);
     sized = λ j u e more. ⊎_elim (λ (t : (j ≡ id) × (w ≡ u)). ap (λ (y : View). y.blocks) (sym t.1) ∙ r.sized id v at some_part)
         (λ (t : (j ≢ id) × (get_elem? s.views j ≡ some u)). r.sized j u t.1 more) (at_set s.views id j w u e);
     floor = λ j u e. ⊎_elim (λ (t : (j ≡ id) × (w ≡ u)). subst (λ (y : View). y.fail ≤ (decode (set s.words i x)).fail) t.1 low)
         (λ (t : (j ≢ id) × (get_elem? s.views j ≡ some u)). let old = r.floor j u t.1 in omega arith) (at_set s.views id j w u e);
     known = λ j u xs e is. ⊎_elim
-        (λ (t : (j ≡ id) × (w ≡ u)). let h = new xs (ap (λ (y : View). y.words) t.1 ∙ is) in (h.0, subst (λ (y : View). IsWhole y.part) t.1 h.1))
+        (λ (t : (j ≡ id) × (w ≡ u)). let h = new xs (ap (λ (y : View). y.words) t.1 ∙ is) in (h.0, subst (λ (y : View). IsWhole y.fraction) t.1 h.1))
         (λ (t : (j ≢ id) × (get_elem? s.views j ≡ some u)). absurd (crowd s.views r.parts id v j u at some_part t.0 t.1 (r.known j u xs t.1 is).1)) (at_set s.views id j w u e);
   }
 
@@ -81,11 +82,11 @@ steps n slots id word k me f bits Q E named turn can grows s r _ at small =
     let grown : (decode s.words).fail ≤ (decode (set s.words i (f x))).fail = subst (λ (u : Words). (decode s.words).fail ≤ u.fail) (sym put_is) up.0 in
     let high : bits ≤ (decode (set s.words i (f x))).fail = subst (λ (u : Words). bits ≤ u.fail) (sym put_is) up.1 in
     let floor = r.floor id v at in let low : raised bits v.fail ≤ (decode (set s.words i (f x))).fail = raised_le bits v.fail _ (omega arith) high in
-    let some_part : v.part.pieces ≢ 0 = has_part n s r id k v c at stands in
+    let some_part : v.fraction.pieces ≢ 0 = has_part n s r id k v c at stands in
     let rule : (ws : Option (List ℕ)) → LockRule n (decode (set s.words i (f x))) (all_cards (set s.views id (fitted v (raised bits v.fail) (set v.cards k d) ws))) =
     λ ws. subst (λ (z : Words × List Card). LockRule n z.0 z.1) (λ j. (sym put_is j, sym (place.2 (fitted v (raised bits v.fail) (set v.cards k d) ws) d refl) j)) t.1 in
-    dite (ℕ_discrete v.part.pieces (Rattle.wb_cells.specs.Parts.doubled 1 v.part.halvings))
-    (λ (all : IsWhole v.part). let ws : Option (List ℕ) = Some (set s.words i (f x)) in let w : View = fitted v (raised bits v.fail) (set v.cards k d) ws in
+    dite (ℕ_discrete v.fraction.pieces (Rattle.wb_cells.specs.Fractions.doubled 1 v.fraction.halvings))
+    (λ (all : IsWhole v.fraction). let ws : Option (List ℕ) = Some (set s.words i (f x)) in let w : View = fitted v (raised bits v.fail) (set v.cards k d) ws in
     let state : Ruled n record { words = set s.words i (f x); homes = s.homes; views = set s.views id w } =
     after n id i (f x) s r v at some_part (raised bits v.fail) (set v.cards k d) ws low grown (rule ws) (λ xs e. (some_is _ _ (sym e), all)) in (
       w,
@@ -96,7 +97,7 @@ steps n slots id word k me f bits Q E named turn can grows s r _ at small =
         record {
           card = subst (Q x c) (sym now) t.2;
           others = ap (set v.cards k) (sym now);
-          part = refl;
+          fraction = refl;
           blocks = refl;
           floor = refl;
           words = λ _. record {
@@ -117,7 +118,7 @@ steps n slots id word k me f bits Q E named turn can grows s r _ at small =
       keeps,
       tt,
       after n id i (f x) s r v at some_part (raised bits v.fail) (set v.cards k d) None low grown (rule None) (λ xs e. absurd (none-some xs e)),
-      (record { card = subst (Q x c) (sym now) t.2; others = ap (set v.cards k) (sym now); part = refl; blocks = refl; floor = refl; words = λ all. absurd (part all) }, refl),
+      (record { card = subst (Q x c) (sym now) t.2; others = ap (set v.cards k) (sym now); fraction = refl; blocks = refl; floor = refl; words = λ all. absurd (part all) }, refl),
     ))
   where
     get_or_self : (l : List Card) (k : ℕ) → get_or l k blank ≡ get_or l k (get_or l k blank)

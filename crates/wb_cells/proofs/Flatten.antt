@@ -2,11 +2,11 @@
 use Rattle.std.proofs.Common.{◌≡◌, ◌⊎◌, ℕ, zero, suc, ◌+◌, ◌≤◌, List, [], ◌∷◌, ◌++◌, set, sym, refl, ap, ◌∙◌, inl, inr, ⊎_elim, arith}
 use mathlib.Core.Option.{some, some-injective, some-ne-none}
 use lib.ListN.{get_elem?}
-use Rattle.wb_cells.specs.declared.card.Card.{Card}
-use Rattle.wb_cells.specs.declared.card.View.{View}
-use Rattle.wb_cells.specs.Cards.{total}
+use Rattle.wb_words.specs.declared.card.Card.{Card}
+use Rattle.wb_cells.specs.declared.view.View.{View}
+use Rattle.wb_words.specs.Cards.{total}
 use Rattle.wb_cells.specs.Views.{all_cards}
-use Rattle.wb_cells.proofs.Totals.{total-append, total_at}
+use Rattle.wb_words.proofs.Totals.{total-append, total_at}
 
 module _ {A : Type 0} where
   abbrev past : List A → ℕ → ℕ

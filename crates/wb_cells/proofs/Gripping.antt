@@ -2,55 +2,54 @@
 use Rattle.std.proofs.Common.{◌≡◌, ℕ, ◌<◌, Bool, true, false, cond, if◌then◌else◌, eqb, eq-eqb, List, ◌∷◌, sym, refl, ap, ◌∙◌, subst, inl, inr, arith, Some}
 use Rattle.std.proofs.lemmas.Bool.{eqb-true, true≢false}
 use Rattle.wb_types.specs.declared.number.OBlock.{OBlock}
-use Rattle.wb_types.specs.declared.word.Access.{Access}
-use Rattle.wb_types.specs.declared.word.Access.TheVariants.{Shared, Owned}
-use Rattle.wb_types.specs.declared.word.Word.{Word as WordName}
-use Rattle.wb_types.specs.declared.word.Word.TheVariants.{Cell as LockWord, Seal as SealWord, Number, Fail}
+use Rattle.wb_words.specs.declared.word.Access.{Access}
+use Rattle.wb_words.specs.declared.word.Access.TheVariants.{Shared, Owned}
+use Rattle.wb_words.specs.declared.word.Word.{Word as WordName}
+use Rattle.wb_words.specs.declared.word.Word.TheVariants.{Cell as LockWord, Seal as SealWord, Number, Fail}
 use Rattle.wb_types.specs.declared.refusal.Refusal.TheVariants.{Busy, Failed}
-use Rattle.wb_types.specs.Words.{can_take, place_in, dirty_in}
-use Rattle.wb_cells.specs.declared.card.Hold.{Hold}
-use Rattle.wb_cells.specs.declared.card.Hold.TheVariants.{Held}
-use Rattle.wb_cells.specs.declared.card.Card.{Card}
-use Rattle.wb_cells.specs.declared.grip.Stage.{Stage}
-use Rattle.wb_cells.specs.declared.grip.Stage.TheVariants.{LookFail, LookLock, Exchange, LookSeal, LookNumber, Ended}
-use Rattle.wb_cells.specs.declared.grip.Grip.{Grip}
-use Rattle.wb_cells.specs.declared.grip.Gripped.{Gripped}
-use Rattle.wb_cells.specs.declared.grip.Gripped.TheVariants.{More, Shared as GrippedShared, Owned as GrippedOwned, Refused}
-use Rattle.wb_cells.specs.Cards.{looked, losing, holding, is_own_seal, is_own_number}
-use Rattle.wb_cells.specs.Steps.{Finds, SawAtMost}
-use Rattle.wb_cells.specs.Grips.{told_held, told_at, stage_after, card_after, FindsAt, FitsStage, GripStep, IsMore, stages_left, tried, Holds, Stays, EndsAs}
+use Rattle.wb_words.specs.SharedWords.{can_take, place_in, dirty_in}
+use Rattle.wb_words.specs.declared.card.Hold.{Hold}
+use Rattle.wb_words.specs.declared.card.Hold.TheVariants.{Held}
+use Rattle.wb_words.specs.declared.card.Card.{Card}
+use Rattle.wb_words.specs.declared.grip.GripStage.{GripStage}
+use Rattle.wb_words.specs.declared.grip.GripStage.TheVariants.{LookFail, LookLock, Exchange, LookSeal, LookNumber}
+use Rattle.wb_words.specs.declared.grip.Grip.{Grip}
+use Rattle.wb_words.specs.declared.grip.Gripped.{Gripped}
+use Rattle.wb_words.specs.declared.grip.Gripped.TheVariants.{More, Shared as GrippedShared, Owned as GrippedOwned, Refused}
+use Rattle.wb_words.specs.Cards.{looked, losing, holding, is_own_seal, is_own_number}
+use Rattle.wb_words.specs.Looks.{Finds, SawAtMost}
+use Rattle.wb_words.specs.Grips.{told_held, told_at, stage_after, card_having_found, FindsAt, IsReadyAt, GripStep, IsMore, stages_left, tried, Holds, Stays, EndsAs}
 
 -- what the card of a grip that has come to a stage has become
-abbrev pub Reached : Access → OBlock → Stage → Card → Card → Type 0
+abbrev pub Reached : Access → OBlock → GripStage → Card → Card → Type 0
 Reached access block LookFail card after = after ≡ card
 Reached access block LookLock card after = after ≡ looked Fail 0 card
 Reached access block (Exchange seen) card after = after ≡ tried block seen card
 Reached access block LookSeal card after = (w : ℕ) × (after ≡ holding (Held access block) (tried block w card))
 Reached access block (LookNumber seal) card after = (w : ℕ) × (after ≡ looked (SealWord block) seal (holding (Held access block) (tried block w card)))
-Reached access block Ended card after = ⊥
 
 -- a grip on its way
 pub record OnTheWay (access : Access) (block : OBlock) (card : Card) (grip : Grip) (now : Card) : Type 0 where
   pub access_is : grip.access ≡ access
   pub block_is : grip.block ≡ block
-  pub fits : FitsStage access block grip.stage now
+  pub fits : IsReadyAt access block grip.stage now
   pub reached : Reached access block grip.stage card now
 
 module _ (access : Access) (block : OBlock) (c d e : Card) (x : ℕ) where
-  goes_on : (stage : Stage) → Reached access block stage c d → e ≡ card_after access block stage x d → IsMore (told_at access block stage x) → Reached access block (stage_after access stage x) c e
+  goes_on : (stage : GripStage) → Reached access block stage c d → e ≡ card_having_found access block stage x d → IsMore (told_at access block stage x) → Reached access block (stage_after access stage x) c e
   goes_on LookFail r is more = by_test (eqb x 0) refl more
     where
-      by_test : (t : Bool) → eqb x 0 ≡ t → IsMore (cond t (More x) (Refused Failed)) → Reached access block (cond t LookLock Ended) c e
+      by_test : (t : Bool) → eqb x 0 ≡ t → IsMore (cond t (More x) (Refused Failed)) → Reached access block (cond t LookLock LookFail) c e
       by_test true z m = is ∙ (λ i. looked Fail (eqb-true x 0 z i) (r i))
       by_test false z m = absurd m
   goes_on LookLock r is more = by_test (can_take access x) more
     where
-      by_test : (t : Bool) → IsMore (cond t (More x) (Refused Busy)) → Reached access block (cond t (Exchange x) Ended) c e
+      by_test : (t : Bool) → IsMore (cond t (More x) (Refused Busy)) → Reached access block (cond t (Exchange x) LookFail) c e
       by_test true m = is ∙ ap (looked (LockWord block) x) r
       by_test false m = absurd m
   goes_on (Exchange seen) r is more = by_test (eqb x seen) is more
     where
-      by_test : (t : Bool) → e ≡ (if t then holding (Held access block) d else losing block x d) → IsMore (cond t (More x) (Refused Busy)) → Reached access block (cond t LookSeal Ended) c e
+      by_test : (t : Bool) → e ≡ (if t then holding (Held access block) d else losing block x d) → IsMore (cond t (More x) (Refused Busy)) → Reached access block (cond t LookSeal LookFail) c e
       by_test true i m = (seen, i ∙ ap (holding (Held access block)) r)
       by_test false i m = absurd m
   goes_on LookSeal r is more = (r.0, is ∙ ap (looked (SealWord block) x) r.1)
@@ -59,27 +58,29 @@ module _ (access : Access) (block : OBlock) (c d e : Card) (x : ℕ) where
       never : (a : Access) → IsMore (told_held a block seal x) → ⊥
       never Shared m = m
       never Owned m = m
-  goes_on Ended r is more = absurd r
 
-  fewer : (stage : Stage) → IsMore (told_at access block stage x) → stages_left (stage_after access stage x) < stages_left stage
+  fewer : (stage : GripStage) → IsMore (told_at access block stage x) → stages_left (stage_after access stage x) < stages_left stage
   fewer LookFail more = by_test (eqb x 0) more
     where
-      by_test : (t : Bool) → IsMore (cond t (More x) (Refused Failed)) → stages_left (cond t LookLock Ended) < 5
+      by_test : (t : Bool) → IsMore (cond t (More x) (Refused Failed)) → stages_left (cond t LookLock LookFail) < 5
       by_test true m = omega arith
-      by_test false m = omega arith
-  fewer LookLock more = by_test (can_take access x)
+      by_test false m = absurd m
+  fewer LookLock more = by_test (can_take access x) more
     where
-      by_test : (t : Bool) → stages_left (cond t (Exchange x) Ended) < 4
-      by_test true = omega arith
-      by_test false = omega arith
-  fewer (Exchange seen) more = by_test (eqb x seen)
+      by_test : (t : Bool) → IsMore (cond t (More x) (Refused Busy)) → stages_left (cond t (Exchange x) LookFail) < 4
+      by_test true m = omega arith
+      by_test false m = absurd m
+  fewer (Exchange seen) more = by_test (eqb x seen) more
     where
-      by_test : (t : Bool) → stages_left (cond t LookSeal Ended) < 3
-      by_test true = omega arith
-      by_test false = omega arith
+      by_test : (t : Bool) → IsMore (cond t (More x) (Refused Busy)) → stages_left (cond t LookSeal LookFail) < 3
+      by_test true m = omega arith
+      by_test false m = absurd m
   fewer LookSeal more = omega arith
-  fewer (LookNumber seal) more = omega arith
-  fewer Ended more = absurd more
+  fewer (LookNumber seal) more = absurd (never access more)
+    where
+      never : (a : Access) → IsMore (told_held a block seal x) → ⊥
+      never Shared m = m
+      never Owned m = m
 
   -- what is told of the block at last
   holds_at : (seal w : ℕ) → d ≡ looked (SealWord block) seal (holding (Held access block) (tried block w c)) → d.hold ≡ Held access block → d.seal ≡ Some seal → e ≡ looked (Number block) x d → Finds (Number block) x d
@@ -99,7 +100,7 @@ module _ (access : Access) (block : OBlock) (c d e : Card) (x : ℕ) where
   stays_so : (z : Card) → e ≡ z → z.hold ≡ c.hold → z.kept ≡ c.kept → z.added ≡ c.added → Stays c e
   stays_so z is h k a = record { hold = ap (λ (y : Card). y.hold) is ∙ h; kept = ap (λ (y : Card). y.kept) is ∙ k; added = ap (λ (y : Card). y.added) is ∙ a }
 
-  ends_so : (stage : Stage) → Reached access block stage c d → FitsStage access block stage d → e ≡ card_after access block stage x d → FindsAt block stage x d → (IsMore (told_at access block stage x) → ⊥)
+  ends_so : (stage : GripStage) → Reached access block stage c d → IsReadyAt access block stage d → e ≡ card_having_found access block stage x d → FindsAt block stage x d → (IsMore (told_at access block stage x) → ⊥)
       → EndsAs access block (told_at access block stage x) c e
   ends_so LookFail r fits is finds ends = by_test (eqb x 0) refl ends
     where
@@ -124,25 +125,24 @@ module _ (access : Access) (block : OBlock) (c d e : Card) (x : ℕ) where
       told_of : (a : Access) → Holds a block (place_in seal) (dirty_in seal) x c e → EndsAs a block (told_held a block seal x) c e
       told_of Shared h = (refl, refl, h)
       told_of Owned h = (refl, refl, h)
-  ends_so Ended r fits is finds ends = absurd r
 
 -- the way of a grip through one step
 pub on_the_way : (access : Access) (block : OBlock) (card : Card) (grip next : Grip) (now after : Card) (result : Gripped) → OnTheWay access block card grip now → GripStep grip now result next after
-    → IsMore result → FitsStage next.access next.block next.stage after → OnTheWay access block card next after
+    → IsMore result → IsReadyAt next.access next.block next.stage after → OnTheWay access block card next after
 on_the_way access block card grip next now after result way s more fits =
     let stage : next.stage ≡ stage_after grip.access grip.stage s.found = ap (λ (g : Grip). g.stage) s.next_is in
     let same_access : next.access ≡ access = ap (λ (g : Grip). g.access) s.next_is ∙ way.access_is in let same_block : next.block ≡ block = ap (λ (g : Grip). g.block) s.next_is ∙ way.block_is in
     let stage_now : next.stage ≡ stage_after access grip.stage s.found = stage ∙ ap (λ (a : Access). stage_after a grip.stage s.found) way.access_is in
-    let is : after ≡ card_after access block grip.stage s.found now = s.after_is ∙ (λ i. card_after (way.access_is i) (way.block_is i) grip.stage s.found now) in
+    let is : after ≡ card_having_found access block grip.stage s.found now = s.after_is ∙ (λ i. card_having_found (way.access_is i) (way.block_is i) grip.stage s.found now) in
     let went : IsMore (told_at access block grip.stage s.found) = subst IsMore (s.told ∙ (λ i. told_at (way.access_is i) (way.block_is i) grip.stage s.found)) more in record {
       access_is = same_access;
       block_is = same_block;
-      fits = subst (λ (z : Access × OBlock). FitsStage z.0 z.1 next.stage after) (λ i. (same_access i, same_block i)) fits;
-      reached = subst (λ (z : Stage). Reached access block z card after) (sym stage_now) (goes_on access block card now after s.found grip.stage way.reached is went);
+      fits = subst (λ (z : Access × OBlock). IsReadyAt z.0 z.1 next.stage after) (λ i. (same_access i, same_block i)) fits;
+      reached = subst (λ (z : GripStage). Reached access block z card after) (sym stage_now) (goes_on access block card now after s.found grip.stage way.reached is went);
     }
 
 pub nearer : (grip next : Grip) (now after : Card) (result : Gripped) → GripStep grip now result next after → IsMore result → stages_left next.stage < stages_left grip.stage
-nearer grip next now after result s more = subst (λ (z : Stage). stages_left z < stages_left grip.stage) (sym (ap (λ (g : Grip). g.stage) s.next_is))
+nearer grip next now after result s more = subst (λ (z : GripStage). stages_left z < stages_left grip.stage) (sym (ap (λ (g : Grip). g.stage) s.next_is))
     (fewer grip.access grip.block now now now s.found grip.stage (subst IsMore s.told more))
 
 -- where it ends
@@ -150,7 +150,7 @@ pub way_ends : (access : Access) (block : OBlock) (card : Card) (grip next : Gri
     → (IsMore result → ⊥) → EndsAs access block result card after
 way_ends access block card grip next now after result way s ends =
     let told : result ≡ told_at access block grip.stage s.found = s.told ∙ (λ i. told_at (way.access_is i) (way.block_is i) grip.stage s.found) in
-    let is : after ≡ card_after access block grip.stage s.found now = s.after_is ∙ (λ i. card_after (way.access_is i) (way.block_is i) grip.stage s.found now) in
+    let is : after ≡ card_having_found access block grip.stage s.found now = s.after_is ∙ (λ i. card_having_found (way.access_is i) (way.block_is i) grip.stage s.found now) in
     subst (λ (z : Gripped). EndsAs access block z card after) (sym told)
     (ends_so access block card now after s.found grip.stage way.reached way.fits is (subst (λ (b : OBlock). FindsAt b grip.stage s.found now) way.block_is s.finds) (λ m. ends (subst IsMore (sym told) m)))
 

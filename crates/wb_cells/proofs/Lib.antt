@@ -1,7 +1,5 @@
-pub mod Totals
 pub mod Decoding
 pub mod Halves
-pub mod KindsKept
 pub mod Flatten
 pub mod Core
 pub mod Allowed

@@ -6,21 +6,23 @@ use lib.ListN.{get_elem?}
 use Rattle.atomic_table.specs.Seated.{TableId}
 use Rattle.atomic_table.specs.Table.{Me, Splits, Joins}
 use Rattle.atomic_table.proofs.Lists.{at_set, at_snoc, set_else}
-use Rattle.wb_types.specs.declared.word.Kind.{Kind}
-use Rattle.wb_types.specs.declared.word.Word.{Word as WordName}
-use Rattle.wb_types.specs.declared.word.Word.TheVariants.{Cell as LockWord, Seal as SealWord, Number, Count as CountWord, Fail}
-use Rattle.wb_types.specs.Words.{Words, value_of, word_at}
-use Rattle.wb_cells.specs.declared.card.Hold.TheVariants.{Nothing}
-use Rattle.wb_cells.specs.declared.card.Card.{Card}
-use Rattle.wb_cells.specs.declared.card.View.{View}
-use Rattle.wb_cells.specs.Flat.{IsWord, decode}
-use Rattle.wb_cells.specs.Cards.{blank, total, is_block, is_write, is_count, shares, owns, sharers, owners, writes_on, counts_of, looked, merged}
-use Rattle.wb_cells.specs.Rule.{block, AllSawNoMore, Knows, LockRule, IsLock}
-use Rattle.wb_cells.specs.Parts.{IsWhole, together}
+use Rattle.wb_words.specs.declared.word.Kind.{Kind}
+use Rattle.wb_words.specs.declared.word.Word.{Word as WordName}
+use Rattle.wb_words.specs.declared.word.Word.TheVariants.{Cell as LockWord, Seal as SealWord, Number, Count as CountWord, Fail}
+use Rattle.wb_words.specs.SharedWords.{Words, value_of, word_at}
+use Rattle.wb_words.specs.declared.card.Hold.TheVariants.{Nothing}
+use Rattle.wb_words.specs.declared.card.Card.{Card}
+use Rattle.wb_cells.specs.declared.view.View.{View}
+use Rattle.wb_words.specs.SharedWords.{IsWord}
+use Rattle.wb_cells.specs.Flat.{decode}
+use Rattle.wb_words.specs.Cards.{blank, total, is_block, is_write, is_count, shares, owns, sharers, owners, writes_on, counts_of, looked, merged}
+use Rattle.wb_words.specs.Rule.{block, AllSawNoMore, Knows, LockRule, IsLock}
+use Rattle.wb_cells.specs.Fractions.{IsWhole, together}
 use Rattle.wb_cells.specs.Views.{Ruled, all_cards, cut_left, cut_right, merged_cards, joined, spent}
-use Rattle.wb_cells.specs.Steps.{card_at, raised, SeatMoves, Finds}
+use Rattle.wb_words.specs.Looks.{Finds}
+use Rattle.wb_cells.specs.Moves.{card_at, raised, SeatMoves}
 use Rattle.wb_cells.specs.Passes.{pass_state, IsPass, IsSum}
-use Rattle.wb_cells.proofs.Totals.{total-append}
+use Rattle.wb_words.proofs.Totals.{total-append}
 use Rattle.wb_cells.proofs.Halves.{crowd, split_parts, join_parts, doubled-le}
 use Rattle.wb_cells.proofs.Flatten.{in_all, card_of_set, card_of_snoc, cards_sum, all-snoc}
 use Rattle.wb_cells.proofs.Core.{has_part}
@@ -36,7 +38,7 @@ module _ {bits : ℕ} {how : Card → Card → Type 0} {change : Words → Words
   }
 
   pub shows : (t u : TableId) (m after : Me ℕ View) (c : Card) → u ≡ t → SeatMoves bits 0 how change m after → card_at 0 after.0 ≡ c → pass_state u after ≡ record (pass_state t m) { card = c; failed = raised bits m.0.fail }
-  shows t u m after c same s is = λ i. record { table = same i; part = s.0.part i; card = is i; failed = s.0.floor i }
+  shows t u m after c same s is = λ i. record { table = same i; fraction = s.0.fraction i; card = is i; failed = s.0.floor i }
 
 -- what a look finds where one card is all there is
 sum_of : (n : ℕ) (w : Words) (c : Card) (word : WordName) → IsWord n word → LockRule n w (c ∷ []) → IsSum word (value_of w word) c
@@ -47,7 +49,7 @@ sum_of n w c (CountWord kind) inside r = r.counts kind ∙ ap (λ (z : ℕ). z %
 sum_of n w c Fail inside r = tt
 
 pub look_sums : (words n : ℕ) (m after : Me ℕ View) (word : WordName) (x : ℕ) → IsPass words m → words ≡ 3 * n + 5 → IsWord n word
-    → SeatMoves 0 0 (λ c d. (d ≡ looked word x c) × Finds word x c × (word ≡ Fail → m.0.fail ≤ x)) (λ was now. (x ≡ value_of was word) × (now ≡ was)) m after → IsWhole m.0.part → IsSum word x (card_at 0 m.0)
+    → SeatMoves 0 0 (λ c d. (d ≡ looked word x c) × Finds word x c × (word ≡ Fail → m.0.fail ≤ x)) (λ was now. (x ≡ value_of was word) × (now ≡ was)) m after → IsWhole m.0.fraction → IsSum word x (card_at 0 m.0)
 look_sums words n m after word x p sized inside s all = let told = s.0.words all in let z = p.sized in let same : m.0.blocks ≡ n = omega arith in
     subst (λ (y : ℕ). IsSum word y (card_at 0 m.0)) (sym told.changed.0)
     (sum_of n told.was (card_at 0 m.0) word inside (subst (λ (z : ℕ × List Card). LockRule z.0 told.was z.1) (λ i. (same i, p.one i)) told.rule_was))
@@ -75,7 +77,7 @@ first_has l c e = ap (λ (l : List Card). get_elem? l 0) e
 pub splits : (n id : ℕ) (v : View) (c : Card) → v.cards ≡ c ∷ [] → Splits (Ruled n) id v (cut_left v) (cut_right v)
 splits n id v c one s r at =
     let left : View = cut_left v in let right : View = cut_right v in let vs : List View = set s.views id left in
-    let some_part : v.part.pieces ≢ 0 = has_part n s r id 0 v c at (first_has v.cards c one) in
+    let some_part : v.fraction.pieces ≢ 0 = has_part n s r id 0 v c at (first_has v.cards c one) in
     let same : (f : Card → ℕ) → f blank ≡ 0 → total f (all_cards (vs ++ right ∷ [])) ≡ total f (all_cards s.views) =
     λ f z. let a = cards_sum f s.views id v left at in let b = all-snoc f vs right in omega arith in record {
       wide = r.wide;
@@ -84,8 +86,8 @@ splits n id v c one s r at =
           (λ t. ⊎_elim (λ u. let q = in_all s.views id v u.0 c at u.1 in r.rule.knows q.0 c q.1) (λ u. r.rule.knows u.0 c u.1) (card_of_set s.views id left t.0 c t.1)) (card_of_snoc vs right p c e));
       parts = split_parts s.views id v left right at refl refl r.parts;
       bare = λ j u e z. ⊎_elim
-          (λ g. ⊎_elim (λ (t : (j ≡ id) × (left ≡ u)). absurd (some_part (ap (λ (y : View). y.part.pieces) t.1 ∙ z))) (λ (t : (j ≢ id) × (get_elem? s.views j ≡ some u)). r.bare j u t.1 z) (at_set s.views id j left u g))
-          (λ (t : right ≡ u). absurd (some_part (ap (λ (y : View). y.part.pieces) t ∙ z))) (at_snoc vs right u j e);
+          (λ g. ⊎_elim (λ (t : (j ≡ id) × (left ≡ u)). absurd (some_part (ap (λ (y : View). y.fraction.pieces) t.1 ∙ z))) (λ (t : (j ≢ id) × (get_elem? s.views j ≡ some u)). r.bare j u t.1 z) (at_set s.views id j left u g))
+          (λ (t : right ≡ u). absurd (some_part (ap (λ (y : View). y.fraction.pieces) t ∙ z))) (at_snoc vs right u j e);
       sized = λ j u e more. ⊎_elim
           (λ g. ⊎_elim (λ (t : (j ≡ id) × (left ≡ u)). ap (λ (y : View). y.blocks) (sym t.1) ∙ r.sized id v at some_part) (λ (t : (j ≢ id) × (get_elem? s.views j ≡ some u)). r.sized j u t.1 more) (at_set s.views id j left u g))
           (λ (t : right ≡ u). ap (λ (y : View). y.blocks) (sym t) ∙ r.sized id v at some_part) (at_snoc vs right u j e);
@@ -117,7 +119,7 @@ joins n id v other w c d vc wc ch dh s r at apart there =
     let both : View = joined v w in let vs : List View = set s.views id both in let us : List View = set vs other spent in
     let stood : get_elem? s.views other ≡ some w = sym (set_else s.views id other both apart) ∙ there in
     let cards : both.cards ≡ merged c d ∷ [] = λ j. merged_cards (vc j) (wc j) in
-    let some_part : v.part.pieces ≢ 0 = has_part n s r id 0 v c at (first_has v.cards c vc) in
+    let some_part : v.fraction.pieces ≢ 0 = has_part n s r id 0 v c at (first_has v.cards c vc) in
     let same : (f : Card → ℕ) → f (merged c d) ≡ f c + f d → total f (all_cards us) ≡ total f (all_cards s.views) = λ f sum.
     let a = cards_sum f s.views id v both at in let b = cards_sum f vs other w spent there in
     let x : total f both.cards ≡ f (merged c d) + 0 = ap (total f) cards in let y : total f v.cards ≡ f c + 0 = ap (total f) vc in let z : total f w.cards ≡ f d + 0 = ap (total f) wc in omega arith in
@@ -132,9 +134,9 @@ joins n id v other w c d vc wc ch dh s r at apart there =
           (λ t. ⊎_elim (λ u. merged_at u.0 e (sym (ap (λ (l : List Card). get_elem? l u.0) cards) ∙ u.1) ck dk) (λ u. r.rule.knows u.0 e u.1) (card_of_set s.views id both t.0 e t.1)) (card_of_set vs other spent p e g));
       parts = join_parts s.views id v both other w spent at apart there refl refl refl r.parts;
       bare = λ j u e z. ⊎_elim (λ (t : (j ≡ other) × (spent ≡ u)). ap (λ (y : View). y.cards) (sym t.1))
-          (λ (t : (j ≢ other) × (get_elem? vs j ≡ some u)). ⊎_elim (λ (q : (j ≡ id) × (both ≡ u)). absurd (some_part (piece_of u (ap (λ (y : View). y.part.pieces) q.1 ∙ z))))
+          (λ (t : (j ≢ other) × (get_elem? vs j ≡ some u)). ⊎_elim (λ (q : (j ≡ id) × (both ≡ u)). absurd (some_part (piece_of u (ap (λ (y : View). y.fraction.pieces) q.1 ∙ z))))
           (λ (q : (j ≢ id) × (get_elem? s.views j ≡ some u)). r.bare j u q.1 z) (at_set s.views id j both u t.1)) (at_set vs other j spent u e);
-      sized = λ j u e more. ⊎_elim (λ (t : (j ≡ other) × (spent ≡ u)). absurd (more (ap (λ (y : View). y.part.pieces) (sym t.1))))
+      sized = λ j u e more. ⊎_elim (λ (t : (j ≡ other) × (spent ≡ u)). absurd (more (ap (λ (y : View). y.fraction.pieces) (sym t.1))))
           (λ (t : (j ≢ other) × (get_elem? vs j ≡ some u)). ⊎_elim (λ (q : (j ≡ id) × (both ≡ u)). ap (λ (y : View). y.blocks) (sym q.1) ∙ r.sized id v at some_part)
           (λ (q : (j ≢ id) × (get_elem? s.views j ≡ some u)). r.sized j u q.1 more) (at_set s.views id j both u t.1)) (at_set vs other j spent u e);
       floor = λ j u e. ⊎_elim (λ (t : (j ≡ other) × (spent ≡ u)). let h : 0 ≡ u.fail = ap (λ (y : View). y.fail) t.1 in omega arith)
@@ -146,8 +148,8 @@ joins n id v other w c d vc wc ch dh s r at apart there =
           (λ (q : (j ≢ id) × (get_elem? s.views j ≡ some u)). absurd (crowd s.views r.parts id v j u at some_part q.0 q.1 (r.known j u ws q.1 is).1)) (at_set s.views id j both u t.1)) (at_set vs other j spent u e);
     }
   where
-    piece_of : (u : View) → (together v.part w.part).pieces ≡ 0 → v.part.pieces ≡ 0
-    piece_of u z = let l = doubled-le v.part.pieces (w.part.halvings - v.part.halvings) in omega arith
+    piece_of : (u : View) → (together v.fraction w.fraction).pieces ≡ 0 → v.fraction.pieces ≡ 0
+    piece_of u z = let l = doubled-le v.fraction.pieces (w.fraction.halvings - v.fraction.halvings) in omega arith
 
     merged_at : (q : ℕ) (e : Card) → get_elem? (merged c d ∷ []) q ≡ some e → Knows (decode s.words) c → Knows (decode s.words) d → Knows (decode s.words) e
     merged_at zero e g k l = subst (Knows (decode s.words)) (some-injective (merged c d) e g) (knows_merged (decode s.words) c d k l)

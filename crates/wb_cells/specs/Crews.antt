@@ -1,10 +1,10 @@
 -- What a caller sees of a crew.
 use Rattle.std.specs.Prelude.{◌≡◌, ℕ, List, Some}
-use Rattle.wb_types.specs.Words.{Words}
-use Rattle.wb_cells.specs.declared.card.Card.{Card}
-use Rattle.wb_cells.specs.declared.card.View.{View}
-use Rattle.wb_cells.specs.Rule.{LockRule}
-use Rattle.wb_cells.specs.Parts.{IsWhole}
+use Rattle.wb_words.specs.SharedWords.{Words}
+use Rattle.wb_words.specs.declared.card.Card.{Card}
+use Rattle.wb_cells.specs.declared.view.View.{View}
+use Rattle.wb_words.specs.Rule.{LockRule}
+use Rattle.wb_cells.specs.Fractions.{IsWhole}
 use Rattle.wb_cells.specs.Views.{words_or, known_words}
 
 -- all words, and each actor's card
@@ -15,7 +15,7 @@ pub record CrewState : Type 0 where
 
 -- a seat that has the whole and knows all words
 pub record IsCrew (n : ℕ) (v : View) : Type 0 where
-  pub all : IsWhole v.part
+  pub all : IsWhole v.fraction
   pub sized : v.blocks ≡ n
   pub known : v.words ≡ Some (words_or v.words)
   pub rule : LockRule n (known_words v) v.cards

@@ -1,9 +1,6 @@
 pub mod Flat
-pub mod Cards
-pub mod Rule
-pub mod Parts
+pub mod Fractions
 pub mod Views
-pub mod Steps
+pub mod Moves
 pub mod Crews
 pub mod Passes
-pub mod Grips

@@ -2,13 +2,13 @@
 use Rattle.std.specs.Prelude.{◌≡◌, ℕ, ◌+◌, ◌*◌, ◌%◌, ◌^◌, [], ◌∷◌}
 use Rattle.atomic_table.specs.Seated.{TableId}
 use Rattle.atomic_table.specs.Table.{Me}
-use Rattle.wb_types.specs.declared.word.Word.{Word as WordName}
-use Rattle.wb_types.specs.declared.word.Word.TheVariants.{Cell as LockWord, Seal as SealWord, Number, Count as CountWord, Fail}
-use Rattle.wb_cells.specs.declared.card.Card.{Card}
-use Rattle.wb_cells.specs.declared.card.Part.{Part}
-use Rattle.wb_cells.specs.declared.card.View.{View}
-use Rattle.wb_cells.specs.Cards.{writes_on, counts_of}
-use Rattle.wb_cells.specs.Steps.{card_at}
+use Rattle.wb_words.specs.declared.word.Word.{Word as WordName}
+use Rattle.wb_words.specs.declared.word.Word.TheVariants.{Cell as LockWord, Seal as SealWord, Number, Count as CountWord, Fail}
+use Rattle.wb_words.specs.declared.card.Card.{Card}
+use Rattle.wb_cells.specs.declared.view.Fraction.{Fraction}
+use Rattle.wb_cells.specs.declared.view.View.{View}
+use Rattle.wb_words.specs.Cards.{writes_on, counts_of}
+use Rattle.wb_cells.specs.Moves.{card_at}
 
 -- which words they are, and of how many blocks
 pub record CellsState : Type 0 where
@@ -19,12 +19,12 @@ pub record CellsState : Type 0 where
 -- or by a pass that it came from.
 pub record PassState : Type 0 where
   pub table : TableId
-  pub part : Part
+  pub fraction : Fraction
   pub card : Card
   pub failed : ℕ
 
 abbrev pub pass_state : TableId → Me ℕ View → PassState
-pass_state table me = record { table = table; part = me.0.part; card = card_at 0 me.0; failed = me.0.fail }
+pass_state table me = record { table = table; fraction = me.0.fraction; card = card_at 0 me.0; failed = me.0.fail }
 
 -- a seat of one card, which carries nothing else
 pub record IsPass (words : ℕ) (me : Me ℕ View) : Type 0 where

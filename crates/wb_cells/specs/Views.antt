@@ -3,39 +3,39 @@ use Rattle.std.specs.Prelude.{◌≡◌, ℕ, ◌+◌, ◌*◌, ◌≤◌, max, 
 use mathlib.Core.Option.{some}
 use lib.ListN.{get_elem?}
 use Rattle.atomic_table.specs.Table.{State}
-use Rattle.wb_types.specs.Words.{Words}
-use Rattle.wb_cells.specs.declared.card.Card.{Card}
-use Rattle.wb_cells.specs.declared.card.View.{View}
+use Rattle.wb_words.specs.SharedWords.{Words}
+use Rattle.wb_words.specs.declared.card.Card.{Card}
+use Rattle.wb_cells.specs.declared.view.View.{View}
 use Rattle.wb_cells.specs.Flat.{decode}
-use Rattle.wb_cells.specs.Cards.{blank, total, merged}
-use Rattle.wb_cells.specs.Rule.{LockRule}
-use Rattle.wb_cells.specs.Parts.{doubled, pieces_at, IsWhole, the_whole, no_part, half, together}
+use Rattle.wb_words.specs.Cards.{blank, total, merged}
+use Rattle.wb_words.specs.Rule.{LockRule}
+use Rattle.wb_cells.specs.Fractions.{doubled, pieces_at, IsWhole, the_whole, no_fraction, half, together}
 
 abbrev pub all_cards : List View → List Card
 all_cards [] = []
 all_cards (v ∷ vs) = v.cards ++ all_cards vs
 
 abbrev pub view_pieces : ℕ → View → ℕ
-view_pieces d v = pieces_at d v.part
+view_pieces d v = pieces_at d v.fraction
 
 -- The parts of the views make one whole, halved so many times that each part is so many pieces of it.
 pub record MakeWhole (views : List View) : Type 0 where
   pub depth : ℕ
-  pub deep : (j : ℕ) (v : View) → get_elem? views j ≡ some v → v.part.halvings ≤ depth
+  pub deep : (j : ℕ) (v : View) → get_elem? views j ≡ some v → v.fraction.halvings ≤ depth
   pub sum : total (view_pieces depth) views ≡ doubled 1 depth
 
 pub record Ruled (n : ℕ) (s : State ℕ View) : Type 0 where
   pub wide : length s.words ≡ 3 * n + 5
   pub rule : LockRule n (decode s.words) (all_cards s.views)
   pub parts : MakeWhole s.views
-  pub bare : (j : ℕ) (v : View) → get_elem? s.views j ≡ some v → v.part.pieces ≡ 0 → v.cards ≡ []
-  pub sized : (j : ℕ) (v : View) → get_elem? s.views j ≡ some v → (v.part.pieces ≡ 0 → ⊥) → v.blocks ≡ n
+  pub bare : (j : ℕ) (v : View) → get_elem? s.views j ≡ some v → v.fraction.pieces ≡ 0 → v.cards ≡ []
+  pub sized : (j : ℕ) (v : View) → get_elem? s.views j ≡ some v → (v.fraction.pieces ≡ 0 → ⊥) → v.blocks ≡ n
   pub floor : (j : ℕ) (v : View) → get_elem? s.views j ≡ some v → v.fail ≤ (decode s.words).fail
-  pub known : (j : ℕ) (v : View) (ws : List ℕ) → get_elem? s.views j ≡ some v → v.words ≡ Some ws → (ws ≡ s.words) × IsWhole v.part
+  pub known : (j : ℕ) (v : View) (ws : List ℕ) → get_elem? s.views j ≡ some v → v.words ≡ Some ws → (ws ≡ s.words) × IsWhole v.fraction
 
 -- the first view, which has the whole and knows that all words are 0
 abbrev pub opened : ℕ → ℕ → View
-opened n actors = record { part = the_whole; blocks = n; cards = replicate actors blank; fail = 0; words = Some (replicate (3 * n + 5) 0) }
+opened n actors = record { fraction = the_whole; blocks = n; cards = replicate actors blank; fail = 0; words = Some (replicate (3 * n + 5) 0) }
 
 abbrev pub words_or : Option (List ℕ) → List ℕ
 words_or None = []
@@ -47,10 +47,10 @@ known_words v = decode (words_or v.words)
 
 -- a view is cut in two halves: the second has a card of its own
 abbrev pub cut_left : View → View
-cut_left v = record v { part = half v.part; words = None }
+cut_left v = record v { fraction = half v.fraction; words = None }
 
 abbrev pub cut_right : View → View
-cut_right v = record { part = half v.part; blocks = v.blocks; cards = blank ∷ []; fail = v.fail; words = None }
+cut_right v = record { fraction = half v.fraction; blocks = v.blocks; cards = blank ∷ []; fail = v.fail; words = None }
 
 abbrev pub merged_cards : List Card → List Card → List Card
 merged_cards (c ∷ cs) (d ∷ ds) = merged c d ∷ []
@@ -58,7 +58,7 @@ merged_cards [] ds = ds
 merged_cards (c ∷ cs) [] = c ∷ cs
 
 abbrev pub joined : View → View → View
-joined v w = record { part = together v.part w.part; blocks = v.blocks; cards = merged_cards v.cards w.cards; fail = max v.fail w.fail; words = None }
+joined v w = record { fraction = together v.fraction w.fraction; blocks = v.blocks; cards = merged_cards v.cards w.cards; fail = max v.fail w.fail; words = None }
 
 abbrev pub spent : View
-spent = record { part = no_part; blocks = 0; cards = []; fail = 0; words = None }
+spent = record { fraction = no_fraction; blocks = 0; cards = []; fail = 0; words = None }

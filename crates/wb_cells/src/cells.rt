@@ -2,25 +2,25 @@
 
 ghost use Rattle.std.specs.Prelude.{◌≡◌, ℕ, ◌+◌, ◌-◌, ◌^◌, ◌<◌, ◌≤◌, max, ◌==◌, true, Some, if◌then◌else◌, IfOk, IfErr};
 ghost use Rattle.wb_types.specs.declared.refusal.Refusal.TheVariants.{Memory};
-ghost use Rattle.wb_types.specs.declared.word.Access.TheVariants.{Shared, Owned};
-ghost use Rattle.wb_types.specs.declared.word.Kind.{Kind as KindName};
-ghost use Rattle.wb_types.specs.declared.word.Word.TheVariants.{Fail as FailWord};
-ghost use Rattle.wb_types.specs.Words.{can_take, seal_word as seal_of};
-ghost use Rattle.wb_cells.specs.declared.card.Hold.TheVariants.{Nothing, Held};
-ghost use Rattle.wb_cells.specs.Flat.{IsWord};
-ghost use Rattle.wb_cells.specs.Cards.{blank, looked, losing, holding, sealing, finishing, counting, failing, merged, counts_of, writes_on};
-ghost use Rattle.wb_cells.specs.Parts.{IsWhole, the_whole, half, together};
-ghost use Rattle.wb_cells.specs.Steps.{Finds};
+ghost use Rattle.wb_words.specs.declared.word.Access.TheVariants.{Shared, Owned};
+ghost use Rattle.wb_words.specs.declared.word.Kind.{Kind as KindName};
+ghost use Rattle.wb_words.specs.declared.word.Word.TheVariants.{Fail as FailWord};
+ghost use Rattle.wb_words.specs.SharedWords.{can_take, seal_word as seal_of};
+ghost use Rattle.wb_words.specs.declared.card.Hold.TheVariants.{Nothing, Held};
+ghost use Rattle.wb_words.specs.SharedWords.{IsWord};
+ghost use Rattle.wb_words.specs.Cards.{blank, looked, losing, holding, sealing, finishing, counting, failing, merged, counts_of, writes_on};
+ghost use Rattle.wb_cells.specs.Fractions.{IsWhole, the_whole, half, together};
+ghost use Rattle.wb_words.specs.Looks.{Finds};
 ghost use Rattle.wb_cells.specs.Passes.{IsSum};
 
-use crate::card::View;
-use crate::held::{Own, Share};
 use crate::pass::Pass;
 use crate::table::{FAILED, SUSPENDED, WordTable};
+use crate::view::View;
 use atomic_table::{Join, Split};
 use std::alloc::Global;
 use std::marker::Model;
-use wb_types::{Access, CBlock, Kind, OBlock, Refusal, Word, seal_word};
+use wb_types::{CBlock, OBlock, Refusal};
+use wb_words::{Access, Kind, Own, Share, Word, seal_word};
 
 /// How a seat's view is cut in two.
 pub(crate) struct Halving;
@@ -63,7 +63,7 @@ impl Cells {
     /// they find no room.
     pub fn new(alloc: Global, origin_blocks: u32) -> Result<(Cells, Pass), Refusal>
         ensures cells { IfOk result (λ r. r.0.blocks ≡ origin_blocks) }
-        ensures pass { IfOk result (λ r. r.1 ≡ record { table = r.0.table; part = the_whole; card = blank; failed = 0 }) }
+        ensures pass { IfOk result (λ r. r.1 ≡ record { table = r.0.table; fraction = the_whole; card = blank; failed = 0 }) }
         ensures refused { IfErr result (λ r. r ≡ Memory) }
     {
         let (words, seat) = WordTable::new(alloc, origin_blocks, 1)?;
@@ -75,8 +75,8 @@ impl Cells {
     pub fn split(&self, pass: Pass) -> (Pass, Pass)
         requires at { pass.table ≡ self.now.table }
         requires idle { pass.card.hold ≡ Nothing }
-        ensures first { result.0 ≡ record pass { part = half pass.part } }
-        ensures second { result.1 ≡ record { table = pass.table; part = half pass.part; card = blank; failed = pass.failed } }
+        ensures first { result.0 ≡ record pass { fraction = half pass.fraction } }
+        ensures second { result.1 ≡ record { table = pass.table; fraction = half pass.fraction; card = blank; failed = pass.failed } }
     {
         let Pass { mut seat } = pass;
         let other = self.words.table.shared.split_seat::<Halving>(&mut seat);
@@ -87,7 +87,7 @@ impl Cells {
     pub fn join(&self, pass: Pass, other: Pass) -> Pass
         requires at { (pass.table ≡ self.now.table) × (other.table ≡ self.now.table) }
         requires idle { (pass.card.hold ≡ Nothing) × (other.card.hold ≡ Nothing) }
-        ensures pass { result ≡ record { table = pass.table; part = together pass.part other.part; card = merged pass.card other.card; failed = max pass.failed other.failed } }
+        ensures pass { result ≡ record { table = pass.table; fraction = together pass.fraction other.fraction; card = merged pass.card other.card; failed = max pass.failed other.failed } }
         ensures counts { (kind : KindName) → counts_of kind result.card ≡ counts_of kind pass.card + counts_of kind other.card }
         ensures writes { (b : ℕ) → writes_on b result.card ≡ writes_on b pass.card + writes_on b other.card }
     {
@@ -108,7 +108,7 @@ impl Cells {
         ensures pass { pass.new ≡ record pass.old { card = looked word result pass.old.card } }
         ensures known { Finds word result pass.old.card }
         ensures failed { word ≡ FailWord → pass.old.failed ≤ result }
-        ensures sums { IsWhole pass.old.part → IsSum word result pass.old.card }
+        ensures sums { IsWhole pass.old.fraction → IsSum word result pass.old.card }
     {
         self.words.look(&mut pass.seat, 0, word)
     }

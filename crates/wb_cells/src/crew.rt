@@ -1,21 +1,23 @@
 //! A crew: the words, and one seat that holds a card for each of its actors. Who has the whole knows every
 //! word, so each step is exact.
 
-ghost use Rattle.std.specs.Prelude.{◌≡◌, ℕ, ◌+◌, ◌-◌, ◌^◌, ◌<◌, ◌==◌, true, [], length, replicate, slice_set, slice_index_or, bit_or, Some, IfOk, IfErr, if◌then◌else◌};
+ghost use Rattle.std.specs.Prelude.{◌≡◌, ℕ, ◌-◌, ◌^◌, ◌<◌, ◌==◌, true, [], length, replicate, slice_set, slice_index_or, bit_or, Some, IfOk, IfErr, if◌then◌else◌};
 ghost use Rattle.wb_types.specs.declared.refusal.Refusal.TheVariants.{Memory};
-ghost use Rattle.wb_types.specs.declared.word.Access.TheVariants.{Owned};
-ghost use Rattle.wb_types.specs.Words.{fresh_words, value_of, word_at, with_cell, can_take, taken, given_back, seal_word as seal_of, one_more, counted};
-ghost use Rattle.wb_cells.specs.declared.card.Hold.TheVariants.{Nothing, Held};
-ghost use Rattle.wb_cells.specs.Flat.{IsWord};
-ghost use Rattle.wb_cells.specs.Cards.{blank, looked, losing, holding, sealing, finishing, counting, failing};
-ghost use Rattle.wb_cells.specs.Rule.{LockRule};
+ghost use Rattle.wb_words.specs.declared.word.Access.TheVariants.{Owned};
+ghost use Rattle.wb_words.specs.declared.card.Hold.TheVariants.{Nothing, Held};
+ghost use Rattle.wb_words.specs.SharedWords.{IsWord, fresh_words, value_of, word_at, with_cell, can_take, taken, given_back, seal_word as seal_of, one_more, counted};
+ghost use Rattle.wb_words.specs.Cards.{blank, looked, losing, holding, sealing, finishing, counting, failing};
+ghost use Rattle.wb_words.specs.Effects.{result_of, words_after, card_after};
+ghost use Rattle.wb_words.specs.Ready.{IsReady};
+ghost use Rattle.wb_words.specs.Rule.{LockRule};
 
-use crate::card::View;
 use crate::table::{FAILED, SUSPENDED, WordTable};
+use crate::view::View;
 use atomic_table::Seat;
 use std::alloc::Global;
 use std::marker::Model;
-use wb_types::{Access, CBlock, Kind, OBlock, Refusal, Word, seal_word};
+use wb_types::{CBlock, OBlock, Refusal};
+use wb_words::{Access, CellResult, CellStep, Kind, Word, seal_word};
 
 /// Contracts see all words, and each actor's card.
 #[derive(Drop)]
@@ -47,8 +49,45 @@ impl Crew {
         Ok(Crew { words, seat })
     }
 
+    /// One step of an actor, which is ready for it: a look, the exchange that takes a block at the lock word that was
+    /// seen, giving a block back, a seal, a finished write, a count, or a bit of the fail word.
+    pub fn step(&mut self, actor: usize, step: CellStep) -> CellResult
+        requires actor { actor < length self.old.cards }
+        requires ready { IsReady self.old.blocks (slice_index_or self.old.cards actor blank) step }
+        ensures result { result ≡ result_of self.old.words step }
+        ensures blocks { self.new.blocks ≡ self.old.blocks }
+        ensures words { self.new.words ≡ words_after self.old.words step }
+        ensures cards { self.new.cards ≡ slice_set self.old.cards actor (card_after self.old.words step (slice_index_or self.old.cards actor blank)) }
+    {
+        match step {
+            CellStep::Look(word) => return CellResult::Word(self.look(actor, word)),
+            CellStep::Take(access, block, seen) => {
+                if !self.take(actor, access, block, seen) {
+                    return CellResult::Lost;
+                }
+            }
+            CellStep::Release(access, block) => self.release(actor, access, block),
+            CellStep::Seal(block, place, dirty) => self.seal(actor, block, place, dirty),
+            CellStep::Finish(block) => self.finish(actor, block),
+            CellStep::Count(kind) => self.count(actor, kind),
+            CellStep::SetFailed => self.fail(actor),
+            CellStep::SetSuspended => self.suspended(actor),
+        }
+        CellResult::Done
+    }
+
+    /// The rule of the words over the actors' cards, which holds between any two steps.
+    pub fn rule(&self)
+        ensures { LockRule self.now.blocks self.now.words self.now.cards }
+    {
+        let _ = &self.seat;
+    }
+}
+
+// Each kind of step.
+impl Crew {
     /// One look of an actor at a word.
-    pub fn look(&mut self, actor: usize, word: Word) -> u64
+    fn look(&mut self, actor: usize, word: Word) -> u64
         requires actor { actor < length self.old.cards }
         requires word { IsWord self.old.blocks word }
         ensures found { result ≡ value_of self.old.words word }
@@ -61,7 +100,7 @@ impl Crew {
 
     /// The exchange by which an actor takes a block, at the lock word that it has seen: whether that word
     /// stood there still.
-    pub fn take(&mut self, actor: usize, access: Access, block: OBlock, seen: u64) -> bool
+    fn take(&mut self, actor: usize, access: Access, block: OBlock, seen: u64) -> bool
         requires actor { actor < length self.old.cards }
         requires block { block.0 < self.old.blocks }
         requires idle { (slice_index_or self.old.cards actor blank).hold ≡ Nothing }
@@ -75,7 +114,7 @@ impl Crew {
     }
 
     /// An actor gives back the block that it holds so.
-    pub fn release(&mut self, actor: usize, access: Access, block: OBlock)
+    fn release(&mut self, actor: usize, access: Access, block: OBlock)
         requires actor { actor < length self.old.cards }
         requires block { block.0 < self.old.blocks }
         requires holds { (slice_index_or self.old.cards actor blank).hold ≡ Held access block }
@@ -88,7 +127,7 @@ impl Crew {
 
     /// An owner stores where the block's newest copy stands, none being the origin alone, and whether it is
     /// dirty.
-    pub fn seal(&mut self, actor: usize, block: OBlock, place: Option<CBlock>, dirty: bool)
+    fn seal(&mut self, actor: usize, block: OBlock, place: Option<CBlock>, dirty: bool)
         requires actor { actor < length self.old.cards }
         requires block { block.0 < self.old.blocks }
         requires owns { (slice_index_or self.old.cards actor blank).hold ≡ Held Owned block }
@@ -101,7 +140,7 @@ impl Crew {
     }
 
     /// An owner that knows the block's number has finished a write on it.
-    pub fn finish(&mut self, actor: usize, block: OBlock)
+    fn finish(&mut self, actor: usize, block: OBlock)
         requires actor { actor < length self.old.cards }
         requires block { block.0 < self.old.blocks }
         requires owns { (slice_index_or self.old.cards actor blank).hold ≡ Held Owned block }
@@ -114,7 +153,7 @@ impl Crew {
     }
 
     /// An actor counts a part of a request.
-    pub fn count(&mut self, actor: usize, kind: Kind)
+    fn count(&mut self, actor: usize, kind: Kind)
         requires actor { actor < length self.old.cards }
         ensures blocks { self.new.blocks ≡ self.old.blocks }
         ensures words { self.new.words ≡ counted self.old.words kind }
@@ -124,7 +163,7 @@ impl Crew {
     }
 
     /// An actor tells of a failure. A block that it owns stays owned for good.
-    pub fn fail(&mut self, actor: usize)
+    fn fail(&mut self, actor: usize)
         requires actor { actor < length self.old.cards }
         ensures blocks { self.new.blocks ≡ self.old.blocks }
         ensures words { self.new.words ≡ record self.old.words { fail = bit_or self.old.words.fail 1 } }
@@ -134,19 +173,12 @@ impl Crew {
     }
 
     /// An actor tells of a suspension. A block that it owns stays owned for good.
-    pub fn suspended(&mut self, actor: usize)
+    fn suspended(&mut self, actor: usize)
         requires actor { actor < length self.old.cards }
         ensures blocks { self.new.blocks ≡ self.old.blocks }
         ensures words { self.new.words ≡ record self.old.words { fail = bit_or self.old.words.fail 2 } }
         ensures cards { self.new.cards ≡ slice_set self.old.cards actor (failing (slice_index_or self.old.cards actor blank)) }
     {
         self.words.fail(&mut self.seat, actor, SUSPENDED);
-    }
-
-    /// The rule of the words over the actors' cards, which holds between any two steps.
-    pub fn rule(&self)
-        ensures { LockRule self.now.blocks self.now.words self.now.cards }
-    {
-        let _ = &self.seat;
     }
 }

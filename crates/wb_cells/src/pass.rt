@@ -1,6 +1,6 @@
 //! A pass: the right to step on the words, and what its holder knows.
 
-use crate::card::View;
+use crate::view::View;
 use atomic_table::Seat;
 use std::marker::Model;
 

@@ -4,20 +4,23 @@ ghost use Rattle.std.specs.Prelude.{◌≡◌, ◌≢◌, ℕ, ◌+◌, ◌-◌,
 ghost use prog.Atomic.{either};
 ghost use mathlib.Core.Option.{none};
 ghost use Rattle.atomic_table.specs.Table.{Allows, step};
-ghost use Rattle.wb_types.specs.declared.word.Access.TheVariants.{Owned};
-ghost use Rattle.wb_types.specs.declared.word.Word.TheVariants.{Cell as LockWord, Seal as SealWord, Number, Count as CountWord, Fail};
-ghost use Rattle.wb_types.specs.Words.{word_at, value_of, with_cell, can_take, taken, given_back, one_more, counted};
-ghost use Rattle.wb_cells.specs.declared.card.Hold.TheVariants.{Nothing, Held};
-ghost use Rattle.wb_cells.specs.Flat.{index_of, IsWord, put};
-ghost use Rattle.wb_cells.specs.Cards.{looked, losing, holding, sealing, finishing, counting, failing};
+ghost use Rattle.wb_words.specs.declared.word.Access.TheVariants.{Owned};
+ghost use Rattle.wb_words.specs.declared.word.Word.TheVariants.{Cell as LockWord, Seal as SealWord, Number, Count as CountWord, Fail};
+ghost use Rattle.wb_words.specs.SharedWords.{word_at, value_of, with_cell, can_take, taken, given_back, one_more, counted};
+ghost use Rattle.wb_words.specs.declared.card.Hold.TheVariants.{Nothing, Held};
+ghost use Rattle.wb_words.specs.SharedWords.{IsWord, put};
+ghost use Rattle.wb_cells.specs.Flat.{index_of};
+ghost use Rattle.wb_words.specs.Cards.{looked, losing, holding, sealing, finishing, counting, failing};
 ghost use Rattle.wb_cells.specs.Views.{Ruled, opened};
-ghost use Rattle.wb_cells.specs.Steps.{SeatMoves, Finds, card_at};
+ghost use Rattle.wb_words.specs.Looks.{Finds};
+ghost use Rattle.wb_cells.specs.Moves.{SeatMoves, card_at};
 
-use crate::card::{Sizes, View};
+use crate::view::{Sizes, View};
 use atomic_table::{Play, Seat, Table, TableRule};
 use std::alloc::{AllocError, Global};
 use std::marker::Brand;
-use wb_types::{Access, Kind, OBlock, Word};
+use wb_types::OBlock;
+use wb_words::{Access, Kind, Word};
 
 /// The bit of the fail word that tells of a failure.
 pub(crate) const FAILED: u64 = 1;

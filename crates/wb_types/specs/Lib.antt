@@ -1,3 +1,2 @@
 pub mod Limits
 pub mod Refusals
-pub mod Words

@@ -11,7 +11,6 @@ mod number;
 mod refusal;
 #[cfg(test)]
 mod tests;
-mod word;
 
 pub use entry::Entry;
 pub use geometry::Geometry;
@@ -19,7 +18,6 @@ pub use message::{CBlockRange, CBlockRanges, Key, Message};
 pub use mode::{Dev, Mode};
 pub use number::{CBlock, OBlock, Place, Sector};
 pub use refusal::Refusal;
-pub use word::{Access, Kind, Word, can_take, is_dirty, place_in, seal_word};
 
 /// How many bytes a sector has.
 pub const SECTOR_BYTES: usize = 512;

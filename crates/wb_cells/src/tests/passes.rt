@@ -1,11 +1,12 @@
 //! Passes on one thread.
 
 ghost use Rattle.std.specs.Prelude.{◌≡◌, ◌<◌};
-ghost use Rattle.wb_cells.specs.declared.card.Hold.TheVariants.{Nothing};
+ghost use Rattle.wb_words.specs.declared.card.Hold.TheVariants.{Nothing};
 
 use crate::{Cells, Grip, Gripped, Pass};
 use std::test::Fail;
-use wb_types::{CBlock, Kind, OBlock, Refusal, Word};
+use wb_types::{CBlock, OBlock, Refusal};
+use wb_words::{Kind, Word};
 
 #[test]
 fn three_passes_share_and_own_a_block(rt: HostRuntime) -> Result<(), Fail> {

@@ -1,15 +1,16 @@
 //! Writes of several threads to one block.
 
 ghost use Rattle.std.specs.Prelude.{◌≡◌, ◌+◌, ◌*◌, ◌<◌, if◌then◌else◌};
-ghost use Rattle.wb_cells.specs.declared.card.Hold.TheVariants.{Nothing};
-ghost use Rattle.wb_cells.specs.Cards.{blank, writes_on};
-ghost use Rattle.wb_cells.specs.Parts.{IsWhole, the_whole, together};
+ghost use Rattle.wb_words.specs.declared.card.Hold.TheVariants.{Nothing};
+ghost use Rattle.wb_words.specs.Cards.{blank, writes_on};
+ghost use Rattle.wb_cells.specs.Fractions.{IsWhole, the_whole, together};
 
 use crate::{Cells, Pass};
 use std::sync::Wait;
 use std::test::Fail;
 use std::thread::{Threads, join};
-use wb_types::{OBlock, Word};
+use wb_types::OBlock;
+use wb_words::Word;
 
 /// Finishes a write on block 0, or finds it busy.
 fn attempt(cells: &Cells, pass: &mut Pass) -> bool
@@ -57,7 +58,7 @@ fn both(cells: &Cells, a: Pass, b: Pass) -> Pass
     requires at { (a.table ≡ cells.now.table) × (b.table ≡ cells.now.table) }
     requires idle { (a.card.hold ≡ Nothing) × (b.card.hold ≡ Nothing) }
     ensures at { result.table ≡ a.table }
-    ensures part { result.part ≡ together a.part b.part }
+    ensures part { result.fraction ≡ together a.fraction b.fraction }
     ensures idle { result.card.hold ≡ Nothing }
     ensures writes { writes_on 0 result.card ≡ writes_on 0 a.card + writes_on 0 b.card }
 {
@@ -70,7 +71,7 @@ fn pair<R: Threads + Wait + Sync>(rt: &R, cells: &Cells, a: Pass, b: Pass, many:
     requires block { 0 < cells.now.blocks }
     requires idle { (a.card.hold ≡ Nothing) × (b.card.hold ≡ Nothing) }
     ensures at { result.table ≡ a.table }
-    ensures part { result.part ≡ together a.part b.part }
+    ensures part { result.fraction ≡ together a.fraction b.fraction }
     ensures idle { result.card.hold ≡ Nothing }
     ensures writes { writes_on 0 result.card ≡ writes_on 0 a.card + writes_on 0 b.card + 2 * many }
 {
@@ -86,9 +87,9 @@ fn pair<R: Threads + Wait + Sync>(rt: &R, cells: &Cells, a: Pass, b: Pass, many:
 fn four<R: Threads + Wait + Sync>(rt: &R, cells: &Cells, pass: Pass) -> Pass
     requires at { pass.table ≡ cells.now.table }
     requires block { 0 < cells.now.blocks }
-    requires new { (pass.part ≡ the_whole) × (pass.card ≡ blank) }
+    requires new { (pass.fraction ≡ the_whole) × (pass.card ≡ blank) }
     ensures at { result.table ≡ cells.now.table }
-    ensures whole { IsWhole result.part }
+    ensures whole { IsWhole result.fraction }
     ensures writes { writes_on 0 result.card ≡ 4000 }
 {
     let (a, b) = cells.split(pass);
@@ -112,7 +113,7 @@ fn four<R: Threads + Wait + Sync>(rt: &R, cells: &Cells, pass: Pass) -> Pass
 fn number_of(cells: &Cells, pass: &mut Pass) -> u64
     requires at { pass.old.table ≡ cells.now.table }
     requires block { 0 < cells.now.blocks }
-    requires whole { IsWhole pass.old.part }
+    requires whole { IsWhole pass.old.fraction }
     ensures { result ≡ writes_on 0 pass.old.card }
 {
     cells.look(pass, Word::Number(OBlock(0)))

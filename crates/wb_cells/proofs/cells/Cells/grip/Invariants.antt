@@ -1,6 +1,6 @@
 use Rattle.std.proofs.Common.{◌≡◌, ◌⊎◌}
-use Rattle.wb_cells.specs.declared.grip.Stage.TheVariants.{LookFail}
-use Rattle.wb_cells.specs.Grips.{stages_left}
+use Rattle.wb_words.specs.declared.grip.GripStage.TheVariants.{LookFail}
+use Rattle.wb_words.specs.Grips.{stages_left}
 use Rattle.wb_cells.proofs.Gripping.{OnTheWay}
 use Rattle.wb_cells.proofs.cells.Cells.grip.Given as goal
 
@@ -8,7 +8,7 @@ abbrev pub invariant-loop-ended : goal.invariant-loop-ended
 invariant-loop-ended l = record {
   way : OnTheWay l.initial.grip.access l.initial.grip.block l.initial.pass.card l.grip l.pass.card;
   table : l.pass.table ≡ l.initial.pass.table;
-  part : l.pass.part ≡ l.initial.pass.part;
+  fraction : l.pass.fraction ≡ l.initial.pass.fraction;
   failed : l.pass.failed ≡ l.initial.pass.failed;
   sound : (l.grip.stage ≡ LookFail) ⊎ (l.initial.pass.failed ≡ 0);
 }

@@ -1,8 +1,8 @@
 use Rattle.std.proofs.Common.{◌≡◌, ap, sym, ◌∙◌, arith, ℕ}
 use Rattle.atomic_table.specs.Table.{Me}
-use Rattle.wb_cells.specs.declared.card.View.{View}
-use Rattle.wb_cells.specs.Cards.{counts_of, writes_on}
-use Rattle.wb_cells.specs.Steps.{card_at}
+use Rattle.wb_cells.specs.declared.view.View.{View}
+use Rattle.wb_words.specs.Cards.{counts_of, writes_on}
+use Rattle.wb_cells.specs.Moves.{card_at}
 use Rattle.wb_cells.specs.Passes.{PassState, CellsState}
 use Rattle.wb_cells.proofs.Passing.{joins, joined_card, merged_counts, merged_writes}
 use Rattle.wb_cells.proofs.cells.Cells.join.Goals as goal

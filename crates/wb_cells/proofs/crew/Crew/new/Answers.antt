@@ -1,5 +1,5 @@
 use Rattle.std.proofs.Common.{ap, ◌∙◌}
-use Rattle.wb_cells.specs.declared.card.View.{View}
+use Rattle.wb_cells.specs.declared.view.View.{View}
 use Rattle.atomic_table.specs.Table.{Me}
 use Rattle.std.proofs.Common.{ℕ}
 use Rattle.wb_cells.specs.Views.{known_words}

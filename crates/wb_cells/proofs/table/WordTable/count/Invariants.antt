@@ -1,7 +1,7 @@
 use Rattle.std.proofs.Common.{◌≡◌}
-use Rattle.wb_types.specs.Words.{counted}
-use Rattle.wb_cells.specs.Cards.{counting}
-use Rattle.wb_cells.specs.Steps.{SeatMoves}
+use Rattle.wb_words.specs.SharedWords.{counted}
+use Rattle.wb_words.specs.Cards.{counting}
+use Rattle.wb_cells.specs.Moves.{SeatMoves}
 use Rattle.wb_cells.proofs.table.WordTable.count.Given as goal
 
 abbrev pub ghosts-add_count : goal.ghosts-add_count

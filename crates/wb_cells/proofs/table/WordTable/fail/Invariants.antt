@@ -1,8 +1,8 @@
 use Rattle.std.proofs.Common.{◌≡◌, bit_or}
-use Rattle.wb_types.specs.declared.word.Word.TheVariants.{Fail}
-use Rattle.wb_cells.specs.Flat.{put}
-use Rattle.wb_cells.specs.Cards.{failing}
-use Rattle.wb_cells.specs.Steps.{SeatMoves}
+use Rattle.wb_words.specs.declared.word.Word.TheVariants.{Fail}
+use Rattle.wb_words.specs.SharedWords.{put}
+use Rattle.wb_words.specs.Cards.{failing}
+use Rattle.wb_cells.specs.Moves.{SeatMoves}
 use Rattle.wb_cells.proofs.table.WordTable.fail.Given as goal
 
 abbrev pub ghosts-set_bits : goal.ghosts-set_bits

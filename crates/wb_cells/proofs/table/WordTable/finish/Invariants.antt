@@ -1,9 +1,9 @@
 use Rattle.std.proofs.Common.{◌≡◌}
-use Rattle.wb_types.specs.declared.word.Word.TheVariants.{Number}
-use Rattle.wb_types.specs.Words.{word_at, one_more}
-use Rattle.wb_cells.specs.Flat.{put}
-use Rattle.wb_cells.specs.Cards.{finishing}
-use Rattle.wb_cells.specs.Steps.{SeatMoves}
+use Rattle.wb_words.specs.declared.word.Word.TheVariants.{Number}
+use Rattle.wb_words.specs.SharedWords.{word_at, one_more}
+use Rattle.wb_words.specs.SharedWords.{put}
+use Rattle.wb_words.specs.Cards.{finishing}
+use Rattle.wb_cells.specs.Moves.{SeatMoves}
 use Rattle.wb_cells.proofs.table.WordTable.finish.Given as goal
 
 abbrev pub ghosts-add_write : goal.ghosts-add_write

@@ -1,8 +1,9 @@
 use Rattle.std.proofs.Common.{◌≡◌, ◌≤◌}
-use Rattle.wb_types.specs.declared.word.Word.TheVariants.{Fail}
-use Rattle.wb_types.specs.Words.{value_of}
-use Rattle.wb_cells.specs.Cards.{looked}
-use Rattle.wb_cells.specs.Steps.{SeatMoves, Finds}
+use Rattle.wb_words.specs.declared.word.Word.TheVariants.{Fail}
+use Rattle.wb_words.specs.SharedWords.{value_of}
+use Rattle.wb_words.specs.Cards.{looked}
+use Rattle.wb_words.specs.Looks.{Finds}
+use Rattle.wb_cells.specs.Moves.{SeatMoves}
 use Rattle.wb_cells.proofs.table.WordTable.look.Given as goal
 
 abbrev pub ghosts-load : goal.ghosts-load

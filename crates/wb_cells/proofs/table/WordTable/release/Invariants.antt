@@ -1,8 +1,8 @@
 use Rattle.std.proofs.Common.{◌≡◌}
-use Rattle.wb_types.specs.Words.{word_at, with_cell, given_back}
-use Rattle.wb_cells.specs.declared.card.Hold.TheVariants.{Nothing}
-use Rattle.wb_cells.specs.Cards.{holding}
-use Rattle.wb_cells.specs.Steps.{SeatMoves}
+use Rattle.wb_words.specs.SharedWords.{word_at, with_cell, given_back}
+use Rattle.wb_words.specs.declared.card.Hold.TheVariants.{Nothing}
+use Rattle.wb_words.specs.Cards.{holding}
+use Rattle.wb_cells.specs.Moves.{SeatMoves}
 use Rattle.wb_cells.proofs.table.WordTable.release.Given as goal
 
 abbrev pub ghosts-subtract : goal.ghosts-subtract

@@ -1,8 +1,8 @@
 use Rattle.std.proofs.Common.{◌≡◌}
-use Rattle.wb_types.specs.declared.word.Word.TheVariants.{Seal as SealWord}
-use Rattle.wb_cells.specs.Flat.{put}
-use Rattle.wb_cells.specs.Cards.{sealing}
-use Rattle.wb_cells.specs.Steps.{SeatMoves}
+use Rattle.wb_words.specs.declared.word.Word.TheVariants.{Seal as SealWord}
+use Rattle.wb_words.specs.SharedWords.{put}
+use Rattle.wb_words.specs.Cards.{sealing}
+use Rattle.wb_cells.specs.Moves.{SeatMoves}
 use Rattle.wb_cells.proofs.table.WordTable.seal.Given as goal
 
 abbrev pub ghosts-store : goal.ghosts-store

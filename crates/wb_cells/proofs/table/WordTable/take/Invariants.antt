@@ -1,8 +1,8 @@
 use Rattle.std.proofs.Common.{◌≡◌, ◌==◌, if◌then◌else◌}
-use Rattle.wb_types.specs.Words.{word_at, with_cell, taken}
-use Rattle.wb_cells.specs.declared.card.Hold.TheVariants.{Held}
-use Rattle.wb_cells.specs.Cards.{holding, losing}
-use Rattle.wb_cells.specs.Steps.{SeatMoves}
+use Rattle.wb_words.specs.SharedWords.{word_at, with_cell, taken}
+use Rattle.wb_words.specs.declared.card.Hold.TheVariants.{Held}
+use Rattle.wb_words.specs.Cards.{holding, losing}
+use Rattle.wb_cells.specs.Moves.{SeatMoves}
 use Rattle.wb_cells.proofs.table.WordTable.take.Given as goal
 
 abbrev pub ghosts-exchange : goal.ghosts-exchange

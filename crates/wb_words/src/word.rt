@@ -1,9 +1,9 @@
 //! The shared words of a cache, by name, and what a lock word and a seal tell.
 
 ghost use Rattle.std.specs.Prelude.{◌≡◌};
-ghost use Rattle.wb_types.specs.Words.{can_take as may_take, place_in as place_of_seal, dirty_in, seal_word as seal_of};
+ghost use Rattle.wb_words.specs.SharedWords.{can_take as may_take, place_in as place_of_seal, dirty_in, seal_word as seal_of};
 
-use crate::{CBlock, OBlock};
+use wb_types::{CBlock, OBlock};
 
 /// What a part of a request counts as when its device steps have ended.
 #[derive(Clone, Copy, Debug, PartialEq, Eq)]

@@ -2,31 +2,20 @@
 use Rattle.std.specs.Prelude.{◌≡◌, ℕ, zero, suc, max, ◌≤◌, List, [], ◌∷◌, slice_set, slice_index_or, Some}
 use Rattle.atomic_table.specs.Table.{Me}
 use Rattle.wb_types.specs.declared.number.OBlock.{OBlock}
-use Rattle.wb_types.specs.declared.word.Access.{Access}
-use Rattle.wb_types.specs.declared.word.Word.{Word as WordName}
-use Rattle.wb_types.specs.declared.word.Word.TheVariants.{Seal as SealWord, Number}
-use Rattle.wb_types.specs.Words.{Words}
-use Rattle.wb_cells.specs.declared.card.Hold.TheVariants.{Held}
-use Rattle.wb_cells.specs.declared.card.Card.{Card}
-use Rattle.wb_cells.specs.declared.card.View.{View}
-use Rattle.wb_cells.specs.Cards.{blank}
-use Rattle.wb_cells.specs.Rule.{LockRule}
-use Rattle.wb_cells.specs.Parts.{IsWhole}
+use Rattle.wb_words.specs.declared.word.Access.{Access}
+use Rattle.wb_words.specs.declared.word.Word.{Word as WordName}
+use Rattle.wb_words.specs.declared.word.Word.TheVariants.{Seal as SealWord, Number}
+use Rattle.wb_words.specs.SharedWords.{Words}
+use Rattle.wb_words.specs.declared.card.Hold.TheVariants.{Held}
+use Rattle.wb_words.specs.declared.card.Card.{Card}
+use Rattle.wb_cells.specs.declared.view.View.{View}
+use Rattle.wb_words.specs.Cards.{blank}
+use Rattle.wb_words.specs.Rule.{LockRule}
+use Rattle.wb_cells.specs.Fractions.{IsWhole}
 use Rattle.wb_cells.specs.Views.{words_or, known_words}
 
 abbrev pub card_at : ℕ → View → Card
 card_at k v = slice_index_or v.cards k blank
-
--- no number of the block that was seen is above x
-abbrev pub SawAtMost : OBlock → ℕ → List (WordName × ℕ) → Type 0
-SawAtMost b x [] = Unit {0}
-SawAtMost b x (look ∷ looks) = (look.0 ≡ Number b → look.1 ≤ x) × SawAtMost b x looks
-
--- What a look finds: a word that is known, and no less than any number that was seen.
-pub record Finds (word : WordName) (x : ℕ) (card : Card) : Type 0 where
-  pub seal : (access : Access) (b : OBlock) (y : ℕ) → card.hold ≡ Held access b → word ≡ SealWord b → card.seal ≡ Some y → x ≡ y
-  pub number : (access : Access) (b : OBlock) (y : ℕ) → card.hold ≡ Held access b → word ≡ Number b → card.number ≡ Some y → x ≡ y
-  pub grows : (b : OBlock) → word ≡ Number b → SawAtMost b x card.saw
 
 -- Who has the whole knows all words after a step, and what they were before it.
 pub record Tells (change : Words → Words → Type 0) (v w : View) : Type 0 where
@@ -46,10 +35,10 @@ raised (suc bits) floor = max floor (suc bits)
 pub record Moves (bits k : ℕ) (how : Card → Card → Type 0) (change : Words → Words → Type 0) (v w : View) : Type 0 where
   pub card : how (card_at k v) (card_at k w)
   pub others : w.cards ≡ slice_set v.cards k (card_at k w)
-  pub part : w.part ≡ v.part
+  pub fraction : w.fraction ≡ v.fraction
   pub blocks : w.blocks ≡ v.blocks
   pub floor : w.fail ≡ raised bits v.fail
-  pub words : IsWhole v.part → Tells change v w
+  pub words : IsWhole v.fraction → Tells change v w
 
 -- the same of a seat, which carries nothing else
 abbrev pub SeatMoves : ℕ → ℕ → (Card → Card → Type 0) → (Words → Words → Type 0) → Me ℕ View → Me ℕ View → Type 0

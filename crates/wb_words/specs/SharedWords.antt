@@ -1,12 +1,13 @@
-use Rattle.std.specs.Prelude.{◌+◌, ◌-◌, ◌*◌, ◌/◌, ◌^◌, ◌%◌, ◌&&◌, ◌==◌, ℕ, zero, suc, Bool, true, false, List, Option, Some, None, slice_get, slice_set, unwrap_or, if◌then◌else◌, cond, nat_lt, replicate}
+-- The shared words: what there are, and what a lock word and a seal tell.
+use Rattle.std.specs.Prelude.{◌+◌, ◌-◌, ◌*◌, ◌/◌, ◌^◌, ◌%◌, ◌&&◌, ◌==◌, ◌<◌, ℕ, zero, suc, Bool, true, false, List, Option, Some, None, slice_get, slice_set, unwrap_or, if◌then◌else◌, cond, nat_lt, replicate}
 use Rattle.wb_types.specs.declared.number.OBlock.{OBlock}
 use Rattle.wb_types.specs.declared.number.CBlock.{CBlock}
-use Rattle.wb_types.specs.declared.word.Access.{Access}
-use Rattle.wb_types.specs.declared.word.Access.TheVariants.{Shared, Owned}
-use Rattle.wb_types.specs.declared.word.Kind.{Kind}
-use Rattle.wb_types.specs.declared.word.Kind.TheVariants.{ReadHit, ReadMiss, WriteHit, WriteMiss}
-use Rattle.wb_types.specs.declared.word.Word.{Word as WordName}
-use Rattle.wb_types.specs.declared.word.Word.TheVariants.{Cell as LockWord, Seal as SealWord, Number, Count as CountWord, Fail}
+use Rattle.wb_words.specs.declared.word.Access.{Access}
+use Rattle.wb_words.specs.declared.word.Access.TheVariants.{Shared, Owned}
+use Rattle.wb_words.specs.declared.word.Kind.{Kind}
+use Rattle.wb_words.specs.declared.word.Kind.TheVariants.{ReadHit, ReadMiss, WriteHit, WriteMiss}
+use Rattle.wb_words.specs.declared.word.Word.{Word as WordName}
+use Rattle.wb_words.specs.declared.word.Word.TheVariants.{Cell as LockWord, Seal as SealWord, Number, Count as CountWord, Fail}
 
 -- the shared words: three lists by origin block, four statistics, and the fail word
 pub record Words : Type 0 where
@@ -50,6 +51,20 @@ value_of words (Number block) = word_at words.numbers block
 value_of words (CountWord kind) = count_in words kind
 value_of words Fail = words.fail
 
+abbrev pub kind_number : Kind → ℕ
+kind_number ReadHit = 0
+kind_number ReadMiss = 1
+kind_number WriteHit = 2
+kind_number WriteMiss = 3
+
+-- that there is such a word among those of n blocks
+abbrev pub IsWord : ℕ → WordName → Type 0
+IsWord n (LockWord b) = b.0 < n
+IsWord n (SealWord b) = b.0 < n
+IsWord n (Number b) = b.0 < n
+IsWord n (CountWord kind) = Unit {0}
+IsWord n Fail = Unit {0}
+
 -- one more, in 64 bits
 abbrev pub one_more : ℕ → ℕ
 one_more n = (n + 1) % 2 ^ 64
@@ -73,6 +88,17 @@ given_back Owned cell = 0
 -- the words with another lock word of this block; nothing past the last one
 abbrev pub with_cell : Words → OBlock → ℕ → Words
 with_cell words block cell = record words { cells = slice_set words.cells block.0 cell }
+
+-- the words with another value of one of them
+abbrev pub put : Words → WordName → ℕ → Words
+put words (LockWord b) x = with_cell words b x
+put words (SealWord b) x = record words { seals = slice_set words.seals b.0 x }
+put words (Number b) x = record words { numbers = slice_set words.numbers b.0 x }
+put words (CountWord ReadHit) x = record words { read_hits = x }
+put words (CountWord ReadMiss) x = record words { read_misses = x }
+put words (CountWord WriteHit) x = record words { write_hits = x }
+put words (CountWord WriteMiss) x = record words { write_misses = x }
+put words Fail x = record words { fail = x }
 
 abbrev pub counted : Words → Kind → Words
 counted words ReadHit = record words { read_hits = one_more words.read_hits }

@@ -5,19 +5,29 @@ use Rattle.wb_types.specs.declared.number.OBlock.{OBlock}
 use Rattle.wb_types.specs.declared.number.CBlock.{CBlock}
 use Rattle.wb_types.specs.declared.refusal.Refusal.{Refusal}
 use Rattle.wb_types.specs.declared.refusal.Refusal.TheVariants.{Busy, Failed}
-use Rattle.wb_types.specs.declared.word.Access.{Access}
-use Rattle.wb_types.specs.declared.word.Access.TheVariants.{Shared, Owned}
-use Rattle.wb_types.specs.declared.word.Word.TheVariants.{Cell as LockWord, Seal as SealWord, Number, Fail}
-use Rattle.wb_types.specs.Words.{can_take, place_in, dirty_in}
-use Rattle.wb_cells.specs.declared.card.Hold.TheVariants.{Nothing, Held}
-use Rattle.wb_cells.specs.declared.card.Card.{Card}
-use Rattle.wb_cells.specs.declared.grip.Stage.{Stage}
-use Rattle.wb_cells.specs.declared.grip.Stage.TheVariants.{LookFail, LookLock, Exchange, LookSeal, LookNumber, Ended}
-use Rattle.wb_cells.specs.declared.grip.Grip.{Grip}
-use Rattle.wb_cells.specs.declared.grip.Gripped.{Gripped}
-use Rattle.wb_cells.specs.declared.grip.Gripped.TheVariants.{More, Shared as GrippedShared, Owned as GrippedOwned, Refused}
-use Rattle.wb_cells.specs.Cards.{looked, losing, holding}
-use Rattle.wb_cells.specs.Steps.{Finds, SawAtMost}
+use Rattle.wb_words.specs.declared.word.Access.{Access}
+use Rattle.wb_words.specs.declared.word.Access.TheVariants.{Shared, Owned}
+use Rattle.wb_words.specs.declared.word.Word.TheVariants.{Cell as LockWord, Seal as SealWord, Number, Fail}
+use Rattle.wb_words.specs.declared.step.CellStep.{CellStep}
+use Rattle.wb_words.specs.declared.step.CellStep.TheVariants.{Look, Take}
+use Rattle.wb_words.specs.SharedWords.{can_take, place_in, dirty_in}
+use Rattle.wb_words.specs.declared.card.Hold.TheVariants.{Nothing, Held}
+use Rattle.wb_words.specs.declared.card.Card.{Card}
+use Rattle.wb_words.specs.declared.grip.GripStage.{GripStage}
+use Rattle.wb_words.specs.declared.grip.GripStage.TheVariants.{LookFail, LookLock, Exchange, LookSeal, LookNumber}
+use Rattle.wb_words.specs.declared.grip.Grip.{Grip}
+use Rattle.wb_words.specs.declared.grip.Gripped.{Gripped}
+use Rattle.wb_words.specs.declared.grip.Gripped.TheVariants.{More, Shared as GrippedShared, Owned as GrippedOwned, Refused}
+use Rattle.wb_words.specs.Cards.{looked, losing, holding}
+use Rattle.wb_words.specs.Looks.{Finds, SawAtMost}
+
+-- the next step
+abbrev pub step_at : Access → OBlock → GripStage → CellStep
+step_at access block LookLock = Look (LockWord block)
+step_at access block (Exchange seen) = Take access block seen
+step_at access block LookSeal = Look (SealWord block)
+step_at access block (LookNumber seal) = Look (Number block)
+step_at access block LookFail = Look Fail
 
 -- what is told of a block that is held at last, from its seal and number words
 abbrev pub told_held : Access → OBlock → ℕ → ℕ → Gripped
@@ -25,59 +35,54 @@ told_held Shared block seal number = GrippedShared (record { block = block; plac
 told_held Owned block seal number = GrippedOwned (record { block = block; place = place_in seal; dirty = dirty_in seal; number = number })
 
 -- what a step tells that found the word x
-abbrev pub told_at : Access → OBlock → Stage → ℕ → Gripped
+abbrev pub told_at : Access → OBlock → GripStage → ℕ → Gripped
 told_at access block LookFail x = cond (x == 0) (More x) (Refused Failed)
 told_at access block LookLock x = cond (can_take access x) (More x) (Refused Busy)
 told_at access block (Exchange seen) x = cond (x == seen) (More x) (Refused Busy)
 told_at access block LookSeal x = More x
 told_at access block (LookNumber seal) x = told_held access block seal x
-told_at access block Ended x = Refused Busy
 
--- the stage after it
-abbrev pub stage_after : Access → Stage → ℕ → Stage
-stage_after access LookFail x = cond (x == 0) LookLock Ended
-stage_after access LookLock x = cond (can_take access x) (Exchange x) Ended
-stage_after access (Exchange seen) x = cond (x == seen) LookSeal Ended
+-- the stage after it, the first where the grip has ended
+abbrev pub stage_after : Access → GripStage → ℕ → GripStage
+stage_after access LookFail x = cond (x == 0) LookLock LookFail
+stage_after access LookLock x = cond (can_take access x) (Exchange x) LookFail
+stage_after access (Exchange seen) x = cond (x == seen) LookSeal LookFail
 stage_after access LookSeal x = LookNumber x
-stage_after access (LookNumber seal) x = Ended
-stage_after access Ended x = Ended
+stage_after access (LookNumber seal) x = LookFail
 
 -- the card after it
-abbrev pub card_after : Access → OBlock → Stage → ℕ → Card → Card
-card_after access block LookFail x card = looked Fail x card
-card_after access block LookLock x card = looked (LockWord block) x card
-card_after access block (Exchange seen) x card = if x == seen then holding (Held access block) card else losing block x card
-card_after access block LookSeal x card = looked (SealWord block) x card
-card_after access block (LookNumber seal) x card = looked (Number block) x card
-card_after access block Ended x card = card
+abbrev pub card_having_found : Access → OBlock → GripStage → ℕ → Card → Card
+card_having_found access block LookFail x card = looked Fail x card
+card_having_found access block LookLock x card = looked (LockWord block) x card
+card_having_found access block (Exchange seen) x card = if x == seen then holding (Held access block) card else losing block x card
+card_having_found access block LookSeal x card = looked (SealWord block) x card
+card_having_found access block (LookNumber seal) x card = looked (Number block) x card
 
 -- what a look among the five finds
-abbrev pub FindsAt : OBlock → Stage → ℕ → Card → Type 0
+abbrev pub FindsAt : OBlock → GripStage → ℕ → Card → Type 0
 FindsAt block LookFail x card = Finds Fail x card
 FindsAt block LookLock x card = Finds (LockWord block) x card
 FindsAt block (Exchange seen) x card = Unit {0}
 FindsAt block LookSeal x card = Finds (SealWord block) x card
 FindsAt block (LookNumber seal) x card = Finds (Number block) x card
-FindsAt block Ended x card = Unit {0}
 
 -- a card that may make the next step
-abbrev pub FitsStage : Access → OBlock → Stage → Card → Type 0
-FitsStage access block LookFail card = card.hold ≡ Nothing
-FitsStage access block LookLock card = card.hold ≡ Nothing
-FitsStage access block (Exchange seen) card = (card.hold ≡ Nothing) × (can_take access seen ≡ true)
-FitsStage access block LookSeal card = card.hold ≡ Held access block
-FitsStage access block (LookNumber seal) card = (card.hold ≡ Held access block) × (card.seal ≡ Some seal)
-FitsStage access block Ended card = ⊥
+abbrev pub IsReadyAt : Access → OBlock → GripStage → Card → Type 0
+IsReadyAt access block LookFail card = card.hold ≡ Nothing
+IsReadyAt access block LookLock card = card.hold ≡ Nothing
+IsReadyAt access block (Exchange seen) card = (card.hold ≡ Nothing) × (can_take access seen ≡ true)
+IsReadyAt access block LookSeal card = card.hold ≡ Held access block
+IsReadyAt access block (LookNumber seal) card = (card.hold ≡ Held access block) × (card.seal ≡ Some seal)
 
-abbrev pub Fits : Grip → Card → Type 0
-Fits grip card = FitsStage grip.access grip.block grip.stage card
+abbrev pub IsReadyToGrip : Grip → Card → Type 0
+IsReadyToGrip grip card = IsReadyAt grip.access grip.block grip.stage card
 
 -- One step of a grip: it found a word.
 pub record GripStep (grip : Grip) (card : Card) (result : Gripped) (next : Grip) (after : Card) : Type 0 where
   pub found : ℕ
   pub told : result ≡ told_at grip.access grip.block grip.stage found
   pub next_is : next ≡ record grip { stage = stage_after grip.access grip.stage found }
-  pub after_is : after ≡ card_after grip.access grip.block grip.stage found card
+  pub after_is : after ≡ card_having_found grip.access grip.block grip.stage found card
   pub finds : FindsAt grip.block grip.stage found card
 
 abbrev pub IsMore : Gripped → Type 0
@@ -86,13 +91,12 @@ IsMore (GrippedShared share) = ⊥
 IsMore (GrippedOwned own) = ⊥
 IsMore (Refused refusal) = ⊥
 
-abbrev pub stages_left : Stage → ℕ
+abbrev pub stages_left : GripStage → ℕ
 stages_left LookFail = 5
 stages_left LookLock = 4
 stages_left (Exchange seen) = 3
 stages_left LookSeal = 2
 stages_left (LookNumber seal) = 1
-stages_left Ended = 0
 
 -- the fail word was 0, and the lock word w
 abbrev pub tried : OBlock → ℕ → Card → Card

@@ -1,29 +1,32 @@
 -- Each kind of step keeps the rule over all cards.
-use Rattle.std.proofs.Common.{◌≡◌, ◌≢◌, ◌⊎◌, ℕ, ◌+◌, ◌-◌, ◌%◌, ◌^◌, ◌<◌, ◌≤◌, ◌&&◌, Bool, true, false, cond, eq-eqb, ne_eqb, List, [], ◌∷◌, length, set, sym, refl, ap, ◌∙◌, subst, ⊎_elim, inl, inr, arith, Option, Some, None, option_map, length-set}
+use Rattle.std.proofs.Common.{◌≡◌, ◌≢◌, ◌⊎◌, ℕ, ◌+◌, ◌-◌, ◌%◌, ◌^◌, ◌<◌, ◌≤◌, ◌&&◌, Bool, true, false, cond, if◌then◌else◌, eqb, eq-eqb, ne_eqb, List, [], ◌∷◌, length, set, sym, refl, ap, ◌∙◌, subst, ⊎_elim, inl, inr, arith, Option, Some, None, option_map, length-set, bit_or}
 use Rattle.std.proofs.lemmas.Bool.{eqb-true, ltb-true, false≢true}
 use Rattle.std.proofs.lemmas.Option.{none-some}
 use mathlib.Core.Logic.{dite}
 use mathlib.Core.Option.{some}
 use native.Mathlib.Decide.{ℕ_discrete}
 use lib.ListN.{get_elem?}
-use Rattle.atomic_table.proofs.Lists.{at_set}
+use Rattle.wb_words.proofs.Totals.{at_set}
 use Rattle.wb_types.specs.declared.number.OBlock.{OBlock}
-use Rattle.wb_types.specs.declared.word.Access.{Access}
-use Rattle.wb_types.specs.declared.word.Access.TheVariants.{Shared, Owned}
-use Rattle.wb_types.specs.declared.word.Kind.{Kind}
-use Rattle.wb_types.specs.declared.word.Kind.TheVariants.{ReadHit, ReadMiss, WriteHit, WriteMiss}
-use Rattle.wb_types.specs.declared.word.Word.{Word as WordName}
-use Rattle.wb_types.specs.declared.word.Word.TheVariants.{Cell as LockWord, Seal as SealWord, Number, Count as CountWord, Fail}
-use Rattle.wb_types.specs.Words.{Words, word_at, value_of, count_in, with_cell, can_take, taken, given_back, one_more}
-use Rattle.wb_cells.specs.declared.card.Hold.{Hold}
-use Rattle.wb_cells.specs.declared.card.Hold.TheVariants.{Nothing, Held}
-use Rattle.wb_cells.specs.declared.card.Card.{Card}
-use Rattle.wb_cells.specs.Flat.{put, kind_number}
-use Rattle.wb_cells.specs.Cards.{total, is_block, is_write, is_count, shares, owns, sharers, owners, writes_on, counts_of, is_own_seal, is_own_number, looked, losing, holding, sealing, finishing, counting, failing_at, failing}
-use Rattle.wb_cells.specs.Rule.{block, IsLock, SawNoMore, AllSawNoMore, Knows, LockRule}
-use Rattle.wb_cells.specs.Steps.{SawAtMost, Finds}
-use Rattle.wb_cells.proofs.Totals.{total-set, total_at, total_two, total-same}
-use Rattle.wb_cells.proofs.Decoding.{word_at_set, word_at_else}
+use Rattle.wb_words.specs.declared.word.Access.{Access}
+use Rattle.wb_words.specs.declared.word.Access.TheVariants.{Shared, Owned}
+use Rattle.wb_words.specs.declared.word.Kind.{Kind}
+use Rattle.wb_words.specs.declared.word.Kind.TheVariants.{ReadHit, ReadMiss, WriteHit, WriteMiss}
+use Rattle.wb_words.specs.declared.word.Word.{Word as WordName}
+use Rattle.wb_words.specs.declared.word.Word.TheVariants.{Cell as LockWord, Seal as SealWord, Number, Count as CountWord, Fail}
+use Rattle.wb_words.specs.SharedWords.{Words, word_at, value_of, count_in, with_cell, can_take, taken, given_back, one_more, put, kind_number, seal_word}
+use Rattle.wb_words.specs.declared.card.Hold.{Hold}
+use Rattle.wb_words.specs.declared.card.Hold.TheVariants.{Nothing, Held}
+use Rattle.wb_words.specs.declared.card.Card.{Card}
+use Rattle.wb_words.specs.Cards.{total, is_block, is_write, is_count, shares, owns, sharers, owners, writes_on, counts_of, is_own_seal, is_own_number, looked, losing, holding, sealing, finishing, counting, failing_at, failing}
+use Rattle.wb_words.specs.Rule.{block, IsLock, SawNoMore, AllSawNoMore, Knows, LockRule}
+use Rattle.wb_words.specs.declared.step.CellStep.{CellStep}
+use Rattle.wb_words.specs.declared.step.CellStep.TheVariants.{Look, Take, Release, Seal, Finish, Count, SetFailed, SetSuspended}
+use Rattle.wb_words.specs.Looks.{SawAtMost, Finds}
+use Rattle.wb_words.specs.Effects.{words_after, card_after}
+use Rattle.wb_words.specs.Ready.{IsReady}
+use Rattle.wb_words.proofs.Totals.{total-set, total_at, total_two, total-same}
+use Rattle.wb_words.proofs.Values.{word_at_set, word_at_else, put_count}
 
 is_same : (a : OBlock) → is_block a.0 a ≡ 1
 is_same a = ap (λ t. cond t 1 0) (eq-eqb a.0 a.0 refl)
@@ -370,3 +373,18 @@ module _ (n : ℕ) (w : Words) (cs : List Card) (p : ℕ) (c : Card) (r : LockRu
   count_keeps kind = let u : Words = put w (CountWord kind) (one_more (count_in w kind)) in let k = kept_by_count kind (one_more (count_in w kind)) in
       let known = still w u c (λ b. ap (λ (z : List ℕ). word_at z b) k.1) (λ b. ap (λ (z : List ℕ). word_at z b) k.2) mine in
       low_step u (counting kind c) k.0 k.1 k.2 (λ a. refl) (λ a. refl) (λ a. omega arith) (counts_on kind) record { seal = known.seal; number = known.number; saw = known.saw }
+
+-- any step that its actor is ready for keeps the rule
+pub step_keeps : (n : ℕ) (w : Words) (cs : List Card) (p : ℕ) (c : Card) (step : CellStep) → LockRule n w cs → get_elem? cs p ≡ some c → IsReady n c step → LockRule n (words_after w step) (set cs p (card_after w step c))
+step_keeps n w cs p c (Look word) r at ready = look_keeps n w cs p c r at word
+step_keeps n w cs p c (Take access b seen) r at ready = by_test (eqb (word_at w.cells b) seen) refl
+  where
+    by_test : (t : Bool) → eqb (word_at w.cells b) seen ≡ t → LockRule n (if t then with_cell w b (taken access seen) else w) (set cs p (if t then holding (Held access b) c else losing b (word_at w.cells b) c))
+    by_test true e = take_keeps n w cs p c r at access b seen ready.0 ready.1 (eqb-true (word_at w.cells b) seen e) ready.2
+    by_test false e = loss_keeps n w cs p c r at b (word_at w.cells b)
+step_keeps n w cs p c (Release access b) r at ready = (release_keeps n w cs p c r at access b ready.0 ready.1).0
+step_keeps n w cs p c (Seal b place dirty) r at ready = seal_keeps n w cs p c r at b (seal_word place dirty) ready.0 ready.1
+step_keeps n w cs p c (Finish b) r at ready = let known = ready.2 in finish_keeps n w cs p c r at b known.0 ready.0 ready.1 known.1 known.2
+step_keeps n w cs p c (Count kind) r at ready = subst (λ (u : Words). LockRule n u (set cs p (counting kind c))) (put_count w kind) (count_keeps n w cs p c r at kind)
+step_keeps n w cs p c SetFailed r at ready = fail_keeps n w cs p c r at (bit_or w.fail 1)
+step_keeps n w cs p c SetSuspended r at ready = fail_keeps n w cs p c r at (bit_or w.fail 2)
