@@ -32,7 +32,7 @@ use Rattle.wb_words.proofs.Totals.{total-replicate}
 use Rattle.wb_words.proofs.Values.{word_at_is, put_same, put_count}
 use Rattle.wb_cells.proofs.Decoding.{decode_fresh}
 use Rattle.wb_cells.proofs.Core.{steps, some_is}
-use Rattle.wb_words.proofs.RuleKept.{look_keeps, loss_keeps, take_keeps, release_keeps, seal_keeps, finish_keeps, count_keeps, fail_keeps, finds, both_of}
+use Rattle.wb_words.proofs.RuleKept.{look_keeps, loss_keeps, take_keeps, release_keeps, seal_keeps, finish_keeps, count_keeps, fail_keeps, finds, has_room, both_of}
 
 -- a step that leaves the fail word
 same_fail : (old new : ℕ) → new ≡ old → (old ≤ new) × (0 ≤ new)
@@ -116,13 +116,13 @@ module _ (n slots id : ℕ) (me : Me ℕ View) (k : ℕ) (turn : k < length me.0
       steps n slots id (SealWord b) k me (λ _. seal) 0 (λ _ c d. d ≡ sealing seal c) (λ _ was now. now ≡ put was (SealWord b) seal) named turn
       (λ w cs p x r at floor is _. (sealing seal c, seal_keeps n w cs p c r at b seal named own, refl, refl)) (λ w x is. same_fail w.fail w.fail refl)
 
-  pub allow_finish : (b : OBlock) (y : ℕ) → b.0 < n → (card_at k me.0).hold ≡ Held Owned b → (card_at k me.0).number ≡ Some y → y < 18446744073709551615
+  pub allow_finish : (b : OBlock) (y : ℕ) → b.0 < n → (card_at k me.0).hold ≡ Held Owned b → (card_at k me.0).number ≡ Some y → y ≢ 18446744073709551615
       → Allows (Ruled n) slots id me (index_of (Number b)) (λ x. (x + 1) % 2 ^ 64) (λ x. SeatMoves 0 k (λ c d. d ≡ finishing b c) (λ was now. now ≡ put was (Number b) (one_more (word_at was.numbers b))) me)
-  allow_finish b y named own known small = let c : Card = card_at k me.0 in
+  allow_finish b y named own known room = let c : Card = card_at k me.0 in
       steps n slots id (Number b) k me (λ x. (x + 1) % 2 ^ 64) 0 (λ x c d. d ≡ finishing b c) (λ x was now. now ≡ put was (Number b) (one_more (word_at was.numbers b))) named turn
       (λ w cs p x r at floor is _. (
         finishing b c,
-        subst (λ (z : ℕ). LockRule n (put w (Number b) (one_more z)) (set cs p (finishing b c))) (sym is) (finish_keeps n w cs p c r at b y named own known small),
+        subst (λ (z : ℕ). LockRule n (put w (Number b) (one_more z)) (set cs p (finishing b c))) (sym is) (finish_keeps n w cs p c r at b y named own known (has_room n w cs p c r at b y named own known room)),
         refl,
         ap (λ (z : ℕ). put w (Number b) (one_more z)) is,
       )) (λ w x is. same_fail w.fail w.fail refl)
@@ -163,6 +163,7 @@ fresh_rule n m = let zero_at : (b : ℕ) → b < n → word_at (replicate n 0) (
   cells = λ b l. let z = zero_at b l in let s = total-replicate (sharers b) m blank refl in let o = total-replicate (owners b) m blank refl in
       record { is = omega arith; one = omega arith; apart = λ h. omega arith; room = omega arith };
   numbers = λ b l. zero_at b l ∙ sym (total-replicate (writes_on b) m blank refl);
+  fits = λ b l. let z = zero_at b l in omega arith;
   counts = none_counted;
   knows = λ p c e. subst (Knows (fresh_words n)) (sym (all_blank m p c e)) (blank_knows (fresh_words n));
 }

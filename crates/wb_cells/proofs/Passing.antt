@@ -63,6 +63,7 @@ rule_from n w cs ds r sh ow wr co knows = record {
   numbers_are = r.numbers_are;
   cells = λ b l. subst (λ (z : ℕ × ℕ). IsLock (word_at w.cells (block b)) z.0 z.1) (λ j. (sym (sh b) j, sym (ow b) j)) (r.cells b l);
   numbers = λ b l. r.numbers b l ∙ sym (wr b);
+  fits = r.fits;
   counts = λ kind. r.counts kind ∙ ap (λ (z : ℕ). z % 2 ^ 64) (sym (co kind));
   knows = knows;
 }

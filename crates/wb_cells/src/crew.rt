@@ -1,7 +1,7 @@
 //! A crew: the words, and one seat that holds a card for each of its actors. Who has the whole knows every
 //! word, so each step is exact.
 
-ghost use Rattle.std.specs.Prelude.{◌≡◌, ℕ, ◌-◌, ◌^◌, ◌<◌, ◌==◌, true, [], length, replicate, slice_set, slice_index_or, bit_or, Some, IfOk, IfErr, if◌then◌else◌};
+ghost use Rattle.std.specs.Prelude.{◌≡◌, ◌≢◌, ℕ, ◌-◌, ◌^◌, ◌<◌, ◌==◌, true, [], length, replicate, slice_set, slice_index_or, bit_or, Some, IfOk, IfErr, if◌then◌else◌};
 ghost use Rattle.wb_types.specs.declared.refusal.Refusal.TheVariants.{Memory};
 ghost use Rattle.wb_words.specs.declared.word.Access.TheVariants.{Owned};
 ghost use Rattle.wb_words.specs.declared.card.Hold.TheVariants.{Nothing, Held};
@@ -144,7 +144,7 @@ impl Crew {
         requires actor { actor < length self.old.cards }
         requires block { block.0 < self.old.blocks }
         requires owns { (slice_index_or self.old.cards actor blank).hold ≡ Held Owned block }
-        requires room { (n : ℕ) × ((slice_index_or self.old.cards actor blank).number ≡ Some n) × (n < 2 ^ 64 - 1) }
+        requires room { (n : ℕ) × ((slice_index_or self.old.cards actor blank).number ≡ Some n) × (n ≢ 2 ^ 64 - 1) }
         ensures blocks { self.new.blocks ≡ self.old.blocks }
         ensures words { self.new.words ≡ record self.old.words { numbers = slice_set self.old.words.numbers block.0 (one_more (word_at self.old.words.numbers block)) } }
         ensures cards { self.new.cards ≡ slice_set self.old.cards actor (finishing block (slice_index_or self.old.cards actor blank)) }

@@ -160,7 +160,7 @@ impl WordTable {
         requires actor { actor < length seat.old.me.0.cards }
         requires block { block.0 < self.now.blocks }
         requires owns { (card_at actor seat.old.me.0).hold ≡ Held Owned block }
-        requires room { (n : ℕ) × ((card_at actor seat.old.me.0).number ≡ Some n) × (n < 2 ^ 64 - 1) }
+        requires room { (n : ℕ) × ((card_at actor seat.old.me.0).number ≡ Some n) × (n ≢ 2 ^ 64 - 1) }
         ensures at { (seat.new.table_id ≡ seat.old.table_id) × (seat.new.id ≡ seat.old.id) }
         ensures step { SeatMoves 0 actor (λ c d. d ≡ finishing block c) (λ was now. now ≡ put was (Number block) (one_more (word_at was.numbers block))) seat.old.me seat.new.me }
     {

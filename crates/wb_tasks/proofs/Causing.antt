@@ -5,16 +5,16 @@ use Rattle.wb_types.specs.declared.number.OBlock.{OBlock}
 use Rattle.wb_types.specs.declared.number.CBlock.{CBlock}
 use Rattle.wb_types.specs.declared.refusal.Refusal.{Refusal}
 use Rattle.wb_types.specs.declared.refusal.Refusal.TheVariants.{Busy, Failed, Worn, Io}
-use Rattle.wb_types.specs.declared.word.Access.{Access}
-use Rattle.wb_types.specs.declared.word.Access.TheVariants.{Owned}
-use Rattle.wb_types.specs.declared.word.Word.TheVariants.{Cell as LockWord, Seal as SealWord, Number, Count as CountWord, Fail}
-use Rattle.wb_types.specs.Words.{place_in, dirty_in, can_take}
-use Rattle.wb_tasks.specs.Job.{Part, Job, Reading, Writing, part_of, access_of, work, read_step, write_step}
+use Rattle.wb_words.specs.declared.word.Access.{Access}
+use Rattle.wb_words.specs.declared.word.Access.TheVariants.{Owned}
+use Rattle.wb_words.specs.declared.word.Word.TheVariants.{Cell as LockWord, Seal as SealWord, Number, Count as CountWord, Fail}
+use Rattle.wb_words.specs.SharedWords.{place_in, dirty_in, can_take}
+use Rattle.wb_tasks.specs.Job.{BlockRange, Job, Reading, Writing, part_of, access_of, work, taking, read_step, write_step}
 use Rattle.wb_tasks.specs.Script.{Script, after, table, first_step, refused, release, is_worn, Fits}
 use Rattle.wb_tasks.specs.Run.{IsRunOf}
 use Rattle.wb_tasks.specs.Causes.{Causes, GaveCause}
-use Rattle.wb_tasks.specs.declared.step.CellStep.{CellStep}
-use Rattle.wb_tasks.specs.declared.step.CellStep.TheVariants.{Look, Take, Release, Seal, Finish, Count, SetFailed, SetSuspended}
+use Rattle.wb_words.specs.declared.step.CellStep.{CellStep}
+use Rattle.wb_words.specs.declared.step.CellStep.TheVariants.{Look, Take, Release, Seal, Finish, Count, SetFailed, SetSuspended}
 use Rattle.wb_tasks.specs.declared.step.DeviceStep.TheVariants.{Read, Write, Sync}
 use Rattle.wb_tasks.specs.declared.step.Want.{Want}
 use Rattle.wb_tasks.specs.declared.step.Want.TheVariants.{Cell, Device, Desk, End}
@@ -29,12 +29,12 @@ AreOwn (Cell step ∷ ws) = AreOwn ws
 AreOwn (Device step ∷ ws) = AreOwn ws
 AreOwn (w ∷ ws) = ⊥
 
-own_reads : (part : Part) (place : Option CBlock) (sectors : List ℕ) (rest : List Want) → AreOwn rest → AreOwn (map (read_step part place) sectors ++ rest)
+own_reads : (part : BlockRange) (place : Option CBlock) (sectors : List ℕ) (rest : List Want) → AreOwn rest → AreOwn (map (read_step part place) sectors ++ rest)
 own_reads part place [] rest h = h
 own_reads part None (at ∷ sectors) rest h = own_reads part None sectors rest h
 own_reads part (Some c) (at ∷ sectors) rest h = own_reads part (Some c) sectors rest h
 
-own_writes : (part : Part) (place : Option CBlock) (sectors : List ℕ) (rest : List Want) → AreOwn rest → AreOwn (map (write_step part place) sectors ++ rest)
+own_writes : (part : BlockRange) (place : Option CBlock) (sectors : List ℕ) (rest : List Want) → AreOwn rest → AreOwn (map (write_step part place) sectors ++ rest)
 own_writes part place [] rest h = h
 own_writes part None (at ∷ sectors) rest h = own_writes part None sectors rest h
 own_writes part (Some c) (at ∷ sectors) rest h = own_writes part (Some c) sectors rest h
@@ -82,8 +82,8 @@ after_fail_word : (job : Job) (ws : List Want) (value : ℕ) → AreOwn ws → (
 after_fail_word job ws value own true e = inr (ws, own, refl)
 after_fail_word job ws value own false e = inl (Failed, λ zero. absurd (let yes = eq-eqb value 0 zero in cc), answers_at_once (going job ws) Failed)
 
-after_lock_word : (job : Job) (block : OBlock) (ws : List Want) (value : ℕ) → AreOwn ws → (b : Bool) → can_take (access_of job) value ≡ b → Outcome job (Cell (Look (LockWord block))) (Word value) (if b then going job ws else refused (going job ws) [] Busy)
-after_lock_word job block ws value own true e = inr (ws, own, refl)
+after_lock_word : (job : Job) (block : OBlock) (ws : List Want) (value : ℕ) → AreOwn ws → (b : Bool) → can_take (access_of job) value ≡ b → Outcome job (Cell (Look (LockWord block))) (Word value) (if b then going job (taking (access_of job) block value) else refused (going job ws) [] Busy)
+after_lock_word job block ws value own true e = inr (taking (access_of job) block value, tt, refl)
 after_lock_word job block ws value own false e = inl (Busy, e, answers_at_once (going job ws) Busy)
 
 worn_owned : (job : Job) (value : ℕ) → is_worn job value ≡ true → (access_of job ≡ Owned) × (value ≡ 2 ^ 64 - 1)
@@ -101,8 +101,8 @@ outcome job (Cell (Look (LockWord block)) ∷ ws) (Word value) own h = after_loc
 outcome job (Cell (Look (SealWord block)) ∷ ws) (Word value) own h = inr (Cell (Look (Number block)) ∷ work job (place_in value) (dirty_in value), own_work job (place_in value) (dirty_in value), refl)
 outcome job (Cell (Look (Number block)) ∷ ws) (Word value) own h = after_number job block ws value own (is_worn job value) refl
 outcome job (Cell (Look (CountWord kind)) ∷ ws) (Word value) own h = inr (ws, own, refl)
-outcome job (Cell (Take access block) ∷ ws) Done own h = inr (ws, own, refl)
-outcome job (Cell (Take access block) ∷ ws) Lost own h = inl (Busy, tt, answers_at_once (going job ws) Busy)
+outcome job (Cell (Take access block seen) ∷ ws) Done own h = inr (ws, own, refl)
+outcome job (Cell (Take access block seen) ∷ ws) Lost own h = inl (Busy, tt, answers_at_once (going job ws) Busy)
 outcome job (Cell (Release access block) ∷ ws) Done own h = inr (ws, own, refl)
 outcome job (Cell (Seal block place dirty) ∷ ws) Done own h = inr (ws, own, refl)
 outcome job (Cell (Finish block) ∷ ws) Done own h = inr (ws, own, refl)

@@ -1,17 +1,17 @@
 -- A run of a task, step by step, and how long it can be.
 use Rattle.std.proofs.Common.{◌≡◌, ◌≢◌, ◌+◌, ◌<◌, ◌≤◌, ℕ, Bool, true, false, List, [], ◌∷◌, ◌++◌, Option, Some, None, length, map, max, ◌==◌, if◌then◌else◌, refl, sym, subst, arith, append_assoc}
 use Rattle.wb_types.specs.declared.number.CBlock.{CBlock}
-use Rattle.wb_types.specs.declared.word.Access.TheVariants.{Shared, Owned}
+use Rattle.wb_words.specs.declared.word.Access.TheVariants.{Shared, Owned}
 use Rattle.wb_types.specs.declared.refusal.Refusal.TheVariants.{Busy, Failed, Worn}
-use Rattle.wb_types.specs.declared.word.Word.{Word as WordName}
-use Rattle.wb_types.specs.declared.word.Word.TheVariants.{Cell as LockWord, Seal as SealWord, Number, Count as CountWord, Fail}
-use Rattle.wb_types.specs.Words.{place_in, dirty_in, can_take}
-use Rattle.wb_tasks.specs.Job.{Part, Job, access_of, Reading, Writing, work, read_step, write_step, read_count, write_count}
+use Rattle.wb_words.specs.declared.word.Word.{Word as WordName}
+use Rattle.wb_words.specs.declared.word.Word.TheVariants.{Cell as LockWord, Seal as SealWord, Number, Count as CountWord, Fail}
+use Rattle.wb_words.specs.SharedWords.{place_in, dirty_in, can_take}
+use Rattle.wb_tasks.specs.Job.{BlockRange, Job, access_of, Reading, Writing, work, taking, read_step, write_step, read_count, write_count}
 use Rattle.wb_tasks.specs.Script.{Script, want, after, after_look, release, Fits, IsStep, first_step, is_worn}
 use Rattle.wb_tasks.specs.Ready.{AreFirst, left_by}
 use Rattle.wb_tasks.specs.Run.{IsRunOf, Leads}
 use Rattle.wb_tasks.specs.Length.{longest_work, longest_of, longest}
-use Rattle.wb_tasks.specs.declared.step.CellStep.TheVariants.{Look, Take, Release, Seal, Finish, Count, SetFailed, SetSuspended}
+use Rattle.wb_words.specs.declared.step.CellStep.TheVariants.{Look, Take, Release, Seal, Finish, Count, SetFailed, SetSuspended}
 use Rattle.wb_tasks.specs.declared.step.DeviceStep.TheVariants.{Read, Write, Sync}
 use Rattle.wb_tasks.specs.declared.step.Want.{Want}
 use Rattle.wb_tasks.specs.declared.step.Want.TheVariants.{Cell, Device, Desk, End}
@@ -35,7 +35,7 @@ longest_of-some job (Cell (Look (SealWord b)) ∷ ws) = omega arith
 longest_of-some job (Cell (Look (Number b)) ∷ ws) = omega arith
 longest_of-some job (Cell (Look (CountWord k)) ∷ ws) = omega arith
 longest_of-some job (Cell (Look Fail) ∷ ws) = omega arith
-longest_of-some job (Cell (Take a b) ∷ ws) = omega arith
+longest_of-some job (Cell (Take a b seen) ∷ ws) = omega arith
 longest_of-some job (Cell (Release a b) ∷ ws) = omega arith
 longest_of-some job (Cell (Seal b p d) ∷ ws) = omega arith
 longest_of-some job (Cell (Finish b) ∷ ws) = omega arith
@@ -47,12 +47,12 @@ longest_of-some job (Desk s ∷ ws) = omega arith
 longest_of-some job (End a ∷ ws) = omega arith
 
 -- a step for each sector, before others that take two or more with the answer
-longest_of-reads : (job : Job) (part : Part) (place : Option CBlock) (sectors : List ℕ) (ws : List Want) → 2 ≤ longest_of job ws → longest_of job (map (read_step part place) sectors ++ ws) ≡ length sectors + longest_of job ws
+longest_of-reads : (job : Job) (part : BlockRange) (place : Option CBlock) (sectors : List ℕ) (ws : List Want) → 2 ≤ longest_of job ws → longest_of job (map (read_step part place) sectors ++ ws) ≡ length sectors + longest_of job ws
 longest_of-reads job part place [] ws h = omega arith
 longest_of-reads job part None (at ∷ sectors) ws h = omega (arith, longest_of-reads job part None sectors ws h)
 longest_of-reads job part (Some c) (at ∷ sectors) ws h = omega (arith, longest_of-reads job part (Some c) sectors ws h)
 
-longest_of-writes : (job : Job) (part : Part) (place : Option CBlock) (sectors : List ℕ) (ws : List Want) → 2 ≤ longest_of job ws → longest_of job (map (write_step part place) sectors ++ ws) ≡ length sectors + longest_of job ws
+longest_of-writes : (job : Job) (part : BlockRange) (place : Option CBlock) (sectors : List ℕ) (ws : List Want) → 2 ≤ longest_of job ws → longest_of job (map (write_step part place) sectors ++ ws) ≡ length sectors + longest_of job ws
 longest_of-writes job part place [] ws h = omega arith
 longest_of-writes job part None (at ∷ sectors) ws h = omega (arith, longest_of-writes job part None sectors ws h)
 longest_of-writes job part (Some c) (at ∷ sectors) ws h = omega (arith, longest_of-writes job part (Some c) sectors ws h)
@@ -72,7 +72,7 @@ some_work (Writing part) = omega arith
 -- a look leaves less
 falls_look : (job : Job) (word : WordName) (ws : List Want) (a : Answer) (value : ℕ) → longest (after_look (record { job = job; steps = Cell (Look word) ∷ ws; answer = a }) (Cell (Look word)) value) < longest_of job (Cell (Look word) ∷ ws)
 falls_look job Fail ws a value = elim (value == 0) as (λ (b : Bool). longest (if b then (record { job = job; steps = ws; answer = a }) else (record { job = job; steps = []; answer = Refuses Failed })) < 1 + longest_of job ws) [ true ↦ omega arith | false ↦ omega (arith, longest_of-some job ws) ]
-falls_look job (LockWord block) ws a value = elim (can_take (access_of job) value) as (λ (b : Bool). longest (if b then (record { job = job; steps = ws; answer = a }) else (record { job = job; steps = []; answer = Refuses Busy })) < 1 + longest_of job ws) [ true ↦ omega arith | false ↦ omega (arith, longest_of-some job ws) ]
+falls_look job (LockWord block) ws a value = elim (can_take (access_of job) value) as (λ (b : Bool). longest (if b then (record { job = job; steps = taking (access_of job) block value; answer = a }) else (record { job = job; steps = []; answer = Refuses Busy })) < 4 + longest_work job) [ true ↦ omega arith | false ↦ omega arith ]
 falls_look job (SealWord block) ws a value = omega (arith, longest_of-work job (place_in value) (dirty_in value), some_work job)
 falls_look job (Number block) ws a value = elim (is_worn job value) as (λ (b : Bool). longest (if b then (record { job = job; steps = release job ∷ []; answer = Refuses Worn }) else (record { job = job; steps = ws; answer = a })) < 1 + max 2 (longest_of job ws)) [ true ↦ omega arith | false ↦ omega arith ]
 falls_look job (CountWord kind) ws a value = omega arith
@@ -81,8 +81,8 @@ falls_look job (CountWord kind) ws a value = omega arith
 pub falls : (job : Job) (ws : List Want) (a : Answer) (g : Got) → Fits (first_step ws a) g → longest (after (record { job = job; steps = ws; answer = a }) g) < longest_of job ws
 falls job [] a g h = absurd h
 falls job (Cell (Look word) ∷ ws) a (Word value) h = falls_look job word ws a value
-falls job (Cell (Take access block) ∷ ws) a Done h = omega arith
-falls job (Cell (Take access block) ∷ ws) a Lost h = omega (arith, longest_of-some job ws)
+falls job (Cell (Take access block seen) ∷ ws) a Done h = omega arith
+falls job (Cell (Take access block seen) ∷ ws) a Lost h = omega (arith, longest_of-some job ws)
 falls job (Cell (Release access block) ∷ ws) a Done h = omega arith
 falls job (Cell (Seal block place dirty) ∷ ws) a Done h = omega arith
 falls job (Cell (Finish block) ∷ ws) a Done h = omega arith

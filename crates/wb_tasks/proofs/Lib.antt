@@ -3,5 +3,4 @@ pub mod Reading
 pub mod Writing
 pub mod Driving
 pub mod Causing
-pub mod Crewing
 pub mod Readiness

@@ -1,248 +1,212 @@
--- Wherever the table of a read or write has led its actor, it is ready for the next step; after the answer it holds nothing.
-use Rattle.std.proofs.Common.{◌≡◌, ◌∙◌, ◌==◌, ◌<◌, ◌-◌, ◌^◌, ◌++◌, ℕ, Bool, true, false, List, [], ◌∷◌, Option, Some, None, refl, sym, ap, subst, map, if◌then◌else◌}
-use Rattle.std.proofs.lemmas.Bool.{eq-eqb, true≢false}
+-- An actor has what the next step of its task needs, and each step keeps it so; after the answer it holds nothing.
+use Rattle.std.proofs.Common.{◌≡◌, ◌∙◌, ◌==◌, ◌<◌, ◌-◌, ◌^◌, ◌++◌, ℕ, Bool, true, false, cond, eqb, List, [], ◌∷◌, Option, Some, None, refl, sym, ap, subst, map, if◌then◌else◌, arith}
+use Rattle.std.proofs.lemmas.Bool.{eq-eqb, eqb-true, true≢false}
+use Rattle.wb_types.specs.declared.number.OBlock.{OBlock}
 use Rattle.wb_types.specs.declared.number.CBlock.{CBlock}
 use Rattle.wb_types.specs.declared.refusal.Refusal.TheVariants.{Busy, Failed, Worn, Io}
-use Rattle.wb_types.specs.declared.word.Access.TheVariants.{Owned}
-use Rattle.wb_types.specs.declared.word.Word.TheVariants.{Cell as LockWord, Seal as SealWord, Number}
-use Rattle.wb_types.specs.Words.{place_in, dirty_in, can_take}
-use Rattle.wb_tasks.specs.Job.{Part, Job, Reading, Writing, part_of, access_of, acquire, work, read_step, write_step}
-use Rattle.wb_tasks.specs.Ready.{HasNext, MayTake, card_then, card_by, AreFirst, left_by}
-use Rattle.wb_tasks.specs.Script.{Script, table, want, after, first_step, release, is_worn, Fits}
-use Rattle.wb_tasks.specs.Words.{card_after, failed_card, holding, is_held}
-use Rattle.wb_tasks.specs.declared.card.Card.{Card}
-use Rattle.wb_tasks.specs.declared.card.Held.{Held}
-use Rattle.wb_tasks.specs.declared.card.Held.TheVariants.{Nothing, Owns}
+use Rattle.wb_words.specs.declared.word.Access.{Access}
+use Rattle.wb_words.specs.declared.word.Access.TheVariants.{Owned}
+use Rattle.wb_words.specs.declared.word.Word.{Word as WordName}
+use Rattle.wb_words.specs.declared.word.Word.TheVariants.{Cell as LockWord, Seal as SealWord, Number, Count as CountWord, Fail}
+use Rattle.wb_words.specs.declared.card.Hold.{Hold}
+use Rattle.wb_words.specs.declared.card.Hold.TheVariants.{Nothing, Held}
+use Rattle.wb_words.specs.declared.card.Card.{Card}
+use Rattle.wb_words.specs.declared.step.CellStep.{CellStep}
+use Rattle.wb_words.specs.declared.step.CellStep.TheVariants.{Look, Take, Release, Seal, Finish, Count, SetFailed, SetSuspended}
+use Rattle.wb_words.specs.SharedWords.{Words, IsWord, word_at, value_of, place_in, dirty_in, can_take}
+use Rattle.wb_words.specs.Cards.{looked, losing, holding, failing_at, is_own_number}
+use Rattle.wb_words.specs.Effects.{result_of, card_after}
+use Rattle.wb_words.specs.Ready.{HasNext}
+use Rattle.wb_tasks.specs.Job.{BlockRange, Job, Reading, Writing, part_of, access_of, work, taking, read_step, write_step}
+use Rattle.wb_tasks.specs.Ready.{MayTake, MayMake, block_of, HasBlock, KnowsNext, IsRest, Has, Suits}
+use Rattle.wb_tasks.specs.Script.{Script, table, want, after, first_step, release, is_worn, Fits, got_of}
 use Rattle.wb_tasks.specs.declared.step.Answer.{Answer}
 use Rattle.wb_tasks.specs.declared.step.Answer.TheVariants.{Done as Finished, Refused as Refuses}
-use Rattle.wb_tasks.specs.declared.step.CellStep.TheVariants.{Look, Take, Release, Seal, Finish, Count, SetFailed, SetSuspended}
-use Rattle.wb_tasks.specs.declared.step.DeviceStep.{DeviceStep}
 use Rattle.wb_tasks.specs.declared.step.DeviceStep.TheVariants.{Read, Write, Sync}
 use Rattle.wb_tasks.specs.declared.step.Want.{Want}
 use Rattle.wb_tasks.specs.declared.step.Want.TheVariants.{Cell, Device, Desk, End}
 use Rattle.wb_tasks.specs.declared.step.Got.{Got}
 use Rattle.wb_tasks.specs.declared.step.Got.TheVariants.{Done, Word, Lost, Content, Fault}
 
--- A step on a device that a job may take: only a write writes.
-abbrev IsJobs : Job → DeviceStep → Type 0
-IsJobs job (Read device at) = Unit {0}
-IsJobs job (Write device at) = access_of job ≡ Owned
-IsJobs job (Sync device) = ⊥
-
--- What may be left of the work of a job that holds its block; the flag says that its number is known to have a next one.
-abbrev Rest : Job → Bool → List Want → Type 0
-Rest job next (Device step ∷ ws) = IsJobs job step × Rest job next ws
-Rest job next (Cell (Seal block place dirty) ∷ ws) = (block ≡ (part_of job).block) × (access_of job ≡ Owned) × Rest job next ws
-Rest job next (Cell (Finish block) ∷ ws) = (block ≡ (part_of job).block) × (access_of job ≡ Owned) × (next ≡ true) × Rest job false ws
-Rest job next (Cell (Count kind) ∷ ws) = Rest job next ws
-Rest job next (Cell (Release access block) ∷ []) = (access ≡ access_of job) × (block ≡ (part_of job).block)
-Rest job next ws = ⊥
-
-rest_reads : (part : Part) (place : Option CBlock) (sectors : List ℕ) (ws : List Want) → Rest (Reading part) true ws → Rest (Reading part) true (map (read_step part place) sectors ++ ws)
+rest_reads : (part : BlockRange) (place : Option CBlock) (sectors : List ℕ) (ws : List Want) → IsRest (Reading part) true ws → IsRest (Reading part) true (map (read_step part place) sectors ++ ws)
 rest_reads part place [] ws r = r
 rest_reads part None (at ∷ sectors) ws r = (tt, rest_reads part None sectors ws r)
 rest_reads part (Some c) (at ∷ sectors) ws r = (tt, rest_reads part (Some c) sectors ws r)
 
-rest_writes : (part : Part) (place : Option CBlock) (sectors : List ℕ) (ws : List Want) → Rest (Writing part) true ws → Rest (Writing part) true (map (write_step part place) sectors ++ ws)
+rest_writes : (part : BlockRange) (place : Option CBlock) (sectors : List ℕ) (ws : List Want) → IsRest (Writing part) true ws → IsRest (Writing part) true (map (write_step part place) sectors ++ ws)
 rest_writes part place [] ws r = r
 rest_writes part None (at ∷ sectors) ws r = (refl, rest_writes part None sectors ws r)
 rest_writes part (Some c) (at ∷ sectors) ws r = (refl, rest_writes part (Some c) sectors ws r)
 
-rest_work : (job : Job) (place : Option CBlock) (dirty : Bool) → Rest job true (work job place dirty)
+rest_work : (job : Job) (place : Option CBlock) (dirty : Bool) → IsRest job true (work job place dirty)
 rest_work (Reading part) None dirty = rest_reads part None part.sectors _ (refl, refl)
 rest_work (Reading part) (Some c) dirty = rest_reads part (Some c) part.sectors _ (refl, refl)
 rest_work (Writing part) None dirty = rest_writes part None part.sectors _ (refl, refl, refl, (refl, refl))
 rest_work (Writing part) (Some c) true = rest_writes part (Some c) part.sectors _ (refl, refl, refl, (refl, refl))
 rest_work (Writing part) (Some c) false = (refl, refl, rest_writes part (Some c) part.sectors _ (refl, refl, refl, (refl, refl)))
 
--- where a job stands
-data Phase : Type 0 where
-  FailLook : Phase
-  LockLook : Phase
-  Taking : Phase
-  SealLook : Phase
-  NumberLook : (place : Option CBlock) (dirty : Bool) → Phase
-  Working : (next : Bool) (ws : List Want) → Phase
-  Failing : Phase
-  Ending : Phase
+-- what is left of the work is all that is left
+has_rest : (job : Job) (card : Card) (next : Bool) (ws : List Want) → IsRest job next ws → HasBlock job card → KnowsNext job next card.number → Has job card ws
+has_rest job card next (Device step ∷ ws) r h k = (h, (next, r, k))
+has_rest job card next (Cell (Seal block place dirty) ∷ ws) r h k = (h, (next, r, k))
+has_rest job card next (Cell (Finish block) ∷ ws) r h k = (h, (next, r, k))
+has_rest job card next (Cell (Count kind) ∷ ws) r h k = (h, (next, r, k))
+has_rest job card next (Cell (Release access block) ∷ []) r h k = (h, (next, r, k))
+has_rest job card next (Cell (Release access block) ∷ (w ∷ ws)) r h k = absurd r
+has_rest job card next [] r h k = absurd r
+has_rest job card next (Cell (Look word) ∷ ws) r h k = absurd r
+has_rest job card next (Cell (Take access block seen) ∷ ws) r h k = absurd r
+has_rest job card next (Cell SetFailed ∷ ws) r h k = absurd r
+has_rest job card next (Cell SetSuspended ∷ ws) r h k = absurd r
+has_rest job card next (Desk step ∷ ws) r h k = absurd r
+has_rest job card next (End answer ∷ ws) r h k = absurd r
 
-abbrev looks : Job → List Want
-looks job = Cell (Look (SealWord (part_of job).block)) ∷ Cell (Look (Number (part_of job).block)) ∷ []
-
-abbrev steps_in : Job → Phase → List Want
-steps_in job FailLook = acquire (access_of job) (part_of job).block
-steps_in job LockLook = Cell (Look (LockWord (part_of job).block)) ∷ Cell (Take (access_of job) (part_of job).block) ∷ looks job
-steps_in job Taking = Cell (Take (access_of job) (part_of job).block) ∷ looks job
-steps_in job SealLook = looks job
-steps_in job (NumberLook place dirty) = Cell (Look (Number (part_of job).block)) ∷ work job place dirty
-steps_in job (Working next ws) = ws
-steps_in job Failing = Cell SetFailed ∷ []
-steps_in job Ending = []
-
--- a write knows a number that has a next one
-abbrev Knows : Job → Bool → Option ℕ → Type 0
-Knows (Reading part) next known = Unit {0}
-Knows (Writing part) true known = HasNext known
-Knows (Writing part) false known = Unit {0}
-
-abbrev Has : Job → Card → Phase → Type 0
-Has job card SealLook = card.held ≡ holding (access_of job) (part_of job).block
-Has job card (NumberLook place dirty) = card.held ≡ holding (access_of job) (part_of job).block
-Has job card (Working next ws) = (card.held ≡ holding (access_of job) (part_of job).block) × Rest job next ws × Knows job next card.number
-Has job card Failing = card.held ≡ Owns (part_of job).block
-Has job card phase = card.held ≡ Nothing
-
--- a script that stands somewhere
-record Stands (job : Job) (card : Card) (s : Script) : Type 0 where
-  phase : Phase
-  of_job : s.job ≡ job
-  steps : s.steps ≡ steps_in job phase
-  has : Has job card phase
-
-stands : (job : Job) (card : Card) (phase : Phase) (answer : Answer) → Has job card phase → Stands job card (record { job = job; steps = steps_in job phase; answer = answer })
-stands job card phase answer h = record { phase = phase; of_job = refl; steps = refl; has = h }
-
--- one of two scripts
-either : (P : Script → Type 0) (b : Bool) (s t : Script) → P s → (b ≡ false → P t) → P (if b then s else t)
-either P true s t p q = p
+-- one of two scripts, by a test
+either : (P : Script → Type 0) (b : Bool) (s t : Script) → (b ≡ true → P s) → (b ≡ false → P t) → P (if b then s else t)
+either P true s t p q = p refl
 either P false s t p q = q refl
 
-holds_its_block : (job : Job) (held : Held) → held ≡ holding (access_of job) (part_of job).block → is_held held (part_of job).block ≡ true
-holds_its_block (Reading part) held e = ap (λ h. is_held h part.block) e ∙ eq-eqb part.block.0 part.block.0 refl
-holds_its_block (Writing part) held e = ap (λ h. is_held h part.block) e ∙ eq-eqb part.block.0 part.block.0 refl
-
-known : (job : Job) (value : ℕ) → is_worn job value ≡ false → Knows job true (Some value)
+-- a number that is not worn has a next one
+known : (job : Job) (value : ℕ) → is_worn job value ≡ false → KnowsNext job true (Some value)
 known (Reading part) value e = tt
 known (Writing part) value e = (value, refl, λ worn. absurd (true≢false (sym (eq-eqb value (2 ^ 64 - 1) worn) ∙ e)))
 
-knows_less : (job : Job) (known : Option ℕ) → Knows job false known
+knows_less : (job : Job) (known : Option ℕ) → KnowsNext job false known
 knows_less (Reading part) known = tt
 knows_less (Writing part) known = tt
 
-give_back : (job : Job) (card : Card) (answer : Answer) → card.held ≡ holding (access_of job) (part_of job).block → Stands job card (record { job = job; steps = release job ∷ []; answer = answer })
-give_back job card answer h = stands job card (Working false (release job ∷ [])) answer (h, (refl, refl), knows_less job card.number)
+suits : (blocks : ℕ) (job : Job) (card : Card) (ws : List Want) (answer : Answer) → (block_of job).0 < blocks → Has job card ws → Suits blocks (record { job = job; steps = ws; answer = answer }) card
+suits blocks job card ws answer l h = record { inside = l; has = h }
 
--- One step of a task, and what came of it.
+give_back : (blocks : ℕ) (job : Job) (card : Card) (answer : Answer) → (block_of job).0 < blocks → HasBlock job card → Suits blocks (record { job = job; steps = release job ∷ []; answer = answer }) card
+give_back blocks job card answer l h = suits blocks job card (release job ∷ []) answer l (h, (false, (refl, refl), knows_less job card.number))
 
--- in the work
-working : (job : Job) (card : Card) (next : Bool) (ws : List Want) (answer : Answer) (got : Got) → Has job card (Working next ws) → Fits (first_step ws answer) got →
-    Stands job (card_then card (first_step ws answer) got) (after (record { job = job; steps = ws; answer = answer }) got)
-working job card next (Device (Read device at) ∷ ws) answer (Content content) h f = stands job card (Working next ws) answer (h.0, h.1.1, h.2)
-working job card next (Device (Read device at) ∷ ws) answer Fault h f = give_back job card (Refuses (Io device)) h.0
-working job card next (Device (Write device at) ∷ ws) answer Done h f = stands job card (Working next ws) answer (h.0, h.1.1, h.2)
-working job card next (Device (Write device at) ∷ ws) answer Fault h f = stands job card Failing (Refuses (Io device)) (h.0 ∙ ap (λ access. holding access (part_of job).block) h.1.0)
-working job card next (Cell (Seal block place dirty) ∷ ws) answer Done h f = stands job (card_after card (Seal block place dirty) Done) (Working next ws) answer (h.0, h.1.2, h.2)
-working job card next (Cell (Finish block) ∷ ws) answer Done h f = stands job (card_after card (Finish block) Done) (Working false ws) answer (h.0, h.1.3, knows_less job (card_after card (Finish block) Done).number)
-working job card next (Cell (Count kind) ∷ ws) answer Done h f = stands job card (Working next ws) answer h
-working job card next (Cell (Release access block) ∷ []) answer Done h f = stands job (card_after card (Release access block) Done) Ending answer refl
-working job card next [] answer got h f = absurd f
-working job card next (Cell (Look word) ∷ ws) answer got h f = absurd h.1
-working job card next (Cell (Take access block) ∷ ws) answer got h f = absurd h.1
-working job card next (Cell (Release access block) ∷ (w ∷ ws)) answer got h f = absurd h.1
-working job card next (Cell SetFailed ∷ ws) answer got h f = absurd h.1
-working job card next (Cell SetSuspended ∷ ws) answer got h f = absurd h.1
-working job card next (Desk step ∷ ws) answer got h f = absurd h.1
-working job card next (Device (Sync device) ∷ ws) answer got h f = absurd h.1.0
-working job card next (w ∷ ws) answer got h f = absurd f
+-- who looks at a number of its own block knows it then
+own_number : (access : Access) (a b : OBlock) (hold : Hold) → hold ≡ Held access a → b ≡ a → is_own_number hold (Number b) ≡ true
+own_number access a b hold e f = ap (λ h. is_own_number h (Number b)) e ∙ (ap (λ (z : OBlock). eqb z.0 a.0) f ∙ eq-eqb a.0 a.0 refl)
 
-on_step : (job : Job) (card : Card) (phase : Phase) (answer : Answer) (got : Got) → Has job card phase → Fits (first_step (steps_in job phase) answer) got →
-    Stands job (card_then card (first_step (steps_in job phase) answer) got) (after (record { job = job; steps = steps_in job phase; answer = answer }) got)
-on_step job card FailLook answer (Word value) h f =
-    either (Stands job card) (value == 0) _ _ (stands job card LockLook answer h) (λ _. stands job card Ending (Refuses Failed) h)
-on_step job card LockLook answer (Word value) h f =
-    let card' : Card = record card { cell = value } in
-    either (Stands job card') (can_take (access_of job) value) _ _ (stands job card' Taking answer h) (λ _. stands job card' Ending (Refuses Busy) h)
-on_step job card Taking answer Done h f = stands job (card_after card (Take (access_of job) (part_of job).block) Done) SealLook answer refl
-on_step job card Taking answer Lost h f = stands job card Ending (Refuses Busy) h
-on_step job card SealLook answer (Word value) h f = stands job (record card { seal = value }) (NumberLook (place_in value) (dirty_in value)) answer h
-on_step job card (NumberLook place dirty) answer (Word value) h f =
-    let card' : Card = record card { number = Some value } in
-    let noted : card_after card (Look (Number (part_of job).block)) (Word value) ≡ card' = ap (λ b. record card { number = if b then Some value else card.number }) (holds_its_block job card.held h) in
-    rw noted (either (Stands job card') (is_worn job value) _ _ (give_back job card' (Refuses Worn) h)
-    (λ fine. stands job card' (Working true (work job place dirty)) answer (h, rest_work job place dirty, known job value fine)))
-on_step job card (Working next ws) answer got h f = working job card next ws answer got h f
-on_step job card Failing answer Done h f = stands job (card_after card SetFailed Done) Ending answer (ap (λ held. (failed_card card held).held) h)
-on_step job card phase answer got h f = absurd f
+word_is : (x y : ℕ) → Word x ≡ Word y → x ≡ y
+word_is x y e = cc
 
-script_is : (s : Script) (job : Job) (ws : List Want) → s.job ≡ job → s.steps ≡ ws → s ≡ record { job = job; steps = ws; answer = s.answer }
-script_is s job ws e f = ap (λ (j : Job). record { job = j; steps = s.steps; answer = s.answer }) e ∙ ap (λ (w : List Want). record { job = job; steps = w; answer = s.answer }) f
+-- One step of a task, what came of it, and what became of its actor's card.
+module _ (blocks : ℕ) (job : Job) (card card' : Card) (answer : Answer) (inside : (block_of job).0 < blocks) where
+  abbrev Then : Want → List Want → Got → Type 0
+  Then next ws got = Suits blocks (after (record { job = job; steps = next ∷ ws; answer = answer }) got) card'
 
-step_on : (job : Job) (card : Card) (s : Script) (got : Got) → Stands job card s → Fits (want s) got → Stands job (card_then card (want s) got) (after s got)
-step_on job card s got st f =
-    let same = script_is s job (steps_in job st.phase) st.of_job st.steps in
-    subst (λ (t : Script). Stands job (card_then card (want t) got) (after t got)) (sym same)
-    (on_step job card st.phase s.answer got st.has (subst (λ (t : Script). Fits (want t) got) same f))
+  -- an exchange that was won, or lost
+  took : (access : Access) (b : OBlock) (seen : ℕ) (ws : List Want) (got : Got) → Has job card (Cell (Take access b seen) ∷ ws) → Fits (Cell (Take access b seen)) got → MayMake (Cell (Take access b seen)) got card card' → Then (Cell (Take access b seen)) ws got
+  took access b seen ws got h f made = by_test (eqb (word_at made.0.cells b) seen) made.1 made.2 got f
+    where
+      won : card' ≡ holding (Held access b) card → Has job card' ws
+      won is = subst (λ (z : List Want). Has job card' z) (sym h.4) (ap (λ (c : Card). c.hold) is ∙ (λ i. Held (h.1 i) (h.2 i)), h.2)
 
--- Many steps.
-by_steps : (job : Job) (card : Card) (s : Script) (steps : List (Want × Got)) → Stands job card s → AreFirst s steps → Stands job (card_by card steps) (left_by s steps)
-by_steps job card s [] st f = st
-by_steps job card s (step ∷ steps) st f =
-    let fits : Fits (want s) step.1 = subst (λ (w : Want). Fits w step.1) f.0 f.1 in
-    let on : Stands job (card_then card step.0 step.1) (after s step.1) = subst (λ (w : Want). Stands job (card_then card w step.1) (after s step.1)) (sym f.0) (step_on job card s step.1 st fits) in
-    by_steps job (card_then card step.0 step.1) (after s step.1) steps on f.2
+      by_test : (t : Bool) → got ≡ got_of (if t then Rattle.wb_words.specs.declared.step.CellResult.TheVariants.Done else Rattle.wb_words.specs.declared.step.CellResult.TheVariants.Lost) → card' ≡ (if t then holding (Held access b) card else losing b (word_at made.0.cells b) card)
+          → (g : Got) → Fits (Cell (Take access b seen)) g → Suits blocks (after (record { job = job; steps = Cell (Take access b seen) ∷ ws; answer = answer }) got) card'
+      by_test true e is g f = rw e (suits blocks job card' ws answer inside (won is))
+      by_test false e is g f = rw e (suits blocks job card' [] (Refuses Busy) inside (ap (λ (c : Card). c.hold) is ∙ h.0))
+
+  -- a look
+  saw : (word : WordName) (ws : List Want) (value : ℕ) → Has job card (Cell (Look word) ∷ ws) → MayMake (Cell (Look word)) (Word value) card card' → Then (Cell (Look word)) ws (Word value)
+  saw Fail ws value h made = let hold : card'.hold ≡ Nothing = ap (λ (c : Card). c.hold) made.2 ∙ h.0 in
+      either (λ (s : Script). Suits blocks s card') (value == 0) _ _
+      (λ _. suits blocks job card' ws answer inside (subst (λ (z : List Want). Has job card' z) (sym h.1) (hold, refl, refl)))
+      (λ _. suits blocks job card' [] (Refuses Failed) inside hold)
+  saw (LockWord b) ws value h made = let hold : card'.hold ≡ Nothing = ap (λ (c : Card). c.hold) made.2 ∙ h.0 in
+      either (λ (s : Script). Suits blocks s card') (can_take (access_of job) value) _ _
+      (λ can. suits blocks job card' (taking (access_of job) b value) answer inside (hold, refl, h.1, can, refl))
+      (λ _. suits blocks job card' [] (Refuses Busy) inside hold)
+  saw (SealWord b) ws value h made = let has : HasBlock job card' = ap (λ (c : Card). c.hold) made.2 ∙ h.0 in
+      suits blocks job card' (Cell (Look (Number b)) ∷ work job (place_in value) (dirty_in value)) answer inside (has, h.1, rest_work job (place_in value) (dirty_in value))
+  saw (Number b) ws value h made = let has : HasBlock job card' = ap (λ (c : Card). c.hold) made.2 ∙ h.0 in
+      let found : ℕ = value_of made.0 (Number b) in
+      let learnt : card'.number ≡ Some value = ap (λ (c : Card). c.number) made.2 ∙ (ap (λ (t : Bool). cond t (Some found) card.number) (own_number (access_of job) (block_of job) b card.hold h.0 h.1) ∙ ap (λ z. Some z) (sym (word_is value found made.1))) in
+      either (λ (s : Script). Suits blocks s card') (is_worn job value) _ _
+      (λ _. give_back blocks job card' (Refuses Worn) inside has)
+      (λ fine. suits blocks job card' ws answer inside (has_rest job card' true ws h.2 has (subst (KnowsNext job true) (sym learnt) (known job value fine))))
+  saw (CountWord kind) ws value h made = absurd h.1.1
+
+  -- the work
+  kept_hold : HasBlock job card → card' ≡ card → HasBlock job card'
+  kept_hold h e = ap (λ (c : Card). c.hold) e ∙ h
+
+  kept_number : (next : Bool) → card'.number ≡ card.number → KnowsNext job next card.number → KnowsNext job next card'.number
+  kept_number next e k = subst (KnowsNext job next) (sym e) k
+
+  pub keeps_on : (ws : List Want) (got : Got) → Has job card ws → Fits (first_step ws answer) got → MayMake (first_step ws answer) got card card' → Suits blocks (after (record { job = job; steps = ws; answer = answer }) got) card'
+  keeps_on [] got h f made = absurd f
+  keeps_on (Cell (Look word) ∷ ws) (Word value) h f made = saw word ws value h made
+  keeps_on (Cell (Take access b seen) ∷ ws) got h f made = took access b seen ws got h f made
+  keeps_on (Cell SetFailed ∷ ws) Done h f made =
+      let gone : card'.hold ≡ Nothing = ap (λ (c : Card). c.hold) made.2 ∙ ap (λ (z : Hold). (failing_at z card).hold) h.0 in
+      suits blocks job card' ws answer inside (subst (λ (z : List Want). Has job card' z) (sym h.1) gone)
+  keeps_on (Device (Read device at) ∷ ws) (Content content) h f made = let r = h.1 in
+      suits blocks job card' ws answer inside (has_rest job card' r.0 ws r.1.1 (kept_hold h.0 made) (kept_number r.0 (ap (λ (c : Card). c.number) made) r.2))
+  keeps_on (Device (Read device at) ∷ ws) Fault h f made = give_back blocks job card' (Refuses (Io device)) inside (kept_hold h.0 made)
+  keeps_on (Device (Write device at) ∷ ws) Done h f made = let r = h.1 in
+      suits blocks job card' ws answer inside (has_rest job card' r.0 ws r.1.1 (kept_hold h.0 made) (kept_number r.0 (ap (λ (c : Card). c.number) made) r.2))
+  keeps_on (Device (Write device at) ∷ ws) Fault h f made =
+      suits blocks job card' (Cell SetFailed ∷ []) (Refuses (Io device)) inside (kept_hold h.0 made ∙ ap (λ access. Held access (block_of job)) h.1.1.0, refl)
+  keeps_on (Cell (Seal b place dirty) ∷ ws) Done h f made = let r = h.1 in
+      suits blocks job card' ws answer inside (has_rest job card' r.0 ws r.1.2 (ap (λ (c : Card). c.hold) made.2 ∙ h.0) (kept_number r.0 (ap (λ (c : Card). c.number) made.2) r.2))
+  keeps_on (Cell (Finish b) ∷ ws) Done h f made = let r = h.1 in
+      suits blocks job card' ws answer inside (has_rest job card' false ws r.1.3 (ap (λ (c : Card). c.hold) made.2 ∙ h.0) (knows_less job card'.number))
+  keeps_on (Cell (Count kind) ∷ ws) Done h f made = let r = h.1 in
+      suits blocks job card' ws answer inside (has_rest job card' r.0 ws r.1 (ap (λ (c : Card). c.hold) made.2 ∙ h.0) (kept_number r.0 (ap (λ (c : Card). c.number) made.2) r.2))
+  keeps_on (Cell (Release access b) ∷ []) Done h f made = suits blocks job card' [] answer inside (ap (λ (c : Card). c.hold) made.2)
+  keeps_on (Cell (Release access b) ∷ (w ∷ ws)) got h f made = absurd h.1.1
+  keeps_on (Cell SetSuspended ∷ ws) got h f made = absurd h.1.1
+  keeps_on (Desk step ∷ ws) got h f made = absurd h.1.1
+  keeps_on (Device (Sync device) ∷ ws) got h f made = absurd h.1.1.0
+  keeps_on (w ∷ ws) got h f made = absurd f
+
+pub keeps_ready : (blocks : ℕ) (s : Script) (card card' : Card) (got : Got) → Suits blocks s card → Fits (want s) got → MayMake (want s) got card card' → Suits blocks (after s got) card'
+keeps_ready blocks s card card' got h f made = keeps_on blocks s.job card card' s.answer h.inside s.steps got h.has f made
 
 -- What comes next.
 
-knows_next : (job : Job) (next : Bool) (number : Option ℕ) → access_of job ≡ Owned → next ≡ true → Knows job next number → HasNext number
+knows_next : (job : Job) (next : Bool) (number : Option ℕ) → access_of job ≡ Owned → next ≡ true → KnowsNext job next number → HasNext number
 knows_next (Reading part) next number o n k = absurd (cc)
 knows_next (Writing part) true number o n k = k
 knows_next (Writing part) false number o n k = absurd (cc)
 
-owned : (job : Job) (card : Card) → card.held ≡ holding (access_of job) (part_of job).block → access_of job ≡ Owned → card.held ≡ Owns (part_of job).block
-owned job card h o = h ∙ ap (λ access. holding access (part_of job).block) o
+owned : (job : Job) (card : Card) → HasBlock job card → access_of job ≡ Owned → card.hold ≡ Held Owned (block_of job)
+owned job card h o = h ∙ ap (λ access. Held access (block_of job)) o
 
-ready_working : (blocks : ℕ) (job : Job) (card : Card) (next : Bool) (ws : List Want) (answer : Answer) → (part_of job).block.0 < blocks → Has job card (Working next ws) → MayTake blocks card (first_step ws answer)
-ready_working blocks job card next [] answer l h = absurd h.1
-ready_working blocks job card next (Device step ∷ ws) answer l h = tt
-ready_working blocks job card next (Cell (Seal block place dirty) ∷ ws) answer l h = rw h.1.0 (l, owned job card h.0 h.1.1)
-ready_working blocks job card next (Cell (Finish block) ∷ ws) answer l h = rw h.1.0 (l, owned job card h.0 h.1.1, knows_next job next card.number h.1.1 h.1.2 h.2)
-ready_working blocks job card next (Cell (Count kind) ∷ ws) answer l h = tt
-ready_working blocks job card next (Cell (Release access block) ∷ []) answer l h = rw (h.1.0, h.1.1) (l, h.0)
-ready_working blocks job card next (Cell (Release access block) ∷ (w ∷ ws)) answer l h = absurd h.1
-ready_working blocks job card next (Cell (Look word) ∷ ws) answer l h = absurd h.1
-ready_working blocks job card next (Cell (Take access block) ∷ ws) answer l h = absurd h.1
-ready_working blocks job card next (Cell SetFailed ∷ ws) answer l h = absurd h.1
-ready_working blocks job card next (Cell SetSuspended ∷ ws) answer l h = absurd h.1
-ready_working blocks job card next (Desk step ∷ ws) answer l h = absurd h.1
-ready_working blocks job card next (End a ∷ ws) answer l h = absurd h.1
+below : (blocks : ℕ) (a b : OBlock) → a ≡ b → b.0 < blocks → a.0 < blocks
+below blocks a b e l = subst (λ (z : OBlock). z.0 < blocks) (sym e) l
 
-ready_in : (blocks : ℕ) (job : Job) (card : Card) (phase : Phase) (answer : Answer) → (part_of job).block.0 < blocks → Has job card phase → MayTake blocks card (first_step (steps_in job phase) answer)
-ready_in blocks job card FailLook answer l h = tt
-ready_in blocks job card LockLook answer l h = l
-ready_in blocks job card Taking answer l h = (l, h)
-ready_in blocks job card SealLook answer l h = l
-ready_in blocks job card (NumberLook place dirty) answer l h = l
-ready_in blocks job card (Working next ws) answer l h = ready_working blocks job card next ws answer l h
-ready_in blocks job card Failing answer l h = tt
-ready_in blocks job card Ending answer l h = tt
+ready_for : (blocks : ℕ) (job : Job) (card : Card) (ws : List Want) (answer : Answer) → (block_of job).0 < blocks → Has job card ws → MayTake blocks card (first_step ws answer)
+ready_for blocks job card [] answer l h = tt
+ready_for blocks job card (Cell (Look Fail) ∷ ws) answer l h = tt
+ready_for blocks job card (Cell (Look (LockWord b)) ∷ ws) answer l h = below blocks b (block_of job) h.1 l
+ready_for blocks job card (Cell (Look (SealWord b)) ∷ ws) answer l h = below blocks b (block_of job) h.1 l
+ready_for blocks job card (Cell (Look (Number b)) ∷ ws) answer l h = below blocks b (block_of job) h.1 l
+ready_for blocks job card (Cell (Look (CountWord kind)) ∷ ws) answer l h = tt
+ready_for blocks job card (Cell (Take access b seen) ∷ ws) answer l h = (below blocks b (block_of job) h.2 l, h.0, h.3)
+ready_for blocks job card (Cell (Release access b) ∷ []) answer l h = rw (h.1.1.0, h.1.1.1) (l, h.0)
+ready_for blocks job card (Cell (Release access b) ∷ (w ∷ ws)) answer l h = absurd h.1.1
+ready_for blocks job card (Cell (Seal b place dirty) ∷ ws) answer l h = rw h.1.1.0 (l, owned job card h.0 h.1.1.1)
+ready_for blocks job card (Cell (Finish b) ∷ ws) answer l h = rw h.1.1.0 (l, owned job card h.0 h.1.1.1, knows_next job h.1.0 card.number h.1.1.1 h.1.1.2 h.1.2)
+ready_for blocks job card (Cell (Count kind) ∷ ws) answer l h = tt
+ready_for blocks job card (Cell SetFailed ∷ ws) answer l h = tt
+ready_for blocks job card (Cell SetSuspended ∷ ws) answer l h = tt
+ready_for blocks job card (Device step ∷ ws) answer l h = tt
+ready_for blocks job card (Desk step ∷ ws) answer l h = tt
+ready_for blocks job card (End a ∷ ws) answer l h = tt
 
-ready_at : (blocks : ℕ) (job : Job) (card : Card) (s : Script) → (part_of job).block.0 < blocks → Stands job card s → MayTake blocks card (want s)
-ready_at blocks job card s l st = subst (λ (t : Script). MayTake blocks card (want t)) (sym (script_is s job (steps_in job st.phase) st.of_job st.steps)) (ready_in blocks job card st.phase s.answer l st.has)
+pub is_ready : (blocks : ℕ) (s : Script) (card : Card) → Suits blocks s card → MayTake blocks card (want s)
+is_ready blocks s card h = ready_for blocks s.job card s.steps s.answer h.inside h.has
 
-pub asks_when_ready : (blocks : ℕ) (job : Job) (card : Card) (steps : List (Want × Got)) → (part_of job).block.0 < blocks → card.held ≡ Nothing → AreFirst (table job) steps → MayTake blocks (card_by card steps) (want (left_by (table job) steps))
-asks_when_ready blocks job card steps l h f = ready_at blocks job (card_by card steps) (left_by (table job) steps) l (by_steps job card (table job) steps (stands job card FailLook Finished h) f)
+pub begins_ready : (blocks : ℕ) (job : Job) (card : Card) → (block_of job).0 < blocks → card.hold ≡ Nothing → Suits blocks (table job) card
+begins_ready blocks job card l h = record { inside = l; has = (h, refl) }
 
 -- At the end.
+ended : (job : Job) (card : Card) (ws : List Want) (answer end : Answer) → Has job card ws → first_step ws answer ≡ End end → card.hold ≡ Nothing
+ended job card [] answer end h e = h
+ended job card (Cell step ∷ ws) answer end h e = absurd (cc)
+ended job card (Device step ∷ ws) answer end h e = absurd (cc)
+ended job card (Desk step ∷ ws) answer end h e = absurd h.1.1
+ended job card (End a ∷ ws) answer end h e = absurd h.1.1
 
-no_end : (job : Job) (next : Bool) (ws : List Want) (answer ended : Answer) → Rest job next ws → first_step ws answer ≡ End ended → ⊥
-no_end job next [] answer ended r e = absurd r
-no_end job next (Cell step ∷ ws) answer ended r e = cc
-no_end job next (Device step ∷ ws) answer ended r e = cc
-no_end job next (Desk step ∷ ws) answer ended r e = absurd r
-no_end job next (End a ∷ ws) answer ended r e = absurd r
-
-ended_in : (job : Job) (card : Card) (phase : Phase) (answer ended : Answer) → Has job card phase → first_step (steps_in job phase) answer ≡ End ended → card.held ≡ Nothing
-ended_in job card FailLook answer ended h e = h
-ended_in job card LockLook answer ended h e = h
-ended_in job card Taking answer ended h e = h
-ended_in job card SealLook answer ended h e = absurd (cc)
-ended_in job card (NumberLook place dirty) answer ended h e = absurd (cc)
-ended_in job card (Working next ws) answer ended h e = absurd (no_end job next ws answer ended h.1 e)
-ended_in job card Failing answer ended h e = absurd (cc)
-ended_in job card Ending answer ended h e = h
-
-pub ends_holding_nothing : (job : Job) (card : Card) (steps : List (Want × Got)) (ended : Answer) → card.held ≡ Nothing → AreFirst (table job) steps → want (left_by (table job) steps) ≡ End ended → (card_by card steps).held ≡ Nothing
-ends_holding_nothing job card steps ended h f e =
-    let s = left_by (table job) steps in
-    let st = by_steps job card (table job) steps (stands job card FailLook Finished h) f in
-    ended_in job (card_by card steps) st.phase s.answer ended st.has (sym (ap want (script_is s job (steps_in job st.phase) st.of_job st.steps)) ∙ e)
+pub ends_holding_nothing : (blocks : ℕ) (s : Script) (card : Card) (end : Answer) → Suits blocks s card → want s ≡ End end → card.hold ≡ Nothing
+ends_holding_nothing blocks s card end h e = ended s.job card s.steps s.answer end h.has e

@@ -1,6 +1,6 @@
 -- From the fields of a task to what its contract says.
 use Rattle.std.proofs.Common.{◌≡◌, ℕ, List, [], refl, sym, ap, subst, ◌∙◌}
-use Rattle.wb_tasks.specs.Job.{Part}
+use Rattle.wb_tasks.specs.Job.{BlockRange}
 use Rattle.wb_tasks.specs.Script.{Script, want, after, refused, Fits}
 use Rattle.wb_tasks.specs.Phases.{read_left, write_left}
 use Rattle.wb_types.specs.declared.refusal.Refusal.{Refusal}
@@ -16,14 +16,14 @@ pub by_view : (v old new : Script) (got : Got) → v ≡ old → Fits (want old)
 by_view v old new got e h f = f (subst (λ (s : Script). Fits (want s) got) (sym e) h) ∙ ap (λ s. after s got) e
 
 -- a read that is refused has nothing left but the refusal
-pub refused_read : (part : Part) (phase : ReadPhase) (sectors : List ℕ) (refusal : Refusal) → read_left part (ReadEnded (Refuses refusal)) sectors ≡ refused (read_left part phase sectors) [] refusal
+pub refused_read : (part : BlockRange) (phase : ReadPhase) (sectors : List ℕ) (refusal : Refusal) → read_left part (ReadEnded (Refuses refusal)) sectors ≡ refused (read_left part phase sectors) [] refusal
 refused_read part (ReadAcquires acquire) sectors refusal = refl
 refused_read part (Reads place) sectors refusal = refl
 refused_read part (ReadReleases answer) sectors refusal = refl
 refused_read part (ReadEnded answer) sectors refusal = refl
 
 -- a write that is refused has nothing left but the refusal
-pub refused_write : (part : Part) (phase : WritePhase) (sectors : List ℕ) (refusal : Refusal) → write_left part (WriteEnded (Refuses refusal)) sectors ≡ refused (write_left part phase sectors) [] refusal
+pub refused_write : (part : BlockRange) (phase : WritePhase) (sectors : List ℕ) (refusal : Refusal) → write_left part (WriteEnded (Refuses refusal)) sectors ≡ refused (write_left part phase sectors) [] refusal
 refused_write part (WriteAcquires acquire) sectors refusal = refl
 refused_write part (Dirties c) sectors refusal = refl
 refused_write part (Writes place) sectors refusal = refl

@@ -2,11 +2,11 @@ use Rattle.std.specs.Prelude.{◌≡◌, ◌≢◌, ◌-◌, ◌^◌, ◌⊎◌,
 use Rattle.wb_types.specs.declared.mode.Dev.{Dev}
 use Rattle.wb_types.specs.declared.refusal.Refusal.{Refusal}
 use Rattle.wb_types.specs.declared.refusal.Refusal.TheVariants.{Busy, Failed, Worn, Io}
-use Rattle.wb_types.specs.declared.word.Access.{Access}
-use Rattle.wb_types.specs.declared.word.Access.TheVariants.{Owned}
-use Rattle.wb_types.specs.declared.word.Word.TheVariants.{Cell as LockWord, Number, Fail}
-use Rattle.wb_types.specs.Words.{can_take}
-use Rattle.wb_tasks.specs.declared.step.CellStep.TheVariants.{Look, Take}
+use Rattle.wb_words.specs.declared.word.Access.{Access}
+use Rattle.wb_words.specs.declared.word.Access.TheVariants.{Owned}
+use Rattle.wb_words.specs.declared.word.Word.TheVariants.{Cell as LockWord, Number, Fail}
+use Rattle.wb_words.specs.SharedWords.{can_take}
+use Rattle.wb_words.specs.declared.step.CellStep.TheVariants.{Look, Take}
 use Rattle.wb_tasks.specs.declared.step.DeviceStep.{DeviceStep}
 use Rattle.wb_tasks.specs.declared.step.DeviceStep.TheVariants.{Read, Write, Sync}
 use Rattle.wb_tasks.specs.declared.step.Want.{Want}
@@ -25,7 +25,7 @@ device_of (Sync device) = device
 abbrev pub Causes : Access → Refusal → Want → Got → Type 0
 Causes access (Io device) (Device step) Fault = device_of step ≡ device
 Causes access Busy (Cell (Look (LockWord block))) (Word word) = can_take access word ≡ false
-Causes access Busy (Cell (Take taken block)) Lost = Unit {0}
+Causes access Busy (Cell (Take taken block seen)) Lost = Unit {0}
 Causes access Failed (Cell (Look Fail)) (Word word) = word ≢ 0
 Causes access Worn (Cell (Look (Number block))) (Word word) = (access ≡ Owned) × (word ≡ 2 ^ 64 - 1)
 Causes access refusal want got = ⊥

@@ -3,17 +3,17 @@ use Rattle.wb_types.specs.declared.mode.Dev.{Dev}
 use Rattle.wb_types.specs.declared.mode.Dev.TheVariants.{Cache, Origin}
 use Rattle.wb_types.specs.declared.number.OBlock.{OBlock}
 use Rattle.wb_types.specs.declared.number.CBlock.{CBlock}
-use Rattle.wb_types.specs.declared.word.Access.{Access}
-use Rattle.wb_types.specs.declared.word.Access.TheVariants.{Shared, Owned}
-use Rattle.wb_types.specs.declared.word.Kind.TheVariants.{ReadHit, ReadMiss, WriteHit, WriteMiss}
-use Rattle.wb_types.specs.declared.word.Word.TheVariants.{Cell as LockWord, Seal as SealWord, Number, Fail}
-use Rattle.wb_tasks.specs.declared.step.CellStep.TheVariants.{Look, Take, Release, Seal, Finish, Count}
+use Rattle.wb_words.specs.declared.word.Access.{Access}
+use Rattle.wb_words.specs.declared.word.Access.TheVariants.{Shared, Owned}
+use Rattle.wb_words.specs.declared.word.Kind.TheVariants.{ReadHit, ReadMiss, WriteHit, WriteMiss}
+use Rattle.wb_words.specs.declared.word.Word.TheVariants.{Cell as LockWord, Seal as SealWord, Number, Fail}
+use Rattle.wb_words.specs.declared.step.CellStep.TheVariants.{Look, Take, Release, Seal, Finish, Count}
 use Rattle.wb_tasks.specs.declared.step.DeviceStep.TheVariants.{Read, Write}
 use Rattle.wb_tasks.specs.declared.step.Want.{Want}
 use Rattle.wb_tasks.specs.declared.step.Want.TheVariants.{Cell, Device}
 
 -- sectors of one block of the origin, in the order in which they are taken
-pub record Part : Type 0 where
+pub record BlockRange : Type 0 where
   pub block_sectors : ℕ
   pub block : OBlock
   pub sectors : List ℕ
@@ -25,10 +25,10 @@ sectors_from first (suc n) = first ∷ sectors_from (first + 1) n
 
 -- what a task is to do
 pub data Job : Type 0 where
-  Reading : Part → Job
-  Writing : Part → Job
+  Reading : BlockRange → Job
+  Writing : BlockRange → Job
 
-abbrev pub part_of : Job → Part
+abbrev pub part_of : Job → BlockRange
 part_of (Reading part) = part
 part_of (Writing part) = part
 
@@ -44,14 +44,14 @@ device_at None = Origin
 device_at (Some c) = Cache
 
 -- the sector of the cache device that holds a sector of a mapped block
-abbrev pub cache_sector : Part → CBlock → ℕ → ℕ
+abbrev pub cache_sector : BlockRange → CBlock → ℕ → ℕ
 cache_sector part c at = c.0 * part.block_sectors + at % part.block_sectors
 
-abbrev pub read_step : Part → Option CBlock → ℕ → Want
+abbrev pub read_step : BlockRange → Option CBlock → ℕ → Want
 read_step part None at = Device (Read Origin at)
 read_step part (Some c) at = Device (Read Cache (cache_sector part c at))
 
-abbrev pub write_step : Part → Option CBlock → ℕ → Want
+abbrev pub write_step : BlockRange → Option CBlock → ℕ → Want
 write_step part None at = Device (Write Origin at)
 write_step part (Some c) at = Device (Write Cache (cache_sector part c at))
 
@@ -71,9 +71,13 @@ write_count (Some c) = Cell (Count WriteHit)
 
 -- The step tables.
 
--- acquiring a block: the fail word, the lock word, the exchange, the seal, the number
-abbrev pub acquire : Access → OBlock → List Want
-acquire access block = Cell (Look Fail) ∷ Cell (Look (LockWord block)) ∷ Cell (Take access block) ∷ Cell (Look (SealWord block)) ∷ Cell (Look (Number block)) ∷ []
+-- acquiring a block: the fail word, then the lock word; what comes after it is known once it was seen
+abbrev pub acquire : OBlock → List Want
+acquire block = Cell (Look Fail) ∷ Cell (Look (LockWord block)) ∷ []
+
+-- the exchange, at the lock word that was seen, and then the seal; what comes after it is known once it was seen
+abbrev pub taking : Access → OBlock → ℕ → List Want
+taking access block seen = Cell (Take access block seen) ∷ Cell (Look (SealWord block)) ∷ []
 
 -- what a job does once it has its block, which stands at this place
 abbrev pub work : Job → Option CBlock → Bool → List Want

@@ -3,8 +3,6 @@ pub mod Script
 pub mod Run
 pub mod Length
 pub mod Causes
-pub mod Words
 pub mod Phases
 pub mod Requests
-pub mod Crews
 pub mod Ready

@@ -1,51 +1,76 @@
--- Which steps an actor may take that has this card, where there are so many blocks: the tables ask for no other.
-use Rattle.std.specs.Prelude.{◌≡◌, ◌≢◌, ◌-◌, ◌^◌, ◌<◌, ℕ, List, [], ◌∷◌, Option, Some}
-use Rattle.wb_types.specs.declared.word.Word.{Word as WordName}
-use Rattle.wb_types.specs.declared.word.Word.TheVariants.{Cell as LockWord, Seal as SealWord, Number}
-use Rattle.wb_tasks.specs.Script.{Script, want, after, Fits, IsStep}
+-- What an actor has where so much of its task is left, and that it is ready for the next step then.
+use Rattle.std.specs.Prelude.{◌≡◌, ◌<◌, ℕ, Bool, true, false, List, [], ◌∷◌, Option}
+use Rattle.wb_types.specs.declared.number.OBlock.{OBlock}
+use Rattle.wb_words.specs.declared.word.Access.TheVariants.{Owned}
+use Rattle.wb_words.specs.declared.word.Word.TheVariants.{Cell as LockWord, Seal as SealWord, Number, Fail}
+use Rattle.wb_words.specs.declared.card.Hold.TheVariants.{Nothing, Held}
+use Rattle.wb_words.specs.declared.card.Card.{Card}
+use Rattle.wb_words.specs.declared.step.CellStep.TheVariants.{Look, Take, Release, Seal, Finish, Count, SetFailed}
+use Rattle.wb_words.specs.SharedWords.{Words, can_take}
+use Rattle.wb_words.specs.Effects.{result_of, card_after}
+use Rattle.wb_words.specs.Ready.{IsReady, HasNext}
+use Rattle.wb_tasks.specs.Job.{Job, Reading, Writing, part_of, access_of}
+use Rattle.wb_tasks.specs.Script.{Script, want, after, Fits, IsStep, got_of}
 use Rattle.wb_tasks.specs.Run.{Leads}
-use Rattle.wb_tasks.specs.Words.{card_after, holding}
-use Rattle.wb_tasks.specs.declared.card.Card.{Card}
-use Rattle.wb_tasks.specs.declared.card.Held.TheVariants.{Nothing, Owns}
-use Rattle.wb_tasks.specs.declared.step.CellStep.{CellStep}
-use Rattle.wb_tasks.specs.declared.step.CellStep.TheVariants.{Look, Take, Release, Seal, Finish, SetSuspended}
+use Rattle.wb_tasks.specs.declared.step.DeviceStep.{DeviceStep}
+use Rattle.wb_tasks.specs.declared.step.DeviceStep.TheVariants.{Read, Write, Sync}
 use Rattle.wb_tasks.specs.declared.step.Want.{Want}
-use Rattle.wb_tasks.specs.declared.step.Want.TheVariants.{Cell}
+use Rattle.wb_tasks.specs.declared.step.Want.TheVariants.{Cell, Device}
 use Rattle.wb_tasks.specs.declared.step.Got.{Got}
-
-abbrev pub IsThere : ℕ → WordName → Type 0
-IsThere blocks (LockWord block) = block.0 < blocks
-IsThere blocks (SealWord block) = block.0 < blocks
-IsThere blocks (Number block) = block.0 < blocks
-IsThere blocks word = Unit {0}
-
--- a number is known, and there is a next one
-abbrev pub HasNext : Option ℕ → Type 0
-HasNext known = (number : ℕ) × (known ≡ Some number) × (number ≢ 2 ^ 64 - 1)
-
-abbrev pub IsReady : ℕ → Card → CellStep → Type 0
-IsReady blocks card (Look word) = IsThere blocks word
-IsReady blocks card (Take access block) = (block.0 < blocks) × (card.held ≡ Nothing)
-IsReady blocks card (Release access block) = (block.0 < blocks) × (card.held ≡ holding access block)
-IsReady blocks card (Seal block place dirty) = (block.0 < blocks) × (card.held ≡ Owns block)
-IsReady blocks card (Finish block) = (block.0 < blocks) × (card.held ≡ Owns block) × HasNext card.number
-IsReady blocks card SetSuspended = card.held ≡ Nothing
-IsReady blocks card step = Unit {0}
 
 -- a step of any kind: of those on the words one that the actor is ready for
 abbrev pub MayTake : ℕ → Card → Want → Type 0
 MayTake blocks card (Cell step) = IsReady blocks card step
 MayTake blocks card next = Unit {0}
 
--- what an actor knows after a step of any kind
-abbrev pub card_then : Card → Want → Got → Card
-card_then card (Cell step) got = card_after card step got
-card_then card next got = card
+-- A card that a step with this result makes of its actor's, whatever the words were.
+abbrev pub MayMake : Want → Got → Card → Card → Type 0
+MayMake (Cell step) got card card' = (words : Words) × (got ≡ got_of (result_of words step)) × (card' ≡ card_after words step card)
+MayMake next got card card' = card' ≡ card
 
--- and after several
-abbrev pub card_by : Card → List (Want × Got) → Card
-card_by card [] = card
-card_by card (step ∷ steps) = card_by (card_then card step.0 step.1) steps
+abbrev pub block_of : Job → OBlock
+block_of job = (part_of job).block
+
+-- the actor has the block of its job
+abbrev pub HasBlock : Job → Card → Type 0
+HasBlock job card = card.hold ≡ Held (access_of job) (block_of job)
+
+-- a write knows a number that has a next one
+abbrev pub KnowsNext : Job → Bool → Option ℕ → Type 0
+KnowsNext (Reading part) next known = Unit {0}
+KnowsNext (Writing part) true known = HasNext known
+KnowsNext (Writing part) false known = Unit {0}
+
+-- A step on a device that a job may take: only a write writes.
+abbrev pub IsJobs : Job → DeviceStep → Type 0
+IsJobs job (Read device at) = Unit {0}
+IsJobs job (Write device at) = access_of job ≡ Owned
+IsJobs job (Sync device) = ⊥
+
+-- What may be left of the work of a job that has its block; the flag says that its number is known to have a next one.
+abbrev pub IsRest : Job → Bool → List Want → Type 0
+IsRest job next (Device step ∷ ws) = IsJobs job step × IsRest job next ws
+IsRest job next (Cell (Seal block place dirty) ∷ ws) = (block ≡ block_of job) × (access_of job ≡ Owned) × IsRest job next ws
+IsRest job next (Cell (Finish block) ∷ ws) = (block ≡ block_of job) × (access_of job ≡ Owned) × (next ≡ true) × IsRest job false ws
+IsRest job next (Cell (Count kind) ∷ ws) = IsRest job next ws
+IsRest job next (Cell (Release access block) ∷ []) = (access ≡ access_of job) × (block ≡ block_of job)
+IsRest job next ws = ⊥
+
+-- what an actor has, with these steps of its job to come
+abbrev pub Has : Job → Card → List Want → Type 0
+Has job card [] = card.hold ≡ Nothing
+Has job card (Cell (Look Fail) ∷ ws) = (card.hold ≡ Nothing) × (ws ≡ Cell (Look (LockWord (block_of job))) ∷ [])
+Has job card (Cell (Look (LockWord block)) ∷ ws) = (card.hold ≡ Nothing) × (block ≡ block_of job) × (ws ≡ [])
+Has job card (Cell (Take access block seen) ∷ ws) = (card.hold ≡ Nothing) × (access ≡ access_of job) × (block ≡ block_of job) × (can_take access seen ≡ true) × (ws ≡ Cell (Look (SealWord block)) ∷ [])
+Has job card (Cell (Look (SealWord block)) ∷ ws) = HasBlock job card × (block ≡ block_of job)
+Has job card (Cell (Look (Number block)) ∷ ws) = HasBlock job card × (block ≡ block_of job) × IsRest job true ws
+Has job card (Cell SetFailed ∷ ws) = (card.hold ≡ Held Owned (block_of job)) × (ws ≡ [])
+Has job card ws = HasBlock job card × ((next : Bool) × IsRest job next ws × KnowsNext job next card.number)
+
+-- An actor with this card has what it needs for what is left of its task, where there are so many blocks.
+pub record Suits (blocks : ℕ) (s : Script) (card : Card) : Type 0 where
+  pub inside : (block_of s.job).0 < blocks
+  pub has : Has s.job card s.steps
 
 -- these are the first steps of what is left of a task
 abbrev pub AreFirst : Script → List (Want × Got) → Type 0

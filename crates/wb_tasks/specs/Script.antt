@@ -1,10 +1,12 @@
 use Rattle.std.specs.Prelude.{◌-◌, ◌^◌, ◌==◌, ℕ, Bool, false, List, [], ◌∷◌, if◌then◌else◌}
 use Rattle.wb_types.specs.declared.refusal.Refusal.{Refusal}
 use Rattle.wb_types.specs.declared.refusal.Refusal.TheVariants.{Busy, Failed, Worn, Io}
-use Rattle.wb_types.specs.declared.word.Word.TheVariants.{Cell as LockWord, Seal as SealWord, Number, Fail}
-use Rattle.wb_types.specs.Words.{can_take, place_in, dirty_in}
-use Rattle.wb_tasks.specs.Job.{Job, Reading, Writing, part_of, access_of, acquire, work}
-use Rattle.wb_tasks.specs.declared.step.CellStep.TheVariants.{Look, Take, Release, Seal, Finish, Count, SetFailed, SetSuspended}
+use Rattle.wb_words.specs.declared.word.Word.TheVariants.{Cell as LockWord, Seal as SealWord, Number, Fail}
+use Rattle.wb_words.specs.SharedWords.{can_take, place_in, dirty_in}
+use Rattle.wb_tasks.specs.Job.{Job, Reading, Writing, part_of, access_of, acquire, taking, work}
+use Rattle.wb_words.specs.declared.step.CellResult.{CellResult}
+use Rattle.wb_words.specs.declared.step.CellResult.TheVariants.{Done as CellDone, Word as Found, Lost as CellLost}
+use Rattle.wb_words.specs.declared.step.CellStep.TheVariants.{Look, Take, Release, Seal, Finish, Count, SetFailed, SetSuspended}
 use Rattle.wb_tasks.specs.declared.step.DeviceStep.TheVariants.{Read, Write, Sync}
 use Rattle.wb_tasks.specs.declared.step.Answer.{Answer}
 use Rattle.wb_tasks.specs.declared.step.Answer.TheVariants.{Done as Finished, Refused as Refuses}
@@ -14,7 +16,8 @@ use Rattle.wb_tasks.specs.declared.step.Got.{Got}
 use Rattle.wb_tasks.specs.declared.step.Got.TheVariants.{Begin, Done, Word, Lost, Content, Fault, Refused}
 
 -- What is left of a task: the job that it is on, the steps to come, as far as they are known, and the answer
--- after them. The steps after acquiring a block are known once its seal was seen.
+-- after them. The exchange is known once
+-- the lock word was seen, the work once the seal was.
 pub record Script : Type 0 where
   pub job : Job
   pub steps : List Want
@@ -22,7 +25,7 @@ pub record Script : Type 0 where
 
 -- a job that has not begun
 abbrev pub table : Job → Script
-table job = record { job = job; steps = acquire (access_of job) (part_of job).block; answer = Finished }
+table job = record { job = job; steps = acquire (part_of job).block; answer = Finished }
 
 abbrev pub first_step : List Want → Answer → Want
 first_step [] answer = End answer
@@ -56,7 +59,7 @@ is_worn (Writing part) number = number == 2 ^ 64 - 1
 -- what is left after a word was looked at
 abbrev pub after_look : Script → Want → ℕ → Script
 after_look s (Cell (Look Fail)) word = if word == 0 then onward s else refused s [] Failed
-after_look s (Cell (Look (LockWord block))) word = if can_take (access_of s.job) word then onward s else refused s [] Busy
+after_look s (Cell (Look (LockWord block))) word = if can_take (access_of s.job) word then record s { steps = taking (access_of s.job) block word } else refused s [] Busy
 after_look s (Cell (Look (SealWord block))) word = record s { steps = Cell (Look (Number block)) ∷ work s.job (place_in word) (dirty_in word) }
 after_look s (Cell (Look (Number block))) word = if is_worn s.job word then refused s (release s.job ∷ []) Worn else onward s
 after_look s w word = onward s
@@ -79,11 +82,17 @@ after s (Content content) = onward s
 after s Fault = after_fault s (want s)
 after s (Refused refusal) = refused s [] refusal
 
+-- what a step on a shared word gave, as a task is told it
+abbrev pub got_of : CellResult → Got
+got_of CellDone = Done
+got_of (Found word) = Word word
+got_of CellLost = Lost
+
 -- a result of the kind that a step asks for
 abbrev pub Fits : Want → Got → Type 0
 Fits (Cell (Look word)) (Word value) = Unit {0}
-Fits (Cell (Take access block)) Done = Unit {0}
-Fits (Cell (Take access block)) Lost = Unit {0}
+Fits (Cell (Take access block seen)) Done = Unit {0}
+Fits (Cell (Take access block seen)) Lost = Unit {0}
 Fits (Cell (Release access block)) Done = Unit {0}
 Fits (Cell (Seal block place dirty)) Done = Unit {0}
 Fits (Cell (Finish block)) Done = Unit {0}

@@ -3,10 +3,10 @@
 ghost use Rattle.std.specs.Prelude.{◌≡◌, ◌+◌, ◌*◌, ◌≤◌, ◌<◌, ℕ, List, length};
 ghost use Rattle.wb_types.specs.declared.refusal.Refusal.{Refusal as RefusalTerm};
 ghost use Rattle.wb_tasks.specs.Job.{Job, part_of, access_of};
-ghost use Rattle.wb_tasks.specs.Script.{table, want};
-ghost use Rattle.wb_tasks.specs.Ready.{AreFirst, MayTake, card_by, left_by};
-ghost use Rattle.wb_tasks.specs.declared.card.Card.{Card as CardTerm};
-ghost use Rattle.wb_tasks.specs.declared.card.Held.TheVariants.{Nothing};
+ghost use Rattle.wb_tasks.specs.Script.{Script, table, want, after, Fits};
+ghost use Rattle.wb_tasks.specs.Ready.{MayTake, MayMake, Suits, block_of};
+ghost use Rattle.wb_words.specs.declared.card.Card.{Card as CardTerm};
+ghost use Rattle.wb_words.specs.declared.card.Hold.TheVariants.{Nothing};
 ghost use Rattle.wb_tasks.specs.declared.step.Want.TheVariants.{End};
 ghost use Rattle.wb_tasks.specs.declared.step.Answer.{Answer as AnswerTerm};
 ghost use Rattle.wb_tasks.specs.Run.{IsRunOf};
@@ -31,13 +31,14 @@ pub fn refusal_causes()
     ensures { (job : Job) (steps : List (WantTerm × GotTerm)) (refusal : RefusalTerm) → IsRunOf (table job) steps (Refuses refusal) → GaveCause (access_of job) refusal steps }
 {}
 
-/// The law that a read or write asks for a step on the shared words only where its actor is ready for it, whatever
-/// its steps have given so far: it has what it releases, seals or finishes, it takes a block where it has none, and
-/// a write finishes where its number has a next one. After the answer it has no block.
+/// The law that an actor of a read or write is ready for each of its steps on the shared words: it has what it
+/// releases, seals or finishes, it takes a block where it has none, and a write finishes where its number has a next one.
+/// Who begins with nothing has what the table needs, each step keeps it so whatever came of it, and after the answer
+/// nothing is held.
 #[tactic(auto, using(crate::proofs::Readiness::ends_holding_nothing))]
 pub fn steps_are_ready()
-    ensures ready { (blocks : ℕ) (job : Job) (card : CardTerm) (steps : List (WantTerm × GotTerm)) → (part_of job).block.0 < blocks → card.held ≡ Nothing → AreFirst (table job) steps →
-        MayTake blocks (card_by card steps) (want (left_by (table job) steps)) }
-    ensures ends { (job : Job) (card : CardTerm) (steps : List (WantTerm × GotTerm)) (answer : AnswerTerm) → card.held ≡ Nothing → AreFirst (table job) steps → want (left_by (table job) steps) ≡ End answer →
-        (card_by card steps).held ≡ Nothing }
+    ensures begins { (blocks : ℕ) (job : Job) (card : CardTerm) → (block_of job).0 < blocks → card.hold ≡ Nothing → Suits blocks (table job) card }
+    ensures ready { (blocks : ℕ) (s : Script) (card : CardTerm) → Suits blocks s card → MayTake blocks card (want s) }
+    ensures keeps { (blocks : ℕ) (s : Script) (card card' : CardTerm) (got : GotTerm) → Suits blocks s card → Fits (want s) got → MayMake (want s) got card card' → Suits blocks (after s got) card' }
+    ensures ends { (blocks : ℕ) (s : Script) (card : CardTerm) (answer : AnswerTerm) → Suits blocks s card → want s ≡ End answer → card.hold ≡ Nothing }
 {}

@@ -5,8 +5,6 @@
 #![tactic(auto)]
 
 mod acquire;
-mod card;
-mod crew;
 mod laws;
 mod read;
 mod request;
@@ -16,16 +14,13 @@ mod step;
 mod task;
 #[cfg(test)]
 mod tests;
-mod words;
 mod write;
 
-pub use card::{Card, Held};
-pub use crew::step_in_crew;
 pub use laws::{refusal_causes, step_bound, steps_are_ready};
 pub use read::ReadTask;
 pub use request::RequestTask;
 pub use stage::{Stage, drive};
-pub use step::{Answer, CellStep, DeskStep, DeviceStep, Got, Want};
+pub use step::{Answer, DeskStep, DeviceStep, Got, Want};
 pub use task::Task;
-pub use words::Words;
+pub use wb_words::{CellResult, CellStep};
 pub use write::WriteTask;

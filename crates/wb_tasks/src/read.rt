@@ -4,17 +4,18 @@ ghost use Rattle.std.specs.Prelude.{◌≡◌, ◌+◌, ◌<◌, ◌^◌, []};
 ghost use Rattle.wb_tasks.specs.Job.{Reading, sectors_from};
 ghost use Rattle.wb_tasks.specs.Script.{Script, want, after, refused, table, Fits};
 
-use crate::acquire::{Acquire, Seen};
+use crate::acquire::{self, Seen};
 use crate::route::{device_at, route};
-use crate::step::{Answer, CellStep, DeviceStep, Got, Want};
+use crate::step::{Answer, DeviceStep, Got, Want};
 use crate::task::Task;
 use std::marker::Model;
-use wb_types::{Access, CBlock, Content, Kind, OBlock, Refusal, Sector};
+use wb_types::{CBlock, Content, OBlock, Refusal, Sector};
+use wb_words::{Access, CellStep, GripStage, Kind};
 
 /// Where a read stands.
 #[derive(Clone, Copy)]
 enum Phase {
-    Acquires(Acquire),
+    Acquires(GripStage),
     /// The block stands at this place. When its sectors are read, it is counted.
     Reads(Option<CBlock>),
     Releases(Answer),
@@ -58,7 +59,7 @@ impl ReadTask {
     {
         let Sector(first) = first;
         ReadTask {
-            phase: Phase::Acquires(Acquire::FailWord),
+            phase: Phase::Acquires(GripStage::LookFail),
             block_sectors,
             block,
             first,
@@ -73,7 +74,7 @@ impl ReadTask {
         ensures { result ≡ want self.now }
     {
         match self.phase {
-            Phase::Acquires(acquire) => acquire.want(Access::Shared, self.block),
+            Phase::Acquires(stage) => acquire::want(Access::Shared, self.block, stage),
             Phase::Reads(place) if self.left > 0 => {
                 let (device, at) = route(self.block_sectors, place, self.at);
                 Want::Device(DeviceStep::Read(device, at))
@@ -90,8 +91,8 @@ impl ReadTask {
         requires { Fits (want self.old) (Got.Word word) }
         ensures { self.new ≡ after self.old (Got.Word word) }
     {
-        if let Phase::Acquires(acquire) = self.phase {
-            match acquire.after_look(Access::Shared, word) {
+        if let Phase::Acquires(stage) = self.phase {
+            match acquire::after_look(Access::Shared, self.block, stage, word) {
                 Seen::Next(next) => self.phase = Phase::Acquires(next),
                 Seen::Holds(place, _) => {
                     self.phase = Phase::Reads(place);
@@ -111,7 +112,7 @@ impl ReadTask {
     {
         match self.phase {
             // Only the exchange can have been done.
-            Phase::Acquires(_) => self.phase = Phase::Acquires(Acquire::Seal),
+            Phase::Acquires(_) => self.phase = Phase::Acquires(GripStage::LookSeal),
             Phase::Reads(_) => self.phase = Phase::Releases(Answer::Done),
             Phase::Releases(answer) => self.phase = Phase::Ended(answer),
             Phase::Ended(_) => {}

@@ -1,7 +1,7 @@
 //! Where a sector of a block stands in write-back mode.
 
 ghost use Rattle.std.specs.Prelude.{◌≡◌, ◌<◌};
-ghost use Rattle.wb_tasks.specs.Job.{Part, read_step, write_step, device_at};
+ghost use Rattle.wb_tasks.specs.Job.{BlockRange, read_step, write_step, device_at};
 ghost use Rattle.wb_tasks.specs.declared.step.Want.TheVariants.{Device};
 ghost use Rattle.wb_tasks.specs.declared.step.DeviceStep.TheVariants.{Read, Write};
 
@@ -20,8 +20,8 @@ pub fn device_at(place: Option<CBlock>) -> Dev
 /// The device and the sector on it that hold a sector of a block at this place.
 pub fn route(block_sectors: u32, place: Option<CBlock>, at: u64) -> (Dev, u64)
     requires { 0 < block_sectors }
-    ensures read { (part : Part) → part.block_sectors ≡ block_sectors → Device (Read result.0 result.1) ≡ read_step part place at }
-    ensures write { (part : Part) → part.block_sectors ≡ block_sectors → Device (Write result.0 result.1) ≡ write_step part place at }
+    ensures read { (part : BlockRange) → part.block_sectors ≡ block_sectors → Device (Read result.0 result.1) ≡ read_step part place at }
+    ensures write { (part : BlockRange) → part.block_sectors ≡ block_sectors → Device (Write result.0 result.1) ≡ write_step part place at }
 {
     match place {
         None => (Dev::Origin, at),

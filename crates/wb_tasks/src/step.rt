@@ -1,27 +1,7 @@
 //! Single atomic steps, and what comes of them.
 
-use wb_types::{Access, CBlock, Content, Dev, Kind, OBlock, Refusal, Word};
-
-/// A step on one shared word.
-#[derive(Clone, Copy, Debug, PartialEq, Eq)]
-pub enum CellStep {
-    /// Loads a word.
-    Look(Word),
-    /// Takes a block by one exchange of the lock word that was looked at.
-    Take(Access, OBlock),
-    /// Gives a block back.
-    Release(Access, OBlock),
-    /// Stores where an owned block stands (None: the origin), and whether it is dirty.
-    Seal(OBlock, Option<CBlock>, bool),
-    /// Counts one finished write on an owned block.
-    Finish(OBlock),
-    /// Counts one part of a request.
-    Count(Kind),
-    /// Sets the failed bit.
-    SetFailed,
-    /// Sets the suspended bit.
-    SetSuspended,
-}
+use wb_types::{CBlock, Content, Dev, OBlock, Refusal};
+use wb_words::{CellResult, CellStep};
 
 /// A step on one device. Sectors are counted from 0 on each device.
 #[derive(Clone, Copy, Debug, PartialEq, Eq)]
@@ -78,4 +58,19 @@ pub enum Got {
     Fault,
     /// The desk refused.
     Refused(Refusal),
+}
+
+impl From<CellResult> for Got {
+    ghost use Rattle.std.specs.Prelude.{◌≡◌};
+    ghost use Rattle.wb_tasks.specs.Script.{got_of};
+
+    ghost from_gives = { λ outcome gives. gives ≡ got_of outcome };
+
+    fn from(outcome: CellResult) -> Got {
+        match outcome {
+            CellResult::Done => Got::Done,
+            CellResult::Word(word) => Got::Word(word),
+            CellResult::Lost => Got::Lost,
+        }
+    }
 }

@@ -4,17 +4,18 @@ ghost use Rattle.std.specs.Prelude.{◌≡◌, ◌+◌, ◌<◌, ◌^◌, []};
 ghost use Rattle.wb_tasks.specs.Job.{Writing, sectors_from};
 ghost use Rattle.wb_tasks.specs.Script.{Script, want, after, refused, table, Fits};
 
-use crate::acquire::{Acquire, Seen};
+use crate::acquire::{self, Seen};
 use crate::route::{device_at, route};
-use crate::step::{Answer, CellStep, DeviceStep, Got, Want};
+use crate::step::{Answer, DeviceStep, Got, Want};
 use crate::task::Task;
 use std::marker::Model;
-use wb_types::{Access, CBlock, Dev, Kind, OBlock, Refusal, Sector};
+use wb_types::{CBlock, Dev, OBlock, Refusal, Sector};
+use wb_words::{Access, CellStep, GripStage, Kind};
 
 /// Where a write stands.
 #[derive(Clone, Copy)]
 enum Phase {
-    Acquires(Acquire),
+    Acquires(GripStage),
     /// The block stands in this cache block, whose copy is still sealed clean.
     Dirties(CBlock),
     /// The block stands at this place. When its sectors are written, the write is finished.
@@ -64,7 +65,7 @@ impl WriteTask {
     {
         let Sector(first) = first;
         WriteTask {
-            phase: Phase::Acquires(Acquire::FailWord),
+            phase: Phase::Acquires(GripStage::LookFail),
             block_sectors,
             block,
             first,
@@ -79,7 +80,7 @@ impl WriteTask {
         ensures { result ≡ want self.now }
     {
         match self.phase {
-            Phase::Acquires(acquire) => acquire.want(Access::Owned, self.block),
+            Phase::Acquires(stage) => acquire::want(Access::Owned, self.block, stage),
             Phase::Dirties(c) => Want::Cell(CellStep::Seal(self.block, Some(c), true)),
             Phase::Writes(place) if self.left > 0 => {
                 let (device, at) = route(self.block_sectors, place, self.at);
@@ -99,10 +100,10 @@ impl WriteTask {
         requires { Fits (want self.old) (Got.Word word) }
         ensures { self.new ≡ after self.old (Got.Word word) }
     {
-        if let Phase::Acquires(acquire) = self.phase {
+        if let Phase::Acquires(stage) = self.phase {
             self.at = self.first;
             self.left = self.count;
-            match acquire.after_look(Access::Owned, word) {
+            match acquire::after_look(Access::Owned, self.block, stage, word) {
                 Seen::Next(next) => self.phase = Phase::Acquires(next),
                 Seen::Holds(Some(c), false) => self.phase = Phase::Dirties(c),
                 Seen::Holds(place, _) => self.phase = Phase::Writes(place),
@@ -119,7 +120,7 @@ impl WriteTask {
     {
         match self.phase {
             // Only the exchange can have been done.
-            Phase::Acquires(_) => self.phase = Phase::Acquires(Acquire::Seal),
+            Phase::Acquires(_) => self.phase = Phase::Acquires(GripStage::LookSeal),
             Phase::Dirties(c) => self.phase = Phase::Writes(Some(c)),
             Phase::Writes(_) if self.left > 0 => {
                 self.at += 1;

@@ -165,6 +165,7 @@ module _ (n : ℕ) (w : Words) (cs : List Card) (p : ℕ) (c : Card) (r : LockRu
     numbers_are = r.numbers_are;
     cells = locks d (λ b. ap (shares b) hold) (λ b t. owns b (hold t) + total (is_block b) (kept t));
     numbers = numbered d (λ b. ap (total (is_write b)) added);
+    fits = r.fits;
     counts = counted_so d (λ kind. ap (total (is_count kind)) added);
     knows = known_after w d known (λ q e _ g. r.knows q e g);
   }
@@ -191,6 +192,7 @@ module _ (n : ℕ) (w : Words) (cs : List Card) (p : ℕ) (c : Card) (r : LockRu
           (sym (total-same (sharers a) cs p c d at (others a ne).0) j, sym (total-same (owners a) cs p c d at (ap (λ (z : ℕ). z + total (is_block a) c.kept) (others a ne).1)) j),
         )) (r.cells a l));
     numbers = numbered d (λ b. refl);
+    fits = r.fits;
     counts = counted_so d (λ kind. refl);
     knows = known_after u d (knows_none w u c d refl refl refl (λ b. omega arith) mine) (λ q e _ g. still w u e (λ b. refl) (λ b. refl) (r.knows q e g));
   }
@@ -263,6 +265,7 @@ module _ (n : ℕ) (w : Words) (cs : List Card) (p : ℕ) (c : Card) (r : LockRu
     numbers_are = r.numbers_are;
     cells = locks d (λ b. refl) (λ b. refl);
     numbers = numbered d (λ b. refl);
+    fits = r.fits;
     counts = counted_so d (λ kind. refl);
     knows = known_after u d record {
       seal = λ access a y held is. subst (λ (z : OBlock). word_at u.seals z ≡ y) (held_is Owned access b a (sym own ∙ held)).1 (word_at_set w.seals b x (omega arith) ∙ some_is x y is);
@@ -292,6 +295,7 @@ module _ (n : ℕ) (w : Words) (cs : List Card) (p : ℕ) (c : Card) (r : LockRu
             (λ e. subst (λ (z : ℕ). word_at u.numbers (block z) ≡ total (writes_on z) (set cs p d)) (sym e)
             (let t = total-set (writes_on b.0) cs p c d at in let one : writes_on b.0 d ≡ 1 + writes_on b.0 c = ap (λ (z : ℕ). z + writes_on b.0 c) (is_same b) in let old = r.numbers b.0 inside in omega arith))
             (λ ne. others (block a) ne ∙ (r.numbers a l ∙ sym (total-same (writes_on a) cs p c d at (let z = is_other a b (λ e. ne (sym e)) in omega arith))));
+        fits = λ a l. dite (ℕ_discrete a b.0) (λ e. subst (λ (z : ℕ). word_at u.numbers (block z) < 2 ^ 64) (sym e) (let wrap : (y + 1) % 18446744073709551616 < 18446744073709551616 = omega arith in omega (arith, new, next))) (λ ne. let o = others (block a) ne in let old = r.fits a l in omega (arith, o, old));
         counts = counted_so d (λ kind. omega arith);
         knows = known_after u d record {
           seal = mine.seal;
@@ -314,6 +318,7 @@ module _ (n : ℕ) (w : Words) (cs : List Card) (p : ℕ) (c : Card) (r : LockRu
     numbers_are = ap length nu ∙ r.numbers_are;
     cells = λ b l. subst (λ (z : List ℕ). IsLock (word_at z (block b)) (total (sharers b) (set cs p d)) (total (owners b) (set cs p d))) (sym ce) (locks d sh ow b l);
     numbers = λ b l. ap (λ (z : List ℕ). word_at z (block b)) nu ∙ numbered d wr b l;
+    fits = λ b l. subst (λ (z : List ℕ). word_at z (block b) < 2 ^ 64) (sym nu) (r.fits b l);
     counts = counts;
     knows = known_after u d known (λ q e _ g. still w u e (λ b. ap (λ (z : List ℕ). word_at z b) se) (λ b. ap (λ (z : List ℕ). word_at z b) nu) (r.knows q e g));
   }
@@ -374,6 +379,11 @@ module _ (n : ℕ) (w : Words) (cs : List Card) (p : ℕ) (c : Card) (r : LockRu
       let known = still w u c (λ b. ap (λ (z : List ℕ). word_at z b) k.1) (λ b. ap (λ (z : List ℕ). word_at z b) k.2) mine in
       low_step u (counting kind c) k.0 k.1 k.2 (λ a. refl) (λ a. refl) (λ a. omega arith) (counts_on kind) record { seal = known.seal; number = known.number; saw = known.saw }
 
+-- a number that is known and not the greatest has room for one more
+pub has_room : (n : ℕ) (w : Words) (cs : List Card) (p : ℕ) (c : Card) → LockRule n w cs → get_elem? cs p ≡ some c → (b : OBlock) (x : ℕ) → b.0 < n → c.hold ≡ Held Owned b → c.number ≡ Some x → x ≢ 18446744073709551615 → x < 18446744073709551615
+has_room n w cs p c r at b x inside own known other = let is : word_at w.numbers b ≡ x = (r.knows p c at).number Owned b x own known in let small : word_at w.numbers b < 18446744073709551616 = r.fits b.0 inside in
+    dite (ℕ_discrete x 18446744073709551615) (λ e. absurd (other e)) (λ ne. omega (arith, is, small))
+
 -- any step that its actor is ready for keeps the rule
 pub step_keeps : (n : ℕ) (w : Words) (cs : List Card) (p : ℕ) (c : Card) (step : CellStep) → LockRule n w cs → get_elem? cs p ≡ some c → IsReady n c step → LockRule n (words_after w step) (set cs p (card_after w step c))
 step_keeps n w cs p c (Look word) r at ready = look_keeps n w cs p c r at word
@@ -384,7 +394,7 @@ step_keeps n w cs p c (Take access b seen) r at ready = by_test (eqb (word_at w.
     by_test false e = loss_keeps n w cs p c r at b (word_at w.cells b)
 step_keeps n w cs p c (Release access b) r at ready = (release_keeps n w cs p c r at access b ready.0 ready.1).0
 step_keeps n w cs p c (Seal b place dirty) r at ready = seal_keeps n w cs p c r at b (seal_word place dirty) ready.0 ready.1
-step_keeps n w cs p c (Finish b) r at ready = let known = ready.2 in finish_keeps n w cs p c r at b known.0 ready.0 ready.1 known.1 known.2
+step_keeps n w cs p c (Finish b) r at ready = let known = ready.2 in finish_keeps n w cs p c r at b known.0 ready.0 ready.1 known.1 (has_room n w cs p c r at b known.0 ready.0 ready.1 known.1 known.2)
 step_keeps n w cs p c (Count kind) r at ready = subst (λ (u : Words). LockRule n u (set cs p (counting kind c))) (put_count w kind) (count_keeps n w cs p c r at kind)
 step_keeps n w cs p c SetFailed r at ready = fail_keeps n w cs p c r at (bit_or w.fail 1)
 step_keeps n w cs p c SetSuspended r at ready = fail_keeps n w cs p c r at (bit_or w.fail 2)

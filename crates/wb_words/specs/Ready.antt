@@ -1,5 +1,5 @@
 -- Which steps an actor with this card is ready for, where there are so many blocks.
-use Rattle.std.specs.Prelude.{◌≡◌, ◌-◌, ◌^◌, ◌<◌, ℕ, true, Option, Some}
+use Rattle.std.specs.Prelude.{◌≡◌, ◌≢◌, ◌-◌, ◌^◌, ◌<◌, ℕ, true, Option, Some}
 use Rattle.wb_words.specs.declared.word.Access.TheVariants.{Owned}
 use Rattle.wb_words.specs.declared.card.Hold.TheVariants.{Nothing, Held}
 use Rattle.wb_words.specs.declared.card.Card.{Card}
@@ -9,7 +9,7 @@ use Rattle.wb_words.specs.SharedWords.{IsWord, can_take}
 
 -- a number is known, and there is a next one
 abbrev pub HasNext : Option ℕ → Type 0
-HasNext known = (number : ℕ) × (known ≡ Some number) × (number < 2 ^ 64 - 1)
+HasNext known = (number : ℕ) × (known ≡ Some number) × (number ≢ 2 ^ 64 - 1)
 
 -- it has what it gives back, seals or finishes, and takes a block where it has none
 abbrev pub IsReady : ℕ → Card → CellStep → Type 0

@@ -48,5 +48,6 @@ pub record LockRule (n : ℕ) (words : Words) (cards : List Card) : Type 0 where
   pub numbers_are : length words.numbers ≡ n
   pub cells : (b : ℕ) → b < n → IsLock (word_at words.cells (block b)) (total (sharers b) cards) (total (owners b) cards)
   pub numbers : (b : ℕ) → b < n → word_at words.numbers (block b) ≡ total (writes_on b) cards
+  pub fits : (b : ℕ) → b < n → word_at words.numbers (block b) < 2 ^ 64
   pub counts : (kind : Kind) → count_in words kind ≡ total (counts_of kind) cards % 2 ^ 64
   pub knows : (p : ℕ) (card : Card) → get_elem? cards p ≡ some card → Knows words card

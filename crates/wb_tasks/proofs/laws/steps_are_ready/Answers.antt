@@ -1,5 +1,11 @@
-use Rattle.wb_tasks.proofs.Readiness.{asks_when_ready}
+use Rattle.wb_tasks.proofs.Readiness.{begins_ready, is_ready, keeps_ready}
 use Rattle.wb_tasks.proofs.laws.steps_are_ready.Goals as goal
 
+pub returns-clause-begins : goal.returns-clause-begins
+returns-clause-begins c = begins_ready
+
 pub returns-clause-ready : goal.returns-clause-ready
-returns-clause-ready c = asks_when_ready
+returns-clause-ready c = is_ready
+
+pub returns-clause-keeps : goal.returns-clause-keeps
+returns-clause-keeps c = keeps_ready

@@ -1,5 +1,5 @@
 use Rattle.std.proofs.Common.{◌∙◌, sym, ap}
-use Rattle.wb_tasks.specs.Job.{Part, sectors_from}
+use Rattle.wb_tasks.specs.Job.{BlockRange, sectors_from}
 use Rattle.wb_tasks.specs.Phases.{read_left}
 use Rattle.wb_tasks.specs.declared.step.Got.TheVariants.{Done}
 use Rattle.wb_tasks.proofs.Views.{by_view}
@@ -9,6 +9,6 @@ use Rattle.wb_tasks.proofs.read.ReadTask.after_done.Goals as goal
 pub returns-in-Reads : goal.returns-in-Reads
 returns-in-Reads c =
     let t = c.self.inside in
-    let part : Part = record { block_sectors = t.block_sectors; block = t.block; sectors = sectors_from t.first t.count } in
+    let part : BlockRange = record { block_sectors = t.block_sectors; block = t.block; sectors = sectors_from t.first t.count } in
     let sectors = sectors_from t.at t.left in
     by_view _ _ _ Done (ap (λ p. read_left part p sectors) (sym c.in-Reads.is) ∙ c.self.view_is) c.requires (after_count part c.in-Reads.field-0 sectors)
