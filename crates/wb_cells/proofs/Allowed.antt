@@ -1,6 +1,6 @@
 -- Each step may be made.
 use Rattle.std.proofs.Common.{◌≡◌, ◌≢◌, ℕ, zero, suc, ◌+◌, ◌-◌, ◌*◌, ◌%◌, ◌^◌, ◌<◌, ◌≤◌, Bool, true, false, if◌then◌else◌, eqb, List, [], ◌∷◌, length, set, replicate, sym, refl, ap, ◌∙◌, subst, ⊎_elim, arith, Some, bit_or}
-use Rattle.std.proofs.lemmas.List.{append-nil, get_or-replicate, length-replicate}
+use Rattle.std.proofs.lemmas.List.{append-nil, length-replicate}
 use Rattle.std.proofs.lemmas.Bool.{eqb-true, ltb-true}
 use Rattle.std.proofs.lemmas.Nat.{le_or_l, le_or_r}
 use Rattle.std.proofs.lemmas.Bool.Decides.{eqb_tells}
@@ -15,24 +15,23 @@ use Rattle.wb_words.specs.declared.word.Kind.{Kind}
 use Rattle.wb_words.specs.declared.word.Kind.TheVariants.{ReadHit, ReadMiss, WriteHit, WriteMiss}
 use Rattle.wb_words.specs.declared.word.Word.{Word as WordName}
 use Rattle.wb_words.specs.declared.word.Word.TheVariants.{Cell as LockWord, Seal as SealWord, Number, Count as CountWord, Fail}
-use Rattle.wb_words.specs.SharedWords.{Words, word_at, value_of, count_in, with_cell, can_take, taken, given_back, one_more, fresh_words, counted}
+use Rattle.wb_words.specs.SharedWords.{Words, word_at, value_of, with_cell, can_take, taken, given_back, one_more, counted}
 use Rattle.wb_words.specs.declared.card.Hold.TheVariants.{Nothing, Held}
 use Rattle.wb_words.specs.declared.card.Card.{Card}
 use Rattle.wb_cells.specs.declared.view.View.{View}
 use Rattle.wb_words.specs.SharedWords.{IsWord, put}
 use Rattle.wb_cells.specs.Flat.{index_of, decode}
-use Rattle.wb_words.specs.Cards.{blank, total, sharers, owners, writes_on, counts_of, looked, losing, holding, sealing, finishing, counting, failing}
-use Rattle.wb_words.specs.Rule.{block, Knows, LockRule}
+use Rattle.wb_words.specs.Cards.{blank, looked, losing, holding, sealing, finishing, counting, failing}
+use Rattle.wb_words.specs.Rule.{LockRule}
 use Rattle.wb_cells.specs.Fractions.{IsWhole}
 use Rattle.wb_cells.specs.Views.{Ruled, opened}
 use Rattle.wb_cells.specs.Crews.{IsCrew}
 use Rattle.wb_words.specs.Looks.{Finds}
 use Rattle.wb_cells.specs.Moves.{card_at, SeatMoves}
-use Rattle.wb_words.proofs.Totals.{total-replicate}
-use Rattle.wb_words.proofs.Values.{word_at_is, put_same, put_count}
+use Rattle.wb_words.proofs.Values.{put_same, put_count}
 use Rattle.wb_cells.proofs.Decoding.{decode_fresh}
 use Rattle.wb_cells.proofs.Core.{steps, some_is}
-use Rattle.wb_words.proofs.RuleKept.{look_keeps, loss_keeps, take_keeps, release_keeps, seal_keeps, finish_keeps, count_keeps, fail_keeps, finds, has_room, both_of}
+use Rattle.wb_words.proofs.RuleKept.{look_keeps, loss_keeps, take_keeps, release_keeps, seal_keeps, finish_keeps, count_keeps, fail_keeps, finds, has_room, both_of, fresh_rule}
 
 -- a step that leaves the fail word
 same_fail : (old new : ℕ) → new ≡ old → (old ≤ new) × (0 ≤ new)
@@ -144,39 +143,6 @@ module _ (n slots id : ℕ) (me : Me ℕ View) (k : ℕ) (turn : k < length me.0
       (λ w x is. let l : x ≤ bit_or x bits = le_or_l x bits in (omega arith, le_or_r x bits))
 
 -- the opening
-all_blank : (m p : ℕ) (c : Card) → get_elem? (replicate m blank) p ≡ some c → c ≡ blank
-all_blank zero p c e = absurd (some-ne-none c (sym e))
-all_blank (suc m) zero c e = sym (some-injective blank c e)
-all_blank (suc m) (suc p) c e = all_blank m p c e
-
-pub blank_knows : (w : Words) → Knows w blank
-blank_knows w = record { seal = λ a b x e is. absurd (nothing_held a b e); number = λ a b x e is. absurd (nothing_held a b e); saw = tt }
-  where
-    nothing_held : (a : Access) (x : OBlock) → Nothing ≡ Held a x → ⊥
-    nothing_held a x e = cc
-
-fresh_rule : (n m : ℕ) → LockRule n (fresh_words n) (replicate m blank)
-fresh_rule n m = let zero_at : (b : ℕ) → b < n → word_at (replicate n 0) (block b) ≡ 0 = λ b l. word_at_is (replicate n 0) (block b) ∙ get_or-replicate n b 0 0 l in record {
-  cells_are = length-replicate n 0;
-  seals_are = length-replicate n 0;
-  numbers_are = length-replicate n 0;
-  cells = λ b l. let z = zero_at b l in let s = total-replicate (sharers b) m blank refl in let o = total-replicate (owners b) m blank refl in
-      record { is = omega arith; one = omega arith; apart = λ h. omega arith; room = omega arith };
-  numbers = λ b l. zero_at b l ∙ sym (total-replicate (writes_on b) m blank refl);
-  fits = λ b l. let z = zero_at b l in omega arith;
-  counts = none_counted;
-  knows = λ p c e. subst (Knows (fresh_words n)) (sym (all_blank m p c e)) (blank_knows (fresh_words n));
-}
-  where
-    none_at : (kind : Kind) → 0 ≡ total (counts_of kind) (replicate m blank) % 2 ^ 64
-    none_at kind = ap (λ (z : ℕ). z % 2 ^ 64) (sym (total-replicate (counts_of kind) m blank refl))
-
-    none_counted : (kind : Kind) → count_in (fresh_words n) kind ≡ total (counts_of kind) (replicate m blank) % 2 ^ 64
-    none_counted ReadHit = none_at ReadHit
-    none_counted ReadMiss = none_at ReadMiss
-    none_counted WriteHit = none_at WriteHit
-    none_counted WriteMiss = none_at WriteMiss
-
 pub starts : (n m : ℕ) → Ruled n (opening (replicate (3 * n + 5) 0) [] (opened n m))
 starts n m = record {
   wide = length-replicate (3 * n + 5) 0;

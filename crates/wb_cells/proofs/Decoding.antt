@@ -1,13 +1,9 @@
 -- A word of the table is the word of its name.
-use Rattle.std.proofs.Common.{◌≡◌, ◌≢◌, ℕ, zero, suc, ◌+◌, ◌*◌, ◌<◌, List, [], ◌∷◌, length, get_or, set, replicate, sym, refl, ap, ◌∙◌, arith, get_or-set_same, get_or-set_other}
-use Rattle.std.proofs.lemmas.Option.{unwrap_or-slice_get}
-use lib.Seq.{set-get_or}
-use Rattle.wb_types.specs.declared.number.OBlock.{OBlock}
-use Rattle.wb_words.specs.declared.word.Kind.{Kind}
+use Rattle.std.proofs.Common.{◌≡◌, ℕ, zero, suc, ◌+◌, ◌*◌, ◌<◌, List, [], ◌∷◌, length, get_or, set, replicate, sym, refl, ap, ◌∙◌, arith}
 use Rattle.wb_words.specs.declared.word.Kind.TheVariants.{ReadHit, ReadMiss, WriteHit, WriteMiss}
 use Rattle.wb_words.specs.declared.word.Word.{Word as WordName}
 use Rattle.wb_words.specs.declared.word.Word.TheVariants.{Cell as LockWord, Seal as SealWord, Number, Count as CountWord, Fail}
-use Rattle.wb_words.specs.SharedWords.{Words, fresh_words, word_at, value_of, counted, count_in, one_more}
+use Rattle.wb_words.specs.SharedWords.{fresh_words, value_of}
 use Rattle.wb_words.specs.SharedWords.{IsWord, put}
 use Rattle.wb_cells.specs.Flat.{index_of, column, pick_cell, pick_seal, pick_number, decode}
 use Rattle.wb_words.proofs.Values.{word_at_is}

@@ -26,7 +26,7 @@ use Rattle.wb_words.proofs.Totals.{total-append}
 use Rattle.wb_cells.proofs.Halves.{crowd, split_parts, join_parts, doubled-le}
 use Rattle.wb_cells.proofs.Flatten.{in_all, card_of_set, card_of_snoc, cards_sum, all-snoc}
 use Rattle.wb_cells.proofs.Core.{has_part}
-use Rattle.wb_cells.proofs.Allowed.{blank_knows}
+use Rattle.wb_words.proofs.RuleKept.{blank_knows}
 
 module _ {bits : ℕ} {how : Card → Card → Type 0} {change : Words → Words → Type 0} where
   -- one card stays one card

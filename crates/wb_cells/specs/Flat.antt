@@ -1,7 +1,5 @@
 -- How the words lie in the table: the fail word, the four statistics, then lock, seal and number of each block.
 use Rattle.std.specs.Prelude.{ℕ, ◌+◌, ◌*◌, List, [], ◌∷◌}
-use Rattle.wb_words.specs.declared.word.Kind.{Kind}
-use Rattle.wb_words.specs.declared.word.Kind.TheVariants.{ReadHit, ReadMiss, WriteHit, WriteMiss}
 use Rattle.wb_words.specs.declared.word.Word.{Word as WordName}
 use Rattle.wb_words.specs.declared.word.Word.TheVariants.{Cell as LockWord, Seal as SealWord, Number, Count as CountWord, Fail}
 use Rattle.wb_words.specs.SharedWords.{Words, fresh_words, kind_number}

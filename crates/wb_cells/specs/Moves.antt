@@ -1,12 +1,7 @@
 -- What a step of an actor does to its seat's view.
-use Rattle.std.specs.Prelude.{◌≡◌, ℕ, zero, suc, max, ◌≤◌, List, [], ◌∷◌, slice_set, slice_index_or, Some}
+use Rattle.std.specs.Prelude.{◌≡◌, ℕ, zero, suc, max, slice_set, slice_index_or, Some}
 use Rattle.atomic_table.specs.Table.{Me}
-use Rattle.wb_types.specs.declared.number.OBlock.{OBlock}
-use Rattle.wb_words.specs.declared.word.Access.{Access}
-use Rattle.wb_words.specs.declared.word.Word.{Word as WordName}
-use Rattle.wb_words.specs.declared.word.Word.TheVariants.{Seal as SealWord, Number}
 use Rattle.wb_words.specs.SharedWords.{Words}
-use Rattle.wb_words.specs.declared.card.Hold.TheVariants.{Held}
 use Rattle.wb_words.specs.declared.card.Card.{Card}
 use Rattle.wb_cells.specs.declared.view.View.{View}
 use Rattle.wb_words.specs.Cards.{blank}

@@ -1,12 +1,12 @@
 -- Each kind of step keeps the rule over all cards.
-use Rattle.std.proofs.Common.{◌≡◌, ◌≢◌, ◌⊎◌, ℕ, ◌+◌, ◌-◌, ◌%◌, ◌^◌, ◌<◌, ◌≤◌, ◌&&◌, Bool, true, false, cond, if◌then◌else◌, eqb, eq-eqb, ne_eqb, List, [], ◌∷◌, length, set, sym, refl, ap, ◌∙◌, subst, ⊎_elim, inl, inr, arith, Option, Some, None, option_map, length-set, bit_or}
+use Rattle.std.proofs.Common.{◌≡◌, ◌≢◌, ◌⊎◌, ℕ, ◌+◌, ◌-◌, ◌%◌, ◌^◌, ◌<◌, ◌≤◌, ◌&&◌, Bool, true, false, cond, if◌then◌else◌, eqb, eq-eqb, ne_eqb, List, [], ◌∷◌, length, set, replicate, zero, suc, sym, refl, ap, ◌∙◌, subst, ⊎_elim, inl, inr, arith, Option, Some, None, option_map, length-set, bit_or}
+use Rattle.std.proofs.lemmas.List.{get_or-replicate, length-replicate}
 use Rattle.std.proofs.lemmas.Bool.{eqb-true, ltb-true, false≢true}
 use Rattle.std.proofs.lemmas.Option.{none-some}
 use mathlib.Core.Logic.{dite}
-use mathlib.Core.Option.{some}
+use mathlib.Core.Option.{some, some-injective, some-ne-none}
 use native.Mathlib.Decide.{ℕ_discrete}
 use lib.ListN.{get_elem?}
-use Rattle.wb_words.proofs.Totals.{at_set}
 use Rattle.wb_types.specs.declared.number.OBlock.{OBlock}
 use Rattle.wb_words.specs.declared.word.Access.{Access}
 use Rattle.wb_words.specs.declared.word.Access.TheVariants.{Shared, Owned}
@@ -14,19 +14,19 @@ use Rattle.wb_words.specs.declared.word.Kind.{Kind}
 use Rattle.wb_words.specs.declared.word.Kind.TheVariants.{ReadHit, ReadMiss, WriteHit, WriteMiss}
 use Rattle.wb_words.specs.declared.word.Word.{Word as WordName}
 use Rattle.wb_words.specs.declared.word.Word.TheVariants.{Cell as LockWord, Seal as SealWord, Number, Count as CountWord, Fail}
-use Rattle.wb_words.specs.SharedWords.{Words, word_at, value_of, count_in, with_cell, can_take, taken, given_back, one_more, put, kind_number, seal_word}
+use Rattle.wb_words.specs.SharedWords.{Words, word_at, value_of, count_in, with_cell, can_take, taken, given_back, one_more, put, kind_number, seal_word, fresh_words}
 use Rattle.wb_words.specs.declared.card.Hold.{Hold}
 use Rattle.wb_words.specs.declared.card.Hold.TheVariants.{Nothing, Held}
 use Rattle.wb_words.specs.declared.card.Card.{Card}
-use Rattle.wb_words.specs.Cards.{total, is_block, is_write, is_count, shares, owns, sharers, owners, writes_on, counts_of, is_own_seal, is_own_number, looked, losing, holding, sealing, finishing, counting, failing_at, failing}
+use Rattle.wb_words.specs.Cards.{blank, total, is_block, is_write, is_count, shares, owns, sharers, owners, writes_on, counts_of, is_own_seal, is_own_number, looked, losing, holding, sealing, finishing, counting, failing_at, failing}
 use Rattle.wb_words.specs.Rule.{block, IsLock, SawNoMore, AllSawNoMore, Knows, LockRule}
 use Rattle.wb_words.specs.declared.step.CellStep.{CellStep}
 use Rattle.wb_words.specs.declared.step.CellStep.TheVariants.{Look, Take, Release, Seal, Finish, Count, SetFailed, SetSuspended}
 use Rattle.wb_words.specs.Looks.{SawAtMost, Finds}
 use Rattle.wb_words.specs.Effects.{words_after, card_after}
 use Rattle.wb_words.specs.Ready.{IsReady}
-use Rattle.wb_words.proofs.Totals.{total-set, total_at, total_two, total-same}
-use Rattle.wb_words.proofs.Values.{word_at_set, word_at_else, put_count}
+use Rattle.wb_words.proofs.Totals.{total-set, total_at, total_two, total-same, total-replicate, at_set}
+use Rattle.wb_words.proofs.Values.{word_at_is, word_at_set, word_at_else, put_count}
 
 is_same : (a : OBlock) → is_block a.0 a ≡ 1
 is_same a = ap (λ t. cond t 1 0) (eq-eqb a.0 a.0 refl)
@@ -398,3 +398,34 @@ step_keeps n w cs p c (Finish b) r at ready = let known = ready.2 in finish_keep
 step_keeps n w cs p c (Count kind) r at ready = subst (λ (u : Words). LockRule n u (set cs p (counting kind c))) (put_count w kind) (count_keeps n w cs p c r at kind)
 step_keeps n w cs p c SetFailed r at ready = fail_keeps n w cs p c r at (bit_or w.fail 1)
 step_keeps n w cs p c SetSuspended r at ready = fail_keeps n w cs p c r at (bit_or w.fail 2)
+
+-- With all words 0 and nobody holding anything, the rule holds.
+all_blank : (m p : ℕ) (c : Card) → get_elem? (replicate m blank) p ≡ some c → c ≡ blank
+all_blank zero p c e = absurd (some-ne-none c (sym e))
+all_blank (suc m) zero c e = sym (some-injective blank c e)
+all_blank (suc m) (suc p) c e = all_blank m p c e
+
+pub blank_knows : (w : Words) → Knows w blank
+blank_knows w = record { seal = λ a b x e is. absurd (nothing_held a b e); number = λ a b x e is. absurd (nothing_held a b e); saw = tt }
+
+pub fresh_rule : (n m : ℕ) → LockRule n (fresh_words n) (replicate m blank)
+fresh_rule n m = let zero_at : (b : ℕ) → b < n → word_at (replicate n 0) (block b) ≡ 0 = λ b l. word_at_is (replicate n 0) (block b) ∙ get_or-replicate n b 0 0 l in record {
+  cells_are = length-replicate n 0;
+  seals_are = length-replicate n 0;
+  numbers_are = length-replicate n 0;
+  cells = λ b l. let z = zero_at b l in let s = total-replicate (sharers b) m blank refl in let o = total-replicate (owners b) m blank refl in
+      record { is = omega arith; one = omega arith; apart = λ h. omega arith; room = omega arith };
+  numbers = λ b l. zero_at b l ∙ sym (total-replicate (writes_on b) m blank refl);
+  fits = λ b l. let z = zero_at b l in omega arith;
+  counts = none_counted;
+  knows = λ p c e. subst (Knows (fresh_words n)) (sym (all_blank m p c e)) (blank_knows (fresh_words n));
+}
+  where
+    none_at : (kind : Kind) → 0 ≡ total (counts_of kind) (replicate m blank) % 2 ^ 64
+    none_at kind = ap (λ (z : ℕ). z % 2 ^ 64) (sym (total-replicate (counts_of kind) m blank refl))
+
+    none_counted : (kind : Kind) → count_in (fresh_words n) kind ≡ total (counts_of kind) (replicate m blank) % 2 ^ 64
+    none_counted ReadHit = none_at ReadHit
+    none_counted ReadMiss = none_at ReadMiss
+    none_counted WriteHit = none_at WriteHit
+    none_counted WriteMiss = none_at WriteMiss

@@ -1,30 +1,30 @@
 -- What every run keeps, and how it is kept when one actor changes.
-use Rattle.std.proofs.Common.{◌≡◌, ◌≢◌, ◌/◌, ◌≤◌, ◌⊎◌, inl, inr, ℕ, Bool, false, List, Option, Some, None, refl, sym, ap, subst, ◌∙◌, arith, slice_get, slice_set, unwrap_or, length}
+use Rattle.std.proofs.Common.{◌≡◌, ◌≢◌, ◌/◌, ◌≤◌, ◌⊎◌, inl, inr, ℕ, Bool, false, List, [], Option, Some, None, refl, sym, ap, subst, ◌∙◌, arith, slice_get, slice_set, unwrap_or}
 use Rattle.std.proofs.lemmas.Bool.{cases_eq}
 use Rattle.wb_types.specs.declared.number.OBlock.{OBlock}
 use Rattle.wb_disk.specs.Device.{History}
 use Rattle.wb_tasks.specs.Script.{Script}
-use Rattle.wb_types.specs.Words.{Words, word_at}
-use Rattle.wb_tasks.specs.declared.card.Card.{Card}
-use Rattle.wb_tasks.specs.declared.card.Held.TheVariants.{Nothing}
+use Rattle.wb_words.specs.SharedWords.{Words, word_at}
+use Rattle.wb_words.specs.declared.card.Card.{Card}
+use Rattle.wb_words.specs.declared.card.Hold.TheVariants.{Nothing}
 use Rattle.wb_tasks.specs.declared.step.Want.{Want}
 use Rattle.wb_tasks.specs.declared.step.Got.{Got}
-use Rattle.wb_world.specs.declared.actor.Actor.{Actor}
 use Rattle.wb_world.specs.declared.job.Job.{Job}
 use Rattle.wb_world.specs.declared.event.Event.TheVariants.{Step, FaultStep}
 use Rattle.wb_world.specs.declared.event.What.{What}
 use Rattle.wb_world.specs.declared.event.What.TheVariants.{Stepped}
-use Rattle.wb_world.specs.World.{Shape, State, task_job, stepped, changed_by, device_by, device_failed, after_what}
+use Rattle.wb_world.specs.World.{Shape, State, Actor, task_job, stepped, changed_by, device_by, device_failed, after_what}
 use Rattle.wb_world.specs.Clerk.{Notes, Doing, noted_what, noted_step}
 use Rattle.wb_world.specs.Headline.{AnswersRightly}
 use Rattle.wb_world.proofs.Lists.{get_set_same, get_set_other}
 use Rattle.wb_world.proofs.Contents.{AllHold, AllHoldLast, last_more}
 use Rattle.wb_world.proofs.Phases.{Phase, Stands, script_in}
-use Rattle.wb_world.proofs.Rule.{Ruled, total, total_same, leaves_stale, shared_by, task_fails, same_held}
+use Rattle.wb_words.specs.Cards.{total}
+use Rattle.wb_world.proofs.Rule.{Ruled, total_same, leaves_stale, task_fails}
 
 -- An actor with a task stands somewhere in its table, and the clerk knows its job; one without holds nothing.
 abbrev pub ActingOn : Shape → Card → Option (Job × Script) → Option (Option Doing) → Type 0
-ActingOn shape card None noted = (noted ≡ Some None) × (card.held ≡ Nothing)
+ActingOn shape card None noted = (noted ≡ Some None) × (card.hold ≡ Nothing)
 ActingOn shape card (Some task) noted = (doing : Doing) × (phase : Phase) × (noted ≡ Some (Some doing)) × (task.1 ≡ script_in (task_job shape task.0) phase) × Stands shape card task.0 doing phase
 
 abbrev pub AllActing : Shape → List Actor → List (Option Doing) → Type 0
@@ -35,10 +35,10 @@ abbrev pub stale_of : Shape → List Actor → ℕ → ℕ
 stale_of shape actors at = total (leaves_stale (at / shape.block_sectors)) actors
 
 -- Who has kept a block at a failure has set the failed bit.
-abbrev pub KeepsNothing : Option OBlock → ℕ → Type 0
-KeepsNothing kept fail = (kept ≡ None) ⊎ (1 ≤ fail)
+abbrev pub KeepsNothing : List OBlock → ℕ → Type 0
+KeepsNothing kept fail = (kept ≡ []) ⊎ (1 ≤ fail)
 
-pub keeps_nothing_more : (kept : Option OBlock) (fail fail' : ℕ) → fail ≤ fail' → KeepsNothing kept fail → KeepsNothing kept fail'
+pub keeps_nothing_more : (kept : List OBlock) (fail fail' : ℕ) → fail ≤ fail' → KeepsNothing kept fail → KeepsNothing kept fail'
 keeps_nothing_more kept fail fail' l (inl e) = inl e
 keeps_nothing_more kept fail fail' l (inr m) = inr (omega arith)
 
@@ -54,9 +54,8 @@ failed_set actors a x y fail fail' e l f i b z g = elim (cases_eq b a) [
 -- While there are actors, the words are theirs, and the device has the last entries.
 pub record Kept (shape : Shape) (w : State) (n : Notes) : Type 0 where
   pub acting : AllActing shape w.actors n.doings
-  pub cells : length w.words.cells ≡ shape.origin_blocks
   pub seals : (block : OBlock) → word_at w.words.seals block ≡ 0
-  pub rule : (a : ℕ) (x : Actor) → slice_get w.actors a ≡ Some x → Ruled w.words.cells w.actors
+  pub rule : (a : ℕ) (x : Actor) → slice_get w.actors a ≡ Some x → Ruled shape.origin_blocks w.words w.actors
   pub holds : AllHold w.device n.histories
   pub last : (a : ℕ) (x : Actor) → slice_get w.actors a ≡ Some x → AllHoldLast w.device n.histories (stale_of shape w.actors)
   pub failed : (a : ℕ) (x : Actor) → slice_get w.actors a ≡ Some x → KeepsNothing x.card.kept w.words.fail
@@ -78,11 +77,10 @@ acting_set shape actors doings doings' a x y e others f i b z g = elim (cases_eq
 pub record Moved (shape : Shape) (w : State) (n : Notes) (a : ℕ) (y : Actor) (words : Words) (device : List History) (n' : Notes) : Type 0 where
   pub others : (b : ℕ) → b ≢ a → slice_get n'.doings b ≡ slice_get n.doings b
   pub stands : ActingOn shape y.card y.task (slice_get n'.doings a)
-  pub cells : length words.cells ≡ length w.words.cells
   pub seals : words.seals ≡ w.words.seals
   pub fail : w.words.fail ≤ words.fail
   pub keeps : KeepsNothing y.card.kept words.fail
-  pub rule : Ruled words.cells (slice_set w.actors a y)
+  pub rule : Ruled shape.origin_blocks words (slice_set w.actors a y)
   pub holds : AllHold device n'.histories
   pub last : AllHoldLast device n'.histories (stale_of shape (slice_set w.actors a y))
   pub floors : n'.floors ≡ n.floors
@@ -92,7 +90,6 @@ pub moved : (shape : Shape) (w : State) (n : Notes) (a : ℕ) (x y : Actor) (wor
     Kept shape (record { device = device; words = words; actors = slice_set w.actors a y }) n'
 moved shape w n a x y words device n' i e m = record {
   acting = acting_set shape w.actors n.doings n'.doings a x y e m.others m.stands i.acting;
-  cells = m.cells ∙ i.cells;
   seals = λ block. rw m.seals (i.seals block);
   rule = λ b z g. m.rule;
   holds = m.holds;
@@ -116,11 +113,10 @@ last_same shape w n a x y device histories e s l at =
 pub record Quiet (shape : Shape) (w : State) (n : Notes) (a : ℕ) (x y : Actor) (words : Words) (n' : Notes) : Type 0 where
   pub others : (b : ℕ) → b ≢ a → slice_get n'.doings b ≡ slice_get n.doings b
   pub stands : ActingOn shape y.card y.task (slice_get n'.doings a)
-  pub held : y.card.held ≡ x.card.held
   pub kept : y.card.kept ≡ x.card.kept
   pub not_failing : task_fails y.task ≡ false
   pub was_not : task_fails x.task ≡ false
-  pub cells : words.cells ≡ w.words.cells
+  pub rule : Ruled shape.origin_blocks words (slice_set w.actors a y)
   pub seals : words.seals ≡ w.words.seals
   pub fail : words.fail ≡ w.words.fail
   pub histories : n'.histories ≡ n.histories
@@ -132,11 +128,10 @@ pub quiet : (shape : Shape) (w : State) (n : Notes) (a : ℕ) (x y : Actor) (wor
 quiet shape w n a x y words n' i e q = moved shape w n a x y words w.device n' i e (record {
   others = q.others;
   stands = q.stands;
-  cells = ap length q.cells;
   seals = q.seals;
   fail = omega (arith, q.fail);
   keeps = rw (q.fail, q.kept) (i.failed a x e);
-  rule = rw q.cells (same_held w.words.cells w.actors a x y e (λ b. ap (shared_by b) q.held) (λ b. rw (q.held, q.kept) refl) (i.rule a x e));
+  rule = q.rule;
   holds = rw q.histories i.holds;
   last = rw q.histories (last_same shape w n a x y w.device n.histories e (λ b. stale_same b x y q.kept q.not_failing q.was_not) (i.last a x e));
   floors = q.floors;

@@ -1,21 +1,20 @@
 -- Where a request stands: what is left of its table, and what its actor holds there.
-use Rattle.std.proofs.Common.{◌≡◌, ◌/◌, ◌<◌, ℕ, false, List, [], ◌∷◌, ◌++◌, Option, None, refl, map, All}
+use Rattle.std.proofs.Common.{◌≡◌, ◌/◌, ◌<◌, ℕ, true, false, List, [], ◌∷◌, ◌++◌, None, refl, map, All}
 use Rattle.wb_types.specs.declared.mode.Dev.TheVariants.{Origin}
 use Rattle.wb_types.specs.declared.number.OBlock.{OBlock}
 use Rattle.wb_types.specs.declared.refusal.Refusal.{Refusal}
-use Rattle.wb_types.specs.declared.word.Access.TheVariants.{Shared, Owned}
-use Rattle.wb_types.specs.declared.word.Kind.TheVariants.{ReadMiss, WriteMiss}
-use Rattle.wb_types.specs.declared.word.Word.TheVariants.{Cell as LockWord, Seal as SealWord, Number}
-use Rattle.wb_tasks.specs.Job.{Job as TaskJob, Reading, Writing, part_of, access_of, acquire, work}
+use Rattle.wb_words.specs.declared.word.Access.TheVariants.{Shared, Owned}
+use Rattle.wb_words.specs.declared.word.Kind.TheVariants.{ReadMiss, WriteMiss}
+use Rattle.wb_words.specs.declared.word.Word.TheVariants.{Cell as LockWord, Seal as SealWord, Number}
+use Rattle.wb_tasks.specs.Job.{Job as TaskJob, Reading, Writing, part_of, access_of, acquire, taking, work}
 use Rattle.wb_tasks.specs.Script.{Script, release}
-use Rattle.wb_tasks.specs.Ready.{HasNext}
-use Rattle.wb_tasks.specs.Words.{holding}
-use Rattle.wb_tasks.specs.declared.card.Card.{Card}
-use Rattle.wb_tasks.specs.declared.card.Held.{Held}
-use Rattle.wb_tasks.specs.declared.card.Held.TheVariants.{Nothing}
+use Rattle.wb_words.specs.declared.card.Card.{Card}
+use Rattle.wb_words.specs.declared.card.Hold.{Hold}
+use Rattle.wb_words.specs.declared.card.Hold.TheVariants.{Nothing, Held}
+use Rattle.wb_tasks.specs.Ready.{block_of}
 use Rattle.wb_tasks.specs.declared.step.Answer.{Answer}
 use Rattle.wb_tasks.specs.declared.step.Answer.TheVariants.{Done as Finished, Refused as Refuses}
-use Rattle.wb_tasks.specs.declared.step.CellStep.TheVariants.{Look, Take, Release, Finish, Count, SetFailed}
+use Rattle.wb_words.specs.declared.step.CellStep.TheVariants.{Look, Take, Release, Finish, Count, SetFailed}
 use Rattle.wb_tasks.specs.declared.step.DeviceStep.TheVariants.{Read as ReadSector, Write as WriteSector}
 use Rattle.wb_tasks.specs.declared.step.Want.{Want}
 use Rattle.wb_tasks.specs.declared.step.Want.TheVariants.{Cell, Device}
@@ -28,7 +27,7 @@ use Rattle.wb_world.specs.Headline.{IsLatest}
 pub data Phase : Type 0 where
   FailLook : Phase
   LockLook : Phase
-  Taking : Phase
+  Taking : (seen : ℕ) → Phase
   SealLook : Phase
   NumberLook : Phase
   Moving : (left : List ℕ) → Phase
@@ -37,9 +36,6 @@ pub data Phase : Type 0 where
   GivingBack : (refusal : Refusal) → Phase
   Failing : (refusal : Refusal) → Phase
   Ending : (answer : Answer) → Phase
-
-abbrev pub block_of : TaskJob → OBlock
-block_of job = (part_of job).block
 
 -- the rest of the work, with these sectors to move, on the origin
 abbrev pub moves : TaskJob → List ℕ → List Want
@@ -50,14 +46,11 @@ abbrev pub counts : TaskJob → List Want
 counts (Reading part) = Cell (Count ReadMiss) ∷ Cell (Release Shared part.block) ∷ []
 counts (Writing part) = Cell (Count WriteMiss) ∷ Cell (Release Owned part.block) ∷ []
 
-abbrev pub seal_look : TaskJob → List Want
-seal_look job = Cell (Look (SealWord (block_of job))) ∷ Cell (Look (Number (block_of job))) ∷ []
-
 abbrev pub steps_in : TaskJob → Phase → List Want
-steps_in job FailLook = acquire (access_of job) (block_of job)
-steps_in job LockLook = Cell (Look (LockWord (block_of job))) ∷ Cell (Take (access_of job) (block_of job)) ∷ seal_look job
-steps_in job Taking = Cell (Take (access_of job) (block_of job)) ∷ seal_look job
-steps_in job SealLook = seal_look job
+steps_in job FailLook = acquire (block_of job)
+steps_in job LockLook = Cell (Look (LockWord (block_of job))) ∷ []
+steps_in job (Taking seen) = taking (access_of job) (block_of job) seen
+steps_in job SealLook = Cell (Look (SealWord (block_of job))) ∷ []
 steps_in job NumberLook = Cell (Look (Number (block_of job))) ∷ work job None false
 steps_in job (Moving left) = moves job left
 steps_in job Counting = counts job
@@ -81,18 +74,18 @@ work-moves (Reading part) = refl
 work-moves (Writing part) = refl
 
 -- what the actor holds
-abbrev pub held_in : TaskJob → Phase → Held
-held_in job FailLook = Nothing
-held_in job LockLook = Nothing
-held_in job Taking = Nothing
-held_in job (Ending answer) = Nothing
-held_in job phase = holding (access_of job) (block_of job)
+abbrev pub hold_in : TaskJob → Phase → Hold
+hold_in job FailLook = Nothing
+hold_in job LockLook = Nothing
+hold_in job (Taking seen) = Nothing
+hold_in job (Ending answer) = Nothing
+hold_in job phase = Held (access_of job) (block_of job)
 
 -- the sectors that the clerk has left: all until the first is moved, none from the count on
 abbrev pub LeftIn : Phase → Job → List ℕ → Type 0
 LeftIn FailLook job left = left ≡ sectors_of job
 LeftIn LockLook job left = left ≡ sectors_of job
-LeftIn Taking job left = left ≡ sectors_of job
+LeftIn (Taking seen) job left = left ≡ sectors_of job
 LeftIn SealLook job left = left ≡ sectors_of job
 LeftIn NumberLook job left = left ≡ sectors_of job
 LeftIn (Moving still) job left = left ≡ still
@@ -106,20 +99,11 @@ abbrev pub OwnsIn : Phase → TaskJob → Type 0
 OwnsIn (Failing refusal) job = access_of job ≡ Owned
 OwnsIn phase job = Unit {0}
 
--- a write knows the number of its block from the look at it on, and that there is a next one
-abbrev pub NumberKnown : TaskJob → Option ℕ → Type 0
-NumberKnown (Reading part) number = Unit {0}
-NumberKnown (Writing part) number = HasNext number
-
-abbrev pub NumberIn : Phase → TaskJob → Option ℕ → Type 0
-NumberIn (Moving left) job number = NumberKnown job number
-NumberIn phase job number = Unit {0}
-
 -- an actor that kept a block at a failure gets no further than the fail word
-abbrev pub KeptIn : Phase → Option OBlock → Type 0
+abbrev pub KeptIn : Phase → List OBlock → Type 0
 KeptIn FailLook kept = Unit {0}
 KeptIn (Ending answer) kept = Unit {0}
-KeptIn phase kept = kept ≡ None
+KeptIn phase kept = kept ≡ []
 
 -- the sectors lie in the block
 abbrev pub AllIn : ℕ → ℕ → List ℕ → Type 0
@@ -133,7 +117,7 @@ SoFar doing (Write extent content) = map (λ (p : Position). p.sector) doing.ent
 
 -- where an actor with this card and this job stands, the clerk having this of it
 pub record Stands (shape : Shape) (card : Card) (job : Job) (doing : Doing) (phase : Phase) : Type 0 where
-  pub held_is : card.held ≡ held_in (task_job shape job) phase
+  pub held_is : card.hold ≡ hold_in (task_job shape job) phase
   pub job_is : doing.job ≡ job
   pub left_is : LeftIn phase job doing.left
   pub owns : OwnsIn phase (task_job shape job)
@@ -141,4 +125,3 @@ pub record Stands (shape : Shape) (card : Card) (job : Job) (doing : Doing) (pha
   pub so_far : SoFar doing job
   pub in_block : AllIn shape.block_sectors (block_of (task_job shape job)).0 doing.left
   pub inside : (block_of (task_job shape job)).0 < shape.origin_blocks
-  pub number_is : NumberIn phase (task_job shape job) card.number

@@ -1,27 +1,29 @@
 -- The step of a read that reads a sector: it gives the last entry of the sector's history.
-use Rattle.std.proofs.Common.{◌≡◌, ◌≤◌, ◌/◌, ℕ, zero, suc, Bool, true, false, List, [], ◌∷◌, ◌++◌, Option, Some, None, refl, sym, ap, subst, ◌∙◌, arith, slice_get, slice_set, map}
+use Rattle.std.proofs.Common.{◌≡◌, ◌≤◌, ◌<◌, ◌/◌, cond, ℕ, zero, suc, Bool, true, false, List, [], ◌∷◌, ◌++◌, Option, Some, None, refl, sym, ap, subst, ◌∙◌, arith, slice_get, slice_set, map}
 use Rattle.std.proofs.lemmas.List.{map-append, append_assoc}
 use Rattle.std.proofs.lemmas.List.Elements.{All-push}
 use Rattle.std.proofs.lemmas.Bool.{eq-eqb}
 use Rattle.wb_types.specs.declared.mode.Dev.TheVariants.{Origin}
 use Rattle.wb_types.specs.declared.refusal.Refusal.TheVariants.{Io}
 use Rattle.wb_disk.specs.Device.{Content as Bytes, History, newest}
-use Rattle.wb_tasks.specs.declared.card.Card.{Card}
+use Rattle.wb_words.specs.declared.card.Card.{Card}
 use Rattle.wb_tasks.specs.declared.step.DeviceStep.TheVariants.{Read as ReadSector}
 use Rattle.wb_tasks.specs.declared.step.Want.TheVariants.{Device}
 use Rattle.wb_tasks.specs.declared.step.Got.TheVariants.{Content, Fault}
-use Rattle.wb_world.specs.declared.actor.Actor.{Actor}
 use Rattle.wb_world.specs.declared.job.Extent.{Extent}
 use Rattle.wb_world.specs.declared.job.Job.TheVariants.{Read}
-use Rattle.wb_world.specs.World.{Shape, State, task_job, stepped_or, read_got, failed_or, device_failed}
+use Rattle.wb_world.specs.World.{Shape, State, Actor, task_job, stepped_or, read_got, failed_or, device_failed}
 use Rattle.wb_world.specs.Clerk.{Notes, Doing, Reading, read_on, latest_of}
 use Rattle.wb_world.specs.Headline.{IsLatest}
 use Rattle.wb_world.proofs.Lists.{get_set_same, get_set_other}
 use Rattle.wb_world.proofs.Contents.{Holds, HoldsLast, Same, Stale}
 use Rattle.wb_world.proofs.Kept.{Kept, quiet, Good, good, GoodFault, good_fault, stale_of}
-use Rattle.wb_world.proofs.Phases.{Moving, GivingBack, SoFar, AllIn, script_in, block_of}
-use Rattle.wb_world.proofs.Rule.{shares, owns, leaves_stale, stale_is_owned, total, total_has, total_most, shared_by, one_if}
-use Rattle.wb_world.proofs.Looking.{at_work, Working, acts, quietly, moves_on}
+use Rattle.wb_world.proofs.Phases.{Moving, GivingBack, SoFar, AllIn, script_in}
+use Rattle.wb_words.specs.declared.card.Hold.{Hold}
+use Rattle.wb_words.specs.Cards.{total, shares as shared_by}
+use Rattle.wb_tasks.specs.Ready.{block_of}
+use Rattle.wb_world.proofs.Rule.{shares, owns, leaves_stale, stale_is_owned, total_has, total_most, lock_of, rule_same}
+use Rattle.wb_world.proofs.Looking.{at_work, Working, acts, moves_on}
 
 -- Who shares a block knows that no failed write left it stale.
 pub not_stale : (shape : Shape) (w : State) (n : Notes) (a : ℕ) (card : Card) (extent : Extent) (doing : Doing) (at : ℕ) (left : List ℕ) → Working shape w n a card (Read extent) doing (Moving (at ∷ left)) →
@@ -30,14 +32,14 @@ not_stale shape w n a card extent doing at left k e =
     let job = Read extent in
     let x : Actor = at_work shape card job (Moving (at ∷ left)) in
     let b : ℕ = (block_of (task_job shape job)).0 in
-    let one : shares b x ≡ 1 = ap (shared_by b) k.stands.held_is ∙ ap one_if (eq-eqb b b refl) in
+    let one : shares b x ≡ 1 = ap (shared_by b) k.stands.held_is ∙ ap (λ t. cond t 1 0) (eq-eqb b b refl) in
     let has = total_has (shares b) w.actors a x k.actor in
-    let rule = k.kept.rule a x k.actor b in
+    let rule = lock_of shape.origin_blocks w.words w.actors b (k.kept.rule a x k.actor) k.stands.inside in
     let most = total_most (leaves_stale b) (owns b) w.actors (stale_is_owned b) in
-    let none : total (owns b) w.actors ≡ 0 = none_owns (total (owns b) w.actors) (total (shares b) w.actors) rule.alone (omega (arith, one, has)) in
+    let none : total (owns b) w.actors ≡ 0 = none_owns (total (owns b) w.actors) (total (shares b) w.actors) rule.apart (omega (arith, one, has)) in
     rw e (omega (arith, most, none))
   where
-    none_owns : (owners sharers : ℕ) → (1 ≤ owners → sharers ≡ 0) → 1 ≤ sharers → owners ≡ 0
+    none_owns : (owners sharers : ℕ) → (0 < owners → sharers ≡ 0) → 1 ≤ sharers → owners ≡ 0
     none_owns zero sharers f h = refl
     none_owns (suc o) sharers f h = absurd (omega (arith, f (omega arith)))
 
@@ -85,13 +87,11 @@ read_sector shape w n a card extent doing at left k (Some h) e =
         so_far = read_so_far doing extent at left (newest h) latest s.left_is is_last s.so_far;
         in_block = in_block.1;
         inside = s.inside;
-        number_is = s.number_is;
       });
-      held = refl;
       kept = refl;
       not_failing = moves_on shape job left;
       was_not = refl;
-      cells = refl;
+      rule = rule_same shape.origin_blocks w.words w.actors a x (at_work shape card job (Moving left)) (k.kept.rule a x k.actor) k.actor refl;
       seals = refl;
       fail = refl;
       histories = refl;
@@ -106,11 +106,21 @@ read_failed shape w n a landed card extent doing at left k false = k.kept
 read_failed shape w n a landed card extent doing at left k true =
     let job = Read extent in
     let s = k.stands in
-    good_fault shape w n a landed (at_work shape card job (Moving (at ∷ left))) doing (Device (ReadSector Origin at)) Fault k.actor k.noted
+    let x = at_work shape card job (Moving (at ∷ left)) in
+    good_fault shape w n a landed x doing (Device (ReadSector Origin at)) Fault k.actor k.noted
     (subst (λ (device : List History). Kept shape (record { device = device; words = w.words; actors = slice_set w.actors a (at_work shape card job (GivingBack (Io Origin))) }) n) (unchanged landed)
-    (quietly shape w n a card card job doing (Moving (at ∷ left)) (script_in (task_job shape job) (GivingBack (Io Origin))) w.words k
-    (acts shape card job doing (GivingBack (Io Origin)) (slice_get n.doings a) k.noted (record { held_is = s.held_is; job_is = s.job_is; left_is = tt; owns = tt; kept_is = s.kept_is; so_far = s.so_far; in_block = s.in_block; inside = s.inside; number_is = tt }))
-    refl refl refl refl refl refl refl))
+    (quiet shape w n a x (at_work shape card job (GivingBack (Io Origin))) w.words n k.kept k.actor (record {
+      others = λ b m. refl;
+      stands = acts shape card job doing (GivingBack (Io Origin)) (slice_get n.doings a) k.noted (record { held_is = s.held_is; job_is = s.job_is; left_is = tt; owns = tt; kept_is = s.kept_is; so_far = s.so_far; in_block = s.in_block; inside = s.inside });
+      kept = refl;
+      not_failing = refl;
+      was_not = refl;
+      rule = rule_same shape.origin_blocks w.words w.actors a x (at_work shape card job (GivingBack (Io Origin))) (k.kept.rule a x k.actor) k.actor refl;
+      seals = refl;
+      fail = refl;
+      histories = refl;
+      floors = refl;
+    })))
   where
     unchanged : (landed : Bool) → w.device ≡ device_failed landed w.device (Read extent) (Device (ReadSector Origin at))
     unchanged true = refl

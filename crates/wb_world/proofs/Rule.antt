@@ -1,35 +1,24 @@
--- The lock-word rule: each lock word tells how many actors share its block, and whether one owns it.
-use Rattle.std.proofs.Common.{◌≡◌, ◌≢◌, ◌+◌, ◌*◌, ◌≤◌, ◌<◌, ◌==◌, inl, inr, ℕ, zero, suc, List, [], ◌∷◌, Option, Some, None, Bool, true, false, cond, refl, ap, arith, slice_get, slice_set, unwrap_or, length}
-use Rattle.std.proofs.lemmas.Bool.{cases_eq}
+-- What the rule of the shared words says of the actors of a world.
+use Rattle.std.proofs.Common.{◌≡◌, ◌≢◌, ◌+◌, ◌≤◌, ◌<◌, ◌==◌, ℕ, zero, suc, List, [], ◌∷◌, Option, Some, None, Bool, true, false, cond, refl, sym, ap, subst, ◌∙◌, arith, map, slice_get, slice_set}
+use mathlib.Core.Option.{some}
+use lib.ListN.{get_elem?, set}
 use Rattle.wb_types.specs.declared.number.OBlock.{OBlock}
+use Rattle.wb_words.specs.declared.card.Card.{Card}
+use Rattle.wb_words.specs.declared.card.Hold.{Hold}
+use Rattle.wb_words.specs.declared.step.CellStep.{CellStep}
+use Rattle.wb_words.specs.declared.step.CellStep.TheVariants.{SetFailed}
+use Rattle.wb_words.specs.SharedWords.{Words, word_at}
+use Rattle.wb_words.specs.Cards.{total, is_block, sharers, owners, owns as owned_by}
+use Rattle.wb_words.specs.Rule.{block, IsLock, LockRule}
+use Rattle.wb_words.specs.Effects.{words_after, card_after}
+use Rattle.wb_words.specs.Ready.{IsReady}
+use Rattle.wb_words.proofs.Totals.{total-set, total-same as total_kept, total_at, at_slice}
+use Rattle.wb_words.proofs.RuleKept.{step_keeps}
 use Rattle.wb_tasks.specs.Script.{Script}
-use Rattle.wb_tasks.specs.declared.card.Held.{Held}
-use Rattle.wb_tasks.specs.declared.card.Held.TheVariants.{Nothing, Shares, Owns}
-use Rattle.wb_tasks.specs.declared.step.CellStep.TheVariants.{SetFailed}
 use Rattle.wb_tasks.specs.declared.step.Want.{Want}
 use Rattle.wb_tasks.specs.declared.step.Want.TheVariants.{Cell}
-use Rattle.wb_world.specs.declared.actor.Actor.{Actor}
 use Rattle.wb_world.specs.declared.job.Job.{Job}
-use Rattle.wb_world.proofs.Lists.{get_set_other}
-
--- one where this is the block, else none
-abbrev pub one_if : Bool → ℕ
-one_if b = cond b 1 0
-
--- whether what is held is a share or an own of a block, as a number
-abbrev pub shared_by : ℕ → Held → ℕ
-shared_by b (Shares c) = one_if (c.0 == b)
-shared_by b Nothing = 0
-shared_by b (Owns c) = 0
-
-abbrev pub owned_by : ℕ → Held → ℕ
-owned_by b (Owns c) = one_if (c.0 == b)
-owned_by b Nothing = 0
-owned_by b (Shares c) = 0
-
-abbrev pub kept_by : ℕ → Option OBlock → ℕ
-kept_by b None = 0
-kept_by b (Some c) = one_if (c.0 == b)
+use Rattle.wb_world.specs.World.{Actor}
 
 -- a task whose write has failed, and that is still to say so
 abbrev pub is_failing : List Want → Bool
@@ -40,76 +29,75 @@ abbrev pub task_fails : Option (Job × Script) → Bool
 task_fails None = false
 task_fails (Some doing) = is_failing doing.1.steps
 
+abbrev pub cards_of : List Actor → List Card
+cards_of actors = map (λ (x : Actor). x.card) actors
+
 abbrev pub shares : ℕ → Actor → ℕ
-shares b x = shared_by b x.card.held
+shares b x = sharers b x.card
 
 abbrev pub owns : ℕ → Actor → ℕ
-owns b x = owned_by b x.card.held + kept_by b x.card.kept
+owns b x = owners b x.card
 
 -- whether an actor's failed write may have left the device behind the history of a block
 abbrev pub leaves_stale : ℕ → Actor → ℕ
-leaves_stale b x = cond (task_fails x.task) (owned_by b x.card.held) 0 + kept_by b x.card.kept
+leaves_stale b x = cond (task_fails x.task) (owned_by b x.card.hold) 0 + total (is_block b) x.card.kept
 
 pub stale_is_owned : (b : ℕ) (x : Actor) → leaves_stale b x ≤ owns b x
 stale_is_owned b x = go (task_fails x.task) where
-  go : (f : Bool) → cond f (owned_by b x.card.held) 0 + kept_by b x.card.kept ≤ owned_by b x.card.held + kept_by b x.card.kept
+  go : (f : Bool) → cond f (owned_by b x.card.hold) 0 + total (is_block b) x.card.kept ≤ owned_by b x.card.hold + total (is_block b) x.card.kept
   go true = omega arith
   go false = omega arith
 
--- a number of each actor, summed
-abbrev pub total : (Actor → ℕ) → List Actor → ℕ
-total f [] = 0
-total f (x ∷ xs) = f x + total f xs
-
 -- a sum after one actor changed
 pub total_set : (f : Actor → ℕ) (xs : List Actor) (i : ℕ) (x y : Actor) → slice_get xs i ≡ Some x → total f (slice_set xs i y) + f x ≡ total f xs + f y
-total_set f [] i x y e = absurd (cc)
-total_set f (z ∷ xs) zero x y e = let s : z ≡ x = cc in rw s (omega arith)
-total_set f (z ∷ xs) (suc i) x y e = omega (arith, total_set f xs i x y e)
+total_set f xs i x y e = total-set f xs i x y (at_slice xs i x e)
 
 pub total_same : (f : Actor → ℕ) (xs : List Actor) (i : ℕ) (x y : Actor) → slice_get xs i ≡ Some x → f y ≡ f x → total f (slice_set xs i y) ≡ total f xs
-total_same f xs i x y e s = omega (arith, total_set f xs i x y e)
+total_same f xs i x y e s = total_kept f xs i x y (at_slice xs i x e) s
 
 -- each actor is in the sum
 pub total_has : (f : Actor → ℕ) (xs : List Actor) (i : ℕ) (x : Actor) → slice_get xs i ≡ Some x → f x ≤ total f xs
-total_has f [] i x e = absurd (cc)
-total_has f (z ∷ xs) zero x e = let s : z ≡ x = cc in rw s (omega arith)
-total_has f (z ∷ xs) (suc i) x e = omega (arith, total_has f xs i x e)
+total_has f xs i x e = total_at f xs i x (at_slice xs i x e)
 
 pub total_most : (f g : Actor → ℕ) (xs : List Actor) → ((x : Actor) → f x ≤ g x) → total f xs ≤ total g xs
 total_most f g [] l = omega arith
 total_most f g (x ∷ xs) l = omega (arith, total_most f g xs l, l x)
 
-abbrev pub lock_at : List ℕ → ℕ → ℕ
-lock_at cells b = unwrap_or (slice_get cells b) 0
-
--- The rule of one word: twice its sharers and its owner, who is alone.
-pub record Rule (word sharers owners : ℕ) : Type 0 where
-  pub word_is : word ≡ 2 * sharers + owners
-  pub one_owner : owners ≤ 1
-  pub alone : 1 ≤ owners → sharers ≡ 0
+total_cards : (f : Card → ℕ) (xs : List Actor) → total f (cards_of xs) ≡ total (λ (x : Actor). f x.card) xs
+total_cards f [] = refl
+total_cards f (x ∷ xs) = omega (arith, total_cards f xs)
 
 -- the rule of all words
-abbrev pub Ruled : List ℕ → List Actor → Type 0
-Ruled cells actors = (b : ℕ) → Rule (lock_at cells b) (total (shares b) actors) (total (owns b) actors)
+abbrev pub Ruled : ℕ → Words → List Actor → Type 0
+Ruled blocks words actors = LockRule blocks words (cards_of actors)
 
--- a step that changes no word and nothing held
-pub same_held : (cells : List ℕ) (actors : List Actor) (a : ℕ) (x y : Actor) → slice_get actors a ≡ Some x → ((b : ℕ) → shares b y ≡ shares b x) → ((b : ℕ) → owns b y ≡ owns b x) → Ruled cells actors → Ruled cells (slice_set actors a y)
-same_held cells actors a x y e s o r b = rw (total_same (shares b) actors a x y e (s b), total_same (owns b) actors a x y e (o b)) (r b)
+-- a lock word counts the actors that share its block and the one that owns it, or kept it
+pub lock_of : (blocks : ℕ) (words : Words) (actors : List Actor) (b : ℕ) → Ruled blocks words actors → b < blocks → IsLock (word_at words.cells (block b)) (total (shares b) actors) (total (owns b) actors)
+lock_of blocks words actors b r l = subst (λ (z : ℕ × ℕ). IsLock (word_at words.cells (block b)) z.0 z.1) (λ j. (total_cards (sharers b) actors j, total_cards (owners b) actors j)) (r.cells b l)
 
--- The word of one block and what one actor has of it change: what has to be known of that block and of the others.
-pub changed : (cells : List ℕ) (actors : List Actor) (a : ℕ) (x y : Actor) (c v : ℕ) → slice_get actors a ≡ Some x →
-    ((b : ℕ) → b ≢ c → (shares b y ≡ shares b x) × (owns b y ≡ owns b x)) → c < length cells →
-    (Rule (lock_at cells c) (total (shares c) actors) (total (owns c) actors) → Rule v (total (shares c) (slice_set actors a y)) (total (owns c) (slice_set actors a y))) →
-    Ruled cells actors → Ruled (slice_set cells c v) (slice_set actors a y)
-changed cells actors a x y c v e others inside here r b = elim (cases_eq b c) [
-  | inl i ↦ rw (i, set_here cells c v inside) (here (r c))
-  | inr n ↦
-      let f = others b n in
-      let w : lock_at (slice_set cells c v) b ≡ lock_at cells b = ap (λ o. unwrap_or o 0) (get_set_other cells c b v n) in
-      rw (total_same (shares b) actors a x y e f.0, total_same (owns b) actors a x y e f.1, w) (r b)
-] where
-  set_here : (cells : List ℕ) (c v : ℕ) → c < length cells → lock_at (slice_set cells c v) c ≡ v
-  set_here [] c v h = absurd (omega arith)
-  set_here (d ∷ cells) zero v h = refl
-  set_here (d ∷ cells) (suc c) v h = set_here cells c v (omega arith)
+cards_set : (xs : List Actor) (i : ℕ) (y : Actor) → cards_of (slice_set xs i y) ≡ slice_set (cards_of xs) i y.card
+cards_set [] i y = refl
+cards_set (x ∷ xs) zero y = refl
+cards_set (x ∷ xs) (suc i) y = ap (λ cs. x.card ∷ cs) (cards_set xs i y)
+
+card_at : (xs : List Actor) (i : ℕ) (x : Actor) → slice_get xs i ≡ Some x → get_elem? (cards_of xs) i ≡ some x.card
+card_at [] i x e = absurd (cc)
+card_at (z ∷ xs) zero x e = let same : z ≡ x = cc in ap (λ (v : Actor). some v.card) same
+card_at (z ∷ xs) (suc i) x e = card_at xs i x e
+
+set_card : (xs : List Actor) (i : ℕ) (x : Actor) → slice_get xs i ≡ Some x → slice_set (cards_of xs) i x.card ≡ cards_of xs
+set_card [] i x e = refl
+set_card (z ∷ xs) zero x e = let same : z ≡ x = cc in ap (λ (v : Actor). v.card ∷ cards_of xs) (sym same)
+set_card (z ∷ xs) (suc i) x e = ap (λ cs. z.card ∷ cs) (set_card xs i x e)
+
+-- a step on the words keeps the rule
+pub rule_after : (blocks : ℕ) (words : Words) (actors : List Actor) (a : ℕ) (x y : Actor) (step : CellStep) → Ruled blocks words actors → slice_get actors a ≡ Some x → IsReady blocks x.card step → y.card ≡ card_after words step x.card →
+    Ruled blocks (words_after words step) (slice_set actors a y)
+rule_after blocks words actors a x y step r e ready is =
+    subst (λ (cs : List Card). LockRule blocks (words_after words step) cs) (sym (cards_set actors a y ∙ ap (slice_set (cards_of actors) a) is))
+    (step_keeps blocks words (cards_of actors) a x.card step r (card_at actors a x e) ready)
+
+-- and so does a step on anything else
+pub rule_same : (blocks : ℕ) (words : Words) (actors : List Actor) (a : ℕ) (x y : Actor) → Ruled blocks words actors → slice_get actors a ≡ Some x → y.card ≡ x.card → Ruled blocks words (slice_set actors a y)
+rule_same blocks words actors a x y r e is =
+    subst (λ (cs : List Card). LockRule blocks words cs) (sym (cards_set actors a y ∙ ap (slice_set (cards_of actors) a) is ∙ set_card actors a x e)) r

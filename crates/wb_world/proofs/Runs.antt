@@ -14,10 +14,9 @@ use Rattle.wb_disk.specs.Memory.{blank}
 use Rattle.wb_disk.specs.Crash.{Choice, crashed, crashed_from, content_at, chosen_position}
 use Rattle.wb_disk.proofs.Crashes.{Contains-content_at}
 use Rattle.wb_tasks.specs.Job.{sectors_from}
-use Rattle.wb_tasks.specs.Script.{Script}
-use Rattle.wb_tasks.specs.declared.card.Card.{Card}
-use Rattle.wb_tasks.specs.declared.card.Held.TheVariants.{Nothing}
-use Rattle.wb_world.specs.declared.actor.Actor.{Actor}
+use Rattle.wb_tasks.specs.Script.{Script, want}
+use Rattle.wb_words.specs.declared.card.Card.{Card}
+use Rattle.wb_words.specs.declared.card.Hold.TheVariants.{Nothing}
 use Rattle.wb_world.specs.declared.job.Extent.{Extent}
 use Rattle.wb_world.specs.declared.job.Job.{Job}
 use Rattle.wb_world.specs.declared.job.Job.TheVariants.{Read, Write}
@@ -26,20 +25,28 @@ use Rattle.wb_world.specs.declared.event.Event.TheVariants.{Start, Step, FaultSt
 use Rattle.wb_world.specs.declared.event.What.{What}
 use Rattle.wb_world.specs.declared.event.What.TheVariants.{Skipped, Refused, Started, Stepped, Stopped}
 use Rattle.wb_world.specs.declared.event.Record.{Record}
-use Rattle.wb_world.specs.World.{Shape, State, start, resting, task_job, extent_of, sector_count, job_refusal, is_in_one_block, started_or, free_outcome, start_outcome, task_outcome, step_outcome, task_failure, fault_outcome, MayBe, IsRun, after_what, after_record, after_all, after_crash, given}
+use Rattle.wb_world.specs.World.{Shape, State, Actor, start, resting, task_job, extent_of, sector_count, job_refusal, is_in_one_block, started_or, free_outcome, start_outcome, task_outcome, step_outcome, task_failure, fault_outcome, MayBe, IsRun, after_what, after_record, after_all, after_crash, given}
 use Rattle.wb_world.specs.Clerk.{Notes, Doing, opened, begun, noted_what, note, noted}
 use Rattle.wb_world.specs.Headline.{AnswersRightly, ReadsLatest, IsAllowed, CrashConsistent}
 use Rattle.wb_world.proofs.Lists.{get_set_same, get_set_other, replicated}
 use Rattle.wb_world.proofs.Contents.{Holds, HoldsLast, Same}
 use Rattle.wb_world.proofs.Kept.{ActingOn, Kept, quiet, Good, GoodFault, stale_of}
 use Rattle.wb_world.proofs.Phases.{Phase, FailLook, LockLook, Taking, SealLook, NumberLook, Moving, Counting, Releasing, GivingBack, Failing, Ending, Stands, AllIn, script_in}
-use Rattle.wb_world.proofs.Rule.{total, shares, owns, lock_at}
-use Rattle.wb_world.proofs.Looking.{at_work, Working, acts, fail_look, lock_look, seal_look, number_look}
-use Rattle.wb_world.proofs.Taking.{taking}
+use Rattle.wb_words.specs.SharedWords.{fresh_words}
+use Rattle.wb_words.specs.Cards.{blank as blank_card}
+use Rattle.wb_words.specs.Rule.{LockRule}
+use Rattle.wb_words.proofs.RuleKept.{fresh_rule}
+use Rattle.wb_tasks.specs.Ready.{MayTake}
+use Rattle.wb_tasks.proofs.Readiness.{is_ready}
+use Rattle.wb_world.specs.Performing.{AllSuited}
+use Rattle.wb_world.proofs.Suiting.{event_suits}
+use Rattle.wb_world.proofs.Starting.{MayStart, may_start, some_sectors, first_inside}
+use Rattle.wb_world.proofs.Rule.{cards_of, rule_same}
+use Rattle.wb_world.proofs.Looking.{at_work, Working, acts, fail_look, lock_look, taking, seal_look, number_look}
 use Rattle.wb_world.proofs.Reading.{read_sector, read_failed}
 use Rattle.wb_world.proofs.Writing.{write_sector, write_failed}
 use Rattle.wb_world.proofs.Ending.{moved_all, count_written, answered}
-use Rattle.wb_world.proofs.Releasing.{releasing, giving_back, failing}
+use Rattle.wb_world.proofs.Releasing.{releasing, giving_back, failing_write}
 
 abbrev no_doing : Option Doing
 no_doing = None
@@ -47,10 +54,10 @@ no_doing = None
 -- A step.
 
 in_phase : (shape : Shape) (w : State) (n : Notes) (a : ℕ) (card : Card) (job : Job) (doing : Doing) (phase : Phase) → Working shape w n a card job doing phase →
-    Good shape w n a (task_outcome w.device w.words card (Some (job, script_in (task_job shape job) phase)))
+    Good shape w n a (task_outcome w.device w.words (Some (job, script_in (task_job shape job) phase)))
 in_phase shape w n a card job doing FailLook k = fail_look shape w n a card job doing k
 in_phase shape w n a card job doing LockLook k = lock_look shape w n a card job doing k
-in_phase shape w n a card job doing Taking k = taking shape w n a card job doing k _ refl
+in_phase shape w n a card job doing (Taking seen) k = taking shape w n a card job doing seen k _ refl
 in_phase shape w n a card job doing SealLook k = seal_look shape w n a card job doing k
 in_phase shape w n a card job doing NumberLook k = number_look shape w n a card job doing k
 in_phase shape w n a card job doing (Moving []) k = moved_all shape w n a card job doing k
@@ -59,20 +66,20 @@ in_phase shape w n a card (Write extent content) doing (Moving (at ∷ left)) k 
 in_phase shape w n a card job doing Counting k = count_written shape w n a card job doing k
 in_phase shape w n a card job doing Releasing k = releasing shape w n a card job doing k
 in_phase shape w n a card job doing (GivingBack refusal) k = giving_back shape w n a card job doing refusal k
-in_phase shape w n a card job doing (Failing refusal) k = failing shape w n a card job doing refusal k
+in_phase shape w n a card job doing (Failing refusal) k = failing_write shape w n a card job doing refusal k
 in_phase shape w n a card job doing (Ending answer) k = answered shape w n a card job doing answer k
 
-task_kept : (shape : Shape) (w : State) (n : Notes) (a : ℕ) (card : Card) (task : Option (Job × Script)) → Kept shape w n → slice_get w.actors a ≡ Some (record { task = task; card = card }) → ActingOn shape card task (slice_get n.doings a) →
-    Good shape w n a (task_outcome w.device w.words card task)
-task_kept shape w n a card None i e s = (i, tt)
-task_kept shape w n a card (Some (job, script)) i e s =
+task_kept : (shape : Shape) (w : State) (n : Notes) (a : ℕ) (card : Card) (task : Option (Job × Script)) → Kept shape w n → AllSuited shape.origin_blocks w.actors → slice_get w.actors a ≡ Some (record { task = task; card = card }) → ActingOn shape card task (slice_get n.doings a) →
+    Good shape w n a (task_outcome w.device w.words task)
+task_kept shape w n a card None i all e s = (i, tt)
+task_kept shape w n a card (Some (job, script)) i all e s =
     let here : slice_get w.actors a ≡ Some (at_work shape card job s.1) = e ∙ ap (λ (t : Script). Some (record { task = Some (job, t); card = card })) s.3 in
-    subst (λ (t : Script). Good shape w n a (task_outcome w.device w.words card (Some (job, t)))) (sym s.3)
-    (in_phase shape w n a card job s.0 s.1 (record { kept = i; actor = here; noted = s.2; stands = s.4 }))
+    subst (λ (t : Script). Good shape w n a (task_outcome w.device w.words (Some (job, t)))) (sym s.3)
+    (in_phase shape w n a card job s.0 s.1 (record { kept = i; actor = here; noted = s.2; stands = s.4; ready = subst (λ (t : Script). MayTake shape.origin_blocks card (want t)) s.3 (is_ready shape.origin_blocks script card (all a _ e)) }))
 
-actor_kept : (shape : Shape) (w : State) (n : Notes) (a : ℕ) (o : Option Actor) → slice_get w.actors a ≡ o → Kept shape w n → Good shape w n a (step_outcome w o)
-actor_kept shape w n a None e i = (i, tt)
-actor_kept shape w n a (Some x) e i = task_kept shape w n a x.card x.task i e (i.acting a x e)
+actor_kept : (shape : Shape) (w : State) (n : Notes) (a : ℕ) (o : Option Actor) → slice_get w.actors a ≡ o → Kept shape w n → AllSuited shape.origin_blocks w.actors → Good shape w n a (step_outcome w o)
+actor_kept shape w n a None e i all = (i, tt)
+actor_kept shape w n a (Some x) e i all = task_kept shape w n a x.card x.task i all e (i.acting a x e)
 
 -- A step that fails.
 
@@ -80,7 +87,7 @@ in_phase_failing : (shape : Shape) (w : State) (n : Notes) (a : ℕ) (landed : B
     GoodFault shape w n a landed (task_failure w.device (Some (job, script_in (task_job shape job) phase)))
 in_phase_failing shape w n a landed card job doing FailLook k = k.kept
 in_phase_failing shape w n a landed card job doing LockLook k = k.kept
-in_phase_failing shape w n a landed card job doing Taking k = k.kept
+in_phase_failing shape w n a landed card job doing (Taking seen) k = k.kept
 in_phase_failing shape w n a landed card job doing SealLook k = k.kept
 in_phase_failing shape w n a landed card job doing NumberLook k = k.kept
 in_phase_failing shape w n a landed card (Read extent) doing (Moving []) k = k.kept
@@ -94,17 +101,17 @@ in_phase_failing shape w n a landed card job doing (GivingBack refusal) k = k.ke
 in_phase_failing shape w n a landed card job doing (Failing refusal) k = k.kept
 in_phase_failing shape w n a landed card job doing (Ending answer) k = k.kept
 
-task_failing : (shape : Shape) (w : State) (n : Notes) (a : ℕ) (landed : Bool) (card : Card) (task : Option (Job × Script)) → Kept shape w n → slice_get w.actors a ≡ Some (record { task = task; card = card }) → ActingOn shape card task (slice_get n.doings a) →
+task_failing : (shape : Shape) (w : State) (n : Notes) (a : ℕ) (landed : Bool) (card : Card) (task : Option (Job × Script)) → Kept shape w n → AllSuited shape.origin_blocks w.actors → slice_get w.actors a ≡ Some (record { task = task; card = card }) → ActingOn shape card task (slice_get n.doings a) →
     GoodFault shape w n a landed (task_failure w.device task)
-task_failing shape w n a landed card None i e s = i
-task_failing shape w n a landed card (Some (job, script)) i e s =
+task_failing shape w n a landed card None i all e s = i
+task_failing shape w n a landed card (Some (job, script)) i all e s =
     let here : slice_get w.actors a ≡ Some (at_work shape card job s.1) = e ∙ ap (λ (t : Script). Some (record { task = Some (job, t); card = card })) s.3 in
     subst (λ (t : Script). GoodFault shape w n a landed (task_failure w.device (Some (job, t)))) (sym s.3)
-    (in_phase_failing shape w n a landed card job s.0 s.1 (record { kept = i; actor = here; noted = s.2; stands = s.4 }))
+    (in_phase_failing shape w n a landed card job s.0 s.1 (record { kept = i; actor = here; noted = s.2; stands = s.4; ready = subst (λ (t : Script). MayTake shape.origin_blocks card (want t)) s.3 (is_ready shape.origin_blocks script card (all a _ e)) }))
 
-actor_failing : (shape : Shape) (w : State) (n : Notes) (a : ℕ) (landed : Bool) (o : Option Actor) → slice_get w.actors a ≡ o → Kept shape w n → GoodFault shape w n a landed (fault_outcome w o)
-actor_failing shape w n a landed None e i = i
-actor_failing shape w n a landed (Some x) e i = task_failing shape w n a landed x.card x.task i e (i.acting a x e)
+actor_failing : (shape : Shape) (w : State) (n : Notes) (a : ℕ) (landed : Bool) (o : Option Actor) → slice_get w.actors a ≡ o → Kept shape w n → AllSuited shape.origin_blocks w.actors → GoodFault shape w n a landed (fault_outcome w o)
+actor_failing shape w n a landed None e i all = i
+actor_failing shape w n a landed (Some x) e i all = task_failing shape w n a landed x.card x.task i all e (i.acting a x e)
 
 -- A start.
 
@@ -119,32 +126,8 @@ all_in size block first end at (suc count) p f e l m = (
   all_in size block first end (at + 1) count p f e (omega arith) (omega arith),
 )
 
--- what it means that a job is not refused
-record MayStart (shape : Shape) (extent : Extent) : Type 0 where
-  some : 1 ≤ extent.count
-  inside : extent.first.0 + extent.count ≤ sector_count shape
-  one_block : extent.first.0 / shape.block_sectors ≡ (extent.first.0 + extent.count - 1) / shape.block_sectors
-
-may_start : (shape : Shape) (extent : Extent) → job_refusal shape extent ≡ None → MayStart shape extent
-may_start shape extent e = go (nat_le 1 extent.count) (nat_le (extent.first.0 + extent.count) (sector_count shape)) (is_in_one_block shape extent) refl refl refl e where
-  go : (a b c : Bool) → nat_le 1 extent.count ≡ a → nat_le (extent.first.0 + extent.count) (sector_count shape) ≡ b → is_in_one_block shape extent ≡ c →
-      (if (a && b) then (if c then None else Some Crosses) else Some Range) ≡ None → MayStart shape extent
-  go true true true f g h e = record { some = leb-true _ _ f; inside = leb-true _ _ g; one_block = eqb-true _ _ h }
-  go true true false f g h e = absurd (cc)
-  go true false c f g h e = absurd (cc)
-  go false b c f g h e = absurd (cc)
-
-some_sectors : (shape : Shape) (extent : Extent) → MayStart shape extent → 0 < shape.block_sectors
-some_sectors shape extent m = go shape.block_sectors refl where
-  go : (k : ℕ) → shape.block_sectors ≡ k → 0 < shape.block_sectors
-  go zero e = let none : sector_count shape ≡ 0 = ap (λ k. k * shape.origin_blocks) e ∙ omega arith in absurd (omega (arith, m.some, m.inside))
-  go (suc k) e = omega arith
-
-first_inside : (shape : Shape) (extent : Extent) → MayStart shape extent → extent.first.0 < shape.origin_blocks * shape.block_sectors
-first_inside shape extent m = omega (arith, m.some, m.inside, mul_comm shape.block_sectors shape.origin_blocks)
-
 -- an actor that has been given a job
-begun_stands : (shape : Shape) (card : Card) (job : Job) → card.held ≡ Nothing → MayStart shape (extent_of job) → Stands shape card job (begun job) FailLook
+begun_stands : (shape : Shape) (card : Card) (job : Job) → card.hold ≡ Nothing → MayStart shape (extent_of job) → Stands shape card job (begun job) FailLook
 begun_stands shape card (Read extent) held m = record {
   held_is = held;
   job_is = refl;
@@ -154,7 +137,6 @@ begun_stands shape card (Read extent) held m = record {
   so_far = (refl, λ k d b. absurd (omega arith));
   in_block = all_in shape.block_sectors (extent.first.0 / shape.block_sectors) extent.first.0 (extent.first.0 + extent.count - 1) extent.first.0 extent.count (some_sectors shape extent m) refl (sym m.one_block) (omega arith) (omega (arith, m.some));
   inside = div_below extent.first.0 shape.block_sectors shape.origin_blocks (some_sectors shape extent m) (first_inside shape extent m);
-  number_is = tt;
 }
 begun_stands shape card (Write extent content) held m = record {
   held_is = held;
@@ -165,7 +147,6 @@ begun_stands shape card (Write extent content) held m = record {
   so_far = refl;
   in_block = all_in shape.block_sectors (extent.first.0 / shape.block_sectors) extent.first.0 (extent.first.0 + extent.count - 1) extent.first.0 extent.count (some_sectors shape extent m) refl (sym m.one_block) (omega arith) (omega (arith, m.some));
   inside = div_below extent.first.0 shape.block_sectors shape.origin_blocks (some_sectors shape extent m) (first_inside shape extent m);
-  number_is = tt;
 }
 
 free_kept : (shape : Shape) (w : State) (n : Notes) (a : ℕ) (card : Card) (job : Job) (o : Option Refusal) → job_refusal shape (extent_of job) ≡ o → Kept shape w n → slice_get w.actors a ≡ Some (record { task = None; card = card }) → ActingOn shape card None (slice_get n.doings a) →
@@ -176,11 +157,10 @@ free_kept shape w n a card job None r i e s =
     rw e (quiet shape w n a x (given shape x job) w.words (record n { doings = slice_set n.doings a (Some (begun job)) }) i e (record {
       others = λ b m. get_set_other n.doings a b (Some (begun job)) m;
       stands = acts shape card job (begun job) FailLook (slice_get (slice_set n.doings a (Some (begun job))) a) (get_set_same n.doings a no_doing (Some (begun job)) s.0) (begun_stands shape card job s.1 (may_start shape (extent_of job) r));
-      held = refl;
       kept = refl;
       not_failing = refl;
       was_not = refl;
-      cells = refl;
+      rule = rule_same shape.origin_blocks w.words w.actors a x (given shape x job) (i.rule a x e) e refl;
       seals = refl;
       fail = refl;
       histories = refl;
@@ -214,7 +194,6 @@ crash_holds choice k (h ∷ hs) (suc at) g i = crash_holds choice (suc k) hs at 
 stopped_kept : (shape : Shape) (w : State) (n : Notes) (choice : Choice) → Kept shape w n → Kept shape (after_crash w (crashed choice w.device)) (record n { doings = [] })
 stopped_kept shape w n choice i = record {
   acting = λ a x e. absurd (cc);
-  cells = i.cells;
   seals = i.seals;
   rule = λ a x e. absurd (cc);
   holds = λ at. crash_holds choice 0 w.device at (slice_get n.histories at) (i.holds at);
@@ -232,27 +211,27 @@ stop_kept shape w n choice (Stepped next got) i = i
 
 -- Each record.
 
-what_kept : (shape : Shape) (w : State) (n : Notes) (event : Event) (what : What) → Kept shape w n → MayBe shape w event what → Kept shape (after_what shape w event what) (noted_what n event what)
-what_kept shape w n (Start a job) what i m = rw m (started_kept shape w n a job (slice_get w.actors a) refl i)
-what_kept shape w n (Step a) what i m = rw m (actor_kept shape w n a (slice_get w.actors a) refl i).0
-what_kept shape w n (FaultStep a landed) what i m = rw m (actor_failing shape w n a landed (slice_get w.actors a) refl i)
-what_kept shape w n (Stop choice) what i m = stop_kept shape w n choice what i
+what_kept : (shape : Shape) (w : State) (n : Notes) (event : Event) (what : What) → Kept shape w n → AllSuited shape.origin_blocks w.actors → MayBe shape w event what → Kept shape (after_what shape w event what) (noted_what n event what)
+what_kept shape w n (Start a job) what i all m = rw m (started_kept shape w n a job (slice_get w.actors a) refl i)
+what_kept shape w n (Step a) what i all m = rw m (actor_kept shape w n a (slice_get w.actors a) refl i all).0
+what_kept shape w n (FaultStep a landed) what i all m = rw m (actor_failing shape w n a landed (slice_get w.actors a) refl i all)
+what_kept shape w n (Stop choice) what i all m = stop_kept shape w n choice what i
 
-what_right : (shape : Shape) (w : State) (n : Notes) (event : Event) (what : What) → Kept shape w n → MayBe shape w event what → AnswersRightly n event what
-what_right shape w n (Start a job) what i m = tt
-what_right shape w n (Step a) what i m = rw m (actor_kept shape w n a (slice_get w.actors a) refl i).1
-what_right shape w n (FaultStep a landed) what i m = tt
-what_right shape w n (Stop choice) what i m = tt
+what_right : (shape : Shape) (w : State) (n : Notes) (event : Event) (what : What) → Kept shape w n → AllSuited shape.origin_blocks w.actors → MayBe shape w event what → AnswersRightly n event what
+what_right shape w n (Start a job) what i all m = tt
+what_right shape w n (Step a) what i all m = rw m (actor_kept shape w n a (slice_get w.actors a) refl i all).1
+what_right shape w n (FaultStep a landed) what i all m = tt
+what_right shape w n (Stop choice) what i all m = tt
 
 -- Whole runs.
 
-pub all_latest : (shape : Shape) (w : State) (n : Notes) (trace : List Record) → Kept shape w n → IsRun shape w trace → ReadsLatest n trace
-all_latest shape w n [] i m = tt
-all_latest shape w n (r ∷ rs) i m = (what_right shape w n r.event r.what i m.0, all_latest shape (after_record shape w r) (note n r) rs (what_kept shape w n r.event r.what i m.0) m.1)
+pub all_latest : (shape : Shape) (w : State) (n : Notes) (trace : List Record) → Kept shape w n → AllSuited shape.origin_blocks w.actors → IsRun shape w trace → ReadsLatest n trace
+all_latest shape w n [] i all m = tt
+all_latest shape w n (r ∷ rs) i all m = (what_right shape w n r.event r.what i all m.0, all_latest shape (after_record shape w r) (note n r) rs (what_kept shape w n r.event r.what i all m.0) (event_suits shape w r.event r.what all m.0) m.1)
 
-pub all_kept : (shape : Shape) (w : State) (n : Notes) (trace : List Record) → Kept shape w n → IsRun shape w trace → Kept shape (after_all shape w trace) (noted n trace)
-all_kept shape w n [] i m = i
-all_kept shape w n (r ∷ rs) i m = all_kept shape (after_record shape w r) (note n r) rs (what_kept shape w n r.event r.what i m.0) m.1
+pub all_kept : (shape : Shape) (w : State) (n : Notes) (trace : List Record) → Kept shape w n → AllSuited shape.origin_blocks w.actors → IsRun shape w trace → Kept shape (after_all shape w trace) (noted n trace)
+all_kept shape w n [] i all m = i
+all_kept shape w n (r ∷ rs) i all m = all_kept shape (after_record shape w r) (note n r) rs (what_kept shape w n r.event r.what i all m.0) (event_suits shape w r.event r.what all m.0) m.1
 
 -- what is held is allowed
 position_of : (cs : List Bytes) (c : Bytes) → Contains cs c → (p : ℕ) × (slice_get cs p ≡ Some c)
@@ -277,14 +256,17 @@ replicated_both zero i x z y e = absurd (cc)
 replicated_both (suc k) zero x z y e = refl
 replicated_both (suc k) (suc i) x z y e = replicated_both k i x z y e
 
-zeros_at : (k i : ℕ) → lock_at (replicate k 0) i ≡ 0
+abbrev number_at : List ℕ → ℕ → ℕ
+number_at l i = unwrap_or (slice_get l i) 0
+
+zeros_at : (k i : ℕ) → number_at (replicate k 0) i ≡ 0
 zeros_at zero i = refl
 zeros_at (suc k) zero = refl
 zeros_at (suc k) (suc i) = zeros_at k i
 
-resting_total : (f : Actor → ℕ) (k : ℕ) → f resting ≡ 0 → total f (replicate k resting) ≡ 0
-resting_total f zero e = refl
-resting_total f (suc k) e = omega (arith, resting_total f k e)
+resting_cards : (k : ℕ) → cards_of (replicate k resting) ≡ replicate k blank_card
+resting_cards zero = refl
+resting_cards (suc k) = ap (λ cs. blank_card ∷ cs) (resting_cards k)
 
 same_holds : (o : Option History) → Holds o o
 same_holds None = tt
@@ -299,10 +281,8 @@ start_kept shape = record {
   acting = λ a x e.
       let r = replicated shape.actors a resting x e in
       subst (λ (v : Actor). ActingOn shape v.card v.task (slice_get (replicate shape.actors no_doing) a)) r (replicated_both shape.actors a resting x no_doing e, refl);
-  cells = length-replicate shape.origin_blocks 0;
   seals = λ block. zeros_at shape.origin_blocks block.0;
-  rule = λ a x e b. rw (zeros_at shape.origin_blocks b, resting_total (shares b) shape.actors refl, resting_total (owns b) shape.actors refl)
-      (record { word_is = refl; one_owner = omega arith; alone = λ m. refl });
+  rule = λ a x e. subst (λ (cs : List Card). LockRule shape.origin_blocks (fresh_words shape.origin_blocks) cs) (sym (resting_cards shape.actors)) (fresh_rule shape.origin_blocks shape.actors);
   holds = λ at. same_holds (slice_get (replicate (sector_count shape) blank) at);
   last = λ a x e at. same_last (slice_get (replicate (sector_count shape) blank) at) (stale_of shape (replicate shape.actors resting) at);
   failed = λ a x e. let r = replicated shape.actors a resting x e in inl (ap (λ (v : Actor). v.card.kept) (sym r));

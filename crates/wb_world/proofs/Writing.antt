@@ -1,26 +1,26 @@
 -- The step of a write that writes a sector, done or failing: the clerk enters it in the sector's history.
-use Rattle.std.proofs.Common.{◌≡◌, ◌≤◌, ◌/◌, ℕ, Bool, true, false, List, [], ◌∷◌, ◌++◌, Option, Some, None, refl, sym, ap, subst, ◌∙◌, arith, slice_get, slice_set, map}
+use Rattle.std.proofs.Common.{◌≡◌, ◌≤◌, ◌/◌, cond, eq-eqb, ℕ, Bool, true, false, List, [], ◌∷◌, ◌++◌, Option, Some, None, refl, sym, ap, subst, ◌∙◌, arith, slice_get, slice_set, map}
 use Rattle.std.proofs.lemmas.List.{map-append, append_assoc}
 use Rattle.wb_types.specs.declared.mode.Dev.TheVariants.{Origin}
 use Rattle.wb_types.specs.declared.refusal.Refusal.TheVariants.{Io}
 use Rattle.wb_disk.specs.Device.{Content as Bytes, History, written}
-use Rattle.wb_tasks.specs.declared.card.Card.{Card}
+use Rattle.wb_words.specs.declared.card.Card.{Card}
 use Rattle.wb_tasks.specs.declared.step.DeviceStep.TheVariants.{Write as WriteSector}
 use Rattle.wb_tasks.specs.declared.step.Want.TheVariants.{Device}
 use Rattle.wb_tasks.specs.declared.step.Got.TheVariants.{Done, Fault}
-use Rattle.wb_world.specs.declared.actor.Actor.{Actor}
 use Rattle.wb_world.specs.declared.job.Extent.{Extent}
 use Rattle.wb_world.specs.declared.job.Job.{Job}
 use Rattle.wb_world.specs.declared.job.Job.TheVariants.{Write}
-use Rattle.wb_world.specs.World.{Shape, State, task_job, stepped_or, write_got, failed_or, device_failed}
+use Rattle.wb_world.specs.World.{Shape, State, Actor, task_job, stepped_or, write_got, failed_or, device_failed}
 use Rattle.wb_world.specs.Clerk.{Notes, Doing, Position, write_on, entered_by, next_position}
 use Rattle.wb_world.proofs.Lists.{get_set_same, get_set_other}
 use Rattle.wb_world.proofs.Contents.{AllHold, AllHoldLast, last_more, both_written, both_last, alone_written, alone_last}
 use Rattle.wb_world.proofs.Kept.{Kept, moved, Good, good, GoodFault, good_fault, stale_of, last_same, stale_same}
-use Rattle.wb_world.proofs.Phases.{Phase, Moving, Failing, Stands, SoFar, AllIn, block_of}
-use Rattle.wb_world.proofs.Rule.{leaves_stale, owned_by, total_set, total_has, same_held}
+use Rattle.wb_world.proofs.Phases.{Phase, Moving, Failing, Stands, SoFar, AllIn}
+use Rattle.wb_words.specs.Cards.{owns as owned_by}
+use Rattle.wb_tasks.specs.Ready.{block_of}
+use Rattle.wb_world.proofs.Rule.{leaves_stale, total_set, total_has, rule_same}
 use Rattle.wb_world.proofs.Looking.{at_work, Working, acts, moves_on}
-use Rattle.wb_world.proofs.Locking.{same_block}
 
 -- the clerk's notes of a write that goes on
 abbrev pub write_noted : Doing → ℕ → List ℕ → List History → Doing
@@ -55,11 +55,10 @@ wrote shape w n a card extent content doing at left phase device k d =
     rw (entered, noted) (moved shape w n a x y w.words device (record n { histories = written n.histories at content; doings = slice_set n.doings a (Some doing') }) k.kept k.actor (record {
       others = λ b m. get_set_other n.doings a b (Some doing') m;
       stands = acts shape card job doing' phase (slice_get (slice_set n.doings a (Some doing')) a) (get_set_same n.doings a (Some doing) (Some doing') k.noted) d.stands;
-      cells = refl;
       seals = refl;
       fail = omega arith;
       keeps = k.kept.failed a x k.actor;
-      rule = same_held w.words.cells w.actors a x y k.actor (λ b. refl) (λ b. refl) (k.kept.rule a x k.actor);
+      rule = rule_same shape.origin_blocks w.words w.actors a x y (k.kept.rule a x k.actor) k.actor refl;
       holds = d.holds;
       last = d.last;
       floors = refl;
@@ -80,7 +79,7 @@ write_sector shape w n a card extent content doing at left k (Some h) =
     let y = at_work shape card job (Moving left) in
     good shape w n a x doing (Device (WriteSector Origin at)) Done k.actor k.noted
     (wrote shape w n a card extent content doing at left (Moving left) (written w.device at content) k (record {
-      stands = record { held_is = s.held_is; job_is = s.job_is; left_is = refl; owns = tt; kept_is = s.kept_is; so_far = write_so_far doing extent content at left n.histories s.left_is s.so_far; in_block = (lies shape w n a card job doing at left k).1; inside = s.inside; number_is = s.number_is };
+      stands = record { held_is = s.held_is; job_is = s.job_is; left_is = refl; owns = tt; kept_is = s.kept_is; so_far = write_so_far doing extent content at left n.histories s.left_is s.so_far; in_block = (lies shape w n a card job doing at left k).1; inside = s.inside };
       holds = both_written w.device n.histories at content k.kept.holds;
       last = last_same shape w n a x y (written w.device at content) (written n.histories at content) k.actor (λ b. stale_same b x y refl (moves_on shape job left) refl)
           (both_last w.device n.histories (stale_of shape w.actors) at content k.kept.holds (k.kept.last a x k.actor));
@@ -97,7 +96,7 @@ failing_stale shape w n a card extent content doing at left k =
     let block = block_of (task_job shape job) in
     let x = at_work shape card job (Moving (at ∷ left)) in
     let y = at_work shape card job (Failing (Io Origin)) in
-    let one : owned_by block.0 card.held ≡ 1 = ap (owned_by block.0) k.stands.held_is ∙ same_block block in
+    let one : owned_by block.0 card.hold ≡ 1 = ap (owned_by block.0) k.stands.held_is ∙ ap (λ t. cond t 1 0) (eq-eqb block.0 block.0 refl) in
     let here : at / shape.block_sectors ≡ block.0 = (lies shape w n a card job doing at left k).0 in (
       rw here (omega (arith, total_set (leaves_stale block.0) w.actors a x y k.actor, total_has (leaves_stale block.0) w.actors a x k.actor, one)),
       λ other. let b = other / shape.block_sectors in omega (arith, total_set (leaves_stale b) w.actors a x y k.actor),
@@ -112,7 +111,7 @@ write_failed shape w n a landed card extent content doing at left k true =
     let x = at_work shape card job (Moving (at ∷ left)) in
     let stale = failing_stale shape w n a card extent content doing at left k in
     let stands : Stands shape card job (write_noted doing at left n.histories) (Failing (Io Origin)) =
-    record { held_is = s.held_is; job_is = s.job_is; left_is = tt; owns = refl; kept_is = s.kept_is; so_far = write_so_far doing extent content at left n.histories s.left_is s.so_far; in_block = (lies shape w n a card job doing at left k).1; inside = s.inside; number_is = tt } in
+    record { held_is = s.held_is; job_is = s.job_is; left_is = tt; owns = refl; kept_is = s.kept_is; so_far = write_so_far doing extent content at left n.histories s.left_is s.so_far; in_block = (lies shape w n a card job doing at left k).1; inside = s.inside } in
     good_fault shape w n a landed x doing (Device (WriteSector Origin at)) Fault k.actor k.noted (by_landing landed stands stale)
   where
     y : Actor

@@ -2,12 +2,13 @@
 use Rattle.std.specs.Prelude.{◌≡◌, ◌++◌, ◌∷◌, [], ℕ, List, map}
 use Rattle.wb_types.specs.declared.geometry.Geometry.{Geometry}
 use Rattle.wb_disk.specs.Device.{History}
-use Rattle.wb_types.specs.Words.{Words}
-use Rattle.wb_world.specs.declared.actor.Actor.{Actor}
+use Rattle.wb_words.specs.declared.card.Card.{Card}
+use Rattle.wb_cells.specs.Crews.{CrewState}
+use Rattle.wb_world.specs.declared.member.Member.{Member}
 use Rattle.wb_world.specs.declared.event.Event.{Event}
 use Rattle.wb_world.specs.declared.event.What.{What}
 use Rattle.wb_world.specs.declared.event.Record.{Record}
-use Rattle.wb_world.specs.World.{Shape, State, start, May, MayBe, IsRun, after_what, after_all}
+use Rattle.wb_world.specs.World.{Shape, State, Actor, start, May, MayBe, IsRun, after_what, after_all}
 
 -- the shape of a world of this geometry
 abbrev pub shape_of : Geometry → ℕ → Shape
@@ -17,8 +18,13 @@ pub record Life : Type 0 where
   pub shape : Shape
   pub trace : List Record
 
-abbrev pub state_of : List History → Words → List Actor → State
-state_of device words actors = record { device = device; words = words; actors = actors }
+-- the actors: what each member is at, and its card in the crew
+abbrev pub actors_of : List Member → List Card → List Actor
+actors_of (m ∷ ms) (c ∷ cs) = record { task = m.task; card = c } ∷ actors_of ms cs
+actors_of _ _ = []
+
+abbrev pub state_of : List History → CrewState → List Member → State
+state_of device crew members = record { device = device; words = crew.words; actors = actors_of members crew.cards }
 
 -- where a trace leads
 abbrev pub now : Life → State

@@ -6,12 +6,12 @@ use Rattle.wb_types.specs.declared.refusal.Refusal.TheVariants.{Range, Crosses}
 use Rattle.wb_disk.specs.Device.{Content as Bytes, History, newest, written}
 use Rattle.wb_disk.specs.Memory.{blank}
 use Rattle.wb_disk.specs.Crash.{Applies, crashed}
-use Rattle.wb_tasks.specs.Job.{Job as TaskJob, Reading, Writing, Part, sectors_from}
-use Rattle.wb_tasks.specs.Script.{Script, table, want, after}
-use Rattle.wb_types.specs.Words.{Words, fresh_words}
-use Rattle.wb_tasks.specs.Ready.{card_then}
-use Rattle.wb_tasks.specs.Words.{blank_card, cell_got, words_after}
-use Rattle.wb_tasks.specs.declared.card.Card.{Card}
+use Rattle.wb_tasks.specs.Job.{Job as TaskJob, Reading, Writing, BlockRange, sectors_from}
+use Rattle.wb_tasks.specs.Script.{Script, table, want, after, got_of}
+use Rattle.wb_words.specs.SharedWords.{Words, fresh_words}
+use Rattle.wb_words.specs.Cards.{blank as blank_card}
+use Rattle.wb_words.specs.Effects.{result_of, words_after, card_after}
+use Rattle.wb_words.specs.declared.card.Card.{Card}
 use Rattle.wb_tasks.specs.declared.step.DeviceStep.TheVariants.{Read as ReadSector, Write as WriteSector}
 use Rattle.wb_tasks.specs.declared.step.Want.{Want}
 use Rattle.wb_tasks.specs.declared.step.Want.TheVariants.{Cell, Device, End}
@@ -20,7 +20,6 @@ use Rattle.wb_tasks.specs.declared.step.Got.TheVariants.{Done, Content, Fault}
 use Rattle.wb_world.specs.declared.job.Extent.{Extent}
 use Rattle.wb_world.specs.declared.job.Job.{Job}
 use Rattle.wb_world.specs.declared.job.Job.TheVariants.{Read, Write}
-use Rattle.wb_world.specs.declared.actor.Actor.{Actor}
 use Rattle.wb_world.specs.declared.event.Event.{Event}
 use Rattle.wb_world.specs.declared.event.Event.TheVariants.{Start, Step, FaultStep, Stop}
 use Rattle.wb_world.specs.declared.event.What.{What}
@@ -32,6 +31,11 @@ pub record Shape : Type 0 where
   pub block_sectors : ℕ
   pub origin_blocks : ℕ
   pub actors : ℕ
+
+-- What an actor is at, and what is left of it, if it is at anything; and what it knows of the shared words.
+pub record Actor : Type 0 where
+  pub task : Option (Job × Script)
+  pub card : Card
 
 -- The device, the shared words, and the actors. After a crash there are no actors, and the words are of no account.
 pub record State : Type 0 where
@@ -70,7 +74,7 @@ content_of (Read extent) = []
 content_of (Write extent content) = content
 
 -- the part of a block that an extent covers
-abbrev pub part_of : Shape → Job → Part
+abbrev pub part_of : Shape → Job → BlockRange
 part_of shape job = record {
   block_sectors = shape.block_sectors;
   block = record { 0 = (extent_of job).first.0 / shape.block_sectors };
@@ -124,12 +128,12 @@ write_got (Write extent content) None = None
 write_got (Write extent content) (Some h) = Some Done
 
 -- what a step gives; there is one device, and no desk
-abbrev pub performed : List History → Words → Card → Job → Want → Option Got
-performed device words card job (Cell step) = Some (cell_got words card step)
-performed device words card job (Device (ReadSector Origin at)) = read_got (slice_get device at)
-performed device words card job (Device (WriteSector Origin at)) = write_got job (slice_get device at)
-performed device words card job (End answer) = Some Done
-performed device words card job next = None
+abbrev pub performed : List History → Words → Job → Want → Option Got
+performed device words job (Cell step) = Some (got_of (result_of words step))
+performed device words job (Device (ReadSector Origin at)) = read_got (slice_get device at)
+performed device words job (Device (WriteSector Origin at)) = write_got job (slice_get device at)
+performed device words job (End answer) = Some Done
+performed device words job next = None
 
 abbrev pub stepped_or : Want → Option Got → What
 stepped_or next None = Skipped
@@ -146,9 +150,9 @@ failed_or next true = Stepped next Fault
 failed_or next false = Skipped
 
 -- what a step of a task comes to, and what one that fails does
-abbrev pub task_outcome : List History → Words → Card → Option (Job × Script) → What
-task_outcome device words card None = Skipped
-task_outcome device words card (Some doing) = stepped_or (want doing.1) (performed device words card doing.0 (want doing.1))
+abbrev pub task_outcome : List History → Words → Option (Job × Script) → What
+task_outcome device words None = Skipped
+task_outcome device words (Some doing) = stepped_or (want doing.1) (performed device words doing.0 (want doing.1))
 
 abbrev pub task_failure : List History → Option (Job × Script) → What
 task_failure device None = Skipped
@@ -157,7 +161,7 @@ task_failure device (Some doing) = failed_or (want doing.1) (can_fail device doi
 -- a step applies where the actor is there, has a task, and what it wants can be done
 abbrev pub step_outcome : State → Option Actor → What
 step_outcome w None = Skipped
-step_outcome w (Some x) = task_outcome w.device w.words x.card x.task
+step_outcome w (Some x) = task_outcome w.device w.words x.task
 
 abbrev pub fault_outcome : State → Option Actor → What
 fault_outcome w None = Skipped
@@ -208,9 +212,14 @@ abbrev pub changed_by : List History → Option (Job × Script) → (Job → Lis
 changed_by device None change = device
 changed_by device (Some doing) change = change doing.0
 
-abbrev pub words_then : Words → Card → Want → Got → Words
-words_then words card (Cell step) got = words_after words card step got
-words_then words card next got = words
+-- the words, and the card of who took it, after a step of any kind
+abbrev pub words_then : Words → Want → Words
+words_then words (Cell step) = words_after words step
+words_then words next = words
+
+abbrev pub card_then : Words → Card → Want → Card
+card_then words card (Cell step) = card_after words step card
+card_then words card next = card
 
 -- what is left of a task after a step; after the answer nothing
 abbrev pub task_then : Option (Job × Script) → Want → Got → Option (Job × Script)
@@ -218,15 +227,15 @@ task_then None next got = None
 task_then (Some doing) (End answer) got = None
 task_then (Some doing) next got = Some (doing.0, after doing.1 got)
 
-abbrev pub actor_then : Actor → Want → Got → Actor
-actor_then x next got = record { task = task_then x.task next got; card = card_then x.card next got }
+abbrev pub actor_then : Words → Actor → Want → Got → Actor
+actor_then words x next got = record { task = task_then x.task next got; card = card_then words x.card next }
 
 -- a step of an actor, the device having become this one
 abbrev pub stepped : State → ℕ → Actor → Want → Got → List History → State
 stepped w a x next got device = record {
   device = device;
-  words = words_then w.words x.card next got;
-  actors = slice_set w.actors a (actor_then x next got);
+  words = words_then w.words next;
+  actors = slice_set w.actors a (actor_then w.words x next got);
 }
 
 -- the same world with one actor changed, if it is there

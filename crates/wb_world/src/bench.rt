@@ -1,11 +1,11 @@
 //! The device and the actors' shared words, and one step on them.
 
-ghost use Rattle.std.specs.Prelude.{◌≡◌, ◌<◌, length, IfOk, IfErr, OnOk, OnErr, slice_get};
+ghost use Rattle.std.specs.Prelude.{◌≡◌, ◌<◌, length, slice_index_or, IfOk, IfErr, OnOk, OnErr, slice_get};
 ghost use Rattle.wb_types.specs.declared.refusal.Refusal.TheVariants.{Memory};
 ghost use Rattle.wb_tasks.specs.declared.step.Want.TheVariants.{Device as DeviceWant};
 ghost use Rattle.wb_tasks.specs.declared.step.DeviceStep.TheVariants.{Write as WriteSector};
 ghost use Rattle.wb_types.specs.declared.mode.Dev.TheVariants.{Origin as OriginDevice};
-ghost use Rattle.wb_tasks.specs.Crews.{Agrees, GoesOn, card_of};
+ghost use Rattle.wb_words.specs.Cards.{blank};
 ghost use Rattle.wb_tasks.specs.Ready.{MayTake};
 ghost use Rattle.wb_world.specs.Performing.{Performs, Fails};
 ghost use Rattle.wb_world.specs.World.{read_got, write_got, device_by};
@@ -13,7 +13,7 @@ ghost use Rattle.wb_world.specs.World.{read_got, write_got, device_by};
 use crate::Job;
 use wb_cells::Crew;
 use wb_disk::{Disk, MemDisk};
-use wb_tasks::{Card, DeviceStep, Got, Want, step_in_crew};
+use wb_tasks::{DeviceStep, Got, Want};
 use wb_types::{Content, Dev, Refusal};
 
 /// The device, and the shared words with a card for each actor.
@@ -24,25 +24,22 @@ pub(crate) struct Bench {
 }
 
 impl Bench {
-    /// One step of an actor, which has this card, on this job; None where it doesn't apply, and then nothing has changed. `Memory`
-    /// where a write wants more than there is; nothing has changed then, either.
+    /// One step of an actor on this job; None where it doesn't apply, and then nothing has changed. `Memory` where a
+    /// write wants more than there is; nothing has changed then, either.
     pub(crate) fn perform(
         &mut self,
         actor: usize,
-        card: &mut Card,
         job: &Job,
         want: Want,
     ) -> Result<Option<Got>, Refusal>
         requires actor { actor < length self.old.crew.cards }
-        requires agrees { Agrees (card_of self.old.crew actor) card.old }
-        requires ready { MayTake self.old.crew.blocks card.old want }
-        ensures ok { IfOk result (λ got. Performs self.old.disk.contents self.old.crew.words card.old job.now want got self.new.disk.contents self.new.crew.words card.new) }
-        ensures err { OnErr result ((self.new.disk.contents ≡ self.old.disk.contents) × (self.new.crew ≡ self.old.crew) × (card.new ≡ card.old)) }
-        ensures crew { GoesOn self.old.crew actor card.new self.new.crew }
+        requires ready { MayTake self.old.crew.blocks (slice_index_or self.old.crew.cards actor blank) want }
+        ensures ok { IfOk result (λ got. Performs self.old.disk.contents self.old.crew actor job.now want got self.new.disk.contents self.new.crew) }
+        ensures err { OnErr result ((self.new.disk.contents ≡ self.old.disk.contents) × (self.new.crew ≡ self.old.crew)) }
         ensures refusal { IfErr result (λ refusal. refusal ≡ Memory) }
     {
         match want {
-            Want::Cell(step) => Ok(Some(step_in_crew(&mut self.crew, actor, card, step))),
+            Want::Cell(step) => Ok(Some(Got::from(self.crew.step(actor, step)))),
             Want::Device(DeviceStep::Read(Dev::Origin, at)) => Ok(self.read(at)),
             Want::Device(DeviceStep::Write(Dev::Origin, at)) => self.write(job, at),
             Want::End(_) => Ok(Some(Got::Done)),

@@ -4,10 +4,10 @@
 //! step, or a crash. What happened is kept as a list of records, and the headline speaks of such lists.
 #![tactic(auto)]
 
-mod actor;
 mod bench;
 mod event;
 mod job;
+mod member;
 mod start;
 #[cfg(test)]
 mod tests;
@@ -15,9 +15,9 @@ mod theorem;
 mod trace;
 mod world;
 
-pub use actor::Actor;
 pub use event::{Event, Record, What};
 pub use job::{Extent, Job};
+pub use member::Member;
 pub use theorem::headline;
 pub use trace::Trace;
 pub use world::{ACTORS, Setup, World, run};

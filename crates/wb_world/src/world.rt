@@ -1,17 +1,17 @@
 //! A world that runs.
 
-ghost use Rattle.std.specs.Prelude.{◌≡◌, [], OnOk, OnErr, IfOk, IfErr, replicate, vec_len};
+ghost use Rattle.std.specs.Prelude.{◌≡◌, [], None, OnOk, OnErr, IfOk, IfErr, replicate, vec_len};
 ghost use Rattle.wb_types.specs.declared.refusal.Refusal.TheVariants.{Memory};
 ghost use Rattle.wb_world.specs.declared.world.TheConstants.{ACTORS};
-ghost use Rattle.wb_world.specs.World.{resting, IsRun, start, after_all};
+ghost use Rattle.wb_world.specs.World.{IsRun, start, after_all};
 ghost use Rattle.wb_world.specs.Clerk.{opened, noted};
 ghost use Rattle.wb_world.specs.Headline.{ReadsLatest, CrashConsistent};
-ghost use Rattle.wb_world.specs.Life.{GoesOn, Happens, AreOf, shape_of, state_of, now};
-ghost use Rattle.wb_world.specs.Performing.{AllAgree, AllReady};
+ghost use Rattle.wb_world.specs.Life.{GoesOn, Happens, AreOf, shape_of, state_of, actors_of, now};
+ghost use Rattle.wb_world.specs.Performing.{AllSuited, IsManned};
 
-use crate::actor::Actor;
 use crate::bench::Bench;
 use crate::event::{Event, Record, What};
+use crate::member::Member;
 use crate::trace::Trace;
 use std::alloc::Global;
 use std::marker::Model;
@@ -33,22 +33,22 @@ pub struct Setup {
 pub struct World {
     geometry: Geometry,
     bench: Bench,
-    actors: Vec<Actor>,
+    members: Vec<Member>,
     trace: Trace,
 }
 
 impl Model for World {
     ghost use Rattle.wb_world.specs.declared.world.TheConstants.{ACTORS};
     ghost use Rattle.wb_world.specs.Life.{Life, IsWhere, shape_of, state_of};
-    ghost use Rattle.wb_world.specs.Performing.{AllAgree};
+    ghost use Rattle.wb_world.specs.Performing.{IsManned};
 
     ghost Value = { Life };
 
     ghost view = { λ w. record { shape = shape_of w.geometry ACTORS; trace = w.trace.records } };
 
     ghost invariant = { λ w. IsWhere (record { shape = shape_of w.geometry ACTORS; trace = w.trace.records })
-        (state_of w.bench.disk.contents w.bench.crew.words w.actors.items)
-        × AllAgree (shape_of w.geometry ACTORS) w.bench.crew w.actors.items };
+        (state_of w.bench.disk.contents w.bench.crew w.members.items)
+        × IsManned (shape_of w.geometry ACTORS) w.bench.crew w.members.items };
 }
 
 impl World {
@@ -62,11 +62,11 @@ impl World {
         let geometry = setup.geometry;
         let disk = MemDisk::new(alloc, geometry.origin_sectors())?;
         let crew = Crew::new(alloc, geometry.origin_blocks, ACTORS)?;
-        let actors = resting_actors(alloc)?;
+        let members = resting_members(alloc)?;
         Ok(World {
             geometry,
             bench: Bench { disk, crew },
-            actors,
+            members,
             trace: Trace::new(alloc),
         })
     }
@@ -79,7 +79,7 @@ impl World {
         ensures refusal { IfErr result (λ refusal. refusal ≡ Memory) }
     {
         self.trace.reserve()?;
-        let what = happen(&self.geometry, &mut self.bench, &mut self.actors, &event)?;
+        let what = happen(&self.geometry, &mut self.bench, &mut self.members, &event)?;
         self.trace.push_reserved(Record { event, what });
         Ok(())
     }
@@ -105,7 +105,7 @@ impl World {
         let World {
             geometry: _,
             bench: _,
-            actors: _,
+            members: _,
             trace,
         } = self;
         trace
@@ -125,16 +125,18 @@ pub fn run(alloc: Global, setup: Setup, events: Vec<Event>) -> Result<Trace, Ref
     Ok(world.into_trace())
 }
 
-/// Actors with nothing to do.
-fn resting_actors(alloc: Global) -> Result<Vec<Actor>, Refusal>
-    ensures actors { IfOk result (λ actors. actors.items ≡ replicate ACTORS resting) }
+/// A crew with nothing to do.
+fn resting_members(alloc: Global) -> Result<Vec<Member>, Refusal>
+    ensures members { IfOk result (λ members. members.items ≡ replicate ACTORS (record { task = None })) }
     ensures refusal { IfErr result (λ refusal. refusal ≡ Memory) }
 {
-    let mut actors = Vec::new(alloc);
+    let mut members = Vec::new(alloc);
     for _ in 0..ACTORS {
-        actors.push(Actor::resting()).map_err(|_| Refusal::Memory)?;
+        members
+            .push(Member::resting())
+            .map_err(|_| Refusal::Memory)?;
     }
-    Ok(actors)
+    Ok(members)
 }
 
 /// What an event does to the parts of a world. `Memory` where a write wants more than there is; nothing has
@@ -142,46 +144,46 @@ fn resting_actors(alloc: Global) -> Result<Vec<Actor>, Refusal>
 fn happen(
     geometry: &Geometry,
     bench: &mut Bench,
-    actors: &mut Vec<Actor>,
+    members: &mut Vec<Member>,
     event: &Event,
 ) -> Result<What, Refusal>
-    requires agree { AllAgree (shape_of geometry.now ACTORS) bench.old.crew actors.old.items }
-    requires ready { AllReady geometry.now.origin_blocks actors.old.items }
+    requires manned { IsManned (shape_of geometry.now ACTORS) bench.old.crew members.old.items }
+    requires suited { AllSuited geometry.now.origin_blocks (actors_of members.old.items bench.old.crew.cards) }
     ensures ok { IfOk result (λ what. Happens (shape_of geometry.now ACTORS)
-        (state_of bench.old.disk.contents bench.old.crew.words actors.old.items) event.now what
-        (state_of bench.new.disk.contents bench.new.crew.words actors.new.items)) }
-    ensures err { OnErr result (state_of bench.new.disk.contents bench.new.crew.words actors.new.items
-        ≡ state_of bench.old.disk.contents bench.old.crew.words actors.old.items) }
-    ensures agree { AllAgree (shape_of geometry.now ACTORS) bench.new.crew actors.new.items }
+        (state_of bench.old.disk.contents bench.old.crew members.old.items) event.now what
+        (state_of bench.new.disk.contents bench.new.crew members.new.items)) }
+    ensures err { OnErr result (state_of bench.new.disk.contents bench.new.crew members.new.items
+        ≡ state_of bench.old.disk.contents bench.old.crew members.old.items) }
+    ensures manned { IsManned (shape_of geometry.now ACTORS) bench.new.crew members.new.items }
     ensures refusal { IfErr result (λ refusal. refusal ≡ Memory) }
 {
     match event {
         Event::Start(a, job) => {
-            if *a >= actors.len() {
+            if *a >= members.len() {
                 return Ok(What::Skipped);
             }
-            let actor = &mut actors[*a];
-            Ok(actor.start(geometry, job))
+            let member = &mut members[*a];
+            Ok(member.start(geometry, job))
         }
         Event::Step(a) => {
-            if *a >= actors.len() {
+            if *a >= members.len() {
                 return Ok(What::Skipped);
             }
-            let actor = &mut actors[*a];
-            actor.step(*a, bench)
+            let member = &mut members[*a];
+            member.step(*a, bench)
         }
         Event::FaultStep(a, landed) => {
-            if *a >= actors.len() {
+            if *a >= members.len() {
                 return Ok(What::Skipped);
             }
-            let actor = &mut actors[*a];
-            actor.falter(bench, *landed)
+            let member = &mut members[*a];
+            member.falter(bench, *landed)
         }
         Event::Stop(choice) => {
             if !bench.disk.stop(choice) {
                 return Ok(What::Skipped);
             }
-            actors.clear();
+            members.clear();
             Ok(What::Stopped)
         }
     }
