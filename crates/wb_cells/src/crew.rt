@@ -7,9 +7,10 @@ ghost use Rattle.wb_words.specs.declared.word.Access.TheVariants.{Owned};
 ghost use Rattle.wb_words.specs.declared.card.Hold.TheVariants.{Nothing, Held};
 ghost use Rattle.wb_words.specs.SharedWords.{IsWord, fresh_words, value_of, word_at, with_cell, can_take, taken, given_back, seal_word as seal_of, one_more, counted};
 ghost use Rattle.wb_words.specs.Cards.{blank, looked, losing, holding, sealing, finishing, counting, failing};
-ghost use Rattle.wb_words.specs.Effects.{result_of, words_after, card_after};
+ghost use Rattle.wb_words.specs.Effects.{result_of};
 ghost use Rattle.wb_words.specs.Ready.{IsReady};
 ghost use Rattle.wb_words.specs.Rule.{LockRule};
+ghost use Rattle.wb_cells.specs.Crews.{card_of, crew_after};
 
 use crate::table::{FAILED, SUSPENDED, WordTable};
 use crate::view::View;
@@ -53,11 +54,9 @@ impl Crew {
     /// seen, giving a block back, a seal, a finished write, a count, or a bit of the fail word.
     pub fn step(&mut self, actor: usize, step: CellStep) -> CellResult
         requires actor { actor < length self.old.cards }
-        requires ready { IsReady self.old.blocks (slice_index_or self.old.cards actor blank) step }
+        requires ready { IsReady self.old.blocks (card_of self.old actor) step }
         ensures result { result ≡ result_of self.old.words step }
-        ensures blocks { self.new.blocks ≡ self.old.blocks }
-        ensures words { self.new.words ≡ words_after self.old.words step }
-        ensures cards { self.new.cards ≡ slice_set self.old.cards actor (card_after self.old.words step (slice_index_or self.old.cards actor blank)) }
+        ensures crew { self.new ≡ crew_after self.old actor step }
     {
         match step {
             CellStep::Look(word) => return CellResult::Word(self.look(actor, word)),

@@ -1,11 +1,9 @@
 -- What one step does to the device, to the crew and to what an actor is at.
-use Rattle.std.specs.Prelude.{◌≡◌, ◌≤◌, ℕ, length, Bool, List, Option, Some, None, slice_get, slice_set, slice_index_or}
+use Rattle.std.specs.Prelude.{◌≡◌, ◌≤◌, ℕ, length, Bool, List, Option, Some, None, slice_get}
 use Rattle.wb_disk.specs.Device.{History}
 use Rattle.wb_words.specs.declared.card.Card.{Card}
 use Rattle.wb_words.specs.declared.card.Hold.TheVariants.{Nothing}
-use Rattle.wb_words.specs.Cards.{blank}
-use Rattle.wb_words.specs.Effects.{words_after, card_after}
-use Rattle.wb_cells.specs.Crews.{CrewState}
+use Rattle.wb_cells.specs.Crews.{CrewState, crew_after}
 use Rattle.wb_tasks.specs.Script.{Script, table}
 use Rattle.wb_tasks.specs.Ready.{Suits}
 use Rattle.wb_tasks.specs.declared.step.Want.{Want}
@@ -19,7 +17,7 @@ use Rattle.wb_world.specs.World.{Actor, performed, can_fail, device_by, device_f
 
 -- the crew after a step of one of its actors
 abbrev pub crew_then : CrewState → ℕ → Want → CrewState
-crew_then crew a (Cell step) = record crew { words = words_after crew.words step; cards = slice_set crew.cards a (card_after crew.words step (slice_index_or crew.cards a blank)) }
+crew_then crew a (Cell step) = crew_after crew a step
 crew_then crew a next = crew
 
 -- one step on a job, from the device and the crew before to those after

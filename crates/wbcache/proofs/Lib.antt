@@ -1,4 +1,3 @@
 pub mod Digits
 pub mod Parts
 pub mod Blocks
-pub mod Requests

@@ -3,7 +3,5 @@ pub mod Numbers
 pub mod Table
 pub mod Line
 pub mod Request
-pub mod Steps
 pub mod Fill
 pub mod Exit
-pub mod Performed

@@ -1,8 +1,6 @@
 use Rattle.std.specs.Prelude.{◌<◌, ◌≤◌, ◌+◌, ℕ}
-use Rattle.wb_tasks.specs.Job.{Part as TaskPart, sectors_from}
 use Rattle.wbcache.specs.declared.line.Line.{Line}
 use Rattle.wbcache.specs.declared.line.Line.TheVariants.{Nothing, Read, Write}
-use Rattle.wbcache.specs.declared.part.Part.{Part}
 
 -- A request over so many sectors from the first on has at least one, and all of them lie on an origin of this size.
 pub record IsInside (first count sectors : ℕ) : Type 0 where
@@ -14,7 +12,3 @@ abbrev pub AsksInside : Line → ℕ → Type 0
 AsksInside Nothing sectors = Unit {0}
 AsksInside (Read at count) sectors = IsInside at.0 count sectors
 AsksInside (Write at count fill) sectors = IsInside at.0 count sectors
-
--- the sectors of a part of a request, as a task takes them
-abbrev pub sectors_of : ℕ → Part → TaskPart
-sectors_of block_sectors part = record { block_sectors = block_sectors; block = part.block; sectors = sectors_from part.first part.count }

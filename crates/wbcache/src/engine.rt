@@ -1,40 +1,35 @@
 //! Reads and writes of one client on the origin.
 
-ghost use Rattle.std.specs.Prelude.{◌≡◌, ◌≢◌, ◌<◌, ◌≤◌, ◌+◌, ◌*◌, ◌^◌, IfOk, IfErr, OnOk, OnErr, IsErrOf, replicate};
-ghost use Rattle.wb_types.specs.Words.{fresh_words};
-ghost use Rattle.wb_tasks.specs.declared.card.Held.TheVariants.{Nothing};
-ghost use Rattle.wbcache.specs.Request.{IsInside, AsksInside, sectors_of};
-ghost use Rattle.wbcache.specs.Performed.{Performed};
-ghost use Rattle.wb_tasks.specs.Job.{Reading, Writing};
+ghost use Rattle.std.specs.Prelude.{◌≡◌, ◌<◌, ◌≤◌, ◌+◌, ◌*◌, IfOk, IfErr, OnOk, OnErr, IsErrOf, replicate};
+ghost use Rattle.wb_words.specs.SharedWords.{fresh_words};
+ghost use Rattle.wbcache.specs.Request.{IsInside, AsksInside};
 
+use crate::found::Found;
 use crate::line::Line;
-use crate::part::{Part, first_part};
-use crate::stage::OwnerStage;
+use crate::part::first_part;
 use std::alloc::Global;
 use wb_disk::Disk;
-use wb_tasks::{Answer, ReadTask, WriteTask, drive};
+use wb_target::Owner;
 use wb_types::{Geometry, Refusal, SECTOR_BYTES, Sector};
 
 /// Serves one client: each request goes block by block, in rising order, as a task over that block.
 #[derive(Drop)]
 pub struct Engine<D> {
     pub geometry: Geometry,
-    pub stage: OwnerStage<D>,
-    ghost sized: { stage.origin_blocks ≡ geometry.origin_blocks },
-    // Between two requests it has no block.
-    ghost idle: { stage.card.held ≡ Nothing },
+    pub owner: Owner<D, Found>,
+    ghost sized: { owner.stage.origin_blocks ≡ geometry.origin_blocks },
 }
 
 impl<D: Disk + Drop> Engine<D> {
     /// An engine over an origin of this geometry; `Memory` where there is no room for its words.
     pub fn new(alloc: Global, geometry: Geometry, origin: D) -> Result<Engine<D>, Refusal>
         ensures geometry { IfOk result (λ engine. engine.geometry ≡ geometry) }
-        ensures fresh { IfOk result (λ engine. (engine.stage.crew.words ≡ fresh_words geometry.origin_blocks) × (engine.stage.origin ≡ origin)) }
+        ensures fresh { IfOk result (λ engine. (engine.owner.stage.crew.words ≡ fresh_words geometry.origin_blocks) × (engine.owner.stage.origin ≡ origin)) }
         ensures refused { IfErr result (λ refusal. refusal ≡ Refusal.Memory) }
     {
         Ok(Engine {
             geometry,
-            stage: OwnerStage::new(alloc, geometry.origin_blocks, origin)?,
+            owner: Owner::new(alloc, geometry.origin_blocks, origin, Found::new(alloc))?,
         })
     }
 
@@ -68,64 +63,39 @@ impl<D: Disk + Drop> Engine<D> {
         let Sector(mut first) = at;
         while first < end {
             let part = first_part(self.geometry.block, first, end);
-            self.stage.found.begin(first, part.count as usize)?;
-            self.read_part(part)?;
-            self.stage.found.print(text)?;
+            self.owner.stage.taker.begin(first, part.count as usize)?;
+            self.owner.read(
+                self.geometry.block,
+                part.block,
+                Sector(part.first),
+                part.count,
+            )?;
+            self.owner.stage.taker.print(text)?;
             first += part.count;
         }
         Ok(())
-    }
-
-    fn read_part(&mut self, part: Part) -> Result<(), Refusal>
-        requires first { part.first + part.count < 2 ^ 64 }
-        requires block { part.block.0 < self.old.geometry.origin_blocks }
-        ensures done { OnOk result (Performed D.tells D.contents (Reading (sectors_of self.old.geometry.block part)) self.old.stage Answer.Done self.new.stage) }
-        ensures performed { IfErr result (λ refusal. Performed D.tells D.contents (Reading (sectors_of self.old.geometry.block part)) self.old.stage (Answer.Refused refusal) self.new.stage) }
-        ensures refused { IfErr result (λ refusal. refusal ≢ Refusal.Range) }
-        ensures geometry { self.new.geometry ≡ self.old.geometry }
-    {
-        let mut task = ReadTask::new(
-            self.geometry.block,
-            part.block,
-            Sector(part.first),
-            part.count,
-        );
-        answered(drive(&mut task, &mut self.stage))
     }
 
     fn write(&mut self, at: Sector, count: u64, fill: u8) -> Result<(), Refusal>
         ensures outside { ¬ IsInside at.0 count (self.old.geometry.block * self.old.geometry.origin_blocks) → IsErrOf result Refusal.Range }
         ensures inside { IsErrOf result Refusal.Range → ¬ IsInside at.0 count (self.old.geometry.block * self.old.geometry.origin_blocks) }
-        ensures content { OnOk result (self.new.stage.content ≡ replicate 512 fill) }
+        ensures content { OnOk result (self.new.owner.stage.content ≡ replicate 512 fill) }
         ensures geometry { self.new.geometry ≡ self.old.geometry }
     {
         let end = self.end_of(at, count)?;
-        self.stage.content = [fill; SECTOR_BYTES];
+        self.owner.stage.content = [fill; SECTOR_BYTES];
         let Sector(mut first) = at;
         while first < end {
             let part = first_part(self.geometry.block, first, end);
-            self.write_part(part)?;
+            self.owner.write(
+                self.geometry.block,
+                part.block,
+                Sector(part.first),
+                part.count,
+            )?;
             first += part.count;
         }
         Ok(())
-    }
-
-    fn write_part(&mut self, part: Part) -> Result<(), Refusal>
-        requires first { part.first + part.count < 2 ^ 64 }
-        requires block { part.block.0 < self.old.geometry.origin_blocks }
-        ensures done { OnOk result (Performed D.tells D.contents (Writing (sectors_of self.old.geometry.block part)) self.old.stage Answer.Done self.new.stage) }
-        ensures performed { IfErr result (λ refusal. Performed D.tells D.contents (Writing (sectors_of self.old.geometry.block part)) self.old.stage (Answer.Refused refusal) self.new.stage) }
-        ensures refused { IfErr result (λ refusal. refusal ≢ Refusal.Range) }
-        ensures content { self.new.stage.content ≡ self.old.stage.content }
-        ensures geometry { self.new.geometry ≡ self.old.geometry }
-    {
-        let mut task = WriteTask::new(
-            self.geometry.block,
-            part.block,
-            Sector(part.first),
-            part.count,
-        );
-        answered(drive(&mut task, &mut self.stage))
     }
 
     /// The sector after the last of a request; `Range` for no sector, or one outside the origin.
@@ -142,16 +112,5 @@ impl<D: Disk + Drop> Engine<D> {
             return Err(Refusal::Range);
         }
         Ok(first + count)
-    }
-}
-
-/// A task's answer as a result.
-fn answered(answer: Answer) -> Result<(), Refusal>
-    ensures done { OnOk result (answer ≡ Answer.Done) }
-    ensures refused { IfErr result (λ refusal. answer ≡ Answer.Refused refusal) }
-{
-    match answer {
-        Answer::Done => Ok(()),
-        Answer::Refused(refusal) => Err(refusal),
     }
 }

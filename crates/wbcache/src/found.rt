@@ -5,6 +5,8 @@ ghost use Rattle.std.specs.Prelude.{◌≡◌, ◌<◌, ◌≤◌, ◌-◌, [], 
 use crate::fill::Fill;
 use std::alloc::{AllocError, Global};
 use std::fmt::Write;
+use wb_target::TakesContent;
+use wb_types::Content;
 
 /// What fills each of the sectors of one read, from the first on: two bytes a sector, and not its content.
 #[derive(Drop)]
@@ -55,5 +57,16 @@ impl Found {
             sector = sector.saturating_add(1);
         }
         Ok(())
+    }
+}
+
+/// What fills a sector is noted as it is read; one outside the read is passed over.
+impl TakesContent for Found {
+    ghost use Rattle.wbcache.specs.Fill.{IsNoted};
+
+    ghost took = { IsNoted };
+
+    fn take(&mut self, at: u64, content: &Content) {
+        self.note(at, Fill::of(content));
     }
 }

@@ -11,9 +11,7 @@ mod line;
 mod number;
 mod output;
 mod part;
-mod perform;
 mod script;
-mod stage;
 mod status;
 mod table;
 #[cfg(test)]

@@ -1,0 +1,81 @@
+-- What a task that was driven answers, what it leaves alone, and that its actor is ready for each step.
+use Rattle.std.proofs.Common.{◌≡◌, ◌∙◌, ◌<◌, ℕ, ap, List, [], ◌∷◌, Result, Ok, Err, IfErr, refl, sym, subst, inl, inr, arith, length, length-set, slice_set, slice_index_or}
+use Rattle.wb_types.specs.declared.refusal.Refusal.{Refusal}
+use Rattle.wb_types.specs.declared.refusal.Refusal.TheVariants.{Range}
+use Rattle.wb_words.specs.declared.word.Access.{Access}
+use Rattle.wb_words.specs.declared.card.Card.{Card}
+use Rattle.wb_words.specs.declared.card.Hold.TheVariants.{Nothing}
+use Rattle.wb_words.specs.Cards.{blank}
+use Rattle.wb_words.specs.Effects.{card_after}
+use Rattle.wb_cells.specs.Crews.{CrewState, card_of, crew_after}
+use Rattle.wb_tasks.specs.Job.{Job, access_of}
+use Rattle.wb_tasks.specs.Ready.{AreFirst, MayTake, MayMake, Suits, block_of, left_by}
+use Rattle.wb_tasks.specs.Script.{Script, table, want, after, Fits}
+use Rattle.wb_tasks.specs.Run.{IsRunOf, Leads}
+use Rattle.wb_tasks.specs.Causes.{GaveCause}
+use Rattle.wb_tasks.specs.declared.step.Answer.{Answer}
+use Rattle.wb_tasks.specs.declared.step.Answer.TheVariants.{Refused as Refuses}
+use Rattle.wb_tasks.specs.declared.step.Want.{Want}
+use Rattle.wb_tasks.specs.declared.step.Want.TheVariants.{Cell, Device, Desk, End}
+use Rattle.wb_tasks.specs.declared.step.Got.{Got}
+use Rattle.wb_tasks.proofs.Causing.{refuses_for_cause}
+use Rattle.wb_tasks.proofs.Driving.{run_first}
+use Rattle.wb_tasks.proofs.Readiness.{begins_ready, keeps_ready, is_ready, ends_holding_nothing}
+use Rattle.wb_target.specs.Steps.{DoneOnCrew}
+
+-- no step gives cause for a refusal of the range
+no_range : (access : Access) (steps : List (Want × Got)) → GaveCause access Range steps → ⊥
+no_range access [] h = h
+no_range access (step ∷ steps) h = elim h [ inl now ↦ now | inr later ↦ no_range access steps later ]
+
+-- so no task refuses the range
+pub refused-not_range : {A : Type 0} (s : Script) (job : Job) (steps : List (Want × Got)) (answer : Answer) (r : Result A Refusal) → s ≡ table job → IsRunOf s steps answer → IfErr r (λ refusal. answer ≡ Refuses refusal) → IfErr r (λ refusal. refusal ≡ Range → ⊥)
+refused-not_range s job steps answer (Ok x) begun run e = tt
+refused-not_range s job steps answer (Err refusal) begun run e =
+    let whole : IsRunOf (table job) steps (Refuses refusal) = subst (λ (t : Script). IsRunOf t steps (Refuses refusal)) begun (subst (λ (x : Answer). IsRunOf s steps x) e run) in
+    λ range. no_range (access_of job) steps (subst (λ (x : Refusal). GaveCause (access_of job) x steps) range (refuses_for_cause job steps refusal whole))
+
+-- what no step changes is as it was
+pub Leads-kept : {S C : Type 0} (led : S → Want → Got → S → Type 0) (part : S → C) → ((s : S) (w : Want) (g : Got) (t : S) → led s w g t → part t ≡ part s) → (old : S) (steps : List (Want × Got)) (new : S) → Leads led old steps new → part new ≡ part old
+Leads-kept {S} {C} led part keeps old [] new e = subst (λ (x : S). part x ≡ part old) e refl
+Leads-kept {S} {C} led part keeps old (step ∷ steps) new h = Leads-kept led part keeps h.0 steps new h.2 ∙ keeps old step.0 step.1 h.0 h.1
+
+-- an only card that was replaced
+only_card : (cards : List Card) (card : Card) → length cards ≡ 1 → slice_index_or (slice_set cards 0 card) 0 blank ≡ card
+only_card [] card one = absurd (omega arith)
+only_card (c ∷ cs) card one = refl
+
+-- a step keeps the crew at one, and makes of its card what a step may make
+crew_made : (crew : CrewState) (w : Want) (g : Got) (crew' : CrewState) → length crew.cards ≡ 1 → DoneOnCrew crew w g crew' → (length crew'.cards ≡ 1) × MayMake w g (card_of crew 0) (card_of crew' 0)
+crew_made crew (Cell step) g crew' one d =
+    let card : Card = card_after crew.words step (card_of crew 0) in (
+      ap (λ (c : CrewState). length c.cards) d.1 ∙ (length-set crew.cards 0 card ∙ one),
+      (crew.words, d.0, ap (λ (c : CrewState). card_of c 0) d.1 ∙ only_card crew.cards card one),
+    )
+crew_made crew (Device step) g crew' one d = (ap (λ (c : CrewState). length c.cards) d ∙ one, ap (λ (c : CrewState). card_of c 0) d)
+crew_made crew (Desk step) g crew' one d = (ap (λ (c : CrewState). length c.cards) d ∙ one, ap (λ (c : CrewState). card_of c 0) d)
+crew_made crew (End answer) g crew' one d = (ap (λ (c : CrewState). length c.cards) d ∙ one, ap (λ (c : CrewState). card_of c 0) d)
+
+-- Where every step says what it does to the crew, the actor has what it needs wherever the steps have led.
+module _ {S : Type 0} (led : S → Want → Got → S → Type 0) (crew : S → CrewState) (tells : (s : S) (w : Want) (g : Got) (t : S) → led s w g t → DoneOnCrew (crew s) w g (crew t)) (blocks : ℕ) where
+  pub Leads-suits : (s : Script) (old : S) (steps : List (Want × Got)) (mid : S) → length (crew old).cards ≡ 1 → Suits blocks s (card_of (crew old) 0) → AreFirst s steps → Leads led old steps mid → Suits blocks (left_by s steps) (card_of (crew mid) 0)
+  Leads-suits s old [] mid one h f e = subst (λ (x : S). Suits blocks s (card_of (crew x) 0)) e h
+  Leads-suits s old (step ∷ steps) mid one h f l =
+      let made = crew_made (crew old) step.0 step.1 (crew l.0) one (tells old step.0 step.1 l.0 l.1) in
+      let fits : Fits (want s) step.1 = subst (λ (w : Want). Fits w step.1) f.0 f.1 in
+      let made_so : MayMake (want s) step.1 (card_of (crew old) 0) (card_of (crew l.0) 0) = subst (λ (w : Want). MayMake w step.1 (card_of (crew old) 0) (card_of (crew l.0) 0)) f.0 made.1 in
+      Leads-suits (after s step.1) l.0 steps mid made.0 (keeps_ready blocks s (card_of (crew old) 0) (card_of (crew l.0) 0) step.1 h fits made_so) f.2 l.2
+
+  -- who begins with no block is ready for each step of a request, and ends with none
+  pub request_ready : (s : Script) (job : Job) (old : S) (steps : List (Want × Got)) (mid : S) → s ≡ table job → length (crew old).cards ≡ 1 → (block_of job).0 < blocks → (card_of (crew old) 0).hold ≡ Nothing → AreFirst s steps → Leads led old steps mid →
+      MayTake blocks (card_of (crew mid) 0) (want (left_by s steps))
+  request_ready s job old steps mid begun one l idle f e =
+      let suits : Suits blocks s (card_of (crew old) 0) = subst (λ (t : Script). Suits blocks t (card_of (crew old) 0)) (sym begun) (begins_ready blocks job (card_of (crew old) 0) l idle) in
+      is_ready blocks (left_by s steps) (card_of (crew mid) 0) (Leads-suits s old steps mid one suits f e)
+
+  pub request_ends : (s : Script) (job : Job) (old : S) (steps : List (Want × Got)) (new : S) (answer : Answer) → s ≡ table job → length (crew old).cards ≡ 1 → (block_of job).0 < blocks → (card_of (crew old) 0).hold ≡ Nothing → IsRunOf s steps answer → Leads led old steps new →
+      (card_of (crew new) 0).hold ≡ Nothing
+  request_ends s job old steps new answer begun one l idle run e =
+      let suits : Suits blocks s (card_of (crew old) 0) = subst (λ (t : Script). Suits blocks t (card_of (crew old) 0)) (sym begun) (begins_ready blocks job (card_of (crew old) 0) l idle) in
+      let whole = run_first s steps answer run in
+      ends_holding_nothing blocks (left_by s steps) (card_of (crew new) 0) answer (Leads-suits s old steps new one suits whole.0 e) whole.1
