@@ -10,26 +10,26 @@
 //! blocks, and `wb_bench FILE state` reads what it stands for; both print the number of nodes.
 #![tactic(auto)]
 
-ghost use Rattle.std.specs.Prelude.{◌<◌, ◌≤◌};
+ghost use Rattle.std.specs.Prelude.{◌≡◌, ◌<◌, ◌≤◌};
 
 mod accesses;
 mod asked;
 mod mapping;
 mod shares;
-mod stage;
 mod turnover;
+mod unnoted;
 
 use crate::accesses::add_all;
 use crate::asked::{Asked, Direction, Requests, read_asked};
 use crate::mapping::{read_mapping, write_mapping};
 use crate::shares::share_all;
-use crate::stage::FileStage;
 use crate::turnover::turn_over;
+use crate::unnoted::Unnoted;
 use std::env;
 use std::process::ExitCode;
 use wb_disk::{Disk, FileDisk};
-use wb_tasks::{Answer, ReadTask, WriteTask, drive};
-use wb_types::{OBlock, Refusal, Sector};
+use wb_target::Owner;
+use wb_types::{OBlock, Refusal, SECTOR_BYTES, Sector};
 
 /// Sectors of a block.
 const BLOCK: u32 = 64;
@@ -94,10 +94,10 @@ fn serve(rt: &HostRuntime, requests: &Requests<'_>) -> ExitCode {
     if blocks == 0 {
         return failed(rt, "the file has no whole block");
     }
-    let Ok(mut stage) = FileStage::new(rt.alloc(), blocks as u32, disk) else {
+    let Ok(mut owner) = Owner::new(rt.alloc(), blocks as u32, disk, Unnoted) else {
         return failed(rt, "out of memory");
     };
-    match drive_all(requests, blocks, &mut stage) {
+    match drive_all(requests, blocks, &mut owner) {
         Some(done) => print(rt, done),
         None => failed(rt, "a request failed"),
     }
@@ -111,30 +111,22 @@ fn print(rt: &HostRuntime, number: u64) -> ExitCode {
 }
 
 /// Drives all requests; None where one is not answered done.
-fn drive_all(asked: &Requests<'_>, blocks: u64, stage: &mut FileStage) -> Option<u64>
+fn drive_all(asked: &Requests<'_>, blocks: u64, owner: &mut Owner<FileDisk, Unnoted>) -> Option<u64>
     requires some { 0 < blocks }
+    requires blocks { blocks ≡ owner.old.stage.origin_blocks }
     requires few { blocks ≤ 1048576 }
     requires one_block { asked.now.sectors ≤ 64 }
 {
+    owner.stage.content = [0x5a; SECTOR_BYTES];
     for number in 0..asked.requests {
         let block = number % blocks;
         let first = Sector(block * u64::from(BLOCK));
         let block = OBlock(block as u32);
         let answer = match asked.direction {
-            Direction::Read => drive(
-                &mut ReadTask::new(BLOCK, block, first, asked.sectors),
-                stage,
-            ),
-            Direction::Write => {
-                drive(
-                    &mut WriteTask::new(BLOCK, block, first, asked.sectors),
-                    stage,
-                )
-            }
+            Direction::Read => owner.read(BLOCK, block, first, asked.sectors),
+            Direction::Write => owner.write(BLOCK, block, first, asked.sectors),
         };
-        if answer != Answer::Done {
-            return None;
-        }
+        answer.ok()?;
     }
     Some(asked.requests)
 }

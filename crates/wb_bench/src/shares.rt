@@ -1,7 +1,7 @@
 //! Shares of a block that threads take and leave, to be timed.
 
 ghost use Rattle.std.specs.Prelude.{◌≡◌, ◌<◌, ◌≤◌};
-ghost use Rattle.wb_cells.specs.declared.card.Hold.TheVariants.{Nothing};
+ghost use Rattle.wb_words.specs.declared.card.Hold.TheVariants.{Nothing};
 
 use std::alloc::Global;
 use std::sync::Wait;

@@ -3,9 +3,11 @@
 ghost use Rattle.wb_tasks.specs.Script.{Fits};
 ghost use Rattle.wb_tasks.specs.declared.step.Want.TheVariants.{Cell, Device};
 
+use super::rows::Row;
 use crate::*;
 use std::alloc::Global;
-use wb_types::{CBlock, Content, Dev, OBlock, Refusal, Word};
+use wb_types::{CBlock, Content, Dev, OBlock, Refusal};
+use wb_words::{Access, Word, seal_word};
 
 /// The block that the tests are on. It has the origin's sectors 128 to 191.
 pub const BLOCK: OBlock = OBlock(2);
@@ -13,53 +15,73 @@ pub const BLOCK: OBlock = OBlock(2);
 /// The sectors of a block.
 pub const BLOCK_SECTORS: u32 = 64;
 
-/// The want to load a word.
-pub fn look(word: Word) -> Want {
-    Want::Cell(CellStep::Look(word))
+/// The words of the one block that the requests are on, by their names, and the statistics.
+#[derive(Clone, Copy)]
+pub struct BlockWords {
+    pub cell: u64,
+    pub seal: u64,
+    pub number: u64,
+    pub counted: u64,
+    pub fail: u64,
 }
 
 /// Performs steps, and notes which were wanted.
 #[derive(Drop)]
 pub struct Bench {
-    pub words: Words,
-    pub card: Card,
+    pub words: BlockWords,
     /// What all bytes of each sector are.
     pub origin: [u8; 192],
     pub cache: [u8; 192],
-    /// What a write writes.
-    pub from: u8,
     /// What the last read gave.
     pub gave: u8,
     pub wants: Vec<Want>,
     /// The device step that fails.
-    pub fails: Option<DeviceStep>,
+    fails: Option<DeviceStep>,
     /// A word that another has left at this value.
-    pub shows: Option<(Word, u64)>,
+    shows: Option<(Word, u64)>,
     /// Another shares the block before this one's exchange.
-    pub is_raced: bool,
+    is_raced: bool,
 }
 
 impl Bench {
-    pub fn new(alloc: Global) -> Result<Bench, Refusal> {
+    pub fn new(alloc: Global, row: &Row) -> Result<Bench, Refusal> {
+        // A mapped block stands in cache block 1, which has the cache's sectors 64 to 127.
+        let seal = match row.mapped {
+            Some(dirty) => seal_word(Some(CBlock(1)), dirty),
+            None => 0,
+        };
         Ok(Bench {
-            words: Words::new(alloc, 3)?,
-            card: Card::new(),
+            words: BlockWords {
+                cell: 0,
+                seal,
+                number: 0,
+                counted: 0,
+                fail: 0,
+            },
             origin: [1; 192],
             cache: [2; 192],
-            from: 3,
             gave: 0,
             wants: Vec::with_capacity(alloc, 32)?,
-            fails: None,
-            shows: None,
-            is_raced: false,
+            fails: row.fails,
+            shows: row.shows,
+            is_raced: row.is_raced,
         })
     }
 
-    /// Maps the block to cache block 1, which has the cache's sectors 64 to 127.
-    pub fn map(&mut self, dirty: bool) {
-        let mut other = Card::new();
-        self.words
-            .step(&mut other, CellStep::Seal(BLOCK, Some(CBlock(1)), dirty));
+    /// The value of a word, as somebody may have left it.
+    pub fn look(&self, word: Word) -> u64 {
+        if let Some((shown, value)) = self.shows {
+            if shown == word {
+                return value;
+            }
+        }
+        match word {
+            Word::Cell(_) => self.words.cell,
+            Word::Seal(_) => self.words.seal,
+            Word::Number(_) => self.words.number,
+            Word::Count(_) => self.words.counted,
+            Word::Fail => self.words.fail,
+        }
     }
 
     fn device(&mut self, step: DeviceStep) -> Got
@@ -71,9 +93,8 @@ impl Bench {
         match step {
             DeviceStep::Read(device, at) => Got::Content(self.read(device, at)),
             DeviceStep::Write(device, at) => {
-                let from = self.from;
                 if let Some(sector) = self.sectors(device).get_mut(at as usize) {
-                    *sector = from;
+                    *sector = 3;
                 }
                 Got::Done
             }
@@ -100,20 +121,29 @@ impl Bench {
     fn cell(&mut self, step: CellStep) -> Got
         ensures { Fits (Cell step) result }
     {
-        if let CellStep::Look(word) = step {
-            if let Some((shown, value)) = self.shows {
-                if shown == word {
-                    return Got::Word(value);
+        match step {
+            CellStep::Look(word) => return Got::Word(self.look(word)),
+            CellStep::Take(access, _, seen) => {
+                if self.is_raced {
+                    self.words.cell = self.words.cell.wrapping_add(2);
                 }
+                if self.words.cell != seen {
+                    return Got::Lost;
+                }
+                let more = if access == Access::Shared { 2 } else { 1 };
+                self.words.cell = seen.wrapping_add(more);
             }
-        }
-        if let CellStep::Take(_, block) = step {
-            if self.is_raced {
-                let mut other = Card::new();
-                self.words.step(&mut other, CellStep::Take(wb_types::Access::Shared, block));
+            CellStep::Release(access, _) => {
+                let less = if access == Access::Shared { 2 } else { 1 };
+                self.words.cell = self.words.cell.wrapping_sub(less);
             }
+            CellStep::Seal(_, place, dirty) => self.words.seal = seal_word(place, dirty),
+            CellStep::Finish(_) => self.words.number = self.words.number.wrapping_add(1),
+            CellStep::Count(_) => self.words.counted = self.words.counted.wrapping_add(1),
+            CellStep::SetFailed => self.words.fail |= 1,
+            CellStep::SetSuspended => self.words.fail |= 2,
         }
-        self.words.step(&mut self.card, step)
+        Got::Done
     }
 }
 

@@ -1,5 +1,5 @@
 use Rattle.std.proofs.Common.{◌≡◌}
-use Rattle.wb_cells.specs.declared.card.Hold.TheVariants.{Nothing}
+use Rattle.wb_words.specs.declared.card.Hold.TheVariants.{Nothing}
 use Rattle.wb_bench.proofs.shares.alone.Given as goal
 
 abbrev pub invariant-loop : goal.invariant-loop
