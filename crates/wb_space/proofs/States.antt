@@ -6,7 +6,7 @@ use Rattle.std.proofs.lemmas.List.{map-set, length-set, length-map, get_or-map, 
 use Rattle.std.proofs.lemmas.List.Quantifiers.{position-Some}
 use Rattle.std.proofs.lemmas.Option.{get_or_from_slice_get}
 use Rattle.std.proofs.Math.Seq.{map-set_same}
-use Rattle.wb_space.proofs.Chosen.{chosen, fewer_chosen, none_changed}
+use Rattle.wb_bits.proofs.Chosen.{chosen, fewer_chosen, none_changed}
 use Rattle.wb_space.specs.declared.block.Block.{Block}
 use Rattle.wb_space.specs.declared.block.Block.TheVariants.{Free, Mapped, Reserved, Quarantined}
 use Rattle.wb_space.specs.Blocks.{is_late, is_early, begun, ended, opened_block}

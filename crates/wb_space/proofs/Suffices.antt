@@ -6,7 +6,7 @@ use Rattle.std.proofs.lemmas.Bool.{cases_eq, cases_lt}
 use Rattle.std.proofs.lemmas.List.{get_or-replicate, length-replicate, get_or_past}
 use Rattle.std.proofs.lemmas.List.Sums.{length-filter}
 use Rattle.std.proofs.lemmas.List.Recursion.{is_count_by}
-use Rattle.wb_space.proofs.Chosen.{chosen}
+use Rattle.wb_bits.proofs.Chosen.{chosen}
 use Rattle.wb_types.specs.declared.number.Place.{Place}
 use Rattle.wb_space.specs.Places.{PlacesInUse, noted, unused, is_free_place, free_places}
 use Rattle.wb_space.proofs.Noted.{length-noted_alone}

@@ -2,8 +2,4 @@ pub mod Blocks
 pub mod Indexes
 pub mod Places
 pub mod Bounds
-pub mod Allocation
 pub mod Spaces
-pub mod Words
-pub mod Summary
-pub mod Deeper

@@ -5,9 +5,10 @@ ghost use Rattle.std.specs.List.{position};
 ghost use Rattle.std.specs.Option.{IfSome};
 ghost use Rattle.wb_space.specs.Blocks.{is_free, is_late, is_early, begun, ended, opened_block, state};
 
-use crate::{BitSet, Block};
+use crate::Block;
 use std::alloc::{AllocError, Global};
 use std::marker::Model;
+use wb_bits::BitSet;
 
 /// The state of each cache block, and beside them the sets of those that are looked for: the free ones, and
 /// the quarantined ones whose removal came before or after the running commit began.

@@ -3,8 +3,6 @@
 //! A cache block whose entry was removed is kept away from new entries until no image can name it any more.
 #![tactic(auto)]
 
-mod allocation;
-mod bit_set;
 mod block;
 mod blocks;
 mod holding;
@@ -13,8 +11,6 @@ mod space;
 #[cfg(test)]
 mod tests;
 
-pub use allocation::allocation_keeps_its_invariant;
-pub use bit_set::BitSet;
 pub use block::Block;
 pub use blocks::Blocks;
 pub use holding::Holding;

@@ -3,10 +3,10 @@
 ghost use Rattle.std.specs.Prelude.{◌≡◌, ◌<◌, ◌≤◌, ◌+◌, ◌*◌, ◌^◌, ℕ, List, length, map, take, true, IfOk, slice_set};
 ghost use Rattle.wb_space.specs.Places.{unused, noted, is_free_place, free_places, place};
 
-use crate::BitSet;
 use std::alloc::{AllocError, Global};
 use std::marker::Model;
 use std::mem;
+use wb_bits::BitSet;
 use wb_types::Place;
 
 /// The metadata places below a bound that the committed and the running image use.

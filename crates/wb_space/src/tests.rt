@@ -2,7 +2,6 @@
 
 mod places;
 mod quarantine;
-mod sets;
 mod sizes;
 
 use crate::{Holding, Space};

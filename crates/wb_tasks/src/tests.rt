@@ -24,6 +24,11 @@ fn play(alloc: Global, row: &Row) -> Result<(Answer, Bench), Refusal> {
     Ok((answer, bench))
 }
 
+/// Whether the words are these.
+fn has(bench: &Bench, words: &[(Word, u64)]) -> bool {
+    words.iter().all(|pair| bench.look(pair.0) == pair.1)
+}
+
 #[test]
 fn requests_take_the_steps_of_their_tables(rt: HostRuntime) -> Result<(), Fail> {
     for row in &ROWS {
@@ -35,9 +40,7 @@ fn requests_take_the_steps_of_their_tables(rt: HostRuntime) -> Result<(), Fail> 
             Some(row.wants),
             "{name}"
         );
-        for (word, value) in row.words {
-            assert_eq!(rt; bench.look(*word), *value, "{name}: {word:?}");
-        }
+        assert!(rt; has(&bench, row.words), "{name}");
     }
     Ok(())
 }

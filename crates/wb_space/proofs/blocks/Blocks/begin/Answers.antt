@@ -1,5 +1,5 @@
 use Rattle.std.proofs.Common.{map, sym, ap, ◌∙◌, arith}
-use Rattle.wb_space.proofs.Chosen.{chosen, none_of}
+use Rattle.wb_bits.proofs.Chosen.{chosen, none_of}
 use Rattle.wb_space.proofs.States.{begin_steps, all_begun}
 use Rattle.wb_space.specs.Blocks.{is_late, begun}
 use Rattle.wb_space.proofs.blocks.Blocks.begin.Goals as goal

@@ -1,5 +1,5 @@
 use Rattle.std.proofs.Common.{◌≡◌, map}
-use Rattle.wb_space.proofs.Chosen.{chosen}
+use Rattle.wb_bits.proofs.Chosen.{chosen}
 use Rattle.wb_space.specs.Blocks.{is_late, begun}
 use Rattle.wb_space.proofs.blocks.Blocks.begin.Given as goal
 

@@ -1,5 +1,5 @@
 use Rattle.std.proofs.Common.{map, sym, ap, ◌∙◌, arith}
-use Rattle.wb_space.proofs.Chosen.{chosen, none_of}
+use Rattle.wb_bits.proofs.Chosen.{chosen, none_of}
 use Rattle.wb_space.proofs.States.{end_steps, all_ended}
 use Rattle.wb_space.specs.Blocks.{is_early, ended}
 use Rattle.wb_space.proofs.blocks.Blocks.end.Goals as goal

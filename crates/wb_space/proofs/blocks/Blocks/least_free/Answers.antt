@@ -1,7 +1,7 @@
 use Rattle.std.proofs.Common.{ap, ◌∙◌}
 use Rattle.std.specs.List.{position}
 use Rattle.wb_space.specs.Blocks.{is_free}
-use Rattle.wb_space.proofs.Chosen.{position-map, first_small}
+use Rattle.wb_bits.proofs.Chosen.{position-map, first_small}
 use Rattle.wb_space.proofs.blocks.Blocks.least_free.Goals as goal
 
 pub returns-clause-value : goal.returns-clause-value

@@ -1,7 +1,7 @@
 use Rattle.std.proofs.Common.{ap, ◌∙◌}
 use Rattle.std.specs.List.{position}
 use Rattle.wb_space.specs.Blocks.{is_late}
-use Rattle.wb_space.proofs.Chosen.{position-map}
+use Rattle.wb_bits.proofs.Chosen.{position-map}
 use Rattle.wb_space.proofs.blocks.Blocks.least_late.Goals as goal
 
 pub returns : goal.returns

@@ -1,0 +1,3 @@
+pub mod BitWords
+pub mod Summary
+pub mod Deeper

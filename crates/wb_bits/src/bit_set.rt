@@ -1,0 +1,182 @@
+//! Sets of numbers below a bound, whose least member is found in a few steps.
+
+ghost use Rattle.std.specs.Prelude.{◌≡◌, ℕ, ◌<◌, ◌*◌, ◌/◌, ◌^◌, Bool, true, false, length, replicate, IfOk, slice_set, slice_get, Some, get_or};
+ghost use Rattle.std.specs.List.{position};
+ghost use Rattle.wb_bits.specs.BitWords.{Differs, least_in};
+
+use std::alloc::{AllocError, Global};
+use std::marker::Model;
+
+/// Words of bits, and above them the set of the words that are used.
+#[cycle(bit_set)]
+#[derive(Drop)]
+pub struct BitSet {
+    bound: usize,
+    words: Vec<u64>,
+    above: Above,
+}
+
+#[cycle(bit_set)]
+#[derive(Drop)]
+enum Above {
+    Nothing,
+    Summary(Box<BitSet>),
+}
+
+impl Model for BitSet {
+    ghost use Rattle.std.specs.Prelude.{List, Bool, length};
+
+    ghost Value = { List Bool };
+
+    ghost use Rattle.wb_bits.specs.Summary.{IsSummed, members_of};
+
+    ghost view = { members_of };
+
+    ghost invariant = { IsSummed };
+
+    ghost size = { length };
+
+    ghost use Rattle.wb_bits.specs.Deeper.{above_smaller};
+
+    ghost size_decreases = { λ a h. above_smaller a.bound a.words.items a.above h.bounded h.summed };
+}
+
+impl BitSet {
+    /// The empty set below this bound.
+    pub fn new(alloc: Global, bound: usize) -> Result<Self, AllocError>
+        requires { bound < 2 ^ 40 }
+        ensures { IfOk result (λ set. set ≡ replicate bound false) }
+    {
+        let count = bound.div_ceil(64);
+        let words = vec![in alloc; 0u64; count]?;
+        if count > 1 {
+            let above = Box::new(alloc, BitSet::new(alloc, count)?)?;
+            Ok(BitSet {
+                bound,
+                words,
+                above: Above::Summary(above),
+            })
+        } else {
+            Ok(BitSet {
+                bound,
+                words,
+                above: Above::Nothing,
+            })
+        }
+    }
+
+    /// The bound.
+    pub fn size(&self) -> usize
+        ensures { result ≡ length self.now }
+    {
+        self.bound
+    }
+
+    pub fn contains(&self, i: usize) -> bool
+        requires { i < length self.now }
+        ensures { slice_get self.now i ≡ Some result }
+    {
+        (self.words[i / 64] >> (i % 64)) & 1 == 1
+    }
+
+    /// Is this number a member? One from the bound on is none.
+    pub fn has(&self, i: usize) -> bool
+        ensures { result ≡ get_or self.now i false }
+    {
+        i < self.size() && self.contains(i)
+    }
+
+    pub fn insert(&mut self, i: usize)
+        requires { i < length self.old }
+        ensures { self.new ≡ slice_set self.old i true }
+    {
+        let word = with_bit(self.words[i / 64], i % 64);
+        self.words[i / 64] = word;
+        match &mut self.above {
+            Above::Nothing => {}
+            Above::Summary(above) => above.insert(i / 64),
+        }
+    }
+
+    pub fn remove(&mut self, i: usize)
+        requires { i < length self.old }
+        ensures { self.new ≡ slice_set self.old i false }
+    {
+        let word = without_bit(self.words[i / 64], i % 64);
+        self.words[i / 64] = word;
+        match &mut self.above {
+            Above::Nothing => {}
+            Above::Summary(above) => {
+                if word == 0 {
+                    above.remove(i / 64);
+                }
+            }
+        }
+    }
+
+    /// Makes this number a member or none.
+    pub fn set(&mut self, i: usize, member: bool)
+        requires { i < length self.old }
+        ensures { self.new ≡ slice_set self.old i member }
+    {
+        if member {
+            self.insert(i);
+        } else {
+            self.remove(i);
+        }
+    }
+
+    /// Takes every member out, by a few words' work for each.
+    pub fn clear(&mut self)
+        ensures { self.new ≡ replicate (length self.old) false }
+    {
+        while let Some(i) = self.least() {
+            self.remove(i);
+        }
+    }
+
+    /// The least member.
+    pub fn least(&self) -> Option<usize>
+        ensures { result ≡ position (λ b. b) self.now }
+    {
+        match &self.above {
+            Above::Nothing => least_in(&self.words, 0),
+            Above::Summary(above) => match above.least() {
+                Some(word) => least_in(&self.words, word),
+                None => None,
+            },
+        }
+    }
+}
+
+fn with_bit(word: u64, bit: usize) -> u64
+    requires { bit < 64 }
+    ensures differs { Differs word result bit true }
+    ensures fits { result < 2 ^ 64 }
+{
+    word | 1 << bit
+}
+
+fn without_bit(word: u64, bit: usize) -> u64
+    requires { bit < 64 }
+    ensures differs { Differs word result bit false }
+    ensures none { word ≡ 0 → result ≡ 0 }
+    ensures fits { result < 2 ^ 64 }
+{
+    word & !(1 << bit)
+}
+
+/// The least member of the word at `at`.
+fn least_in(words: &[u64], at: usize) -> Option<usize>
+    requires { at < 2 ^ 40 }
+    ensures { result ≡ least_in words.now at }
+{
+    if at >= words.len() {
+        return None;
+    }
+    let word = words[at];
+    if word == 0 {
+        return None;
+    }
+    Some(64 * at + word.trailing_zeros() as usize)
+}

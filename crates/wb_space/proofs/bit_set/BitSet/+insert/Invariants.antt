@@ -1,4 +1,0 @@
-use Rattle.wb_space.proofs.bit_set.BitSet.+insert.Given as goal
-
-abbrev pub decreases-insert : goal.decreases-insert
-decreases-insert l = goal.size-insert l
