@@ -1,7 +1,7 @@
 -- Each step may be made.
 use Rattle.std.proofs.Common.{◌≡◌, ◌≢◌, ℕ, zero, suc, ◌+◌, ◌-◌, ◌*◌, ◌%◌, ◌^◌, ◌<◌, ◌≤◌, Bool, true, false, if◌then◌else◌, eqb, List, [], ◌∷◌, length, set, replicate, sym, refl, ap, ◌∙◌, subst, ⊎_elim, arith, Some, bit_or}
 use Rattle.std.proofs.lemmas.List.{append-nil, length-replicate}
-use Rattle.std.proofs.lemmas.Bool.{eqb-true, ltb-true}
+use Rattle.std.proofs.lemmas.Bool.{eqb-true}
 use Rattle.std.proofs.lemmas.Nat.{le_or_l, le_or_r}
 use Rattle.std.proofs.lemmas.Bool.Decides.{eqb_tells}
 use mathlib.Core.Option.{some, some-injective, some-ne-none}
@@ -21,17 +21,17 @@ use Rattle.wb_words.specs.declared.card.Card.{Card}
 use Rattle.wb_cells.specs.declared.view.View.{View}
 use Rattle.wb_words.specs.SharedWords.{IsWord, put}
 use Rattle.wb_cells.specs.Flat.{index_of, decode}
-use Rattle.wb_words.specs.Cards.{blank, looked, losing, holding, sealing, finishing, counting, failing}
+use Rattle.wb_words.specs.Cards.{blank_card, looked, losing, holding, sealing, finishing, counting, failing}
 use Rattle.wb_words.specs.Rule.{LockRule}
 use Rattle.wb_cells.specs.Fractions.{IsWhole}
-use Rattle.wb_cells.specs.Views.{Ruled, opened}
+use Rattle.wb_cells.specs.Views.{Ruled, first_view}
 use Rattle.wb_cells.specs.Crews.{IsCrew}
 use Rattle.wb_words.specs.Looks.{Finds}
 use Rattle.wb_cells.specs.Moves.{card_at, SeatMoves}
 use Rattle.wb_words.proofs.Values.{put_same, put_count}
 use Rattle.wb_cells.proofs.Decoding.{decode_fresh}
 use Rattle.wb_cells.proofs.Core.{steps, some_is}
-use Rattle.wb_words.proofs.RuleKept.{look_keeps, loss_keeps, take_keeps, release_keeps, seal_keeps, finish_keeps, count_keeps, fail_keeps, finds, has_room, both_of, fresh_rule}
+use Rattle.wb_words.proofs.RuleKept.{look_keeps, loss_keeps, take_keeps, release_keeps, seal_keeps, finish_keeps, count_keeps, fail_keeps, finds, has_room, fresh_rule}
 
 -- a step that leaves the fail word
 same_fail : (old new : ℕ) → new ≡ old → (old ≤ new) × (0 ≤ new)
@@ -47,10 +47,6 @@ count_fail w WriteMiss x = refl
 raised : (access : Access) (seen : ℕ) → can_take access seen ≡ true → seen + taken access 0 ≡ taken access seen
 raised Shared seen can = omega arith
 raised Owned seen can = let z = eqb-true seen 0 can in omega arith
-
-pub small_enough : (access : Access) (seen : ℕ) → can_take access seen ≡ true → seen < 2097150
-small_enough Shared seen can = ltb-true seen 2097150 (both_of _ _ can).1
-small_enough Owned seen can = let z = eqb-true seen 0 can in omega arith
 
 module _ (n slots id : ℕ) (me : Me ℕ View) (k : ℕ) (turn : k < length me.0.cards) where
   pub allow_look : (word : WordName) → IsWord n word
@@ -143,10 +139,10 @@ module _ (n slots id : ℕ) (me : Me ℕ View) (k : ℕ) (turn : k < length me.0
       (λ w x is. let l : x ≤ bit_or x bits = le_or_l x bits in (omega arith, le_or_r x bits))
 
 -- the opening
-pub starts : (n m : ℕ) → Ruled n (opening (replicate (3 * n + 5) 0) [] (opened n m))
+pub starts : (n m : ℕ) → Ruled n (opening (replicate (3 * n + 5) 0) [] (first_view n m))
 starts n m = record {
   wide = length-replicate (3 * n + 5) 0;
-  rule = subst (λ (z : Words × List Card). LockRule n z.0 z.1) (λ j. (sym (decode_fresh n) j, sym (append-nil (replicate m blank)) j)) (fresh_rule n m);
+  rule = subst (λ (z : Words × List Card). LockRule n z.0 z.1) (λ j. (sym (decode_fresh n) j, sym (append-nil (replicate m blank_card)) j)) (fresh_rule n m);
   parts = record { depth = 0; deep = λ j v e. first_deep j v e; sum = refl };
   bare = λ j v e z. absurd (first_parts j v e z);
   sized = λ j v e more. first_blocks j v e;
@@ -154,27 +150,27 @@ starts n m = record {
   known = λ j v ws e is. first_words j v ws e is;
 }
   where
-    first_deep : (j : ℕ) (v : View) → get_elem? (opened n m ∷ []) j ≡ some v → v.fraction.halvings ≤ 0
-    first_deep zero v e = let h : 0 ≡ v.fraction.halvings = ap (λ (u : View). u.fraction.halvings) (some-injective (opened n m) v e) in omega arith
+    first_deep : (j : ℕ) (v : View) → get_elem? (first_view n m ∷ []) j ≡ some v → v.fraction.halvings ≤ 0
+    first_deep zero v e = let h : 0 ≡ v.fraction.halvings = ap (λ (u : View). u.fraction.halvings) (some-injective (first_view n m) v e) in omega arith
     first_deep (suc j) v e = absurd (some-ne-none v (sym e))
 
-    first_floor : (j : ℕ) (v : View) → get_elem? (opened n m ∷ []) j ≡ some v → v.fail ≤ (decode (replicate (3 * n + 5) 0)).fail
-    first_floor zero v e = let h : 0 ≡ v.fail = ap (λ (u : View). u.fail) (some-injective (opened n m) v e) in omega arith
+    first_floor : (j : ℕ) (v : View) → get_elem? (first_view n m ∷ []) j ≡ some v → v.fail ≤ (decode (replicate (3 * n + 5) 0)).fail
+    first_floor zero v e = let h : 0 ≡ v.fail = ap (λ (u : View). u.fail) (some-injective (first_view n m) v e) in omega arith
     first_floor (suc j) v e = absurd (some-ne-none v (sym e))
 
-    first_parts : (j : ℕ) (v : View) → get_elem? (opened n m ∷ []) j ≡ some v → v.fraction.pieces ≡ 0 → ⊥
-    first_parts zero v e z = let w : 1 ≡ v.fraction.pieces = ap (λ (u : View). u.fraction.pieces) (some-injective (opened n m) v e) in omega arith
+    first_parts : (j : ℕ) (v : View) → get_elem? (first_view n m ∷ []) j ≡ some v → v.fraction.pieces ≡ 0 → ⊥
+    first_parts zero v e z = let w : 1 ≡ v.fraction.pieces = ap (λ (u : View). u.fraction.pieces) (some-injective (first_view n m) v e) in omega arith
     first_parts (suc j) v e z = some-ne-none v (sym e)
 
-    first_blocks : (j : ℕ) (v : View) → get_elem? (opened n m ∷ []) j ≡ some v → v.blocks ≡ n
-    first_blocks zero v e = ap (λ (u : View). u.blocks) (sym (some-injective (opened n m) v e))
+    first_blocks : (j : ℕ) (v : View) → get_elem? (first_view n m ∷ []) j ≡ some v → v.blocks ≡ n
+    first_blocks zero v e = ap (λ (u : View). u.blocks) (sym (some-injective (first_view n m) v e))
     first_blocks (suc j) v e = absurd (some-ne-none v (sym e))
 
-    first_words : (j : ℕ) (v : View) (ws : List ℕ) → get_elem? (opened n m ∷ []) j ≡ some v → v.words ≡ Some ws → (ws ≡ replicate (3 * n + 5) 0) × IsWhole v.fraction
-    first_words zero v ws e is = let same : Some (replicate (3 * n + 5) 0) ≡ Some ws = ap (λ (u : View). u.words) (some-injective (opened n m) v e) ∙ is in
-        (some_is _ _ (sym same), subst (λ (u : View). IsWhole u.fraction) (some-injective (opened n m) v e) refl)
+    first_words : (j : ℕ) (v : View) (ws : List ℕ) → get_elem? (first_view n m ∷ []) j ≡ some v → v.words ≡ Some ws → (ws ≡ replicate (3 * n + 5) 0) × IsWhole v.fraction
+    first_words zero v ws e is = let same : Some (replicate (3 * n + 5) 0) ≡ Some ws = ap (λ (u : View). u.words) (some-injective (first_view n m) v e) ∙ is in
+        (some_is _ _ (sym same), subst (λ (u : View). IsWhole u.fraction) (some-injective (first_view n m) v e) refl)
     first_words (suc j) v ws e is = absurd (some-ne-none v (sym e))
 
-pub crew_opened : (n b m : ℕ) (v : View) → b ≡ n → v ≡ opened n m → IsCrew b v
+pub crew_opened : (n b m : ℕ) (v : View) → b ≡ n → v ≡ first_view n m → IsCrew b v
 crew_opened n b m v same is = subst (λ (z : ℕ × View). IsCrew z.0 z.1) (λ j. (sym same j, sym is j))
-    record { all = refl; sized = refl; known = refl; rule = subst (λ (w : Words). LockRule n w (replicate m blank)) (sym (decode_fresh n)) (fresh_rule n m) }
+    record { all = refl; sized = refl; known = refl; rule = subst (λ (w : Words). LockRule n w (replicate m blank_card)) (sym (decode_fresh n)) (fresh_rule n m) }

@@ -13,11 +13,11 @@ use Rattle.wb_words.specs.declared.card.Card.{Card}
 use Rattle.wb_cells.specs.declared.view.View.{View}
 use Rattle.wb_words.specs.SharedWords.{IsWord, put}
 use Rattle.wb_cells.specs.Flat.{index_of, decode}
-use Rattle.wb_words.specs.Cards.{blank}
+use Rattle.wb_words.specs.Cards.{blank_card}
 use Rattle.wb_words.specs.Rule.{LockRule}
 use Rattle.wb_cells.specs.Fractions.{IsWhole}
 use Rattle.wb_cells.specs.Views.{Ruled, all_cards, view_pieces, words_or}
-use Rattle.wb_cells.specs.Moves.{card_at, raised, SeatMoves}
+use Rattle.wb_cells.specs.Moves.{card_at, floor_raised, SeatMoves}
 use Rattle.wb_cells.proofs.Decoding.{decode_get, decode_set}
 use Rattle.wb_cells.proofs.Halves.{crowd, whole_sum, same_parts, some_pieces}
 use Rattle.wb_cells.proofs.Flatten.{flat, alone}
@@ -61,7 +61,7 @@ module _ (n id i x : ℕ) (s : State ℕ View) (r : Ruled n s) (v : View) (at : 
         (λ (t : (j ≢ id) × (get_elem? s.views j ≡ some u)). absurd (crowd s.views r.parts id v j u at some_part t.0 t.1 (r.known j u xs t.1 is).1)) (at_set s.views id j w u e);
   }
 
-raised_le : (bits f x : ℕ) → f ≤ x → bits ≤ x → raised bits f ≤ x
+raised_le : (bits f x : ℕ) → f ≤ x → bits ≤ x → floor_raised bits f ≤ x
 raised_le zero f x a b = a
 raised_le (suc bits) f x a b = omega arith
 
@@ -76,19 +76,19 @@ steps n slots id word k me f bits Q E named turn can grows s r _ at small =
     let stands : get_elem? v.cards k ≡ some c = at_index v.cards k c turn (get_or_self v.cards k) in
     let place = flat s.views id v k c at stands in
     let t = can (decode s.words) (all_cards s.views) place.0 x r.rule place.1 (r.floor id v at) (decode_get n s.words word r.wide named) small in
-    let d : Card = t.0 in let now : card_at k (fitted v (raised bits v.fail) (set v.cards k d) None) ≡ d = get_or-set_same v.cards k d blank turn in
+    let d : Card = t.0 in let now : card_at k (fitted v (floor_raised bits v.fail) (set v.cards k d) None) ≡ d = get_or-set_same v.cards k d blank_card turn in
     let put_is : decode (set s.words i (f x)) ≡ put (decode s.words) word (f x) = decode_set n s.words word (f x) r.wide named in
     let up = grows (decode s.words) x (decode_get n s.words word r.wide named) in
     let grown : (decode s.words).fail ≤ (decode (set s.words i (f x))).fail = subst (λ (u : Words). (decode s.words).fail ≤ u.fail) (sym put_is) up.0 in
     let high : bits ≤ (decode (set s.words i (f x))).fail = subst (λ (u : Words). bits ≤ u.fail) (sym put_is) up.1 in
-    let floor = r.floor id v at in let low : raised bits v.fail ≤ (decode (set s.words i (f x))).fail = raised_le bits v.fail _ (omega arith) high in
+    let floor = r.floor id v at in let low : floor_raised bits v.fail ≤ (decode (set s.words i (f x))).fail = raised_le bits v.fail _ (omega arith) high in
     let some_part : v.fraction.pieces ≢ 0 = has_part n s r id k v c at stands in
-    let rule : (ws : Option (List ℕ)) → LockRule n (decode (set s.words i (f x))) (all_cards (set s.views id (fitted v (raised bits v.fail) (set v.cards k d) ws))) =
-    λ ws. subst (λ (z : Words × List Card). LockRule n z.0 z.1) (λ j. (sym put_is j, sym (place.2 (fitted v (raised bits v.fail) (set v.cards k d) ws) d refl) j)) t.1 in
+    let rule : (ws : Option (List ℕ)) → LockRule n (decode (set s.words i (f x))) (all_cards (set s.views id (fitted v (floor_raised bits v.fail) (set v.cards k d) ws))) =
+    λ ws. subst (λ (z : Words × List Card). LockRule n z.0 z.1) (λ j. (sym put_is j, sym (place.2 (fitted v (floor_raised bits v.fail) (set v.cards k d) ws) d refl) j)) t.1 in
     dite (ℕ_discrete v.fraction.pieces (Rattle.wb_cells.specs.Fractions.doubled 1 v.fraction.halvings))
-    (λ (all : IsWhole v.fraction). let ws : Option (List ℕ) = Some (set s.words i (f x)) in let w : View = fitted v (raised bits v.fail) (set v.cards k d) ws in
+    (λ (all : IsWhole v.fraction). let ws : Option (List ℕ) = Some (set s.words i (f x)) in let w : View = fitted v (floor_raised bits v.fail) (set v.cards k d) ws in
     let state : Ruled n record { words = set s.words i (f x); homes = s.homes; views = set s.views id w } =
-    after n id i (f x) s r v at some_part (raised bits v.fail) (set v.cards k d) ws low grown (rule ws) (λ xs e. (some_is _ _ (sym e), all)) in (
+    after n id i (f x) s r v at some_part (floor_raised bits v.fail) (set v.cards k d) ws low grown (rule ws) (λ xs e. (some_is _ _ (sym e), all)) in (
       w,
       keeps,
       tt,
@@ -114,14 +114,14 @@ steps n slots id word k me f bits Q E named turn can grows s r _ at small =
       ),
     ))
     (λ part. (
-      fitted v (raised bits v.fail) (set v.cards k d) None,
+      fitted v (floor_raised bits v.fail) (set v.cards k d) None,
       keeps,
       tt,
-      after n id i (f x) s r v at some_part (raised bits v.fail) (set v.cards k d) None low grown (rule None) (λ xs e. absurd (none-some xs e)),
+      after n id i (f x) s r v at some_part (floor_raised bits v.fail) (set v.cards k d) None low grown (rule None) (λ xs e. absurd (none-some xs e)),
       (record { card = subst (Q x c) (sym now) t.2; others = ap (set v.cards k) (sym now); fraction = refl; blocks = refl; floor = refl; words = λ all. absurd (part all) }, refl),
     ))
   where
-    get_or_self : (l : List Card) (k : ℕ) → get_or l k blank ≡ get_or l k (get_or l k blank)
+    get_or_self : (l : List Card) (k : ℕ) → get_or l k blank_card ≡ get_or l k (get_or l k blank_card)
     get_or_self [] k = refl
     get_or_self (y ∷ ys) zero = refl
     get_or_self (y ∷ ys) (suc k) = get_or_self ys k

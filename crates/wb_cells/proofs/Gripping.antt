@@ -18,7 +18,7 @@ use Rattle.wb_words.specs.declared.grip.Gripped.{Gripped}
 use Rattle.wb_words.specs.declared.grip.Gripped.TheVariants.{More, Shared as GrippedShared, Owned as GrippedOwned, Refused}
 use Rattle.wb_words.specs.Cards.{looked, losing, holding, is_own_seal, is_own_number}
 use Rattle.wb_words.specs.Looks.{Finds, SawAtMost}
-use Rattle.wb_words.specs.Grips.{told_held, told_at, stage_after, card_having_found, FindsAt, IsReadyAt, GripStep, IsMore, stages_left, tried, Holds, Stays, EndsAs}
+use Rattle.wb_words.specs.Grips.{told_held, told_at, stage_after, card_having_found, FindsAt, IsReadyAt, GripStep, IsMore, stages_left, tried, TellsHeld, Stays, EndsAs}
 
 -- what the card of a grip that has come to a stage has become
 abbrev pub Reached : Access → OBlock → GripStage → Card → Card → Type 0
@@ -84,7 +84,7 @@ module _ (access : Access) (block : OBlock) (c d e : Card) (x : ℕ) where
 
   -- what is told of the block at last
   holds_at : (seal w : ℕ) → d ≡ looked (SealWord block) seal (holding (Held access block) (tried block w c)) → d.hold ≡ Held access block → d.seal ≡ Some seal → e ≡ looked (Number block) x d → Finds (Number block) x d
-      → Holds access block (place_in seal) (dirty_in seal) x c e
+      → TellsHeld access block (place_in seal) (dirty_in seal) x c e
   holds_at seal w was hold known is finds = let saw : d.saw ≡ (SealWord block, seal) ∷ ((LockWord block, w) ∷ ((Fail, 0) ∷ c.saw)) = ap (λ (z : Card). z.saw) was in
       let least : SawAtMost block x ((SealWord block, seal) ∷ ((LockWord block, w) ∷ ((Fail, 0) ∷ c.saw))) = subst (SawAtMost block x) saw (finds.grows block refl) in record {
         hold = ap (λ (z : Card). z.hold) is ∙ hold;
@@ -122,7 +122,7 @@ module _ (access : Access) (block : OBlock) (c d e : Card) (x : ℕ) where
   ends_so LookSeal r fits is finds ends = absurd (ends tt)
   ends_so (LookNumber seal) r fits is finds ends = told_of access (holds_at seal r.0 r.1 fits.0 fits.1 is finds)
     where
-      told_of : (a : Access) → Holds a block (place_in seal) (dirty_in seal) x c e → EndsAs a block (told_held a block seal x) c e
+      told_of : (a : Access) → TellsHeld a block (place_in seal) (dirty_in seal) x c e → EndsAs a block (told_held a block seal x) c e
       told_of Shared h = (refl, refl, h)
       told_of Owned h = (refl, refl, h)
 

@@ -15,12 +15,12 @@ use Rattle.wb_words.specs.declared.card.Card.{Card}
 use Rattle.wb_cells.specs.declared.view.View.{View}
 use Rattle.wb_words.specs.SharedWords.{IsWord}
 use Rattle.wb_cells.specs.Flat.{decode}
-use Rattle.wb_words.specs.Cards.{blank, total, is_block, is_write, is_count, shares, owns, sharers, owners, writes_on, counts_of, looked, merged}
+use Rattle.wb_words.specs.Cards.{blank_card, total, is_block, is_write, is_count, shares, owns, sharers, owners, writes_on, counts_of, looked, merged}
 use Rattle.wb_words.specs.Rule.{block, AllSawNoMore, Knows, LockRule, IsLock}
 use Rattle.wb_cells.specs.Fractions.{IsWhole, together}
 use Rattle.wb_cells.specs.Views.{Ruled, all_cards, cut_left, cut_right, merged_cards, joined, spent}
 use Rattle.wb_words.specs.Looks.{Finds}
-use Rattle.wb_cells.specs.Moves.{card_at, raised, SeatMoves}
+use Rattle.wb_cells.specs.Moves.{card_at, floor_raised, SeatMoves}
 use Rattle.wb_cells.specs.Passes.{pass_state, IsPass, IsSum}
 use Rattle.wb_words.proofs.Totals.{total-append}
 use Rattle.wb_cells.proofs.Halves.{crowd, split_parts, join_parts, doubled-le}
@@ -37,7 +37,7 @@ module _ {bits : ℕ} {how : Card → Card → Type 0} {change : Words → Words
     bare = s.1 ∙ p.bare;
   }
 
-  pub shows : (t u : TableId) (m after : Me ℕ View) (c : Card) → u ≡ t → SeatMoves bits 0 how change m after → card_at 0 after.0 ≡ c → pass_state u after ≡ record (pass_state t m) { card = c; failed = raised bits m.0.fail }
+  pub shows : (t u : TableId) (m after : Me ℕ View) (c : Card) → u ≡ t → SeatMoves bits 0 how change m after → card_at 0 after.0 ≡ c → pass_state u after ≡ record (pass_state t m) { card = c; failed = floor_raised bits m.0.fail }
   shows t u m after c same s is = λ i. record { table = same i; fraction = s.0.fraction i; card = is i; failed = s.0.floor i }
 
 -- what a look finds where one card is all there is
@@ -68,8 +68,8 @@ rule_from n w cs ds r sh ow wr co knows = record {
   knows = knows;
 }
 
-knows_blank : (w : Words) (q : ℕ) (c : Card) → get_elem? (blank ∷ []) q ≡ some c → Knows w c
-knows_blank w zero c e = subst (Knows w) (some-injective blank c e) (blank_knows w)
+knows_blank : (w : Words) (q : ℕ) (c : Card) → get_elem? (blank_card ∷ []) q ≡ some c → Knows w c
+knows_blank w zero c e = subst (Knows w) (some-injective blank_card c e) (blank_knows w)
 knows_blank w (suc q) c e = absurd (some-ne-none c (sym e))
 
 first_has : (l : List Card) (c : Card) → l ≡ c ∷ [] → get_elem? l 0 ≡ some c
@@ -79,7 +79,7 @@ pub splits : (n id : ℕ) (v : View) (c : Card) → v.cards ≡ c ∷ [] → Spl
 splits n id v c one s r at =
     let left : View = cut_left v in let right : View = cut_right v in let vs : List View = set s.views id left in
     let some_part : v.fraction.pieces ≢ 0 = has_part n s r id 0 v c at (first_has v.cards c one) in
-    let same : (f : Card → ℕ) → f blank ≡ 0 → total f (all_cards (vs ++ right ∷ [])) ≡ total f (all_cards s.views) =
+    let same : (f : Card → ℕ) → f blank_card ≡ 0 → total f (all_cards (vs ++ right ∷ [])) ≡ total f (all_cards s.views) =
     λ f z. let a = cards_sum f s.views id v left at in let b = all-snoc f vs right in omega arith in record {
       wide = r.wide;
       rule = rule_from n (decode s.words) (all_cards s.views) (all_cards (vs ++ right ∷ [])) r.rule (λ b. same (sharers b) refl) (λ b. same (owners b) refl) (λ b. same (writes_on b) refl) (λ kind. same (counts_of kind) refl)
@@ -157,4 +157,4 @@ joins n id v other w c d vc wc ch dh s r at apart there =
     merged_at (suc q) e g k l = absurd (some-ne-none e (sym g))
 
 pub joined_card : (v w : View) (c d : Card) → v.cards ≡ c ∷ [] → w.cards ≡ d ∷ [] → card_at 0 (joined v w) ≡ merged c d
-joined_card v w c d vc wc = λ j. get_or (merged_cards (vc j) (wc j)) 0 blank
+joined_card v w c d vc wc = λ j. get_or (merged_cards (vc j) (wc j)) 0 blank_card

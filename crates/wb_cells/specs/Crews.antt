@@ -3,7 +3,7 @@ use Rattle.std.specs.Prelude.{◌≡◌, ℕ, List, Some, slice_set, slice_index
 use Rattle.wb_words.specs.SharedWords.{Words}
 use Rattle.wb_words.specs.declared.card.Card.{Card}
 use Rattle.wb_cells.specs.declared.view.View.{View}
-use Rattle.wb_words.specs.Cards.{blank}
+use Rattle.wb_words.specs.Cards.{blank_card}
 use Rattle.wb_words.specs.Effects.{words_after, card_after}
 use Rattle.wb_words.specs.Rule.{LockRule}
 use Rattle.wb_words.specs.declared.step.CellStep.{CellStep}
@@ -18,7 +18,7 @@ pub record CrewState : Type 0 where
 
 -- the card of an actor
 abbrev pub card_of : CrewState → ℕ → Card
-card_of crew actor = slice_index_or crew.cards actor blank
+card_of crew actor = slice_index_or crew.cards actor blank_card
 
 -- a seat that has the whole and knows all words
 pub record IsCrew (n : ℕ) (v : View) : Type 0 where

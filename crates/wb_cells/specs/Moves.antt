@@ -4,13 +4,13 @@ use Rattle.atomic_table.specs.Table.{Me}
 use Rattle.wb_words.specs.SharedWords.{Words}
 use Rattle.wb_words.specs.declared.card.Card.{Card}
 use Rattle.wb_cells.specs.declared.view.View.{View}
-use Rattle.wb_words.specs.Cards.{blank}
+use Rattle.wb_words.specs.Cards.{blank_card}
 use Rattle.wb_words.specs.Rule.{LockRule}
 use Rattle.wb_cells.specs.Fractions.{IsWhole}
 use Rattle.wb_cells.specs.Views.{words_or, known_words}
 
 abbrev pub card_at : ℕ → View → Card
-card_at k v = slice_index_or v.cards k blank
+card_at k v = slice_index_or v.cards k blank_card
 
 -- Who has the whole knows all words after a step, and what they were before it.
 pub record Tells (change : Words → Words → Type 0) (v w : View) : Type 0 where
@@ -21,10 +21,10 @@ pub record Tells (change : Words → Words → Type 0) (v w : View) : Type 0 whe
   pub rule : LockRule v.blocks (known_words w) w.cards
   pub same : v.words ≡ Some (words_or v.words) → was ≡ known_words v
 
--- a floor under the fail word, raised by a bit that was set, 0 for none
-abbrev pub raised : ℕ → ℕ → ℕ
-raised zero floor = floor
-raised (suc bits) floor = max floor (suc bits)
+-- a floor under the fail word, floor_raised by a bit that was set, 0 for none
+abbrev pub floor_raised : ℕ → ℕ → ℕ
+floor_raised zero floor = floor
+floor_raised (suc bits) floor = max floor (suc bits)
 
 -- The card k goes by `how`, and no other changes; `bits` of the fail word were set.
 pub record Moves (bits k : ℕ) (how : Card → Card → Type 0) (change : Words → Words → Type 0) (v w : View) : Type 0 where
@@ -32,7 +32,7 @@ pub record Moves (bits k : ℕ) (how : Card → Card → Type 0) (change : Words
   pub others : w.cards ≡ slice_set v.cards k (card_at k w)
   pub fraction : w.fraction ≡ v.fraction
   pub blocks : w.blocks ≡ v.blocks
-  pub floor : w.fail ≡ raised bits v.fail
+  pub floor : w.fail ≡ floor_raised bits v.fail
   pub words : IsWhole v.fraction → Tells change v w
 
 -- the same of a seat, which carries nothing else

@@ -7,7 +7,7 @@ use Rattle.wb_words.specs.SharedWords.{Words}
 use Rattle.wb_words.specs.declared.card.Card.{Card}
 use Rattle.wb_cells.specs.declared.view.View.{View}
 use Rattle.wb_cells.specs.Flat.{decode}
-use Rattle.wb_words.specs.Cards.{blank, total, merged}
+use Rattle.wb_words.specs.Cards.{blank_card, total, merged}
 use Rattle.wb_words.specs.Rule.{LockRule}
 use Rattle.wb_cells.specs.Fractions.{doubled, pieces_at, IsWhole, the_whole, no_fraction, half, together}
 
@@ -34,8 +34,8 @@ pub record Ruled (n : ℕ) (s : State ℕ View) : Type 0 where
   pub known : (j : ℕ) (v : View) (ws : List ℕ) → get_elem? s.views j ≡ some v → v.words ≡ Some ws → (ws ≡ s.words) × IsWhole v.fraction
 
 -- the first view, which has the whole and knows that all words are 0
-abbrev pub opened : ℕ → ℕ → View
-opened n actors = record { fraction = the_whole; blocks = n; cards = replicate actors blank; fail = 0; words = Some (replicate (3 * n + 5) 0) }
+abbrev pub first_view : ℕ → ℕ → View
+first_view n actors = record { fraction = the_whole; blocks = n; cards = replicate actors blank_card; fail = 0; words = Some (replicate (3 * n + 5) 0) }
 
 abbrev pub words_or : Option (List ℕ) → List ℕ
 words_or None = []
@@ -50,7 +50,7 @@ abbrev pub cut_left : View → View
 cut_left v = record v { fraction = half v.fraction; words = None }
 
 abbrev pub cut_right : View → View
-cut_right v = record { fraction = half v.fraction; blocks = v.blocks; cards = blank ∷ []; fail = v.fail; words = None }
+cut_right v = record { fraction = half v.fraction; blocks = v.blocks; cards = blank_card ∷ []; fail = v.fail; words = None }
 
 abbrev pub merged_cards : List Card → List Card → List Card
 merged_cards (c ∷ cs) (d ∷ ds) = merged c d ∷ []

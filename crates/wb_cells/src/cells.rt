@@ -8,7 +8,7 @@ ghost use Rattle.wb_words.specs.declared.word.Word.TheVariants.{Fail as FailWord
 ghost use Rattle.wb_words.specs.SharedWords.{can_take, seal_word as seal_of};
 ghost use Rattle.wb_words.specs.declared.card.Hold.TheVariants.{Nothing, Held};
 ghost use Rattle.wb_words.specs.SharedWords.{IsWord};
-ghost use Rattle.wb_words.specs.Cards.{blank, looked, losing, holding, sealing, finishing, counting, failing, merged, counts_of, writes_on};
+ghost use Rattle.wb_words.specs.Cards.{blank_card, looked, losing, holding, sealing, finishing, counting, failing, merged, counts_of, writes_on};
 ghost use Rattle.wb_cells.specs.Fractions.{IsWhole, the_whole, half, together};
 ghost use Rattle.wb_words.specs.Looks.{Finds};
 ghost use Rattle.wb_cells.specs.Passes.{IsSum};
@@ -63,7 +63,7 @@ impl Cells {
     /// they find no room.
     pub fn new(alloc: Global, origin_blocks: u32) -> Result<(Cells, Pass), Refusal>
         ensures cells { IfOk result (λ r. r.0.blocks ≡ origin_blocks) }
-        ensures pass { IfOk result (λ r. r.1 ≡ record { table = r.0.table; fraction = the_whole; card = blank; failed = 0 }) }
+        ensures pass { IfOk result (λ r. r.1 ≡ record { table = r.0.table; fraction = the_whole; card = blank_card; failed = 0 }) }
         ensures refused { IfErr result (λ r. r ≡ Memory) }
     {
         let (words, seat) = WordTable::new(alloc, origin_blocks, 1)?;
@@ -76,7 +76,7 @@ impl Cells {
         requires at { pass.table ≡ self.now.table }
         requires idle { pass.card.hold ≡ Nothing }
         ensures first { result.0 ≡ record pass { fraction = half pass.fraction } }
-        ensures second { result.1 ≡ record { table = pass.table; fraction = half pass.fraction; card = blank; failed = pass.failed } }
+        ensures second { result.1 ≡ record { table = pass.table; fraction = half pass.fraction; card = blank_card; failed = pass.failed } }
     {
         let Pass { mut seat } = pass;
         let other = self.words.table.shared.split_seat::<Halving>(&mut seat);

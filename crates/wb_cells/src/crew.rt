@@ -6,7 +6,7 @@ ghost use Rattle.wb_types.specs.declared.refusal.Refusal.TheVariants.{Memory};
 ghost use Rattle.wb_words.specs.declared.word.Access.TheVariants.{Owned};
 ghost use Rattle.wb_words.specs.declared.card.Hold.TheVariants.{Nothing, Held};
 ghost use Rattle.wb_words.specs.SharedWords.{IsWord, fresh_words, value_of, word_at, with_cell, can_take, taken, given_back, seal_word as seal_of, one_more, counted};
-ghost use Rattle.wb_words.specs.Cards.{blank, looked, losing, holding, sealing, finishing, counting, failing};
+ghost use Rattle.wb_words.specs.Cards.{blank_card, looked, losing, holding, sealing, finishing, counting, failing};
 ghost use Rattle.wb_words.specs.Effects.{result_of};
 ghost use Rattle.wb_words.specs.Ready.{IsReady};
 ghost use Rattle.wb_words.specs.Rule.{LockRule};
@@ -43,7 +43,7 @@ impl Crew {
     /// So many blocks whose words are 0, and so many actors that hold nothing; `Memory` where the words
     /// find no room.
     pub fn new(alloc: Global, blocks: u32, actors: usize) -> Result<Crew, Refusal>
-        ensures new { IfOk result (λ c. (c.blocks ≡ blocks) × (c.words ≡ fresh_words blocks) × (c.cards ≡ replicate actors blank)) }
+        ensures new { IfOk result (λ c. (c.blocks ≡ blocks) × (c.words ≡ fresh_words blocks) × (c.cards ≡ replicate actors blank_card)) }
         ensures refused { IfErr result (λ r. r ≡ Memory) }
     {
         let (words, seat) = WordTable::new(alloc, blocks, actors)?;
@@ -92,7 +92,7 @@ impl Crew {
         ensures found { result ≡ value_of self.old.words word }
         ensures blocks { self.new.blocks ≡ self.old.blocks }
         ensures words { self.new.words ≡ self.old.words }
-        ensures cards { self.new.cards ≡ slice_set self.old.cards actor (looked word result (slice_index_or self.old.cards actor blank)) }
+        ensures cards { self.new.cards ≡ slice_set self.old.cards actor (looked word result (slice_index_or self.old.cards actor blank_card)) }
     {
         self.words.look(&mut self.seat, actor, word)
     }
@@ -102,12 +102,12 @@ impl Crew {
     fn take(&mut self, actor: usize, access: Access, block: OBlock, seen: u64) -> bool
         requires actor { actor < length self.old.cards }
         requires block { block.0 < self.old.blocks }
-        requires idle { (slice_index_or self.old.cards actor blank).hold ≡ Nothing }
+        requires idle { (slice_index_or self.old.cards actor blank_card).hold ≡ Nothing }
         requires free { can_take access seen ≡ true }
         ensures won { result ≡ (word_at self.old.words.cells block == seen) }
         ensures blocks { self.new.blocks ≡ self.old.blocks }
         ensures words { self.new.words ≡ (if result then with_cell self.old.words block (taken access seen) else self.old.words) }
-        ensures cards { self.new.cards ≡ slice_set self.old.cards actor (if result then holding (Held access block) (slice_index_or self.old.cards actor blank) else losing block (word_at self.old.words.cells block) (slice_index_or self.old.cards actor blank)) }
+        ensures cards { self.new.cards ≡ slice_set self.old.cards actor (if result then holding (Held access block) (slice_index_or self.old.cards actor blank_card) else losing block (word_at self.old.words.cells block) (slice_index_or self.old.cards actor blank_card)) }
     {
         self.words.take(&mut self.seat, actor, access, block, seen) == seen
     }
@@ -116,10 +116,10 @@ impl Crew {
     fn release(&mut self, actor: usize, access: Access, block: OBlock)
         requires actor { actor < length self.old.cards }
         requires block { block.0 < self.old.blocks }
-        requires holds { (slice_index_or self.old.cards actor blank).hold ≡ Held access block }
+        requires holds { (slice_index_or self.old.cards actor blank_card).hold ≡ Held access block }
         ensures blocks { self.new.blocks ≡ self.old.blocks }
         ensures words { self.new.words ≡ with_cell self.old.words block (given_back access (word_at self.old.words.cells block)) }
-        ensures cards { self.new.cards ≡ slice_set self.old.cards actor (holding Nothing (slice_index_or self.old.cards actor blank)) }
+        ensures cards { self.new.cards ≡ slice_set self.old.cards actor (holding Nothing (slice_index_or self.old.cards actor blank_card)) }
     {
         self.words.release(&mut self.seat, actor, access, block);
     }
@@ -129,10 +129,10 @@ impl Crew {
     fn seal(&mut self, actor: usize, block: OBlock, place: Option<CBlock>, dirty: bool)
         requires actor { actor < length self.old.cards }
         requires block { block.0 < self.old.blocks }
-        requires owns { (slice_index_or self.old.cards actor blank).hold ≡ Held Owned block }
+        requires owns { (slice_index_or self.old.cards actor blank_card).hold ≡ Held Owned block }
         ensures blocks { self.new.blocks ≡ self.old.blocks }
         ensures words { self.new.words ≡ record self.old.words { seals = slice_set self.old.words.seals block.0 (seal_of place dirty) } }
-        ensures cards { self.new.cards ≡ slice_set self.old.cards actor (sealing (seal_of place dirty) (slice_index_or self.old.cards actor blank)) }
+        ensures cards { self.new.cards ≡ slice_set self.old.cards actor (sealing (seal_of place dirty) (slice_index_or self.old.cards actor blank_card)) }
     {
         self.words
             .seal(&mut self.seat, actor, block, seal_word(place, dirty));
@@ -142,11 +142,11 @@ impl Crew {
     fn finish(&mut self, actor: usize, block: OBlock)
         requires actor { actor < length self.old.cards }
         requires block { block.0 < self.old.blocks }
-        requires owns { (slice_index_or self.old.cards actor blank).hold ≡ Held Owned block }
-        requires room { (n : ℕ) × ((slice_index_or self.old.cards actor blank).number ≡ Some n) × (n ≢ 2 ^ 64 - 1) }
+        requires owns { (slice_index_or self.old.cards actor blank_card).hold ≡ Held Owned block }
+        requires room { (n : ℕ) × ((slice_index_or self.old.cards actor blank_card).number ≡ Some n) × (n ≢ 2 ^ 64 - 1) }
         ensures blocks { self.new.blocks ≡ self.old.blocks }
         ensures words { self.new.words ≡ record self.old.words { numbers = slice_set self.old.words.numbers block.0 (one_more (word_at self.old.words.numbers block)) } }
-        ensures cards { self.new.cards ≡ slice_set self.old.cards actor (finishing block (slice_index_or self.old.cards actor blank)) }
+        ensures cards { self.new.cards ≡ slice_set self.old.cards actor (finishing block (slice_index_or self.old.cards actor blank_card)) }
     {
         self.words.finish(&mut self.seat, actor, block);
     }
@@ -156,7 +156,7 @@ impl Crew {
         requires actor { actor < length self.old.cards }
         ensures blocks { self.new.blocks ≡ self.old.blocks }
         ensures words { self.new.words ≡ counted self.old.words kind }
-        ensures cards { self.new.cards ≡ slice_set self.old.cards actor (counting kind (slice_index_or self.old.cards actor blank)) }
+        ensures cards { self.new.cards ≡ slice_set self.old.cards actor (counting kind (slice_index_or self.old.cards actor blank_card)) }
     {
         self.words.count(&mut self.seat, actor, kind);
     }
@@ -166,7 +166,7 @@ impl Crew {
         requires actor { actor < length self.old.cards }
         ensures blocks { self.new.blocks ≡ self.old.blocks }
         ensures words { self.new.words ≡ record self.old.words { fail = bit_or self.old.words.fail 1 } }
-        ensures cards { self.new.cards ≡ slice_set self.old.cards actor (failing (slice_index_or self.old.cards actor blank)) }
+        ensures cards { self.new.cards ≡ slice_set self.old.cards actor (failing (slice_index_or self.old.cards actor blank_card)) }
     {
         self.words.fail(&mut self.seat, actor, FAILED);
     }
@@ -176,7 +176,7 @@ impl Crew {
         requires actor { actor < length self.old.cards }
         ensures blocks { self.new.blocks ≡ self.old.blocks }
         ensures words { self.new.words ≡ record self.old.words { fail = bit_or self.old.words.fail 2 } }
-        ensures cards { self.new.cards ≡ slice_set self.old.cards actor (failing (slice_index_or self.old.cards actor blank)) }
+        ensures cards { self.new.cards ≡ slice_set self.old.cards actor (failing (slice_index_or self.old.cards actor blank_card)) }
     {
         self.words.fail(&mut self.seat, actor, SUSPENDED);
     }

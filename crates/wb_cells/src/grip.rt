@@ -6,7 +6,7 @@ ghost use Rattle.wb_words.specs.declared.word.Access.TheVariants.{Shared as Shar
 ghost use Rattle.wb_words.specs.declared.card.Hold.TheVariants.{Nothing};
 ghost use Rattle.wb_words.specs.declared.grip.GripStage.TheVariants.{LookFail};
 ghost use Rattle.wb_words.specs.declared.grip.Gripped.TheVariants.{Refused};
-ghost use Rattle.wb_words.specs.Grips.{IsReadyToGrip, GripStep, IsMore, Holds, IsRefusal, EndsAs};
+ghost use Rattle.wb_words.specs.Grips.{IsReadyToGrip, GripStep, IsMore, TellsHeld, IsRefusal, EndsAs};
 
 use crate::cells::Cells;
 use crate::pass::Pass;
@@ -49,7 +49,7 @@ impl Cells {
         requires idle { pass.old.card.hold ≡ Nothing }
         ensures pass { pass.new ≡ record pass.old { card = pass.new.card } }
         ensures block { IfOk result (λ share. share.block ≡ block) }
-        ensures shares { IfOk result (λ share. Holds SharedAccess block share.place share.dirty share.number pass.old.card pass.new.card) }
+        ensures shares { IfOk result (λ share. TellsHeld SharedAccess block share.place share.dirty share.number pass.old.card pass.new.card) }
         ensures refused { IfErr result (λ refusal. IsRefusal SharedAccess block refusal pass.old.card pass.new.card) }
         ensures failed { 0 < pass.old.failed → result ≡ Err Failed }
     {
@@ -71,7 +71,7 @@ impl Cells {
         requires idle { pass.old.card.hold ≡ Nothing }
         ensures pass { pass.new ≡ record pass.old { card = pass.new.card } }
         ensures block { IfOk result (λ own. own.block ≡ block) }
-        ensures owns { IfOk result (λ own. Holds OwnedAccess block own.place own.dirty own.number pass.old.card pass.new.card) }
+        ensures owns { IfOk result (λ own. TellsHeld OwnedAccess block own.place own.dirty own.number pass.old.card pass.new.card) }
         ensures refused { IfErr result (λ refusal. IsRefusal OwnedAccess block refusal pass.old.card pass.new.card) }
         ensures failed { 0 < pass.old.failed → result ≡ Err Failed }
     {

@@ -11,7 +11,7 @@ ghost use Rattle.wb_words.specs.declared.card.Hold.TheVariants.{Nothing, Held};
 ghost use Rattle.wb_words.specs.SharedWords.{IsWord, put};
 ghost use Rattle.wb_cells.specs.Flat.{index_of};
 ghost use Rattle.wb_words.specs.Cards.{looked, losing, holding, sealing, finishing, counting, failing};
-ghost use Rattle.wb_cells.specs.Views.{Ruled, opened};
+ghost use Rattle.wb_cells.specs.Views.{Ruled, first_view};
 ghost use Rattle.wb_words.specs.Looks.{Finds};
 ghost use Rattle.wb_cells.specs.Moves.{SeatMoves, card_at};
 
@@ -32,11 +32,11 @@ pub(crate) const SUSPENDED: u64 = 2;
 pub(crate) struct WordRule;
 
 impl TableRule<u64, View, Sizes> for WordRule {
-    ghost use Rattle.wb_cells.specs.Views.{Ruled, opened};
+    ghost use Rattle.wb_cells.specs.Views.{Ruled, first_view};
 
     ghost holds = { λ sizes. Ruled sizes.blocks };
 
-    ghost first = { λ sizes. opened sizes.blocks sizes.actors };
+    ghost first = { λ sizes. first_view sizes.blocks sizes.actors };
 }
 
 // Each call says for itself what its step tells.
@@ -86,7 +86,7 @@ impl WordTable {
         blocks: u32,
         actors: usize,
     ) -> Result<(WordTable, Seat<u64, View>), AllocError>
-        ensures { IfOk result (λ r. (r.0.blocks ≡ blocks) × (r.1.table_id ≡ r.0.table.shared.table_id) × (r.1.me ≡ (opened blocks actors, []))) }
+        ensures { IfOk result (λ r. (r.0.blocks ≡ blocks) × (r.1.table_id ≡ r.0.table.shared.table_id) × (r.1.me ≡ (first_view blocks actors, []))) }
     {
         let words = vec![in alloc; 0u64; (3 * u64::from(blocks) + 5) as usize]?;
         let (table, seat) = Table::of_words(alloc, words.as_slice(), &Sizes { blocks, actors })?;

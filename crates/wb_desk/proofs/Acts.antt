@@ -6,8 +6,8 @@ use Rattle.std.proofs.lemmas.Option.{get_or_from_slice_get, slice_get_within}
 use Rattle.std.proofs.Math.ListN.{get_or-map}
 use Rattle.wb_space.specs.declared.block.Block.{Block}
 use Rattle.wb_space.specs.declared.block.Block.TheVariants.{Free, Mapped, Reserved, Quarantined}
-use Rattle.wb_space.specs.Blocks.{given_back, begun, ended, state, IsKept}
-use Rattle.wb_desk.specs.Allocation.{Image, LiveOrder, Allocation, Act, Give, Over, Map, Unmap, Begin, End, Threshold, Apart, ApartAll, Shareless, WithinFrom, ImageSafe, AllocationInvariant, MayCome, IsRun, after_act, after_all, without, cost, names, cache_at, Holds, StaysOrEnds, NoneTwice, opened, opened_entry}
+use Rattle.wb_space.specs.Blocks.{released, commit_begun, commit_ended, state, IsClaimed}
+use Rattle.wb_desk.specs.Allocation.{BlockMap, LiveOrder, Allocation, Act, Give, Over, Map, Unmap, Begin, End, Threshold, Apart, ApartAll, Shareless, WithinFrom, ImageSafe, AllocationInvariant, MayAct, IsActRun, after_act, after_acts, without, cost, entry_in, cache_at, HasOrder, StaysOrEnds, NoneTwice, at_opening, opened_entry}
 
 -- Orders
 
@@ -55,99 +55,99 @@ within_without before (o ∷ os) (suc i) w = (w.0, within_without (before + o.se
 -- Blocks
 
 abbrev pub SoundAt : Allocation → ℕ → Type 0
-SoundAt d c = ImageSafe (state d.blocks c) (names d.mapping c) (names d.committed c) (names d.running c)
+SoundAt d c = ImageSafe (state d.blocks c) (entry_in d.mapping c) (entry_in d.committed c) (entry_in d.running c)
 
 abbrev pub AllSound : Allocation → Type 0
 AllSound d = (c : ℕ) → SoundAt d c
 
 -- one block changes its state, the mapping and the images stay
-pub block_sound : (d : Allocation) (c : ℕ) (b : Block) → (c < length d.blocks → ImageSafe b (names d.mapping c) (names d.committed c) (names d.running c)) → AllSound d → (k : ℕ) → ImageSafe (state (set d.blocks c b) k) (names d.mapping k) (names d.committed k) (names d.running k)
+pub block_sound : (d : Allocation) (c : ℕ) (b : Block) → (c < length d.blocks → ImageSafe b (entry_in d.mapping c) (entry_in d.committed c) (entry_in d.running c)) → AllSound d → (k : ℕ) → ImageSafe (state (set d.blocks c b) k) (entry_in d.mapping k) (entry_in d.committed k) (entry_in d.running k)
 block_sound d c b here all k = elim (cases_eq k c) [
-  | inl e ↦ subst (λ (k : ℕ). ImageSafe (state (set d.blocks c b) k) (names d.mapping k) (names d.committed k) (names d.running k)) (sym e) at
-  | inr n ↦ subst (λ (x : Block). ImageSafe x (names d.mapping k) (names d.committed k) (names d.running k)) (sym (get_or-set_other d.blocks c k b Free n)) (all k)
+  | inl e ↦ subst (λ (k : ℕ). ImageSafe (state (set d.blocks c b) k) (entry_in d.mapping k) (entry_in d.committed k) (entry_in d.running k)) (sym e) at
+  | inr n ↦ subst (λ (x : Block). ImageSafe x (entry_in d.mapping k) (entry_in d.committed k) (entry_in d.running k)) (sym (get_or-set_other d.blocks c k b Free n)) (all k)
 ]
   where
-    at : ImageSafe (state (set d.blocks c b) c) (names d.mapping c) (names d.committed c) (names d.running c)
+    at : ImageSafe (state (set d.blocks c b) c) (entry_in d.mapping c) (entry_in d.committed c) (entry_in d.running c)
     at = elim (cases_lt c (length d.blocks)) [
-      | inl l ↦ subst (λ (x : Block). ImageSafe x (names d.mapping c) (names d.committed c) (names d.running c)) (sym (get_or-set_same d.blocks c b Free l)) (here l)
-      | inr p ↦ subst (λ (x : List Block). ImageSafe (state x c) (names d.mapping c) (names d.committed c) (names d.running c)) (sym (set_past d.blocks c b p)) (all c)
+      | inl l ↦ subst (λ (x : Block). ImageSafe x (entry_in d.mapping c) (entry_in d.committed c) (entry_in d.running c)) (sym (get_or-set_same d.blocks c b Free l)) (here l)
+      | inr p ↦ subst (λ (x : List Block). ImageSafe (state x c) (entry_in d.mapping c) (entry_in d.committed c) (entry_in d.running c)) (sym (set_past d.blocks c b p)) (all c)
     ]
 
 -- with its entry of the mapping
-pub entry_sound : (d : Allocation) (c : ℕ) (b : Block) (m : Option ℕ) → c < length d.blocks → (ImageSafe b (get_or (set d.mapping c m) c None) (names d.committed c) (names d.running c)) → AllSound d → (k : ℕ) → ImageSafe (state (set d.blocks c b) k) (names (set d.mapping c m) k) (names d.committed k) (names d.running k)
+pub entry_sound : (d : Allocation) (c : ℕ) (b : Block) (m : Option ℕ) → c < length d.blocks → (ImageSafe b (get_or (set d.mapping c m) c None) (entry_in d.committed c) (entry_in d.running c)) → AllSound d → (k : ℕ) → ImageSafe (state (set d.blocks c b) k) (entry_in (set d.mapping c m) k) (entry_in d.committed k) (entry_in d.running k)
 entry_sound d c b m l here all k = elim (cases_eq k c) [
-  | inl e ↦ subst (λ (k : ℕ). ImageSafe (state (set d.blocks c b) k) (names (set d.mapping c m) k) (names d.committed k) (names d.running k)) (sym e)
-      (subst (λ (x : Block). ImageSafe x (names (set d.mapping c m) c) (names d.committed c) (names d.running c)) (sym (get_or-set_same d.blocks c b Free l)) here)
-  | inr n ↦ subst (λ (x : Block). ImageSafe x (names (set d.mapping c m) k) (names d.committed k) (names d.running k)) (sym (get_or-set_other d.blocks c k b Free n))
-      (subst (λ (x : Option ℕ). ImageSafe (state d.blocks k) x (names d.committed k) (names d.running k)) (sym (get_or-set_other d.mapping c k m None n)) (all k))
+  | inl e ↦ subst (λ (k : ℕ). ImageSafe (state (set d.blocks c b) k) (entry_in (set d.mapping c m) k) (entry_in d.committed k) (entry_in d.running k)) (sym e)
+      (subst (λ (x : Block). ImageSafe x (entry_in (set d.mapping c m) c) (entry_in d.committed c) (entry_in d.running c)) (sym (get_or-set_same d.blocks c b Free l)) here)
+  | inr n ↦ subst (λ (x : Block). ImageSafe x (entry_in (set d.mapping c m) k) (entry_in d.committed k) (entry_in d.running k)) (sym (get_or-set_other d.blocks c k b Free n))
+      (subst (λ (x : Option ℕ). ImageSafe (state d.blocks k) x (entry_in d.committed k) (entry_in d.running k)) (sym (get_or-set_other d.mapping c k m None n)) (all k))
 ]
 
 -- each kind of change, at one block
 
-pub sound_given_back : (b : Block) (now committed running : Option ℕ) → ImageSafe b now committed running → ImageSafe (given_back b) now committed running
+pub sound_given_back : (b : Block) (now committed running : Option ℕ) → ImageSafe b now committed running → ImageSafe (released b) now committed running
 sound_given_back Free now committed running s = s
 sound_given_back Mapped now committed running s = s
 sound_given_back Reserved now committed running s = s
-sound_given_back (Quarantined kept false) now committed running s = s
-sound_given_back (Quarantined kept true) now committed running s = s
+sound_given_back (Quarantined claimed false) now committed running s = s
+sound_given_back (Quarantined claimed true) now committed running s = s
 
-pub sound_begun : (b : Block) (now committed running : Option ℕ) → ImageSafe b now committed running → ImageSafe (begun b) now committed now
+pub sound_begun : (b : Block) (now committed running : Option ℕ) → ImageSafe b now committed running → ImageSafe (commit_begun b) now committed now
 sound_begun Free now committed running s = (s.0, s.1, s.0)
 sound_begun Mapped now committed running s = (s.0, s.1, s.2, inr s.1)
 sound_begun Reserved now committed running s = (s.0, s.1, s.0)
-sound_begun (Quarantined kept false) now committed running s = (s, s)
-sound_begun (Quarantined kept true) now committed running s = (s.0, s.0)
+sound_begun (Quarantined claimed false) now committed running s = (s, s)
+sound_begun (Quarantined claimed true) now committed running s = (s.0, s.0)
 
-pub sound_ended : (b : Block) (now committed running : Option ℕ) → ImageSafe b now committed running → ImageSafe (ended b) now running running
+pub sound_ended : (b : Block) (now committed running : Option ℕ) → ImageSafe b now committed running → ImageSafe (commit_ended b) now running running
 sound_ended Free now committed running s = (s.0, s.2, s.2)
 sound_ended Mapped now committed running s = (s.0, s.1, s.3, s.3)
 sound_ended Reserved now committed running s = (s.0, s.2, s.2)
-sound_ended (Quarantined kept false) now committed running s = s
+sound_ended (Quarantined claimed false) now committed running s = s
 sound_ended (Quarantined true true) now committed running s = (s.0, s.1, s.1)
 sound_ended (Quarantined false true) now committed running s = (s.0, s.1, s.1)
 
 -- what is asked at a block gives its state
-at_block : (d : Allocation) (c : ℕ) (b : Block) → slice_get d.blocks c ≡ Some b → AllSound d → ImageSafe b (names d.mapping c) (names d.committed c) (names d.running c)
-at_block d c b e all = subst (λ (x : Block). ImageSafe x (names d.mapping c) (names d.committed c) (names d.running c)) (get_or_from_slice_get d.blocks c b Free e) (all c)
+at_block : (d : Allocation) (c : ℕ) (b : Block) → slice_get d.blocks c ≡ Some b → AllSound d → ImageSafe b (entry_in d.mapping c) (entry_in d.committed c) (entry_in d.running c)
+at_block d c b e all = subst (λ (x : Block). ImageSafe x (entry_in d.mapping c) (entry_in d.committed c) (entry_in d.running c)) (get_or_from_slice_get d.blocks c b Free e) (all c)
 
-none_at : (m : Image) (c : ℕ) → get_or (set m c None) c None ≡ None
+none_at : (m : BlockMap) (c : ℕ) → get_or (set m c None) c None ≡ None
 none_at m c = elim (cases_lt c (length m)) [
   | inl l ↦ get_or-set_same m c None None l
-  | inr p ↦ ap (λ (x : Image). get_or x c None) (set_past m c None p) ∙ get_or_past m c None p
+  | inr p ↦ ap (λ (x : BlockMap). get_or x c None) (set_past m c None p) ∙ get_or_past m c None p
 ]
 
 -- Which blocks orders hold
 
-holds_push : (os : List LiveOrder) (p : LiveOrder) (c : ℕ) → Holds os c → Holds (os ++ p ∷ []) c
+holds_push : (os : List LiveOrder) (p : LiveOrder) (c : ℕ) → HasOrder os c → HasOrder (os ++ p ∷ []) c
 holds_push [] p c h = absurd h
 holds_push (o ∷ os) p c (inl e) = inl e
 holds_push (o ∷ os) p c (inr h) = inr (holds_push os p c h)
 
-holds_new : (os : List LiveOrder) (p : LiveOrder) (c : ℕ) → p.cache ≡ c → Holds (os ++ p ∷ []) c
+holds_new : (os : List LiveOrder) (p : LiveOrder) (c : ℕ) → p.cache ≡ c → HasOrder (os ++ p ∷ []) c
 holds_new [] p c e = inl e
 holds_new (o ∷ os) p c e = inr (holds_new os p c e)
 
-holds_without : (os : List LiveOrder) (i c : ℕ) → cache_at os i ≢ c → Holds os c → Holds (without os i) c
+holds_without : (os : List LiveOrder) (i c : ℕ) → cache_at os i ≢ c → HasOrder os c → HasOrder (without os i) c
 holds_without [] i c n h = h
 holds_without (o ∷ os) zero c n (inl e) = absurd (n e)
 holds_without (o ∷ os) zero c n (inr h) = h
 holds_without (o ∷ os) (suc i) c n (inl e) = inl e
 holds_without (o ∷ os) (suc i) c n (inr h) = inr (holds_without os i c n h)
 
-given_back_free : (b : Block) → IsKept (given_back b) → ⊥
+given_back_free : (b : Block) → IsClaimed (released b) → ⊥
 given_back_free Free h = h
 given_back_free Mapped h = h
 given_back_free Reserved h = h
-given_back_free (Quarantined kept early) h = h
+given_back_free (Quarantined claimed early) h = h
 
-kept_begun : (b : Block) → IsKept (begun b) → IsKept b
+kept_begun : (b : Block) → IsClaimed (commit_begun b) → IsClaimed b
 kept_begun Free h = h
 kept_begun Mapped h = h
 kept_begun Reserved h = h
 kept_begun (Quarantined true early) h = h
 kept_begun (Quarantined false early) h = h
 
-kept_ended : (b : Block) → IsKept (ended b) → IsKept b
+kept_ended : (b : Block) → IsClaimed (commit_ended b) → IsClaimed b
 kept_ended Free h = h
 kept_ended Mapped h = h
 kept_ended Reserved h = h
@@ -156,31 +156,31 @@ kept_ended (Quarantined true false) h = h
 kept_ended (Quarantined false true) h = h
 kept_ended (Quarantined false false) h = h
 
-set_held : (d : Allocation) (c : ℕ) (b : Block) (k : ℕ) → (IsKept b → Holds d.orders c) → IsKept (state (set d.blocks c b) k) → AllocationInvariant d → Holds d.orders k
+set_held : (d : Allocation) (c : ℕ) (b : Block) (k : ℕ) → (IsClaimed b → HasOrder d.orders c) → IsClaimed (state (set d.blocks c b) k) → AllocationInvariant d → HasOrder d.orders k
 set_held d c b k new h i = elim (cases_eq k c) [
-  | inl e ↦ subst (λ (k : ℕ). Holds d.orders k) (sym e) (at (subst (λ (k : ℕ). IsKept (state (set d.blocks c b) k)) e h))
-  | inr n ↦ i.held k (subst IsKept (get_or-set_other d.blocks c k b Free n) h)
+  | inl e ↦ subst (λ (k : ℕ). HasOrder d.orders k) (sym e) (at (subst (λ (k : ℕ). IsClaimed (state (set d.blocks c b) k)) e h))
+  | inr n ↦ i.held k (subst IsClaimed (get_or-set_other d.blocks c k b Free n) h)
 ]
   where
-    at : IsKept (state (set d.blocks c b) c) → Holds d.orders c
+    at : IsClaimed (state (set d.blocks c b) c) → HasOrder d.orders c
     at h = elim (cases_lt c (length d.blocks)) [
-      | inl l ↦ new (subst IsKept (get_or-set_same d.blocks c b Free l) h)
-      | inr p ↦ i.held c (subst (λ (x : List Block). IsKept (state x c)) (set_past d.blocks c b p) h)
+      | inl l ↦ new (subst IsClaimed (get_or-set_same d.blocks c b Free l) h)
+      | inr p ↦ i.held c (subst (λ (x : List Block). IsClaimed (state x c)) (set_past d.blocks c b p) h)
     ]
 
-over_held : (d : Allocation) (n k : ℕ) → IsKept (state (set d.blocks (cache_at d.orders n) (given_back (state d.blocks (cache_at d.orders n)))) k) → AllocationInvariant d → Holds (without d.orders n) k
+over_held : (d : Allocation) (n k : ℕ) → IsClaimed (state (set d.blocks (cache_at d.orders n) (released (state d.blocks (cache_at d.orders n)))) k) → AllocationInvariant d → HasOrder (without d.orders n) k
 over_held d n k h i = elim (cases_eq k (cache_at d.orders n)) [
-  | inl e ↦ absurd (gone (subst (λ (k : ℕ). IsKept (state (set d.blocks (cache_at d.orders n) (given_back (state d.blocks (cache_at d.orders n)))) k)) e h))
-  | inr o ↦ holds_without d.orders n k (λ e. o (sym e)) (i.held k (subst IsKept (get_or-set_other d.blocks (cache_at d.orders n) k (given_back (state d.blocks (cache_at d.orders n))) Free o) h))
+  | inl e ↦ absurd (gone (subst (λ (k : ℕ). IsClaimed (state (set d.blocks (cache_at d.orders n) (released (state d.blocks (cache_at d.orders n)))) k)) e h))
+  | inr o ↦ holds_without d.orders n k (λ e. o (sym e)) (i.held k (subst IsClaimed (get_or-set_other d.blocks (cache_at d.orders n) k (released (state d.blocks (cache_at d.orders n))) Free o) h))
 ]
   where
     c : ℕ
     c = cache_at d.orders n
 
-    gone : IsKept (state (set d.blocks c (given_back (state d.blocks c))) c) → ⊥
+    gone : IsClaimed (state (set d.blocks c (released (state d.blocks c))) c) → ⊥
     gone h = elim (cases_lt c (length d.blocks)) [
-      | inl l ↦ given_back_free (state d.blocks c) (subst IsKept (get_or-set_same d.blocks c (given_back (state d.blocks c)) Free l) h)
-      | inr p ↦ subst IsKept (get_or_past d.blocks c Free p) (subst (λ (x : List Block). IsKept (state x c)) (set_past d.blocks c (given_back (state d.blocks c)) p) h)
+      | inl l ↦ given_back_free (state d.blocks c) (subst IsClaimed (get_or-set_same d.blocks c (released (state d.blocks c)) Free l) h)
+      | inr p ↦ subst IsClaimed (get_or_past d.blocks c Free p) (subst (λ (x : List Block). IsClaimed (state x c)) (set_past d.blocks c (released (state d.blocks c)) p) h)
     ]
 
 -- No origin block twice
@@ -188,7 +188,7 @@ over_held d n k h i = elim (cases_eq k (cache_at d.orders n)) [
 none_some : (m : Option ℕ) (b : ℕ) → m ≡ None → m ≢ Some b
 none_some m b e f = let bad : None ≡ Some b = sym e ∙ f in cc
 
-once_mapped : (m : Image) (c b : ℕ) → ((k : ℕ) → names m k ≢ Some b) → NoneTwice m → NoneTwice (set m c (Some b))
+once_mapped : (m : BlockMap) (c b : ℕ) → ((k : ℕ) → entry_in m k ≢ Some b) → NoneTwice m → NoneTwice (set m c (Some b))
 once_mapped m c b new once x j k p q = elim (cases_eq j c) [
   | inl e ↦ elim (cases_eq k c) [
     | inl f ↦ e ∙ sym f
@@ -200,31 +200,31 @@ once_mapped m c b new once x j k p q = elim (cases_eq j c) [
   ]
 ]
   where
-    same : (k : ℕ) → k ≡ c → names (set m c (Some b)) k ≡ Some x → Some b ≡ Some x
+    same : (k : ℕ) → k ≡ c → entry_in (set m c (Some b)) k ≡ Some x → Some b ≡ Some x
     same k e q = elim (cases_lt c (length m)) [
-      | inl l ↦ sym (get_or-set_same m c (Some b) None l) ∙ sym (ap (λ (n : ℕ). names (set m c (Some b)) n) e) ∙ q
-      | inr past ↦ absurd (none_some (names (set m c (Some b)) k) x
-          (ap (λ (n : ℕ). names (set m c (Some b)) n) e ∙ ap (λ (l : Image). names l c) (set_past m c (Some b) past) ∙ get_or_past m c None past) q)
+      | inl l ↦ sym (get_or-set_same m c (Some b) None l) ∙ sym (ap (λ (n : ℕ). entry_in (set m c (Some b)) n) e) ∙ q
+      | inr past ↦ absurd (none_some (entry_in (set m c (Some b)) k) x
+          (ap (λ (n : ℕ). entry_in (set m c (Some b)) n) e ∙ ap (λ (l : BlockMap). entry_in l c) (set_past m c (Some b) past) ∙ get_or_past m c None past) q)
     ]
 
-once_unmapped : (m : Image) (c : ℕ) → NoneTwice m → NoneTwice (set m c None)
+once_unmapped : (m : BlockMap) (c : ℕ) → NoneTwice m → NoneTwice (set m c None)
 once_unmapped m c once x j k p q = elim (cases_eq j c) [
-  | inl e ↦ absurd (none_some (names (set m c None) j) x (ap (λ (n : ℕ). names (set m c None) n) e ∙ none_at m c) p)
+  | inl e ↦ absurd (none_some (entry_in (set m c None) j) x (ap (λ (n : ℕ). entry_in (set m c None) n) e ∙ none_at m c) p)
   | inr e ↦ elim (cases_eq k c) [
-    | inl f ↦ absurd (none_some (names (set m c None) k) x (ap (λ (n : ℕ). names (set m c None) n) f ∙ none_at m c) q)
+    | inl f ↦ absurd (none_some (entry_in (set m c None) k) x (ap (λ (n : ℕ). entry_in (set m c None) n) f ∙ none_at m c) q)
     | inr f ↦ once x j k (sym (get_or-set_other m c j None None e) ∙ p) (sym (get_or-set_other m c k None None f) ∙ q)
   ]
 ]
 
 -- Every act
 
-pub act_kept : (d : Allocation) (a : Act) → MayCome d a → AllocationInvariant d → AllocationInvariant (after_act d a)
+pub act_kept : (d : Allocation) (a : Act) → MayAct d a → AllocationInvariant d → AllocationInvariant (after_act d a)
 act_kept d (Give o true) may i = let free = at_block d o.cache Free may.1 i.sound in record {
   sound = block_sound d o.cache Reserved (λ l. free) i.sound;
   idle = i.idle;
   held = λ k h. elim (cases_eq k o.cache) [
     | inl e ↦ holds_new d.orders o k (sym e)
-    | inr n ↦ holds_push d.orders o k (i.held k (subst IsKept (get_or-set_other d.blocks o.cache k Reserved Free n) h))
+    | inr n ↦ holds_push d.orders o k (i.held k (subst IsClaimed (get_or-set_other d.blocks o.cache k Reserved Free n) h))
   ];
   shareless = shareless_push d.orders o i.shareless may.0.apart;
   within = within_push 0 d.orders o i.within (omega (arith, may.0.room, may.0.under));
@@ -243,7 +243,7 @@ act_kept d (Give o false) may i = record {
   running_once = i.running_once;
 }
 act_kept d (Over n) may i = let c = cache_at d.orders n in record {
-  sound = block_sound d c (given_back (state d.blocks c)) (λ l. sound_given_back (state d.blocks c) (names d.mapping c) (names d.committed c) (names d.running c) (i.sound c)) i.sound;
+  sound = block_sound d c (released (state d.blocks c)) (λ l. sound_given_back (state d.blocks c) (entry_in d.mapping c) (entry_in d.committed c) (entry_in d.running c) (i.sound c)) i.sound;
   idle = i.idle;
   held = λ k h. over_held d n k h i;
   shareless = shareless_without d.orders n i.shareless;
@@ -283,9 +283,9 @@ act_kept d (Unmap c true) may i = let l = slice_get_within d.blocks c Mapped may
   running_once = i.running_once;
 }
 act_kept d Begin may i = record {
-  sound = λ c. subst (λ (x : Block). ImageSafe x (names d.mapping c) (names d.committed c) (names d.mapping c)) (sym (get_or-map begun d.blocks c Free)) (sound_begun (state d.blocks c) (names d.mapping c) (names d.committed c) (names d.running c) (i.sound c));
+  sound = λ c. subst (λ (x : Block). ImageSafe x (entry_in d.mapping c) (entry_in d.committed c) (entry_in d.mapping c)) (sym (get_or-map commit_begun d.blocks c Free)) (sound_begun (state d.blocks c) (entry_in d.mapping c) (entry_in d.committed c) (entry_in d.running c) (i.sound c));
   idle = λ e. absurd (cc);
-  held = λ c h. i.held c (kept_begun (state d.blocks c) (subst IsKept (get_or-map begun d.blocks c Free) h));
+  held = λ c h. i.held c (kept_begun (state d.blocks c) (subst IsClaimed (get_or-map commit_begun d.blocks c Free) h));
   shareless = i.shareless;
   within = i.within;
   mapping_once = i.mapping_once;
@@ -293,9 +293,9 @@ act_kept d Begin may i = record {
   running_once = i.mapping_once;
 }
 act_kept d End may i = record {
-  sound = λ c. subst (λ (x : Block). ImageSafe x (names d.mapping c) (names d.running c) (names d.running c)) (sym (get_or-map ended d.blocks c Free)) (sound_ended (state d.blocks c) (names d.mapping c) (names d.committed c) (names d.running c) (i.sound c));
+  sound = λ c. subst (λ (x : Block). ImageSafe x (entry_in d.mapping c) (entry_in d.running c) (entry_in d.running c)) (sym (get_or-map commit_ended d.blocks c Free)) (sound_ended (state d.blocks c) (entry_in d.mapping c) (entry_in d.committed c) (entry_in d.running c) (i.sound c));
   idle = λ e. refl;
-  held = λ c h. i.held c (kept_ended (state d.blocks c) (subst IsKept (get_or-map ended d.blocks c Free) h));
+  held = λ c h. i.held c (kept_ended (state d.blocks c) (subst IsClaimed (get_or-map commit_ended d.blocks c Free) h));
   shareless = i.shareless;
   within = i.within;
   mapping_once = i.mapping_once;
@@ -304,7 +304,7 @@ act_kept d End may i = record {
 }
 act_kept d (Threshold n) may i = record { sound = i.sound; idle = i.idle; held = i.held; shareless = i.shareless; within = i.within; mapping_once = i.mapping_once; committed_once = i.committed_once; running_once = i.running_once }
 
-pub all_kept : (d : Allocation) (acts : List Act) → IsRun d acts → AllocationInvariant d → AllocationInvariant (after_all d acts)
+pub all_kept : (d : Allocation) (acts : List Act) → IsActRun d acts → AllocationInvariant d → AllocationInvariant (after_acts d acts)
 all_kept d [] run i = i
 all_kept d (a ∷ acts) run i = all_kept (after_act d a) acts run.1 (act_kept d a run.0 i)
 
@@ -317,21 +317,21 @@ same_stays Reserved a = tt
 same_stays (Quarantined k true) a = tt
 same_stays (Quarantined k false) a = tt
 
-stays_given_back : (b : Block) (a : Act) → StaysOrEnds b a (given_back b)
+stays_given_back : (b : Block) (a : Act) → StaysOrEnds b a (released b)
 stays_given_back Free a = tt
 stays_given_back Mapped a = tt
 stays_given_back Reserved a = tt
 stays_given_back (Quarantined k true) a = tt
 stays_given_back (Quarantined k false) a = tt
 
-stays_begun : (b : Block) → StaysOrEnds b Begin (begun b)
+stays_begun : (b : Block) → StaysOrEnds b Begin (commit_begun b)
 stays_begun Free = tt
 stays_begun Mapped = tt
 stays_begun Reserved = tt
 stays_begun (Quarantined k true) = tt
 stays_begun (Quarantined k false) = refl
 
-stays_ended : (b : Block) → StaysOrEnds b End (ended b)
+stays_ended : (b : Block) → StaysOrEnds b End (commit_ended b)
 stays_ended Free = tt
 stays_ended Mapped = tt
 stays_ended Reserved = tt
@@ -354,32 +354,32 @@ set_stays d c b a k h = elim (cases_eq k c) [
 from_block : (d : Allocation) (c : ℕ) (b x : Block) (a : Act) → slice_get d.blocks c ≡ Some b → StaysOrEnds b a x → StaysOrEnds (state d.blocks c) a x
 from_block d c b x a e h = subst (λ (y : Block). StaysOrEnds y a x) (sym (get_or_from_slice_get d.blocks c b Free e)) h
 
-pub stays : (d : Allocation) (a : Act) → MayCome d a → (c : ℕ) → StaysOrEnds (state d.blocks c) a (state (after_act d a).blocks c)
+pub stays : (d : Allocation) (a : Act) → MayAct d a → (c : ℕ) → StaysOrEnds (state d.blocks c) a (state (after_act d a).blocks c)
 stays d (Give o true) may c = set_stays d o.cache Reserved (Give o true) c (from_block d o.cache Free Reserved (Give o true) may.1 tt)
 stays d (Give o false) may c = same_stays (state d.blocks c) (Give o false)
-stays d (Over n) may c = set_stays d (cache_at d.orders n) (given_back (state d.blocks (cache_at d.orders n))) (Over n) c (stays_given_back (state d.blocks (cache_at d.orders n)) (Over n))
+stays d (Over n) may c = set_stays d (cache_at d.orders n) (released (state d.blocks (cache_at d.orders n))) (Over n) c (stays_given_back (state d.blocks (cache_at d.orders n)) (Over n))
 stays d (Map b k) may c = set_stays d k Mapped (Map b k) c (from_block d k Reserved Mapped (Map b k) may.0 tt)
 stays d (Unmap k false) may c = set_stays d k (Quarantined false false) (Unmap k false) c (from_block d k Mapped (Quarantined false false) (Unmap k false) may tt)
 stays d (Unmap k true) may c = set_stays d k (Quarantined true false) (Unmap k true) c (from_block d k Mapped (Quarantined true false) (Unmap k true) may.0 tt)
-stays d Begin may c = subst (λ (x : Block). StaysOrEnds (state d.blocks c) Begin x) (sym (get_or-map begun d.blocks c Free)) (stays_begun (state d.blocks c))
-stays d End may c = subst (λ (x : Block). StaysOrEnds (state d.blocks c) End x) (sym (get_or-map ended d.blocks c Free)) (stays_ended (state d.blocks c))
+stays d Begin may c = subst (λ (x : Block). StaysOrEnds (state d.blocks c) Begin x) (sym (get_or-map commit_begun d.blocks c Free)) (stays_begun (state d.blocks c))
+stays d End may c = subst (λ (x : Block). StaysOrEnds (state d.blocks c) End x) (sym (get_or-map commit_ended d.blocks c Free)) (stays_ended (state d.blocks c))
 stays d (Threshold n) may c = same_stays (state d.blocks c) (Threshold n)
 
--- The first state, and what no image names
+-- The first state, and what no image entry_in
 
 opened_sound : (m : Option ℕ) → ImageSafe (opened_entry m) m m m
 opened_sound None = (refl, refl, refl)
 opened_sound (Some b) = (b, refl, inr refl, inr refl)
 
-opened_held : (m : Option ℕ) → IsKept (opened_entry m) → ⊥
+opened_held : (m : Option ℕ) → IsClaimed (opened_entry m) → ⊥
 opened_held None h = h
 opened_held (Some b) h = h
 
-pub opened_kept : (m : Image) (n : ℕ) → NoneTwice m → AllocationInvariant (opened m n)
+pub opened_kept : (m : BlockMap) (n : ℕ) → NoneTwice m → AllocationInvariant (at_opening m n)
 opened_kept m n once = record {
-  sound = λ c. subst (λ (x : Block). ImageSafe x (names m c) (names m c) (names m c)) (sym (get_or-map opened_entry m c None)) (opened_sound (names m c));
+  sound = λ c. subst (λ (x : Block). ImageSafe x (entry_in m c) (entry_in m c) (entry_in m c)) (sym (get_or-map opened_entry m c None)) (opened_sound (entry_in m c));
   idle = λ e. refl;
-  held = λ c h. absurd (opened_held (names m c) (subst IsKept (get_or-map opened_entry m c None) h));
+  held = λ c h. absurd (opened_held (entry_in m c) (subst IsClaimed (get_or-map opened_entry m c None) h));
   shareless = tt;
   within = tt;
   mapping_once = once;
@@ -387,8 +387,8 @@ opened_kept m n once = record {
   running_once = once;
 }
 
-pub unnamed : (d : Allocation) → AllocationInvariant d → (c : ℕ) → (state d.blocks c ≡ Free) ⊎ (state d.blocks c ≡ Reserved) → (b : ℕ) → (names d.mapping c ≢ Some b) × (names d.committed c ≢ Some b) × (names d.running c ≢ Some b)
-unnamed d i c (inl e) b = let s : ImageSafe Free (names d.mapping c) (names d.committed c) (names d.running c) = subst (λ (x : Block). ImageSafe x (names d.mapping c) (names d.committed c) (names d.running c)) e (i.sound c) in
-    (none_some (names d.mapping c) b s.0, none_some (names d.committed c) b s.1, none_some (names d.running c) b s.2)
-unnamed d i c (inr e) b = let s : ImageSafe Reserved (names d.mapping c) (names d.committed c) (names d.running c) = subst (λ (x : Block). ImageSafe x (names d.mapping c) (names d.committed c) (names d.running c)) e (i.sound c) in
-    (none_some (names d.mapping c) b s.0, none_some (names d.committed c) b s.1, none_some (names d.running c) b s.2)
+pub unnamed : (d : Allocation) → AllocationInvariant d → (c : ℕ) → (state d.blocks c ≡ Free) ⊎ (state d.blocks c ≡ Reserved) → (b : ℕ) → (entry_in d.mapping c ≢ Some b) × (entry_in d.committed c ≢ Some b) × (entry_in d.running c ≢ Some b)
+unnamed d i c (inl e) b = let s : ImageSafe Free (entry_in d.mapping c) (entry_in d.committed c) (entry_in d.running c) = subst (λ (x : Block). ImageSafe x (entry_in d.mapping c) (entry_in d.committed c) (entry_in d.running c)) e (i.sound c) in
+    (none_some (entry_in d.mapping c) b s.0, none_some (entry_in d.committed c) b s.1, none_some (entry_in d.running c) b s.2)
+unnamed d i c (inr e) b = let s : ImageSafe Reserved (entry_in d.mapping c) (entry_in d.committed c) (entry_in d.running c) = subst (λ (x : Block). ImageSafe x (entry_in d.mapping c) (entry_in d.committed c) (entry_in d.running c)) e (i.sound c) in
+    (none_some (entry_in d.mapping c) b s.0, none_some (entry_in d.committed c) b s.1, none_some (entry_in d.running c) b s.2)

@@ -3,18 +3,18 @@
 use Rattle.std.specs.Prelude.{◌≡◌, ◌≢◌, ◌≤◌, ◌<◌, ◌+◌, ◌⊎◌, ℕ, zero, suc, List, [], ◌∷◌, ◌++◌, Bool, true, false, Option, Some, None, length, map, get_or, slice_set, slice_get}
 use Rattle.wb_space.specs.declared.block.Block.{Block}
 use Rattle.wb_space.specs.declared.block.Block.TheVariants.{Free, Mapped, Reserved, Quarantined}
-use Rattle.wb_space.specs.Blocks.{given_back, begun, ended, state, IsKept}
+use Rattle.wb_space.specs.Blocks.{released, commit_begun, commit_ended, state, IsClaimed}
 
 -- which origin block each cache block stands for
-abbrev pub Image : Type 0
-Image = List (Option ℕ)
+abbrev pub BlockMap : Type 0
+BlockMap = List (Option ℕ)
 
-abbrev pub names : Image → ℕ → Option ℕ
-names image c = get_or image c None
+abbrev pub entry_in : BlockMap → ℕ → Option ℕ
+entry_in image c = get_or image c None
 
 -- no origin block stands in it twice
-abbrev pub NoneTwice : Image → Type 0
-NoneTwice image = (b c k : ℕ) → names image c ≡ Some b → names image k ≡ Some b → c ≡ k
+abbrev pub NoneTwice : BlockMap → Type 0
+NoneTwice image = (b c k : ℕ) → entry_in image c ≡ Some b → entry_in image k ≡ Some b → c ≡ k
 
 -- what an order keeps: its origin blocks, its cache block, its sectors and the threshold in force when it was given
 pub record LiveOrder : Type 0 where
@@ -26,9 +26,9 @@ pub record LiveOrder : Type 0 where
 
 pub record Allocation : Type 0 where
   pub blocks : List Block
-  pub mapping : Image
-  pub committed : Image
-  pub running : Image
+  pub mapping : BlockMap
+  pub committed : BlockMap
+  pub running : BlockMap
   pub committing : Bool
   pub orders : List LiveOrder
   pub threshold : ℕ
@@ -71,9 +71,9 @@ cache_at (o ∷ os) zero = o.cache
 cache_at (o ∷ os) (suc i) = cache_at os i
 
 -- some order has this cache block
-abbrev pub Holds : List LiveOrder → ℕ → Type 0
-Holds [] c = ⊥
-Holds (o ∷ os) c = (o.cache ≡ c) ⊎ Holds os c
+abbrev pub HasOrder : List LiveOrder → ℕ → Type 0
+HasOrder [] c = ⊥
+HasOrder (o ∷ os) c = (o.cache ≡ c) ⊎ HasOrder os c
 
 -- What happens: orders that are given with the block reserved or not, and their ends.
 pub data Act : Type 0 where
@@ -88,11 +88,11 @@ pub data Act : Type 0 where
 abbrev pub after_act : Allocation → Act → Allocation
 after_act d (Give o true) = record d { blocks = slice_set d.blocks o.cache Reserved; orders = d.orders ++ o ∷ [] }
 after_act d (Give o false) = record d { orders = d.orders ++ o ∷ [] }
-after_act d (Over i) = record d { blocks = slice_set d.blocks (cache_at d.orders i) (given_back (state d.blocks (cache_at d.orders i))); orders = without d.orders i }
+after_act d (Over i) = record d { blocks = slice_set d.blocks (cache_at d.orders i) (released (state d.blocks (cache_at d.orders i))); orders = without d.orders i }
 after_act d (Map b c) = record d { blocks = slice_set d.blocks c Mapped; mapping = slice_set d.mapping c (Some b) }
 after_act d (Unmap c keep) = record d { blocks = slice_set d.blocks c (Quarantined keep false); mapping = slice_set d.mapping c None }
-after_act d Begin = record d { blocks = map begun d.blocks; running = d.mapping; committing = true }
-after_act d End = record d { blocks = map ended d.blocks; committed = d.running; committing = false }
+after_act d Begin = record d { blocks = map commit_begun d.blocks; running = d.mapping; committing = true }
+after_act d End = record d { blocks = map commit_ended d.blocks; committed = d.running; committing = false }
 after_act d (Threshold n) = record d { threshold = n }
 
 -- an order may be given: its blocks are in no live order, and there is room
@@ -101,31 +101,31 @@ pub record MayGive (d : Allocation) (o : LiveOrder) : Type 0 where
   pub room : cost d.orders + o.sectors ≤ d.threshold
   pub under : o.threshold ≡ d.threshold
 
-abbrev pub MayCome : Allocation → Act → Type 0
-MayCome d (Give o true) = MayGive d o × (slice_get d.blocks o.cache ≡ Some Free)
-MayCome d (Give o false) = MayGive d o
-MayCome d (Over i) = i < length d.orders
-MayCome d (Map b c) = (slice_get d.blocks c ≡ Some Reserved) × (c < length d.mapping) × ((k : ℕ) → names d.mapping k ≢ Some b)
-MayCome d (Unmap c false) = slice_get d.blocks c ≡ Some Mapped
-MayCome d (Unmap c true) = (slice_get d.blocks c ≡ Some Mapped) × Holds d.orders c
-MayCome d Begin = d.committing ≡ false
-MayCome d End = d.committing ≡ true
-MayCome d (Threshold n) = Unit {0}
+abbrev pub MayAct : Allocation → Act → Type 0
+MayAct d (Give o true) = MayGive d o × (slice_get d.blocks o.cache ≡ Some Free)
+MayAct d (Give o false) = MayGive d o
+MayAct d (Over i) = i < length d.orders
+MayAct d (Map b c) = (slice_get d.blocks c ≡ Some Reserved) × (c < length d.mapping) × ((k : ℕ) → entry_in d.mapping k ≢ Some b)
+MayAct d (Unmap c false) = slice_get d.blocks c ≡ Some Mapped
+MayAct d (Unmap c true) = (slice_get d.blocks c ≡ Some Mapped) × HasOrder d.orders c
+MayAct d Begin = d.committing ≡ false
+MayAct d End = d.committing ≡ true
+MayAct d (Threshold n) = Unit {0}
 
 -- What one cache block is, what it is mapped for, and what the two images have there
 abbrev pub ImageSafe : Block → Option ℕ → Option ℕ → Option ℕ → Type 0
 ImageSafe Free now committed running = (now ≡ None) × (committed ≡ None) × (running ≡ None)
 ImageSafe Reserved now committed running = (now ≡ None) × (committed ≡ None) × (running ≡ None)
 ImageSafe Mapped now committed running = (b : ℕ) × (now ≡ Some b) × ((committed ≡ None) ⊎ (committed ≡ Some b)) × ((running ≡ None) ⊎ (running ≡ Some b))
-ImageSafe (Quarantined kept false) now committed running = now ≡ None
-ImageSafe (Quarantined kept true) now committed running = (now ≡ None) × (running ≡ None)
+ImageSafe (Quarantined claimed false) now committed running = now ≡ None
+ImageSafe (Quarantined claimed true) now committed running = (now ≡ None) × (running ≡ None)
 
 -- The rule
 pub record AllocationInvariant (d : Allocation) : Type 0 where
-  pub sound : (c : ℕ) → ImageSafe (state d.blocks c) (names d.mapping c) (names d.committed c) (names d.running c)
+  pub sound : (c : ℕ) → ImageSafe (state d.blocks c) (entry_in d.mapping c) (entry_in d.committed c) (entry_in d.running c)
   pub idle : d.committing ≡ false → d.running ≡ d.committed
-  -- a reserved or kept block is that of a live order
-  pub held : (c : ℕ) → IsKept (state d.blocks c) → Holds d.orders c
+  -- a reserved or claimed block is that of a live order
+  pub held : (c : ℕ) → IsClaimed (state d.blocks c) → HasOrder d.orders c
   pub shareless : Shareless d.orders
   pub within : WithinFrom 0 d.orders
   -- no origin block stands twice in the mapping or in an image
@@ -133,13 +133,13 @@ pub record AllocationInvariant (d : Allocation) : Type 0 where
   pub committed_once : NoneTwice d.committed
   pub running_once : NoneTwice d.running
 
-abbrev pub IsRun : Allocation → List Act → Type 0
-IsRun d [] = Unit {0}
-IsRun d (a ∷ rest) = MayCome d a × IsRun (after_act d a) rest
+abbrev pub IsActRun : Allocation → List Act → Type 0
+IsActRun d [] = Unit {0}
+IsActRun d (a ∷ rest) = MayAct d a × IsActRun (after_act d a) rest
 
-abbrev pub after_all : Allocation → List Act → Allocation
-after_all d [] = d
-after_all d (a ∷ rest) = after_all (after_act d a) rest
+abbrev pub after_acts : Allocation → List Act → Allocation
+after_acts d [] = d
+after_acts d (a ∷ rest) = after_acts (after_act d a) rest
 
 -- A quarantined block stays so until the end of a commit, one that began after its removal: only a
 -- beginning marks it, and only an end frees what is marked.
@@ -157,5 +157,5 @@ abbrev pub opened_entry : Option ℕ → Block
 opened_entry None = Free
 opened_entry (Some b) = Mapped
 
-abbrev pub opened : Image → ℕ → Allocation
-opened m n = record { blocks = map opened_entry m; mapping = m; committed = m; running = m; committing = false; orders = []; threshold = n }
+abbrev pub at_opening : BlockMap → ℕ → Allocation
+at_opening m n = record { blocks = map opened_entry m; mapping = m; committed = m; running = m; committing = false; orders = []; threshold = n }

@@ -1,7 +1,7 @@
 //! The rule that cache blocks, mapping, images and orders keep over every run.
 
 ghost use Rattle.std.specs.Prelude.{◌≡◌, ◌≢◌, ◌⊎◌, ℕ, List, Some};
-ghost use Rattle.wb_desk.specs.Allocation.{Allocation, Act, AllocationInvariant, IsRun, after_all, after_act, MayCome, StaysOrEnds, NoneTwice, Image, opened, names};
+ghost use Rattle.wb_desk.specs.Allocation.{Allocation, Act, AllocationInvariant, IsActRun, after_acts, after_act, MayAct, StaysOrEnds, NoneTwice, BlockMap, at_opening, entry_in};
 ghost use Rattle.wb_space.specs.Blocks.{state};
 
 use wb_space::Block;
@@ -11,14 +11,14 @@ use wb_space::Block;
 ///
 /// `rule`: the allocation invariant, with the safety of both images, stays. `quarantine`: a quarantined block
 /// leaves its quarantine only at the end of a commit that began after its removal. `opening`: what an opening
-/// makes keeps the rule. `unnamed`: no image names a free or reserved block.
+/// makes keeps the rule. `unnamed`: no image entry_in a free or reserved block.
 pub fn allocation_keeps_its_invariant()
-    ensures rule { (d : Allocation) → AllocationInvariant d → (acts : List Act) → IsRun d acts →
-        AllocationInvariant (after_all d acts) }
-    ensures quarantine { (d : Allocation) (a : Act) → MayCome d a → (c : ℕ) →
+    ensures rule { (d : Allocation) → AllocationInvariant d → (acts : List Act) → IsActRun d acts →
+        AllocationInvariant (after_acts d acts) }
+    ensures quarantine { (d : Allocation) (a : Act) → MayAct d a → (c : ℕ) →
         StaysOrEnds (state d.blocks c) a (state (after_act d a).blocks c) }
-    ensures opening { (m : Image) (threshold : ℕ) → NoneTwice m → AllocationInvariant (opened m threshold) }
+    ensures opening { (m : BlockMap) (threshold : ℕ) → NoneTwice m → AllocationInvariant (at_opening m threshold) }
     ensures unnamed { (d : Allocation) → AllocationInvariant d → (c : ℕ) →
         (state d.blocks c ≡ Block.Free) ⊎ (state d.blocks c ≡ Block.Reserved) → (b : ℕ) →
-        (names d.mapping c ≢ Some b) × (names d.committed c ≢ Some b) × (names d.running c ≢ Some b) }
+        (entry_in d.mapping c ≢ Some b) × (entry_in d.committed c ≢ Some b) × (entry_in d.running c ≢ Some b) }
 {}

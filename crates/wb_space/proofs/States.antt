@@ -9,7 +9,7 @@ use Rattle.std.proofs.Math.Seq.{map-set_same}
 use Rattle.wb_bits.proofs.Chosen.{chosen, fewer_chosen, none_changed}
 use Rattle.wb_space.specs.declared.block.Block.{Block}
 use Rattle.wb_space.specs.declared.block.Block.TheVariants.{Free, Mapped, Reserved, Quarantined}
-use Rattle.wb_space.specs.Blocks.{is_late, is_early, begun, ended, opened_block}
+use Rattle.wb_space.specs.Blocks.{is_late, is_early, commit_begun, commit_ended, opened_block}
 
 -- a set with its list: one changes with the other
 pub indexed_set : (p : Block → Bool) (blocks : List Block) (index : List Bool) (c : ℕ) (b : Block) (member : Bool) → index ≡ map p blocks → member ≡ p b → set index c member ≡ map p (set blocks c b)
@@ -23,13 +23,13 @@ indexed_replicate p n b e = ext_get_or false (replicate n false) (map p (replica
     at k l = get_or-replicate {A = Bool} n k false false l
         ∙ sym (get_or-map p (replicate n b) k b false (omega (arith, length-replicate {A = Block} n b)) ∙ ap p (get_or-replicate {A = Block} n k b b l) ∙ e)
 
-begun_twice : (b : Block) → begun (begun b) ≡ begun b
+begun_twice : (b : Block) → commit_begun (commit_begun b) ≡ commit_begun b
 begun_twice Free = refl
 begun_twice Mapped = refl
 begun_twice Reserved = refl
-begun_twice (Quarantined kept early) = refl
+begun_twice (Quarantined claimed early) = refl
 
-ended_twice : (b : Block) → ended (ended b) ≡ ended b
+ended_twice : (b : Block) → commit_ended (commit_ended b) ≡ commit_ended b
 ended_twice Free = refl
 ended_twice Mapped = refl
 ended_twice Reserved = refl
@@ -38,13 +38,13 @@ ended_twice (Quarantined false true) = refl
 ended_twice (Quarantined true false) = refl
 ended_twice (Quarantined false false) = refl
 
-late_gone : (b : Block) → is_late (begun b) ≡ false
+late_gone : (b : Block) → is_late (commit_begun b) ≡ false
 late_gone Free = refl
 late_gone Mapped = refl
 late_gone Reserved = refl
-late_gone (Quarantined kept early) = refl
+late_gone (Quarantined claimed early) = refl
 
-early_gone : (b : Block) → is_early (ended b) ≡ false
+early_gone : (b : Block) → is_early (commit_ended b) ≡ false
 early_gone Free = refl
 early_gone Mapped = refl
 early_gone Reserved = refl
@@ -53,20 +53,20 @@ early_gone (Quarantined false true) = refl
 early_gone (Quarantined true false) = refl
 early_gone (Quarantined false false) = refl
 
-not_late : (b : Block) → is_late b ≡ false → begun b ≡ b
+not_late : (b : Block) → is_late b ≡ false → commit_begun b ≡ b
 not_late Free e = refl
 not_late Mapped e = refl
 not_late Reserved e = refl
-not_late (Quarantined kept true) e = refl
-not_late (Quarantined kept false) e = absurd (cc)
+not_late (Quarantined claimed true) e = refl
+not_late (Quarantined claimed false) e = absurd (cc)
 
-not_early : (b : Block) → is_early b ≡ false → ended b ≡ b
+not_early : (b : Block) → is_early b ≡ false → commit_ended b ≡ b
 not_early Free e = refl
 not_early Mapped e = refl
 not_early Reserved e = refl
 not_early (Quarantined true false) e = refl
 not_early (Quarantined false false) e = refl
-not_early (Quarantined kept true) e = absurd (cc)
+not_early (Quarantined claimed true) e = absurd (cc)
 
 -- one chosen block takes its step: the rest to be done is the same, and one fewer is chosen
 pub record Steps (p : Block → Bool) (f : Block → Block) (before after : List Block) : Type 0 where
@@ -85,17 +85,17 @@ steps p f twice gone blocks c found stepped e g s = record {
     at : (c < length blocks) × (p (get_or blocks c Free) ≡ true) × ((k : ℕ) → k < c → p (get_or blocks k Free) ≡ false)
     at = position-Some p blocks c Free e
 
-pub begin_steps : (blocks : List Block) (c : ℕ) (found stepped : Block) → position is_late blocks ≡ Some c → slice_get blocks c ≡ Some found → stepped ≡ begun found → Steps is_late begun blocks (set blocks c stepped)
-begin_steps blocks c found stepped e g s = steps is_late begun begun_twice late_gone blocks c found stepped e g s
+pub begin_steps : (blocks : List Block) (c : ℕ) (found stepped : Block) → position is_late blocks ≡ Some c → slice_get blocks c ≡ Some found → stepped ≡ commit_begun found → Steps is_late commit_begun blocks (set blocks c stepped)
+begin_steps blocks c found stepped e g s = steps is_late commit_begun begun_twice late_gone blocks c found stepped e g s
 
-pub end_steps : (blocks : List Block) (c : ℕ) (found stepped : Block) → position is_early blocks ≡ Some c → slice_get blocks c ≡ Some found → stepped ≡ ended found → Steps is_early ended blocks (set blocks c stepped)
-end_steps blocks c found stepped e g s = steps is_early ended ended_twice early_gone blocks c found stepped e g s
+pub end_steps : (blocks : List Block) (c : ℕ) (found stepped : Block) → position is_early blocks ≡ Some c → slice_get blocks c ≡ Some found → stepped ≡ commit_ended found → Steps is_early commit_ended blocks (set blocks c stepped)
+end_steps blocks c found stepped e g s = steps is_early commit_ended ended_twice early_gone blocks c found stepped e g s
 
-pub all_begun : (blocks : List Block) → position is_late blocks ≡ None → map begun blocks ≡ blocks
-all_begun blocks e = none_changed is_late begun not_late blocks e
+pub all_begun : (blocks : List Block) → position is_late blocks ≡ None → map commit_begun blocks ≡ blocks
+all_begun blocks e = none_changed is_late commit_begun not_late blocks e
 
-pub all_ended : (blocks : List Block) → position is_early blocks ≡ None → map ended blocks ≡ blocks
-all_ended blocks e = none_changed is_early ended not_early blocks e
+pub all_ended : (blocks : List Block) → position is_early blocks ≡ None → map commit_ended blocks ≡ blocks
+all_ended blocks e = none_changed is_early commit_ended not_early blocks e
 
 -- the first blocks have their state of an opening
 pub record Opened (ms : List Bool) (blocks : List Block) (i : ℕ) : Type 0 where

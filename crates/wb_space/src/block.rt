@@ -1,7 +1,7 @@
 //! The state of one cache block.
 
 ghost use Rattle.std.specs.Prelude.{◌≡◌};
-ghost use Rattle.wb_space.specs.Blocks.{holding, given_back, begun, ended, is_free, is_late, is_early, IsKept};
+ghost use Rattle.wb_space.specs.Blocks.{shown, released, commit_begun, commit_ended, is_free, is_late, is_early, IsClaimed};
 ghost use Rattle.std.specs.Bool.{OnTrue, OnFalse};
 
 use crate::Holding;
@@ -15,57 +15,66 @@ pub enum Block {
     Mapped,
     /// A live order is to fill it.
     Reserved,
-    /// Its entry was removed. `kept` where a live replacement is to fill it, `early` where the removal came
+    /// Its entry was removed. `claimed` where a live replacement is to fill it, `early` where the removal came
     /// before the running commit began.
-    Quarantined { kept: bool, early: bool },
+    Quarantined { claimed: bool, early: bool },
 }
 
 impl Block {
     /// What it is held for.
-    pub fn holding(self) -> Holding
-        ensures { result ≡ holding self }
+    pub fn shown(self) -> Holding
+        ensures { result ≡ shown self }
     {
         match self {
             Block::Free => Holding::Free,
             Block::Mapped => Holding::Mapped,
             Block::Reserved => Holding::Reserved,
-            Block::Quarantined { kept: _, early: _ } => Holding::Quarantined,
+            Block::Quarantined {
+                claimed: _,
+                early: _,
+            } => Holding::Quarantined,
         }
     }
 
     /// Its order is over.
-    pub fn given_back(self) -> Block
-        ensures { result ≡ given_back self }
+    pub fn released(self) -> Block
+        ensures { result ≡ released self }
     {
         match self {
             Block::Reserved => Block::Free,
-            Block::Quarantined { kept: _, early } => Block::Quarantined { kept: false, early },
+            Block::Quarantined { claimed: _, early } => Block::Quarantined {
+                claimed: false,
+                early,
+            },
             Block::Free => Block::Free,
             Block::Mapped => Block::Mapped,
         }
     }
 
     /// A commit begins.
-    pub fn begun(self) -> Block
-        ensures { result ≡ begun self }
+    pub fn commit_begun(self) -> Block
+        ensures { result ≡ commit_begun self }
     {
         match self {
-            Block::Quarantined { kept, early: _ } => Block::Quarantined { kept, early: true },
+            Block::Quarantined { claimed, early: _ } => Block::Quarantined {
+                claimed,
+                early: true,
+            },
             other => other,
         }
     }
 
     /// The running commit ends.
-    pub fn ended(self) -> Block
-        ensures { result ≡ ended self }
+    pub fn commit_ended(self) -> Block
+        ensures { result ≡ commit_ended self }
     {
         match self {
             Block::Quarantined {
-                kept: true,
+                claimed: true,
                 early: true,
             } => Block::Reserved,
             Block::Quarantined {
-                kept: false,
+                claimed: false,
                 early: true,
             } => Block::Free,
             other => other,
@@ -74,12 +83,12 @@ impl Block {
 
     /// An order keeps it: it is reserved, or will be at the end of its quarantine.
     pub fn is_kept(self) -> bool
-        ensures kept { OnTrue result (IsKept self) }
-        ensures other { OnFalse result (¬ IsKept self) }
+        ensures claimed { OnTrue result (IsClaimed self) }
+        ensures other { OnFalse result (¬ IsClaimed self) }
     {
         match self {
             Block::Reserved => true,
-            Block::Quarantined { kept, early: _ } => kept,
+            Block::Quarantined { claimed, early: _ } => claimed,
             Block::Free | Block::Mapped => false,
         }
     }
@@ -95,7 +104,7 @@ impl Block {
         ensures { result ≡ is_late self }
     {
         match self {
-            Block::Quarantined { kept: _, early } => !early,
+            Block::Quarantined { claimed: _, early } => !early,
             Block::Free | Block::Mapped | Block::Reserved => false,
         }
     }
@@ -105,7 +114,7 @@ impl Block {
         ensures { result ≡ is_early self }
     {
         match self {
-            Block::Quarantined { kept: _, early } => early,
+            Block::Quarantined { claimed: _, early } => early,
             Block::Free | Block::Mapped | Block::Reserved => false,
         }
     }

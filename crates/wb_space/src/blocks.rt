@@ -3,7 +3,7 @@
 ghost use Rattle.std.specs.Prelude.{◌≡◌, ◌<◌, ◌^◌, ℕ, length, map, IfOk, slice_set, slice_get, Some, replicate};
 ghost use Rattle.std.specs.List.{position};
 ghost use Rattle.std.specs.Option.{IfSome};
-ghost use Rattle.wb_space.specs.Blocks.{is_free, is_late, is_early, begun, ended, opened_block, state};
+ghost use Rattle.wb_space.specs.Blocks.{is_free, is_late, is_early, commit_begun, commit_ended, opened_block, state};
 
 use crate::Block;
 use std::alloc::{AllocError, Global};
@@ -79,19 +79,19 @@ impl Blocks {
 
     /// A commit begins: a few words' work for each block removed since the last one began.
     pub fn begin(&mut self)
-        ensures { self.new ≡ map begun self.old }
+        ensures { self.new ≡ map commit_begun self.old }
     {
         while let Some(c) = self.least_late() {
-            self.put(c, self.get(c).begun());
+            self.put(c, self.get(c).commit_begun());
         }
     }
 
     /// It ends: a few words' work for each block removed before it began.
     pub fn end(&mut self)
-        ensures { self.new ≡ map ended self.old }
+        ensures { self.new ≡ map commit_ended self.old }
     {
         while let Some(c) = self.least_early() {
-            self.put(c, self.get(c).ended());
+            self.put(c, self.get(c).commit_ended());
         }
     }
 

@@ -4,7 +4,7 @@ ghost use Rattle.std.specs.Prelude.{◌≡◌, ◌<◌, ℕ, true, false, length
 ghost use Rattle.std.specs.List.{position};
 ghost use Rattle.std.specs.Bool.{OnTrue, OnFalse};
 ghost use Rattle.std.specs.Option.{option_map};
-ghost use Rattle.wb_space.specs.Blocks.{holding, is_free, given_back, state, IsKept, begun, ended, opened_block};
+ghost use Rattle.wb_space.specs.Blocks.{shown, is_free, released, state, IsClaimed, commit_begun, commit_ended, opened_block};
 ghost use Rattle.wb_space.specs.Places.{unused, noted, free_places, place, place_count};
 
 use crate::{Block, Blocks, Holding, Places};
@@ -14,7 +14,7 @@ use wb_types::{CBlock, Geometry, Place, Refusal};
 
 /// What each cache block is held for, and which metadata places are free.
 ///
-/// A block whose entry was removed is quarantined until a commit that began after the removal has ended:
+/// A block whose entry was removed is quarantined until a commit that began after the removal has commit_ended:
 /// till then an image that a crash may bring back can name it. Then it is free, or reserved where a live
 /// replacement keeps it. Of the metadata places only those are kept track of that can ever be handed out: the
 /// two root slots and, behind them, twice the nodes of a full mapping.
@@ -69,7 +69,7 @@ impl Space {
         self.blocks.count()
     }
 
-    /// Whether a commit runs: one that has begun and has not ended.
+    /// Whether a commit runs: one that has commit_begun and has not commit_ended.
     pub fn is_committing(&self) -> bool
         ensures { result ≡ self.now.committing }
     {
@@ -79,8 +79,8 @@ impl Space {
     /// Whether an order keeps this block: it is reserved, or will be at the end of its quarantine.
     pub fn is_kept(&self, c: CBlock) -> bool
         requires { c.0 < length self.now.blocks }
-        ensures kept { OnTrue result (IsKept (state self.now.blocks c.0)) }
-        ensures other { OnFalse result (¬ IsKept (state self.now.blocks c.0)) }
+        ensures claimed { OnTrue result (IsClaimed (state self.now.blocks c.0)) }
+        ensures other { OnFalse result (¬ IsClaimed (state self.now.blocks c.0)) }
     {
         let CBlock(at) = c;
         self.blocks.get(at as usize).is_kept()
@@ -89,10 +89,10 @@ impl Space {
     /// What this block is held for.
     pub fn block(&self, c: CBlock) -> Holding
         requires { c.0 < length self.now.blocks }
-        ensures { option_map holding (slice_get self.now.blocks c.0) ≡ Some result }
+        ensures { option_map shown (slice_get self.now.blocks c.0) ≡ Some result }
     {
         let CBlock(at) = c;
-        self.blocks.get(at as usize).holding()
+        self.blocks.get(at as usize).shown()
     }
 
     /// The least free block; none where no block is free.
@@ -121,17 +121,17 @@ impl Space {
         self.blocks.put(at as usize, Block::Mapped);
     }
 
-    /// The order that kept this block is over: a reserved one becomes free, a quarantined one is kept no longer.
+    /// The order that claimed this block is over: a reserved one becomes free, a quarantined one is claimed no longer.
     pub fn give_back(&mut self, c: CBlock)
         requires within { c.0 < length self.old.blocks }
-        requires kept { IsKept (state self.old.blocks c.0) }
+        requires claimed { IsClaimed (state self.old.blocks c.0) }
         ensures { self.new ≡ record self.old {
-          blocks = slice_set self.old.blocks c.0 (given_back (state self.old.blocks c.0));
+          blocks = slice_set self.old.blocks c.0 (released (state self.old.blocks c.0));
         } }
     {
         let CBlock(at) = c;
         let block = self.blocks.get(at as usize);
-        self.blocks.put(at as usize, block.given_back());
+        self.blocks.put(at as usize, block.released());
     }
 
     /// The entry of a mapped block was removed; `keep` where a live replacement is to fill the block.
@@ -143,7 +143,7 @@ impl Space {
     {
         let CBlock(at) = c;
         let block = Block::Quarantined {
-            kept: keep,
+            claimed: keep,
             early: false,
         };
         self.blocks.put(at as usize, block);
@@ -154,7 +154,7 @@ impl Space {
     pub fn begin(&mut self, used: &[Place])
         requires { self.old.committing ≡ false }
         ensures { self.new ≡ record {
-          blocks = map begun self.old.blocks;
+          blocks = map commit_begun self.old.blocks;
           places = record self.old.places { running = noted used.now (unused (length self.old.places.running)) };
           committing = true;
         } }
@@ -164,12 +164,12 @@ impl Space {
         self.committing = true;
     }
 
-    /// The running commit ends: what was removed before it began is free, or reserved where it is kept. A few
+    /// The running commit ends: what was removed before it began is free, or reserved where it is claimed. A few
     /// words' work for each of these blocks, and for each place of the image that is replaced.
     pub fn end(&mut self)
         requires { self.old.committing ≡ true }
         ensures { self.new ≡ record {
-          blocks = map ended self.old.blocks;
+          blocks = map commit_ended self.old.blocks;
           places = record { committed = self.old.places.running; running = unused (length self.old.places.committed) };
           committing = false;
         } }

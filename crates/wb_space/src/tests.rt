@@ -17,8 +17,8 @@ fn space_of(alloc: Global, blocks: u32, mapped: bool, used: &[Place]) -> Result<
 
 // Below each call is made where the block is in the state that it asks for; else the answer is false.
 
-fn is_held(space: &Space, c: u32, holding: Holding) -> bool {
-    c < space.cache_blocks() && space.block(CBlock(c)) == holding
+fn is_held(space: &Space, c: u32, shown: Holding) -> bool {
+    c < space.cache_blocks() && space.block(CBlock(c)) == shown
 }
 
 #[tactic(auto, using(crate::proofs::Held::free_at))]

@@ -5,12 +5,12 @@ use Rattle.wb_types.specs.declared.refusal.Refusal.TheVariants.{Range}
 use Rattle.wb_words.specs.declared.word.Access.{Access}
 use Rattle.wb_words.specs.declared.card.Card.{Card}
 use Rattle.wb_words.specs.declared.card.Hold.TheVariants.{Nothing}
-use Rattle.wb_words.specs.Cards.{blank}
+use Rattle.wb_words.specs.Cards.{blank_card}
 use Rattle.wb_words.specs.Effects.{card_after}
-use Rattle.wb_cells.specs.Crews.{CrewState, card_of, crew_after}
-use Rattle.wb_tasks.specs.Job.{Job, access_of}
+use Rattle.wb_cells.specs.Crews.{CrewState, card_of}
+use Rattle.wb_tasks.specs.Tables.{TaskJob, access_of}
 use Rattle.wb_tasks.specs.Ready.{AreFirst, MayTake, MayMake, Suits, block_of, left_by}
-use Rattle.wb_tasks.specs.Script.{Script, table, want, after, Fits}
+use Rattle.wb_tasks.specs.Plan.{Plan, table, want, after, Fits}
 use Rattle.wb_tasks.specs.Run.{IsRunOf, Leads}
 use Rattle.wb_tasks.specs.Causes.{GaveCause}
 use Rattle.wb_tasks.specs.declared.step.Answer.{Answer}
@@ -29,10 +29,10 @@ no_range access [] h = h
 no_range access (step ∷ steps) h = elim h [ inl now ↦ now | inr later ↦ no_range access steps later ]
 
 -- so no task refuses the range
-pub refused-not_range : {A : Type 0} (s : Script) (job : Job) (steps : List (Want × Got)) (answer : Answer) (r : Result A Refusal) → s ≡ table job → IsRunOf s steps answer → IfErr r (λ refusal. answer ≡ Refuses refusal) → IfErr r (λ refusal. refusal ≡ Range → ⊥)
+pub refused-not_range : {A : Type 0} (s : Plan) (job : TaskJob) (steps : List (Want × Got)) (answer : Answer) (r : Result A Refusal) → s ≡ table job → IsRunOf s steps answer → IfErr r (λ refusal. answer ≡ Refuses refusal) → IfErr r (λ refusal. refusal ≡ Range → ⊥)
 refused-not_range s job steps answer (Ok x) begun run e = tt
 refused-not_range s job steps answer (Err refusal) begun run e =
-    let whole : IsRunOf (table job) steps (Refuses refusal) = subst (λ (t : Script). IsRunOf t steps (Refuses refusal)) begun (subst (λ (x : Answer). IsRunOf s steps x) e run) in
+    let whole : IsRunOf (table job) steps (Refuses refusal) = subst (λ (t : Plan). IsRunOf t steps (Refuses refusal)) begun (subst (λ (x : Answer). IsRunOf s steps x) e run) in
     λ range. no_range (access_of job) steps (subst (λ (x : Refusal). GaveCause (access_of job) x steps) range (refuses_for_cause job steps refusal whole))
 
 -- what no step changes is as it was
@@ -41,7 +41,7 @@ Leads-kept {S} {C} led part keeps old [] new e = subst (λ (x : S). part x ≡ p
 Leads-kept {S} {C} led part keeps old (step ∷ steps) new h = Leads-kept led part keeps h.0 steps new h.2 ∙ keeps old step.0 step.1 h.0 h.1
 
 -- an only card that was replaced
-only_card : (cards : List Card) (card : Card) → length cards ≡ 1 → slice_index_or (slice_set cards 0 card) 0 blank ≡ card
+only_card : (cards : List Card) (card : Card) → length cards ≡ 1 → slice_index_or (slice_set cards 0 card) 0 blank_card ≡ card
 only_card [] card one = absurd (omega arith)
 only_card (c ∷ cs) card one = refl
 
@@ -58,7 +58,7 @@ crew_made crew (End answer) g crew' one d = (ap (λ (c : CrewState). length c.ca
 
 -- Where every step says what it does to the crew, the actor has what it needs wherever the steps have led.
 module _ {S : Type 0} (led : S → Want → Got → S → Type 0) (crew : S → CrewState) (tells : (s : S) (w : Want) (g : Got) (t : S) → led s w g t → DoneOnCrew (crew s) w g (crew t)) (blocks : ℕ) where
-  pub Leads-suits : (s : Script) (old : S) (steps : List (Want × Got)) (mid : S) → length (crew old).cards ≡ 1 → Suits blocks s (card_of (crew old) 0) → AreFirst s steps → Leads led old steps mid → Suits blocks (left_by s steps) (card_of (crew mid) 0)
+  pub Leads-suits : (s : Plan) (old : S) (steps : List (Want × Got)) (mid : S) → length (crew old).cards ≡ 1 → Suits blocks s (card_of (crew old) 0) → AreFirst s steps → Leads led old steps mid → Suits blocks (left_by s steps) (card_of (crew mid) 0)
   Leads-suits s old [] mid one h f e = subst (λ (x : S). Suits blocks s (card_of (crew x) 0)) e h
   Leads-suits s old (step ∷ steps) mid one h f l =
       let made = crew_made (crew old) step.0 step.1 (crew l.0) one (tells old step.0 step.1 l.0 l.1) in
@@ -67,15 +67,15 @@ module _ {S : Type 0} (led : S → Want → Got → S → Type 0) (crew : S → 
       Leads-suits (after s step.1) l.0 steps mid made.0 (keeps_ready blocks s (card_of (crew old) 0) (card_of (crew l.0) 0) step.1 h fits made_so) f.2 l.2
 
   -- who begins with no block is ready for each step of a request, and ends with none
-  pub request_ready : (s : Script) (job : Job) (old : S) (steps : List (Want × Got)) (mid : S) → s ≡ table job → length (crew old).cards ≡ 1 → (block_of job).0 < blocks → (card_of (crew old) 0).hold ≡ Nothing → AreFirst s steps → Leads led old steps mid →
+  pub request_ready : (s : Plan) (job : TaskJob) (old : S) (steps : List (Want × Got)) (mid : S) → s ≡ table job → length (crew old).cards ≡ 1 → (block_of job).0 < blocks → (card_of (crew old) 0).hold ≡ Nothing → AreFirst s steps → Leads led old steps mid →
       MayTake blocks (card_of (crew mid) 0) (want (left_by s steps))
   request_ready s job old steps mid begun one l idle f e =
-      let suits : Suits blocks s (card_of (crew old) 0) = subst (λ (t : Script). Suits blocks t (card_of (crew old) 0)) (sym begun) (begins_ready blocks job (card_of (crew old) 0) l idle) in
+      let suits : Suits blocks s (card_of (crew old) 0) = subst (λ (t : Plan). Suits blocks t (card_of (crew old) 0)) (sym begun) (begins_ready blocks job (card_of (crew old) 0) l idle) in
       is_ready blocks (left_by s steps) (card_of (crew mid) 0) (Leads-suits s old steps mid one suits f e)
 
-  pub request_ends : (s : Script) (job : Job) (old : S) (steps : List (Want × Got)) (new : S) (answer : Answer) → s ≡ table job → length (crew old).cards ≡ 1 → (block_of job).0 < blocks → (card_of (crew old) 0).hold ≡ Nothing → IsRunOf s steps answer → Leads led old steps new →
+  pub request_ends : (s : Plan) (job : TaskJob) (old : S) (steps : List (Want × Got)) (new : S) (answer : Answer) → s ≡ table job → length (crew old).cards ≡ 1 → (block_of job).0 < blocks → (card_of (crew old) 0).hold ≡ Nothing → IsRunOf s steps answer → Leads led old steps new →
       (card_of (crew new) 0).hold ≡ Nothing
   request_ends s job old steps new answer begun one l idle run e =
-      let suits : Suits blocks s (card_of (crew old) 0) = subst (λ (t : Script). Suits blocks t (card_of (crew old) 0)) (sym begun) (begins_ready blocks job (card_of (crew old) 0) l idle) in
+      let suits : Suits blocks s (card_of (crew old) 0) = subst (λ (t : Plan). Suits blocks t (card_of (crew old) 0)) (sym begun) (begins_ready blocks job (card_of (crew old) 0) l idle) in
       let whole = run_first s steps answer run in
       ends_holding_nothing blocks (left_by s steps) (card_of (crew new) 0) answer (Leads-suits s old steps new one suits whole.0 e) whole.1

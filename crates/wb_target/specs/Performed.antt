@@ -1,8 +1,8 @@
 -- What performing a request on the stage of one owner does.
 use Rattle.std.specs.Prelude.{◌≡◌, ℕ, List}
 use Rattle.wb_disk.specs.Device.{History}
-use Rattle.wb_tasks.specs.Job.{Job}
-use Rattle.wb_tasks.specs.Script.{table}
+use Rattle.wb_tasks.specs.Tables.{TaskJob}
+use Rattle.wb_tasks.specs.Plan.{table}
 use Rattle.wb_tasks.specs.Run.{IsRunOf, Leads}
 use Rattle.wb_tasks.specs.declared.step.Answer.{Answer}
 use Rattle.wb_tasks.specs.declared.step.Want.{Want}
@@ -20,7 +20,7 @@ Led tells contents took old want got new =
     × (tells → DoneOnOrigin (contents old.origin) old.content want got (contents new.origin))
 
 -- A request over sectors of a block was performed on a stage, with this answer: its steps are those of its table.
-pub record Performed {D F : Type 0} (tells : Type 0) (contents : D → List History) (took : F → ℕ → List ℕ → F → Type 0) (job : Job) (old : OwnerStage D F) (answer : Answer) (new : OwnerStage D F) : Type 0 where
+pub record Performed {D F : Type 0} (tells : Type 0) (contents : D → List History) (took : F → ℕ → List ℕ → F → Type 0) (job : TaskJob) (old : OwnerStage D F) (answer : Answer) (new : OwnerStage D F) : Type 0 where
   pub steps : List (Want × Got)
   pub run : IsRunOf (table job) steps answer
   pub led : Leads (Led tells contents took) old steps new

@@ -4,7 +4,7 @@ use Rattle.wb_types.specs.declared.mode.Dev.TheVariants.{Origin}
 use Rattle.wb_disk.specs.Device.{History, Content as SectorContent, Gives, written}
 use Rattle.wb_words.specs.Effects.{result_of}
 use Rattle.wb_cells.specs.Crews.{CrewState, crew_after}
-use Rattle.wb_tasks.specs.Script.{got_of}
+use Rattle.wb_tasks.specs.Plan.{got_of}
 use Rattle.wb_tasks.specs.declared.step.DeviceStep.TheVariants.{Read, Write}
 use Rattle.wb_tasks.specs.declared.step.Want.{Want}
 use Rattle.wb_tasks.specs.declared.step.Want.TheVariants.{Cell, Device}

@@ -4,7 +4,7 @@ ghost use Rattle.std.specs.Prelude.{◌≡◌, ◌≢◌, ◌<◌, ◌+◌, ◌^
 ghost use Rattle.wb_words.specs.SharedWords.{fresh_words};
 ghost use Rattle.wb_words.specs.declared.card.Hold.TheVariants.{Nothing};
 ghost use Rattle.wb_cells.specs.Crews.{card_of};
-ghost use Rattle.wb_tasks.specs.Job.{Reading, Writing, sectors_from};
+ghost use Rattle.wb_tasks.specs.Tables.{Reading, Writing, sectors_from};
 ghost use Rattle.wb_target.specs.Performed.{Performed};
 
 use crate::stage::{OwnerStage, TakesContent};

@@ -3,9 +3,9 @@
 ghost use Rattle.std.specs.Prelude.{◌≡◌, length, IfOk, IfErr};
 ghost use Rattle.wb_types.specs.declared.mode.Dev.TheVariants.{Origin};
 ghost use Rattle.wb_words.specs.SharedWords.{fresh_words};
-ghost use Rattle.wb_words.specs.Cards.{blank};
+ghost use Rattle.wb_words.specs.Cards.{blank_card};
 ghost use Rattle.wb_cells.specs.Crews.{card_of};
-ghost use Rattle.wb_tasks.specs.Script.{Fits};
+ghost use Rattle.wb_tasks.specs.Plan.{Fits};
 ghost use Rattle.wb_tasks.specs.declared.step.Want.TheVariants.{Device};
 ghost use Rattle.wb_tasks.specs.declared.step.DeviceStep.TheVariants.{Read, Write};
 ghost use Rattle.wb_target.specs.Steps.{DoneOnOrigin, DoneOnTaker};
@@ -49,7 +49,7 @@ impl<D: Disk, F: TakesContent> OwnerStage<D, F> {
     where
         D: Drop,
         F: Drop,
-        ensures fresh { IfOk result (λ stage. (stage.crew.words ≡ fresh_words blocks) × (card_of stage.crew 0 ≡ blank)) }
+        ensures fresh { IfOk result (λ stage. (stage.crew.words ≡ fresh_words blocks) × (card_of stage.crew 0 ≡ blank_card)) }
         ensures sized { IfOk result (λ stage. stage.origin_blocks ≡ blocks) }
         ensures origin { IfOk result (λ stage. stage.origin ≡ origin) }
         ensures refused { IfErr result (λ refusal. refusal ≡ Refusal.Memory) }

@@ -9,8 +9,8 @@ use Rattle.wb_words.specs.declared.word.Access.{Access}
 use Rattle.wb_words.specs.declared.word.Access.TheVariants.{Owned}
 use Rattle.wb_words.specs.declared.word.Word.TheVariants.{Cell as LockWord, Seal as SealWord, Number, Count as CountWord, Fail}
 use Rattle.wb_words.specs.SharedWords.{place_in, dirty_in, can_take}
-use Rattle.wb_tasks.specs.Job.{BlockRange, Job, Reading, Writing, part_of, access_of, work, taking, read_step, write_step}
-use Rattle.wb_tasks.specs.Script.{Script, after, table, first_step, refused, release, is_worn, Fits}
+use Rattle.wb_tasks.specs.Tables.{BlockRange, TaskJob, Reading, Writing, range_of, access_of, work, taking, read_step, write_step}
+use Rattle.wb_tasks.specs.Plan.{Plan, after, table, first_step, refused, release, is_worn, Fits}
 use Rattle.wb_tasks.specs.Run.{IsRunOf}
 use Rattle.wb_tasks.specs.Causes.{Causes, GaveCause}
 use Rattle.wb_words.specs.declared.step.CellStep.{CellStep}
@@ -39,7 +39,7 @@ own_writes part place [] rest h = h
 own_writes part None (at ∷ sectors) rest h = own_writes part None sectors rest h
 own_writes part (Some c) (at ∷ sectors) rest h = own_writes part (Some c) sectors rest h
 
-own_work : (job : Job) (place : Option CBlock) (dirty : Bool) → AreOwn (work job place dirty)
+own_work : (job : TaskJob) (place : Option CBlock) (dirty : Bool) → AreOwn (work job place dirty)
 own_work (Reading part) None dirty = own_reads part None part.sectors _ tt
 own_work (Reading part) (Some c) dirty = own_reads part (Some c) part.sectors _ tt
 own_work (Writing part) None dirty = own_writes part None part.sectors _ tt
@@ -47,15 +47,15 @@ own_work (Writing part) (Some c) true = own_writes part (Some c) part.sectors _ 
 own_work (Writing part) (Some c) false = own_writes part (Some c) part.sectors _ tt
 
 -- this refusal alone is answered
-abbrev Answers : Script → Refusal → Type 0
+abbrev Answers : Plan → Refusal → Type 0
 Answers s x = (steps : List (Want × Got)) (r : Refusal) → IsRunOf s steps (Refuses r) → x ≡ r
 
-answers_at_once : (s : Script) (x : Refusal) → Answers (refused s [] x) x
+answers_at_once : (s : Plan) (x : Refusal) → Answers (refused s [] x) x
 answers_at_once s x [] r e = cc
 answers_at_once s x (step ∷ steps) r h = absurd (subst (λ (w : Want). Fits w step.1) h.0 h.1)
 
 -- a step that is done, and then the refusal
-answers_after : (s : Script) (w : CellStep) (x : Refusal) → ((g : Got) → Fits (Cell w) g → g ≡ Done) → Answers (refused s (Cell w ∷ []) x) x
+answers_after : (s : Plan) (w : CellStep) (x : Refusal) → ((g : Got) → Fits (Cell w) g → g ≡ Done) → Answers (refused s (Cell w ∷ []) x) x
 answers_after s w x only [] r e = cc
 answers_after s w x only (step ∷ steps) r h =
     let done : step.1 ≡ Done = only step.1 (subst (λ (v : Want). Fits v step.1) h.0 h.1) in
@@ -70,31 +70,31 @@ only_set Done h = refl
 only_set g h = absurd h
 
 -- a step gives the cause of a refusal, or the job goes on
-abbrev Outcome : Job → Want → Got → Script → Type 0
+abbrev Outcome : TaskJob → Want → Got → Plan → Type 0
 Outcome job w g s =
     ((x : Refusal) × Causes (access_of job) x w g × Answers s x)
     ⊎ ((ws : List Want) × AreOwn ws × (s ≡ record { job = job; steps = ws; answer = Finished }))
 
-abbrev going : Job → List Want → Script
+abbrev going : TaskJob → List Want → Plan
 going job ws = record { job = job; steps = ws; answer = Finished }
 
-after_fail_word : (job : Job) (ws : List Want) (value : ℕ) → AreOwn ws → (b : Bool) → (value == 0) ≡ b → Outcome job (Cell (Look Fail)) (Word value) (if b then going job ws else refused (going job ws) [] Failed)
+after_fail_word : (job : TaskJob) (ws : List Want) (value : ℕ) → AreOwn ws → (b : Bool) → (value == 0) ≡ b → Outcome job (Cell (Look Fail)) (Word value) (if b then going job ws else refused (going job ws) [] Failed)
 after_fail_word job ws value own true e = inr (ws, own, refl)
 after_fail_word job ws value own false e = inl (Failed, λ zero. absurd (let yes = eq-eqb value 0 zero in cc), answers_at_once (going job ws) Failed)
 
-after_lock_word : (job : Job) (block : OBlock) (ws : List Want) (value : ℕ) → AreOwn ws → (b : Bool) → can_take (access_of job) value ≡ b → Outcome job (Cell (Look (LockWord block))) (Word value) (if b then going job (taking (access_of job) block value) else refused (going job ws) [] Busy)
+after_lock_word : (job : TaskJob) (block : OBlock) (ws : List Want) (value : ℕ) → AreOwn ws → (b : Bool) → can_take (access_of job) value ≡ b → Outcome job (Cell (Look (LockWord block))) (Word value) (if b then going job (taking (access_of job) block value) else refused (going job ws) [] Busy)
 after_lock_word job block ws value own true e = inr (taking (access_of job) block value, tt, refl)
 after_lock_word job block ws value own false e = inl (Busy, e, answers_at_once (going job ws) Busy)
 
-worn_owned : (job : Job) (value : ℕ) → is_worn job value ≡ true → (access_of job ≡ Owned) × (value ≡ 2 ^ 64 - 1)
+worn_owned : (job : TaskJob) (value : ℕ) → is_worn job value ≡ true → (access_of job ≡ Owned) × (value ≡ 2 ^ 64 - 1)
 worn_owned (Reading part) value e = cc
 worn_owned (Writing part) value e = (refl, eqb-true value (2 ^ 64 - 1) e)
 
-after_number : (job : Job) (block : OBlock) (ws : List Want) (value : ℕ) → AreOwn ws → (b : Bool) → is_worn job value ≡ b → Outcome job (Cell (Look (Number block))) (Word value) (if b then refused (going job ws) (release job ∷ []) Worn else going job ws)
+after_number : (job : TaskJob) (block : OBlock) (ws : List Want) (value : ℕ) → AreOwn ws → (b : Bool) → is_worn job value ≡ b → Outcome job (Cell (Look (Number block))) (Word value) (if b then refused (going job ws) (release job ∷ []) Worn else going job ws)
 after_number job block ws value own false e = inr (ws, own, refl)
-after_number job block ws value own true e = inl (Worn, worn_owned job value e, answers_after (going job ws) (Release (access_of job) (part_of job).block) Worn (only_released (access_of job) (part_of job).block))
+after_number job block ws value own true e = inl (Worn, worn_owned job value e, answers_after (going job ws) (Release (access_of job) (range_of job).block) Worn (only_released (access_of job) (range_of job).block))
 
-outcome : (job : Job) (ws : List Want) (g : Got) → AreOwn ws → Fits (first_step ws Finished) g → Outcome job (first_step ws Finished) g (after (going job ws) g)
+outcome : (job : TaskJob) (ws : List Want) (g : Got) → AreOwn ws → Fits (first_step ws Finished) g → Outcome job (first_step ws Finished) g (after (going job ws) g)
 outcome job [] g own h = absurd h
 outcome job (Cell (Look Fail) ∷ ws) (Word value) own h = after_fail_word job ws value own (value == 0) refl
 outcome job (Cell (Look (LockWord block)) ∷ ws) (Word value) own h = after_lock_word job block ws value own (can_take (access_of job) value) refl
@@ -110,7 +110,7 @@ outcome job (Cell (Count kind) ∷ ws) Done own h = inr (ws, own, refl)
 outcome job (Cell SetFailed ∷ ws) Done own h = inr (ws, own, refl)
 outcome job (Cell SetSuspended ∷ ws) Done own h = inr (ws, own, refl)
 outcome job (Device (Read device at) ∷ ws) (Content content) own h = inr (ws, own, refl)
-outcome job (Device (Read device at) ∷ ws) Fault own h = inl (Io device, refl, answers_after (going job ws) (Release (access_of job) (part_of job).block) (Io device) (only_released (access_of job) (part_of job).block))
+outcome job (Device (Read device at) ∷ ws) Fault own h = inl (Io device, refl, answers_after (going job ws) (Release (access_of job) (range_of job).block) (Io device) (only_released (access_of job) (range_of job).block))
 outcome job (Device (Write device at) ∷ ws) Done own h = inr (ws, own, refl)
 outcome job (Device (Write device at) ∷ ws) Fault own h = inl (Io device, refl, answers_after (going job ws) SetFailed (Io device) only_set)
 outcome job (Device (Sync device) ∷ ws) Done own h = inr (ws, own, refl)
@@ -125,16 +125,16 @@ no_refusal (Device step ∷ ws) r own e = cc
 no_refusal (Desk step ∷ ws) r own e = own
 no_refusal (End a ∷ ws) r own e = own
 
-caused : (job : Job) (ws : List Want) (steps : List (Want × Got)) (r : Refusal) → AreOwn ws → IsRunOf (going job ws) steps (Refuses r) → GaveCause (access_of job) r steps
+caused : (job : TaskJob) (ws : List Want) (steps : List (Want × Got)) (r : Refusal) → AreOwn ws → IsRunOf (going job ws) steps (Refuses r) → GaveCause (access_of job) r steps
 caused job ws [] r own e = no_refusal ws r own e
 caused job ws (step ∷ steps) r own h =
     let w = first_step ws Finished in
     let fits : Fits w step.1 = subst (λ (v : Want). Fits v step.1) h.0 h.1 in
     elim (outcome job ws step.1 own fits) [
       | inl o ↦ inl (subst (λ (v : Want). Causes (access_of job) r v step.1) (sym h.0) (subst (λ (x : Refusal). Causes (access_of job) x w step.1) (o.2 steps r h.2) o.1))
-      | inr o ↦ inr (caused job o.0 steps r o.1 (subst (λ (s : Script). IsRunOf s steps (Refuses r)) o.2 h.2))
+      | inr o ↦ inr (caused job o.0 steps r o.1 (subst (λ (s : Plan). IsRunOf s steps (Refuses r)) o.2 h.2))
     ]
 
 -- a read or write refuses for a cause alone
-pub refuses_for_cause : (job : Job) (steps : List (Want × Got)) (r : Refusal) → IsRunOf (table job) steps (Refuses r) → GaveCause (access_of job) r steps
+pub refuses_for_cause : (job : TaskJob) (steps : List (Want × Got)) (r : Refusal) → IsRunOf (table job) steps (Refuses r) → GaveCause (access_of job) r steps
 refuses_for_cause job steps r h = caused job _ steps r tt h

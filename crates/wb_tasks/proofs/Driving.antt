@@ -6,8 +6,8 @@ use Rattle.wb_types.specs.declared.refusal.Refusal.TheVariants.{Busy, Failed, Wo
 use Rattle.wb_words.specs.declared.word.Word.{Word as WordName}
 use Rattle.wb_words.specs.declared.word.Word.TheVariants.{Cell as LockWord, Seal as SealWord, Number, Count as CountWord, Fail}
 use Rattle.wb_words.specs.SharedWords.{place_in, dirty_in, can_take}
-use Rattle.wb_tasks.specs.Job.{BlockRange, Job, access_of, Reading, Writing, work, taking, read_step, write_step, read_count, write_count}
-use Rattle.wb_tasks.specs.Script.{Script, want, after, after_look, release, Fits, IsStep, first_step, is_worn}
+use Rattle.wb_tasks.specs.Tables.{BlockRange, TaskJob, access_of, Reading, Writing, work, taking, read_step, write_step, read_count, write_count}
+use Rattle.wb_tasks.specs.Plan.{Plan, want, after, after_look, release, Fits, IsStep, first_step, is_worn}
 use Rattle.wb_tasks.specs.Ready.{AreFirst, left_by}
 use Rattle.wb_tasks.specs.Run.{IsRunOf, Leads}
 use Rattle.wb_tasks.specs.Length.{longest_work, longest_of, longest}
@@ -28,7 +28,7 @@ IsStep-no_answer (Desk step) h = tt
 IsStep-no_answer (End answer) h = absurd (h answer refl)
 
 -- the answer is a step too
-pub longest_of-some : (job : Job) (ws : List Want) → 1 ≤ longest_of job ws
+pub longest_of-some : (job : TaskJob) (ws : List Want) → 1 ≤ longest_of job ws
 longest_of-some job [] = omega arith
 longest_of-some job (Cell (Look (LockWord b)) ∷ ws) = omega arith
 longest_of-some job (Cell (Look (SealWord b)) ∷ ws) = omega arith
@@ -47,30 +47,30 @@ longest_of-some job (Desk s ∷ ws) = omega arith
 longest_of-some job (End a ∷ ws) = omega arith
 
 -- a step for each sector, before others that take two or more with the answer
-longest_of-reads : (job : Job) (part : BlockRange) (place : Option CBlock) (sectors : List ℕ) (ws : List Want) → 2 ≤ longest_of job ws → longest_of job (map (read_step part place) sectors ++ ws) ≡ length sectors + longest_of job ws
+longest_of-reads : (job : TaskJob) (part : BlockRange) (place : Option CBlock) (sectors : List ℕ) (ws : List Want) → 2 ≤ longest_of job ws → longest_of job (map (read_step part place) sectors ++ ws) ≡ length sectors + longest_of job ws
 longest_of-reads job part place [] ws h = omega arith
 longest_of-reads job part None (at ∷ sectors) ws h = omega (arith, longest_of-reads job part None sectors ws h)
 longest_of-reads job part (Some c) (at ∷ sectors) ws h = omega (arith, longest_of-reads job part (Some c) sectors ws h)
 
-longest_of-writes : (job : Job) (part : BlockRange) (place : Option CBlock) (sectors : List ℕ) (ws : List Want) → 2 ≤ longest_of job ws → longest_of job (map (write_step part place) sectors ++ ws) ≡ length sectors + longest_of job ws
+longest_of-writes : (job : TaskJob) (part : BlockRange) (place : Option CBlock) (sectors : List ℕ) (ws : List Want) → 2 ≤ longest_of job ws → longest_of job (map (write_step part place) sectors ++ ws) ≡ length sectors + longest_of job ws
 longest_of-writes job part place [] ws h = omega arith
 longest_of-writes job part None (at ∷ sectors) ws h = omega (arith, longest_of-writes job part None sectors ws h)
 longest_of-writes job part (Some c) (at ∷ sectors) ws h = omega (arith, longest_of-writes job part (Some c) sectors ws h)
 
 -- what a job does takes no longer than it says, wherever its block stands
-longest_of-work : (job : Job) (place : Option CBlock) (dirty : Bool) → longest_of job (work job place dirty) ≤ longest_work job
+longest_of-work : (job : TaskJob) (place : Option CBlock) (dirty : Bool) → longest_of job (work job place dirty) ≤ longest_work job
 longest_of-work (Reading part) None dirty = omega (arith, longest_of-reads (Reading part) part None part.sectors (read_count None ∷ Cell (Release Shared part.block) ∷ []) (omega arith))
 longest_of-work (Reading part) (Some c) dirty = omega (arith, longest_of-reads (Reading part) part (Some c) part.sectors (read_count (Some c) ∷ Cell (Release Shared part.block) ∷ []) (omega arith))
 longest_of-work (Writing part) None dirty = omega (arith, longest_of-writes (Writing part) part None part.sectors (Cell (Finish part.block) ∷ write_count None ∷ Cell (Release Owned part.block) ∷ []) (omega arith))
 longest_of-work (Writing part) (Some c) true = omega (arith, longest_of-writes (Writing part) part (Some c) part.sectors (Cell (Finish part.block) ∷ write_count (Some c) ∷ Cell (Release Owned part.block) ∷ []) (omega arith))
 longest_of-work (Writing part) (Some c) false = omega (arith, longest_of-writes (Writing part) part (Some c) part.sectors (Cell (Finish part.block) ∷ write_count (Some c) ∷ Cell (Release Owned part.block) ∷ []) (omega arith))
 
-some_work : (job : Job) → 2 ≤ longest_work job
+some_work : (job : TaskJob) → 2 ≤ longest_work job
 some_work (Reading part) = omega arith
 some_work (Writing part) = omega arith
 
 -- a look leaves less
-falls_look : (job : Job) (word : WordName) (ws : List Want) (a : Answer) (value : ℕ) → longest (after_look (record { job = job; steps = Cell (Look word) ∷ ws; answer = a }) (Cell (Look word)) value) < longest_of job (Cell (Look word) ∷ ws)
+falls_look : (job : TaskJob) (word : WordName) (ws : List Want) (a : Answer) (value : ℕ) → longest (after_look (record { job = job; steps = Cell (Look word) ∷ ws; answer = a }) (Cell (Look word)) value) < longest_of job (Cell (Look word) ∷ ws)
 falls_look job Fail ws a value = elim (value == 0) as (λ (b : Bool). longest (if b then (record { job = job; steps = ws; answer = a }) else (record { job = job; steps = []; answer = Refuses Failed })) < 1 + longest_of job ws) [ true ↦ omega arith | false ↦ omega (arith, longest_of-some job ws) ]
 falls_look job (LockWord block) ws a value = elim (can_take (access_of job) value) as (λ (b : Bool). longest (if b then (record { job = job; steps = taking (access_of job) block value; answer = a }) else (record { job = job; steps = []; answer = Refuses Busy })) < 4 + longest_work job) [ true ↦ omega arith | false ↦ omega arith ]
 falls_look job (SealWord block) ws a value = omega (arith, longest_of-work job (place_in value) (dirty_in value), some_work job)
@@ -78,7 +78,7 @@ falls_look job (Number block) ws a value = elim (is_worn job value) as (λ (b : 
 falls_look job (CountWord kind) ws a value = omega arith
 
 -- a step leaves less
-pub falls : (job : Job) (ws : List Want) (a : Answer) (g : Got) → Fits (first_step ws a) g → longest (after (record { job = job; steps = ws; answer = a }) g) < longest_of job ws
+pub falls : (job : TaskJob) (ws : List Want) (a : Answer) (g : Got) → Fits (first_step ws a) g → longest (after (record { job = job; steps = ws; answer = a }) g) < longest_of job ws
 falls job [] a g h = absurd h
 falls job (Cell (Look word) ∷ ws) a (Word value) h = falls_look job word ws a value
 falls job (Cell (Take access block seen) ∷ ws) a Done h = omega arith
@@ -105,22 +105,22 @@ leads_more {S} led old [] mid w g new e h = (new, subst (λ (x : S). led x w g n
 leads_more led old (step ∷ steps) mid w g new e h = (e.0, e.1, leads_more led e.0 steps mid w g new e.2 h)
 
 -- These steps lead to what is left, whichever way it ends.
-abbrev pub Leaves : Script → List (Want × Got) → Script → Type 0
+abbrev pub Leaves : Plan → List (Want × Got) → Plan → Type 0
 Leaves s steps t = (more : List (Want × Got)) (a : Answer) → IsRunOf t more a → IsRunOf s (steps ++ more) a
 
-pub leaves_more : (s : Script) (steps : List (Want × Got)) (t : Script) (g : Got) → Leaves s steps t → Fits (want t) g → Leaves s (steps ++ (want t, g) ∷ []) (after t g)
+pub leaves_more : (s : Plan) (steps : List (Want × Got)) (t : Plan) (g : Got) → Leaves s steps t → Fits (want t) g → Leaves s (steps ++ (want t, g) ∷ []) (after t g)
 leaves_more s steps t g e h more a r = rw append_assoc (e ((want t, g) ∷ more) a (refl, h, r))
 
 -- they are the first steps of the task, and one more
-pub first_more : (s : Script) (steps : List (Want × Got)) (g : Got) → AreFirst s steps → Fits (want (left_by s steps)) g → AreFirst s (steps ++ (want (left_by s steps), g) ∷ [])
+pub first_more : (s : Plan) (steps : List (Want × Got)) (g : Got) → AreFirst s steps → Fits (want (left_by s steps)) g → AreFirst s (steps ++ (want (left_by s steps), g) ∷ [])
 first_more s [] g f h = (refl, h, tt)
 first_more s (step ∷ steps) g f h = (f.0, f.1, first_more (after s step.1) steps g f.2 h)
 
-pub left_more : (s : Script) (steps : List (Want × Got)) (w : Want) (g : Got) → left_by s (steps ++ (w, g) ∷ []) ≡ after (left_by s steps) g
+pub left_more : (s : Plan) (steps : List (Want × Got)) (w : Want) (g : Got) → left_by s (steps ++ (w, g) ∷ []) ≡ after (left_by s steps) g
 left_more s [] w g = refl
 left_more s (step ∷ steps) w g = left_more (after s step.1) steps w g
 
 -- a whole run is made of first steps
-pub run_first : (s : Script) (steps : List (Want × Got)) (answer : Answer) → IsRunOf s steps answer → AreFirst s steps × (want (left_by s steps) ≡ End answer)
+pub run_first : (s : Plan) (steps : List (Want × Got)) (answer : Answer) → IsRunOf s steps answer → AreFirst s steps × (want (left_by s steps) ≡ End answer)
 run_first s [] answer r = (tt, r)
 run_first s (step ∷ steps) answer r = let more = run_first (after s step.1) steps answer r.2 in ((r.0, r.1, more.0), more.1)

@@ -1,6 +1,6 @@
 -- An actor has what the next step of its task needs, and each step keeps it so; after the answer it holds nothing.
-use Rattle.std.proofs.Common.{◌≡◌, ◌∙◌, ◌==◌, ◌<◌, ◌-◌, ◌^◌, ◌++◌, ℕ, Bool, true, false, cond, eqb, List, [], ◌∷◌, Option, Some, None, refl, sym, ap, subst, map, if◌then◌else◌, arith}
-use Rattle.std.proofs.lemmas.Bool.{eq-eqb, eqb-true, true≢false}
+use Rattle.std.proofs.Common.{◌≡◌, ◌∙◌, ◌==◌, ◌<◌, ◌-◌, ◌^◌, ◌++◌, ℕ, Bool, true, false, cond, eqb, List, [], ◌∷◌, Option, Some, None, refl, sym, ap, subst, map, if◌then◌else◌}
+use Rattle.std.proofs.lemmas.Bool.{eq-eqb, true≢false}
 use Rattle.wb_types.specs.declared.number.OBlock.{OBlock}
 use Rattle.wb_types.specs.declared.number.CBlock.{CBlock}
 use Rattle.wb_types.specs.declared.refusal.Refusal.TheVariants.{Busy, Failed, Worn, Io}
@@ -11,22 +11,20 @@ use Rattle.wb_words.specs.declared.word.Word.TheVariants.{Cell as LockWord, Seal
 use Rattle.wb_words.specs.declared.card.Hold.{Hold}
 use Rattle.wb_words.specs.declared.card.Hold.TheVariants.{Nothing, Held}
 use Rattle.wb_words.specs.declared.card.Card.{Card}
-use Rattle.wb_words.specs.declared.step.CellStep.{CellStep}
 use Rattle.wb_words.specs.declared.step.CellStep.TheVariants.{Look, Take, Release, Seal, Finish, Count, SetFailed, SetSuspended}
-use Rattle.wb_words.specs.SharedWords.{Words, IsWord, word_at, value_of, place_in, dirty_in, can_take}
-use Rattle.wb_words.specs.Cards.{looked, losing, holding, failing_at, is_own_number}
-use Rattle.wb_words.specs.Effects.{result_of, card_after}
+use Rattle.wb_words.specs.SharedWords.{word_at, value_of, place_in, dirty_in, can_take}
+use Rattle.wb_words.specs.Cards.{losing, holding, failing_at, is_own_number}
 use Rattle.wb_words.specs.Ready.{HasNext}
-use Rattle.wb_tasks.specs.Job.{BlockRange, Job, Reading, Writing, part_of, access_of, work, taking, read_step, write_step}
+use Rattle.wb_tasks.specs.Tables.{BlockRange, TaskJob, Reading, Writing, access_of, work, taking, read_step, write_step}
 use Rattle.wb_tasks.specs.Ready.{MayTake, MayMake, block_of, HasBlock, KnowsNext, IsRest, Has, Suits}
-use Rattle.wb_tasks.specs.Script.{Script, table, want, after, first_step, release, is_worn, Fits, got_of}
+use Rattle.wb_tasks.specs.Plan.{Plan, table, want, after, first_step, release, is_worn, Fits, got_of}
 use Rattle.wb_tasks.specs.declared.step.Answer.{Answer}
-use Rattle.wb_tasks.specs.declared.step.Answer.TheVariants.{Done as Finished, Refused as Refuses}
+use Rattle.wb_tasks.specs.declared.step.Answer.TheVariants.{Refused as Refuses}
 use Rattle.wb_tasks.specs.declared.step.DeviceStep.TheVariants.{Read, Write, Sync}
 use Rattle.wb_tasks.specs.declared.step.Want.{Want}
 use Rattle.wb_tasks.specs.declared.step.Want.TheVariants.{Cell, Device, Desk, End}
 use Rattle.wb_tasks.specs.declared.step.Got.{Got}
-use Rattle.wb_tasks.specs.declared.step.Got.TheVariants.{Done, Word, Lost, Content, Fault}
+use Rattle.wb_tasks.specs.declared.step.Got.TheVariants.{Done, Word, Content, Fault}
 
 rest_reads : (part : BlockRange) (place : Option CBlock) (sectors : List ℕ) (ws : List Want) → IsRest (Reading part) true ws → IsRest (Reading part) true (map (read_step part place) sectors ++ ws)
 rest_reads part place [] ws r = r
@@ -38,7 +36,7 @@ rest_writes part place [] ws r = r
 rest_writes part None (at ∷ sectors) ws r = (refl, rest_writes part None sectors ws r)
 rest_writes part (Some c) (at ∷ sectors) ws r = (refl, rest_writes part (Some c) sectors ws r)
 
-rest_work : (job : Job) (place : Option CBlock) (dirty : Bool) → IsRest job true (work job place dirty)
+rest_work : (job : TaskJob) (place : Option CBlock) (dirty : Bool) → IsRest job true (work job place dirty)
 rest_work (Reading part) None dirty = rest_reads part None part.sectors _ (refl, refl)
 rest_work (Reading part) (Some c) dirty = rest_reads part (Some c) part.sectors _ (refl, refl)
 rest_work (Writing part) None dirty = rest_writes part None part.sectors _ (refl, refl, refl, (refl, refl))
@@ -46,7 +44,7 @@ rest_work (Writing part) (Some c) true = rest_writes part (Some c) part.sectors 
 rest_work (Writing part) (Some c) false = (refl, refl, rest_writes part (Some c) part.sectors _ (refl, refl, refl, (refl, refl)))
 
 -- what is left of the work is all that is left
-has_rest : (job : Job) (card : Card) (next : Bool) (ws : List Want) → IsRest job next ws → HasBlock job card → KnowsNext job next card.number → Has job card ws
+has_rest : (job : TaskJob) (card : Card) (next : Bool) (ws : List Want) → IsRest job next ws → HasBlock job card → KnowsNext job next card.number → Has job card ws
 has_rest job card next (Device step ∷ ws) r h k = (h, (next, r, k))
 has_rest job card next (Cell (Seal block place dirty) ∷ ws) r h k = (h, (next, r, k))
 has_rest job card next (Cell (Finish block) ∷ ws) r h k = (h, (next, r, k))
@@ -61,24 +59,24 @@ has_rest job card next (Cell SetSuspended ∷ ws) r h k = absurd r
 has_rest job card next (Desk step ∷ ws) r h k = absurd r
 has_rest job card next (End answer ∷ ws) r h k = absurd r
 
--- one of two scripts, by a test
-either : (P : Script → Type 0) (b : Bool) (s t : Script) → (b ≡ true → P s) → (b ≡ false → P t) → P (if b then s else t)
+-- one of two plans, by a test
+either : (P : Plan → Type 0) (b : Bool) (s t : Plan) → (b ≡ true → P s) → (b ≡ false → P t) → P (if b then s else t)
 either P true s t p q = p refl
 either P false s t p q = q refl
 
 -- a number that is not worn has a next one
-known : (job : Job) (value : ℕ) → is_worn job value ≡ false → KnowsNext job true (Some value)
+known : (job : TaskJob) (value : ℕ) → is_worn job value ≡ false → KnowsNext job true (Some value)
 known (Reading part) value e = tt
 known (Writing part) value e = (value, refl, λ worn. absurd (true≢false (sym (eq-eqb value (2 ^ 64 - 1) worn) ∙ e)))
 
-knows_less : (job : Job) (known : Option ℕ) → KnowsNext job false known
+knows_less : (job : TaskJob) (known : Option ℕ) → KnowsNext job false known
 knows_less (Reading part) known = tt
 knows_less (Writing part) known = tt
 
-suits : (blocks : ℕ) (job : Job) (card : Card) (ws : List Want) (answer : Answer) → (block_of job).0 < blocks → Has job card ws → Suits blocks (record { job = job; steps = ws; answer = answer }) card
+suits : (blocks : ℕ) (job : TaskJob) (card : Card) (ws : List Want) (answer : Answer) → (block_of job).0 < blocks → Has job card ws → Suits blocks (record { job = job; steps = ws; answer = answer }) card
 suits blocks job card ws answer l h = record { inside = l; has = h }
 
-give_back : (blocks : ℕ) (job : Job) (card : Card) (answer : Answer) → (block_of job).0 < blocks → HasBlock job card → Suits blocks (record { job = job; steps = release job ∷ []; answer = answer }) card
+give_back : (blocks : ℕ) (job : TaskJob) (card : Card) (answer : Answer) → (block_of job).0 < blocks → HasBlock job card → Suits blocks (record { job = job; steps = release job ∷ []; answer = answer }) card
 give_back blocks job card answer l h = suits blocks job card (release job ∷ []) answer l (h, (false, (refl, refl), knows_less job card.number))
 
 -- who looks at a number of its own block knows it then
@@ -89,7 +87,7 @@ word_is : (x y : ℕ) → Word x ≡ Word y → x ≡ y
 word_is x y e = cc
 
 -- One step of a task, what came of it, and what became of its actor's card.
-module _ (blocks : ℕ) (job : Job) (card card' : Card) (answer : Answer) (inside : (block_of job).0 < blocks) where
+module _ (blocks : ℕ) (job : TaskJob) (card card' : Card) (answer : Answer) (inside : (block_of job).0 < blocks) where
   abbrev Then : Want → List Want → Got → Type 0
   Then next ws got = Suits blocks (after (record { job = job; steps = next ∷ ws; answer = answer }) got) card'
 
@@ -108,11 +106,11 @@ module _ (blocks : ℕ) (job : Job) (card card' : Card) (answer : Answer) (insid
   -- a look
   saw : (word : WordName) (ws : List Want) (value : ℕ) → Has job card (Cell (Look word) ∷ ws) → MayMake (Cell (Look word)) (Word value) card card' → Then (Cell (Look word)) ws (Word value)
   saw Fail ws value h made = let hold : card'.hold ≡ Nothing = ap (λ (c : Card). c.hold) made.2 ∙ h.0 in
-      either (λ (s : Script). Suits blocks s card') (value == 0) _ _
+      either (λ (s : Plan). Suits blocks s card') (value == 0) _ _
       (λ _. suits blocks job card' ws answer inside (subst (λ (z : List Want). Has job card' z) (sym h.1) (hold, refl, refl)))
       (λ _. suits blocks job card' [] (Refuses Failed) inside hold)
   saw (LockWord b) ws value h made = let hold : card'.hold ≡ Nothing = ap (λ (c : Card). c.hold) made.2 ∙ h.0 in
-      either (λ (s : Script). Suits blocks s card') (can_take (access_of job) value) _ _
+      either (λ (s : Plan). Suits blocks s card') (can_take (access_of job) value) _ _
       (λ can. suits blocks job card' (taking (access_of job) b value) answer inside (hold, refl, h.1, can, refl))
       (λ _. suits blocks job card' [] (Refuses Busy) inside hold)
   saw (SealWord b) ws value h made = let has : HasBlock job card' = ap (λ (c : Card). c.hold) made.2 ∙ h.0 in
@@ -120,7 +118,7 @@ module _ (blocks : ℕ) (job : Job) (card card' : Card) (answer : Answer) (insid
   saw (Number b) ws value h made = let has : HasBlock job card' = ap (λ (c : Card). c.hold) made.2 ∙ h.0 in
       let found : ℕ = value_of made.0 (Number b) in
       let learnt : card'.number ≡ Some value = ap (λ (c : Card). c.number) made.2 ∙ (ap (λ (t : Bool). cond t (Some found) card.number) (own_number (access_of job) (block_of job) b card.hold h.0 h.1) ∙ ap (λ z. Some z) (sym (word_is value found made.1))) in
-      either (λ (s : Script). Suits blocks s card') (is_worn job value) _ _
+      either (λ (s : Plan). Suits blocks s card') (is_worn job value) _ _
       (λ _. give_back blocks job card' (Refuses Worn) inside has)
       (λ fine. suits blocks job card' ws answer inside (has_rest job card' true ws h.2 has (subst (KnowsNext job true) (sym learnt) (known job value fine))))
   saw (CountWord kind) ws value h made = absurd h.1.1
@@ -159,23 +157,23 @@ module _ (blocks : ℕ) (job : Job) (card card' : Card) (answer : Answer) (insid
   keeps_on (Device (Sync device) ∷ ws) got h f made = absurd h.1.1.0
   keeps_on (w ∷ ws) got h f made = absurd f
 
-pub keeps_ready : (blocks : ℕ) (s : Script) (card card' : Card) (got : Got) → Suits blocks s card → Fits (want s) got → MayMake (want s) got card card' → Suits blocks (after s got) card'
+pub keeps_ready : (blocks : ℕ) (s : Plan) (card card' : Card) (got : Got) → Suits blocks s card → Fits (want s) got → MayMake (want s) got card card' → Suits blocks (after s got) card'
 keeps_ready blocks s card card' got h f made = keeps_on blocks s.job card card' s.answer h.inside s.steps got h.has f made
 
 -- What comes next.
 
-knows_next : (job : Job) (next : Bool) (number : Option ℕ) → access_of job ≡ Owned → next ≡ true → KnowsNext job next number → HasNext number
+knows_next : (job : TaskJob) (next : Bool) (number : Option ℕ) → access_of job ≡ Owned → next ≡ true → KnowsNext job next number → HasNext number
 knows_next (Reading part) next number o n k = absurd (cc)
 knows_next (Writing part) true number o n k = k
 knows_next (Writing part) false number o n k = absurd (cc)
 
-owned : (job : Job) (card : Card) → HasBlock job card → access_of job ≡ Owned → card.hold ≡ Held Owned (block_of job)
+owned : (job : TaskJob) (card : Card) → HasBlock job card → access_of job ≡ Owned → card.hold ≡ Held Owned (block_of job)
 owned job card h o = h ∙ ap (λ access. Held access (block_of job)) o
 
 below : (blocks : ℕ) (a b : OBlock) → a ≡ b → b.0 < blocks → a.0 < blocks
 below blocks a b e l = subst (λ (z : OBlock). z.0 < blocks) (sym e) l
 
-ready_for : (blocks : ℕ) (job : Job) (card : Card) (ws : List Want) (answer : Answer) → (block_of job).0 < blocks → Has job card ws → MayTake blocks card (first_step ws answer)
+ready_for : (blocks : ℕ) (job : TaskJob) (card : Card) (ws : List Want) (answer : Answer) → (block_of job).0 < blocks → Has job card ws → MayTake blocks card (first_step ws answer)
 ready_for blocks job card [] answer l h = tt
 ready_for blocks job card (Cell (Look Fail) ∷ ws) answer l h = tt
 ready_for blocks job card (Cell (Look (LockWord b)) ∷ ws) answer l h = below blocks b (block_of job) h.1 l
@@ -194,19 +192,19 @@ ready_for blocks job card (Device step ∷ ws) answer l h = tt
 ready_for blocks job card (Desk step ∷ ws) answer l h = tt
 ready_for blocks job card (End a ∷ ws) answer l h = tt
 
-pub is_ready : (blocks : ℕ) (s : Script) (card : Card) → Suits blocks s card → MayTake blocks card (want s)
+pub is_ready : (blocks : ℕ) (s : Plan) (card : Card) → Suits blocks s card → MayTake blocks card (want s)
 is_ready blocks s card h = ready_for blocks s.job card s.steps s.answer h.inside h.has
 
-pub begins_ready : (blocks : ℕ) (job : Job) (card : Card) → (block_of job).0 < blocks → card.hold ≡ Nothing → Suits blocks (table job) card
+pub begins_ready : (blocks : ℕ) (job : TaskJob) (card : Card) → (block_of job).0 < blocks → card.hold ≡ Nothing → Suits blocks (table job) card
 begins_ready blocks job card l h = record { inside = l; has = (h, refl) }
 
 -- At the end.
-ended : (job : Job) (card : Card) (ws : List Want) (answer end : Answer) → Has job card ws → first_step ws answer ≡ End end → card.hold ≡ Nothing
+ended : (job : TaskJob) (card : Card) (ws : List Want) (answer end : Answer) → Has job card ws → first_step ws answer ≡ End end → card.hold ≡ Nothing
 ended job card [] answer end h e = h
 ended job card (Cell step ∷ ws) answer end h e = absurd (cc)
 ended job card (Device step ∷ ws) answer end h e = absurd (cc)
 ended job card (Desk step ∷ ws) answer end h e = absurd h.1.1
 ended job card (End a ∷ ws) answer end h e = absurd h.1.1
 
-pub ends_holding_nothing : (blocks : ℕ) (s : Script) (card : Card) (end : Answer) → Suits blocks s card → want s ≡ End end → card.hold ≡ Nothing
+pub ends_holding_nothing : (blocks : ℕ) (s : Plan) (card : Card) (end : Answer) → Suits blocks s card → want s ≡ End end → card.hold ≡ Nothing
 ends_holding_nothing blocks s card end h e = ended s.job card s.steps s.answer end h.has e

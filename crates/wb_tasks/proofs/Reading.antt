@@ -2,8 +2,8 @@
 use Rattle.std.proofs.Common.{◌≡◌, ℕ, List, [], ◌∷◌, Option, Some, None, refl}
 use Rattle.wb_types.specs.declared.number.CBlock.{CBlock}
 use Rattle.wb_types.specs.declared.refusal.Refusal.TheVariants.{Io}
-use Rattle.wb_tasks.specs.Job.{BlockRange, device_at}
-use Rattle.wb_tasks.specs.Script.{want, after, Fits}
+use Rattle.wb_tasks.specs.Tables.{BlockRange, device_at}
+use Rattle.wb_tasks.specs.Plan.{want, after, Fits}
 use Rattle.wb_tasks.specs.Phases.{read_left}
 use Rattle.wb_tasks.specs.declared.read.Phase.TheVariants.{Reads, Releases}
 use Rattle.wb_tasks.specs.declared.step.Answer.TheVariants.{Done as Finished, Refused as Refuses}

@@ -1,7 +1,7 @@
 -- From the fields of a task to what its contract says.
 use Rattle.std.proofs.Common.{◌≡◌, ℕ, List, [], refl, sym, ap, subst, ◌∙◌}
-use Rattle.wb_tasks.specs.Job.{BlockRange}
-use Rattle.wb_tasks.specs.Script.{Script, want, after, refused, Fits}
+use Rattle.wb_tasks.specs.Tables.{BlockRange}
+use Rattle.wb_tasks.specs.Plan.{Plan, want, after, refused, Fits}
 use Rattle.wb_tasks.specs.Phases.{read_left, write_left}
 use Rattle.wb_types.specs.declared.refusal.Refusal.{Refusal}
 use Rattle.wb_tasks.specs.declared.read.Phase.{Phase as ReadPhase}
@@ -12,8 +12,8 @@ use Rattle.wb_tasks.specs.declared.step.Answer.TheVariants.{Refused as Refuses}
 use Rattle.wb_tasks.specs.declared.step.Got.{Got}
 
 -- what is shown of the fields' view holds of the value
-pub by_view : (v old new : Script) (got : Got) → v ≡ old → Fits (want old) got → (Fits (want v) got → new ≡ after v got) → new ≡ after old got
-by_view v old new got e h f = f (subst (λ (s : Script). Fits (want s) got) (sym e) h) ∙ ap (λ s. after s got) e
+pub by_view : (v old new : Plan) (got : Got) → v ≡ old → Fits (want old) got → (Fits (want v) got → new ≡ after v got) → new ≡ after old got
+by_view v old new got e h f = f (subst (λ (s : Plan). Fits (want s) got) (sym e) h) ∙ ap (λ s. after s got) e
 
 -- a read that is refused has nothing left but the refusal
 pub refused_read : (part : BlockRange) (phase : ReadPhase) (sectors : List ℕ) (refusal : Refusal) → read_left part (ReadEnded (Refuses refusal)) sectors ≡ refused (read_left part phase sectors) [] refusal

@@ -1,8 +1,8 @@
 -- A write that writes its sectors.
 use Rattle.std.proofs.Common.{◌≡◌, ℕ, List, [], ◌∷◌, Option, Some, None, refl}
 use Rattle.wb_types.specs.declared.number.CBlock.{CBlock}
-use Rattle.wb_tasks.specs.Job.{BlockRange, device_at}
-use Rattle.wb_tasks.specs.Script.{want, after, Fits}
+use Rattle.wb_tasks.specs.Tables.{BlockRange, device_at}
+use Rattle.wb_tasks.specs.Plan.{want, after, Fits}
 use Rattle.wb_tasks.specs.Phases.{write_left}
 use Rattle.wb_words.specs.declared.grip.GripStage.TheVariants.{LookFail, LookLock, Exchange, LookSeal, LookNumber}
 use Rattle.wb_tasks.specs.declared.write.Phase.{Phase}

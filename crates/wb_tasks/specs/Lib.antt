@@ -1,5 +1,5 @@
-pub mod Job
-pub mod Script
+pub mod Tables
+pub mod Plan
 pub mod Run
 pub mod Length
 pub mod Causes

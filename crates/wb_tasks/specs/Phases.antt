@@ -3,8 +3,8 @@ use Rattle.std.specs.Prelude.{◌++◌, ℕ, true, List, [], ◌∷◌, Some, ma
 use Rattle.wb_types.specs.declared.refusal.Refusal.TheVariants.{Worn, Io}
 use Rattle.wb_words.specs.declared.word.Access.TheVariants.{Shared, Owned}
 use Rattle.wb_words.specs.declared.word.Word.TheVariants.{Cell as LockWord, Seal as SealWord, Number as NumberWord}
-use Rattle.wb_tasks.specs.Job.{BlockRange, Job, Reading, Writing, part_of, access_of, acquire, taking, work, read_step, write_step, read_count, write_count}
-use Rattle.wb_tasks.specs.Script.{Script, release}
+use Rattle.wb_tasks.specs.Tables.{BlockRange, TaskJob, Reading, Writing, range_of, access_of, acquire, taking, work, read_step, write_step, read_count, write_count}
+use Rattle.wb_tasks.specs.Plan.{Plan, release}
 use Rattle.wb_words.specs.declared.grip.GripStage.{GripStage}
 use Rattle.wb_words.specs.declared.grip.GripStage.TheVariants.{LookFail, LookLock, Exchange, LookSeal, LookNumber}
 use Rattle.wb_words.specs.SharedWords.{place_in, dirty_in}
@@ -14,39 +14,39 @@ use Rattle.wb_tasks.specs.declared.read.Phase.{Phase as ReadPhase}
 use Rattle.wb_tasks.specs.declared.read.Phase.TheVariants.{Acquires as ReadAcquires, Reads, Releases as ReadReleases, Ended as ReadEnded}
 use Rattle.wb_tasks.specs.declared.write.Phase.{Phase as WritePhase}
 use Rattle.wb_tasks.specs.declared.write.Phase.TheVariants.{Acquires as WriteAcquires, Dirties, Writes, Counts, Releases as WriteReleases, SetsFailed, Ended as WriteEnded}
-use Rattle.wb_words.specs.declared.step.CellStep.TheVariants.{Look, Take, Release, Seal as SealStep, Finish, SetFailed}
+use Rattle.wb_words.specs.declared.step.CellStep.TheVariants.{Look, Release, Seal as SealStep, Finish, SetFailed}
 use Rattle.wb_tasks.specs.declared.step.Answer.TheVariants.{Done as Finished, Refused as Refuses}
 use Rattle.wb_tasks.specs.declared.step.Want.{Want}
 use Rattle.wb_tasks.specs.declared.step.Want.TheVariants.{Cell}
 
 -- the steps to come of a job that has not got its block
-abbrev pub steps_from : Job → GripStage → List Want
-steps_from job LookFail = acquire (part_of job).block
-steps_from job LookLock = Cell (Look (LockWord (part_of job).block)) ∷ []
-steps_from job (Exchange seen) = taking (access_of job) (part_of job).block seen
-steps_from job LookSeal = Cell (Look (SealWord (part_of job).block)) ∷ []
-steps_from job (LookNumber seal) = Cell (Look (NumberWord (part_of job).block)) ∷ work job (place_in seal) (dirty_in seal)
+abbrev pub steps_from : TaskJob → GripStage → List Want
+steps_from job LookFail = acquire (range_of job).block
+steps_from job LookLock = Cell (Look (LockWord (range_of job).block)) ∷ []
+steps_from job (Exchange seen) = taking (access_of job) (range_of job).block seen
+steps_from job LookSeal = Cell (Look (SealWord (range_of job).block)) ∷ []
+steps_from job (LookNumber seal) = Cell (Look (NumberWord (range_of job).block)) ∷ work job (place_in seal) (dirty_in seal)
 
 -- a job that has not got its block
-abbrev pub acquiring : Job → GripStage → Script
+abbrev pub acquiring : TaskJob → GripStage → Plan
 acquiring job stage = record { job = job; steps = steps_from job stage; answer = Finished }
 
 -- what is left of a job after what it saw
-abbrev pub after_seeing : Job → Seen → Script
+abbrev pub after_seeing : TaskJob → Seen → Plan
 after_seeing job (Next stage) = acquiring job stage
 after_seeing job (Holds place dirty) = record { job = job; steps = work job place dirty; answer = Finished }
 after_seeing job (Refused refusal) = record { job = job; steps = []; answer = Refuses refusal }
 after_seeing job WornOut = record { job = job; steps = release job ∷ []; answer = Refuses Worn }
 
 -- what is left of a read in a phase, with these sectors still to read
-abbrev pub read_left : BlockRange → ReadPhase → List ℕ → Script
+abbrev pub read_left : BlockRange → ReadPhase → List ℕ → Plan
 read_left part (ReadAcquires stage) sectors = acquiring (Reading part) stage
 read_left part (Reads place) sectors = record { job = Reading part; steps = map (read_step part place) sectors ++ read_count place ∷ Cell (Release Shared part.block) ∷ []; answer = Finished }
 read_left part (ReadReleases answer) sectors = record { job = Reading part; steps = Cell (Release Shared part.block) ∷ []; answer = answer }
 read_left part (ReadEnded answer) sectors = record { job = Reading part; steps = []; answer = answer }
 
 -- what is left of a write in a phase, with these sectors still to write
-abbrev pub write_left : BlockRange → WritePhase → List ℕ → Script
+abbrev pub write_left : BlockRange → WritePhase → List ℕ → Plan
 write_left part (WriteAcquires stage) sectors = acquiring (Writing part) stage
 write_left part (Dirties c) sectors = record { job = Writing part; steps = Cell (SealStep part.block (Some c) true) ∷ (map (write_step part (Some c)) sectors ++ Cell (Finish part.block) ∷ write_count (Some c) ∷ Cell (Release Owned part.block) ∷ []); answer = Finished }
 write_left part (Writes place) sectors = record { job = Writing part; steps = map (write_step part place) sectors ++ Cell (Finish part.block) ∷ write_count place ∷ Cell (Release Owned part.block) ∷ []; answer = Finished }

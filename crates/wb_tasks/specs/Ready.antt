@@ -9,8 +9,8 @@ use Rattle.wb_words.specs.declared.step.CellStep.TheVariants.{Look, Take, Releas
 use Rattle.wb_words.specs.SharedWords.{Words, can_take}
 use Rattle.wb_words.specs.Effects.{result_of, card_after}
 use Rattle.wb_words.specs.Ready.{IsReady, HasNext}
-use Rattle.wb_tasks.specs.Job.{Job, Reading, Writing, part_of, access_of}
-use Rattle.wb_tasks.specs.Script.{Script, want, after, Fits, IsStep, got_of}
+use Rattle.wb_tasks.specs.Tables.{TaskJob, Reading, Writing, range_of, access_of}
+use Rattle.wb_tasks.specs.Plan.{Plan, want, after, Fits, IsStep, got_of}
 use Rattle.wb_tasks.specs.Run.{Leads}
 use Rattle.wb_tasks.specs.declared.step.DeviceStep.{DeviceStep}
 use Rattle.wb_tasks.specs.declared.step.DeviceStep.TheVariants.{Read, Write, Sync}
@@ -28,27 +28,27 @@ abbrev pub MayMake : Want → Got → Card → Card → Type 0
 MayMake (Cell step) got card card' = (words : Words) × (got ≡ got_of (result_of words step)) × (card' ≡ card_after words step card)
 MayMake next got card card' = card' ≡ card
 
-abbrev pub block_of : Job → OBlock
-block_of job = (part_of job).block
+abbrev pub block_of : TaskJob → OBlock
+block_of job = (range_of job).block
 
 -- the actor has the block of its job
-abbrev pub HasBlock : Job → Card → Type 0
+abbrev pub HasBlock : TaskJob → Card → Type 0
 HasBlock job card = card.hold ≡ Held (access_of job) (block_of job)
 
 -- a write knows a number that has a next one
-abbrev pub KnowsNext : Job → Bool → Option ℕ → Type 0
+abbrev pub KnowsNext : TaskJob → Bool → Option ℕ → Type 0
 KnowsNext (Reading part) next known = Unit {0}
 KnowsNext (Writing part) true known = HasNext known
 KnowsNext (Writing part) false known = Unit {0}
 
 -- A step on a device that a job may take: only a write writes.
-abbrev pub IsJobs : Job → DeviceStep → Type 0
+abbrev pub IsJobs : TaskJob → DeviceStep → Type 0
 IsJobs job (Read device at) = Unit {0}
 IsJobs job (Write device at) = access_of job ≡ Owned
 IsJobs job (Sync device) = ⊥
 
 -- What may be left of the work of a job that has its block; the flag says that its number is known to have a next one.
-abbrev pub IsRest : Job → Bool → List Want → Type 0
+abbrev pub IsRest : TaskJob → Bool → List Want → Type 0
 IsRest job next (Device step ∷ ws) = IsJobs job step × IsRest job next ws
 IsRest job next (Cell (Seal block place dirty) ∷ ws) = (block ≡ block_of job) × (access_of job ≡ Owned) × IsRest job next ws
 IsRest job next (Cell (Finish block) ∷ ws) = (block ≡ block_of job) × (access_of job ≡ Owned) × (next ≡ true) × IsRest job false ws
@@ -57,7 +57,7 @@ IsRest job next (Cell (Release access block) ∷ []) = (access ≡ access_of job
 IsRest job next ws = ⊥
 
 -- what an actor has, with these steps of its job to come
-abbrev pub Has : Job → Card → List Want → Type 0
+abbrev pub Has : TaskJob → Card → List Want → Type 0
 Has job card [] = card.hold ≡ Nothing
 Has job card (Cell (Look Fail) ∷ ws) = (card.hold ≡ Nothing) × (ws ≡ Cell (Look (LockWord (block_of job))) ∷ [])
 Has job card (Cell (Look (LockWord block)) ∷ ws) = (card.hold ≡ Nothing) × (block ≡ block_of job) × (ws ≡ [])
@@ -68,20 +68,20 @@ Has job card (Cell SetFailed ∷ ws) = (card.hold ≡ Held Owned (block_of job))
 Has job card ws = HasBlock job card × ((next : Bool) × IsRest job next ws × KnowsNext job next card.number)
 
 -- An actor with this card has what it needs for what is left of its task, where there are so many blocks.
-pub record Suits (blocks : ℕ) (s : Script) (card : Card) : Type 0 where
+pub record Suits (blocks : ℕ) (s : Plan) (card : Card) : Type 0 where
   pub inside : (block_of s.job).0 < blocks
   pub has : Has s.job card s.steps
 
 -- these are the first steps of what is left of a task
-abbrev pub AreFirst : Script → List (Want × Got) → Type 0
+abbrev pub AreFirst : Plan → List (Want × Got) → Type 0
 AreFirst s [] = Unit {0}
 AreFirst s (step ∷ steps) = (step.0 ≡ want s) × Fits step.0 step.1 × AreFirst (after s step.1) steps
 
 -- what is left after them
-abbrev pub left_by : Script → List (Want × Got) → Script
+abbrev pub left_by : Plan → List (Want × Got) → Plan
 left_by s [] = s
 left_by s (step ∷ steps) = left_by (after s step.1) steps
 
 -- Wherever the steps of a task lead a stage, the stage is ready for the next one.
-abbrev pub StaysReady : {S : Type 0} → (S → Want → Type 0) → (S → Want → Got → S → Type 0) → Script → S → Type 0
+abbrev pub StaysReady : {S : Type 0} → (S → Want → Type 0) → (S → Want → Got → S → Type 0) → Plan → S → Type 0
 StaysReady {S} ready led s old = (steps : List (Want × Got)) (mid : S) → AreFirst s steps → Leads led old steps mid → IsStep (want (left_by s steps)) → ready mid (want (left_by s steps))

@@ -5,7 +5,7 @@
 #![tactic(auto)]
 
 mod acquire;
-mod laws;
+mod law;
 mod read;
 mod request;
 mod route;
@@ -16,7 +16,7 @@ mod task;
 mod tests;
 mod write;
 
-pub use laws::{refusal_causes, step_bound, steps_are_ready};
+pub use law::{refusal_causes, step_bound, steps_are_ready};
 pub use read::ReadTask;
 pub use request::RequestTask;
 pub use stage::{Stage, drive};

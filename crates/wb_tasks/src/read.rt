@@ -1,8 +1,15 @@
-//! A read of sectors of one block.
+//! A read of sectors of one block:
+//!
+//! 1. acquire the block to share it: fail word, lock word, exchange, seal, number;
+//! 2. read each sector, from the device that its seal names;
+//! 3. count a hit or a miss;
+//! 4. give the block back, and answer done.
+//!
+//! After a fault: give the block back, and answer `Io`.
 
 ghost use Rattle.std.specs.Prelude.{◌≡◌, ◌+◌, ◌<◌, ◌^◌, []};
-ghost use Rattle.wb_tasks.specs.Job.{Reading, sectors_from};
-ghost use Rattle.wb_tasks.specs.Script.{Script, want, after, refused, table, Fits};
+ghost use Rattle.wb_tasks.specs.Tables.{Reading, sectors_from};
+ghost use Rattle.wb_tasks.specs.Plan.{Plan, want, after, refused, table, Fits};
 
 use crate::acquire::{self, Seen};
 use crate::route::{device_at, route};
@@ -38,11 +45,11 @@ pub struct ReadTask {
 
 impl Model for ReadTask {
     ghost use Rattle.std.specs.Prelude.{ℕ, ◌+◌, ◌<◌, ◌^◌};
-    ghost use Rattle.wb_tasks.specs.Script.{Script};
+    ghost use Rattle.wb_tasks.specs.Plan.{Plan};
 
-    ghost Value = { Script };
+    ghost Value = { Plan };
 
-    ghost use Rattle.wb_tasks.specs.Job.{sectors_from};
+    ghost use Rattle.wb_tasks.specs.Tables.{sectors_from};
     ghost use Rattle.wb_tasks.specs.Phases.{read_left};
 
     ghost view = { λ t. read_left (record { block_sectors = t.block_sectors; block = t.block; sectors = sectors_from t.first t.count }) t.phase (sectors_from t.at t.left) };
@@ -148,7 +155,7 @@ impl ReadTask {
 }
 
 impl Task for ReadTask {
-    ghost script = { λ t. t };
+    ghost plan = { λ t. t };
 
     fn next(&mut self, got: Got) -> Want {
         match got {

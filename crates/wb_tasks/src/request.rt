@@ -1,7 +1,7 @@
 //! A read or a write.
 
 ghost use Rattle.std.specs.Prelude.{◌≡◌};
-ghost use Rattle.wb_tasks.specs.Script.{Script, want, after, MayCome};
+ghost use Rattle.wb_tasks.specs.Plan.{Plan, want, after, MayCome};
 
 use crate::read::ReadTask;
 use crate::step::{Got, Want};
@@ -22,13 +22,13 @@ pub struct RequestTask {
 }
 
 impl Model for RequestTask {
-    ghost use Rattle.wb_tasks.specs.Script.{Script};
+    ghost use Rattle.wb_tasks.specs.Plan.{Plan};
 
-    ghost Value = { Script };
+    ghost Value = { Plan };
 
-    ghost use Rattle.wb_tasks.specs.Requests.{script_of};
+    ghost use Rattle.wb_tasks.specs.Requests.{plan_of};
 
-    ghost view = { λ t. script_of t.request };
+    ghost view = { λ t. plan_of t.request };
 }
 
 impl RequestTask {
@@ -60,7 +60,7 @@ impl RequestTask {
 }
 
 impl Task for RequestTask {
-    ghost script = { λ t. t };
+    ghost plan = { λ t. t };
 
     fn next(&mut self, got: Got) -> Want {
         match &mut self.request {

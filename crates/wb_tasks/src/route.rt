@@ -1,7 +1,7 @@
 //! Where a sector of a block stands in write-back mode.
 
 ghost use Rattle.std.specs.Prelude.{◌≡◌, ◌<◌};
-ghost use Rattle.wb_tasks.specs.Job.{BlockRange, read_step, write_step, device_at};
+ghost use Rattle.wb_tasks.specs.Tables.{BlockRange, read_step, write_step, device_at};
 ghost use Rattle.wb_tasks.specs.declared.step.Want.TheVariants.{Device};
 ghost use Rattle.wb_tasks.specs.declared.step.DeviceStep.TheVariants.{Read, Write};
 

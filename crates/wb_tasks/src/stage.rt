@@ -1,7 +1,7 @@
 //! A task from its first step to its answer.
 
 ghost use Rattle.std.specs.Prelude.{◌+◌, ◌≤◌, List, length};
-ghost use Rattle.wb_tasks.specs.Script.{Fits, IsStep};
+ghost use Rattle.wb_tasks.specs.Plan.{Fits, IsStep};
 ghost use Rattle.wb_tasks.specs.Run.{IsRunOf, Leads};
 ghost use Rattle.wb_tasks.specs.Ready.{StaysReady};
 ghost use Rattle.wb_tasks.specs.Length.{longest};
@@ -30,8 +30,8 @@ pub trait Stage {
 /// Performs a task's steps up to its answer, on a stage that is ready for each as it comes. Counted with the answer
 /// they are no more than `longest` says.
 pub fn drive<T: Task, S: Stage>(task: &mut T, stage: &mut S) -> Answer
-    requires { StaysReady S.ready S.led (T.script task.old) stage.old }
-    ensures run { (steps : List (WantTerm × GotTerm)) × (length steps + 1 ≤ longest (T.script task.old)) × IsRunOf (T.script task.old) steps result × Leads S.led stage.old steps stage.new }
+    requires { StaysReady S.ready S.led (T.plan task.old) stage.old }
+    ensures run { (steps : List (WantTerm × GotTerm)) × (length steps + 1 ≤ longest (T.plan task.old)) × IsRunOf (T.plan task.old) steps result × Leads S.led stage.old steps stage.new }
 {
     let mut want = task.next(Got::Begin);
     loop {

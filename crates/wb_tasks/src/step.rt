@@ -62,7 +62,7 @@ pub enum Got {
 
 impl From<CellResult> for Got {
     ghost use Rattle.std.specs.Prelude.{◌≡◌};
-    ghost use Rattle.wb_tasks.specs.Script.{got_of};
+    ghost use Rattle.wb_tasks.specs.Plan.{got_of};
 
     ghost from_gives = { λ outcome gives. gives ≡ got_of outcome };
 

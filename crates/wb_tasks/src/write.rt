@@ -1,8 +1,18 @@
-//! A write of sectors of one block.
+//! A write of sectors of one block:
+//!
+//! 1. acquire the block to own it: fail word, lock word, exchange, seal, number;
+//! 2. where no number is left, give the block back and answer `Worn`;
+//! 3. where it is cached and clean, seal it dirty;
+//! 4. write each sector, to the device that its seal names;
+//! 5. finish: the block's number rises by one;
+//! 6. count a hit or a miss;
+//! 7. give the block back, and answer done.
+//!
+//! After a fault: set the failed bit, keep the block for good, and answer `Io`.
 
 ghost use Rattle.std.specs.Prelude.{◌≡◌, ◌+◌, ◌<◌, ◌^◌, []};
-ghost use Rattle.wb_tasks.specs.Job.{Writing, sectors_from};
-ghost use Rattle.wb_tasks.specs.Script.{Script, want, after, refused, table, Fits};
+ghost use Rattle.wb_tasks.specs.Tables.{Writing, sectors_from};
+ghost use Rattle.wb_tasks.specs.Plan.{Plan, want, after, refused, table, Fits};
 
 use crate::acquire::{self, Seen};
 use crate::route::{device_at, route};
@@ -44,11 +54,11 @@ pub struct WriteTask {
 
 impl Model for WriteTask {
     ghost use Rattle.std.specs.Prelude.{ℕ, ◌+◌, ◌<◌, ◌^◌};
-    ghost use Rattle.wb_tasks.specs.Script.{Script};
+    ghost use Rattle.wb_tasks.specs.Plan.{Plan};
 
-    ghost Value = { Script };
+    ghost Value = { Plan };
 
-    ghost use Rattle.wb_tasks.specs.Job.{sectors_from};
+    ghost use Rattle.wb_tasks.specs.Tables.{sectors_from};
     ghost use Rattle.wb_tasks.specs.Phases.{write_left};
 
     ghost view = { λ t. write_left (record { block_sectors = t.block_sectors; block = t.block; sectors = sectors_from t.first t.count }) t.phase (sectors_from t.at t.left) };
@@ -156,7 +166,7 @@ impl WriteTask {
 }
 
 impl Task for WriteTask {
-    ghost script = { λ t. t };
+    ghost plan = { λ t. t };
 
     fn next(&mut self, got: Got) -> Want {
         match got {

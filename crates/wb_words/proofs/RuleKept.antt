@@ -18,7 +18,7 @@ use Rattle.wb_words.specs.SharedWords.{Words, word_at, value_of, count_in, with_
 use Rattle.wb_words.specs.declared.card.Hold.{Hold}
 use Rattle.wb_words.specs.declared.card.Hold.TheVariants.{Nothing, Held}
 use Rattle.wb_words.specs.declared.card.Card.{Card}
-use Rattle.wb_words.specs.Cards.{blank, total, is_block, is_write, is_count, shares, owns, sharers, owners, writes_on, counts_of, is_own_seal, is_own_number, looked, losing, holding, sealing, finishing, counting, failing_at, failing}
+use Rattle.wb_words.specs.Cards.{blank_card, total, is_block, is_write, is_count, shares, owns, sharers, owners, writes_on, counts_of, is_own_seal, is_own_number, looked, losing, holding, sealing, finishing, counting, failing_at, failing}
 use Rattle.wb_words.specs.Rule.{block, IsLock, SawNoMore, AllSawNoMore, Knows, LockRule}
 use Rattle.wb_words.specs.declared.step.CellStep.{CellStep}
 use Rattle.wb_words.specs.declared.step.CellStep.TheVariants.{Look, Take, Release, Seal, Finish, Count, SetFailed, SetSuspended}
@@ -400,31 +400,31 @@ step_keeps n w cs p c SetFailed r at ready = fail_keeps n w cs p c r at (bit_or 
 step_keeps n w cs p c SetSuspended r at ready = fail_keeps n w cs p c r at (bit_or w.fail 2)
 
 -- With all words 0 and nobody holding anything, the rule holds.
-all_blank : (m p : ℕ) (c : Card) → get_elem? (replicate m blank) p ≡ some c → c ≡ blank
+all_blank : (m p : ℕ) (c : Card) → get_elem? (replicate m blank_card) p ≡ some c → c ≡ blank_card
 all_blank zero p c e = absurd (some-ne-none c (sym e))
-all_blank (suc m) zero c e = sym (some-injective blank c e)
+all_blank (suc m) zero c e = sym (some-injective blank_card c e)
 all_blank (suc m) (suc p) c e = all_blank m p c e
 
-pub blank_knows : (w : Words) → Knows w blank
+pub blank_knows : (w : Words) → Knows w blank_card
 blank_knows w = record { seal = λ a b x e is. absurd (nothing_held a b e); number = λ a b x e is. absurd (nothing_held a b e); saw = tt }
 
-pub fresh_rule : (n m : ℕ) → LockRule n (fresh_words n) (replicate m blank)
+pub fresh_rule : (n m : ℕ) → LockRule n (fresh_words n) (replicate m blank_card)
 fresh_rule n m = let zero_at : (b : ℕ) → b < n → word_at (replicate n 0) (block b) ≡ 0 = λ b l. word_at_is (replicate n 0) (block b) ∙ get_or-replicate n b 0 0 l in record {
   cells_are = length-replicate n 0;
   seals_are = length-replicate n 0;
   numbers_are = length-replicate n 0;
-  cells = λ b l. let z = zero_at b l in let s = total-replicate (sharers b) m blank refl in let o = total-replicate (owners b) m blank refl in
+  cells = λ b l. let z = zero_at b l in let s = total-replicate (sharers b) m blank_card refl in let o = total-replicate (owners b) m blank_card refl in
       record { is = omega arith; one = omega arith; apart = λ h. omega arith; room = omega arith };
-  numbers = λ b l. zero_at b l ∙ sym (total-replicate (writes_on b) m blank refl);
+  numbers = λ b l. zero_at b l ∙ sym (total-replicate (writes_on b) m blank_card refl);
   fits = λ b l. let z = zero_at b l in omega arith;
   counts = none_counted;
   knows = λ p c e. subst (Knows (fresh_words n)) (sym (all_blank m p c e)) (blank_knows (fresh_words n));
 }
   where
-    none_at : (kind : Kind) → 0 ≡ total (counts_of kind) (replicate m blank) % 2 ^ 64
-    none_at kind = ap (λ (z : ℕ). z % 2 ^ 64) (sym (total-replicate (counts_of kind) m blank refl))
+    none_at : (kind : Kind) → 0 ≡ total (counts_of kind) (replicate m blank_card) % 2 ^ 64
+    none_at kind = ap (λ (z : ℕ). z % 2 ^ 64) (sym (total-replicate (counts_of kind) m blank_card refl))
 
-    none_counted : (kind : Kind) → count_in (fresh_words n) kind ≡ total (counts_of kind) (replicate m blank) % 2 ^ 64
+    none_counted : (kind : Kind) → count_in (fresh_words n) kind ≡ total (counts_of kind) (replicate m blank_card) % 2 ^ 64
     none_counted ReadHit = none_at ReadHit
     none_counted ReadMiss = none_at ReadMiss
     none_counted WriteHit = none_at WriteHit

@@ -11,8 +11,8 @@ use Rattle.wb_words.specs.declared.card.Card.{Card}
 use Rattle.wb_words.specs.SharedWords.{kind_number}
 
 -- who holds nothing, and has done nothing
-abbrev pub blank : Card
-blank = record { hold = Nothing; seal = None; number = None; kept = []; added = []; saw = []; lost = [] }
+abbrev pub blank_card : Card
+blank_card = record { hold = Nothing; seal = None; number = None; kept = []; added = []; saw = []; lost = [] }
 
 abbrev pub total : {A : Type 0} → (A → ℕ) → List A → ℕ
 total f [] = 0

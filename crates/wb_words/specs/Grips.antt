@@ -103,7 +103,7 @@ abbrev pub tried : OBlock → ℕ → Card → Card
 tried block w card = looked (LockWord block) w (looked Fail 0 card)
 
 -- The block is held, what is told of it are its words, and the number is no less than any that was seen.
-pub record Holds (access : Access) (block : OBlock) (place : Option CBlock) (dirty : Bool) (number : ℕ) (card after : Card) : Type 0 where
+pub record TellsHeld (access : Access) (block : OBlock) (place : Option CBlock) (dirty : Bool) (number : ℕ) (card after : Card) : Type 0 where
   pub hold : after.hold ≡ Held access block
   pub seal : (seal : ℕ) × (after.seal ≡ Some seal) × (place ≡ place_in seal) × (dirty ≡ dirty_in seal)
   pub number_is : after.number ≡ Some number
@@ -134,6 +134,6 @@ IsRefusal access block refusal card after = Stays card after × (((refusal ≡ B
 -- where a grip ends
 abbrev pub EndsAs : Access → OBlock → Gripped → Card → Card → Type 0
 EndsAs access block (More x) card after = ⊥
-EndsAs access block (GrippedShared share) card after = (access ≡ Shared) × (share.block ≡ block) × Holds access block share.place share.dirty share.number card after
-EndsAs access block (GrippedOwned own) card after = (access ≡ Owned) × (own.block ≡ block) × Holds access block own.place own.dirty own.number card after
+EndsAs access block (GrippedShared share) card after = (access ≡ Shared) × (share.block ≡ block) × TellsHeld access block share.place share.dirty share.number card after
+EndsAs access block (GrippedOwned own) card after = (access ≡ Owned) × (own.block ≡ block) × TellsHeld access block own.place own.dirty own.number card after
 EndsAs access block (Refused refusal) card after = IsRefusal access block refusal card after

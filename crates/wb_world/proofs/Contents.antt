@@ -32,25 +32,25 @@ pub data Fresh (h g : History) (stale : ℕ) : Type 0 where
   Stale : 1 ≤ stale → Fresh h g stale
 
 -- what a sector of the device holds was written to it
-abbrev pub Holds : Option History → Option History → Type 0
-Holds (Some h) (Some g) = Within h g
-Holds None None = Unit {0}
-Holds None (Some g) = ⊥
-Holds (Some h) None = ⊥
+abbrev pub WasWritten : Option History → Option History → Type 0
+WasWritten (Some h) (Some g) = Within h g
+WasWritten None None = Unit {0}
+WasWritten None (Some g) = ⊥
+WasWritten (Some h) None = ⊥
 
 -- and its newest content is the last entry
-abbrev pub HoldsLast : Option History → Option History → ℕ → Type 0
-HoldsLast (Some h) (Some g) stale = Fresh h g stale
-HoldsLast h g stale = Unit {0}
+abbrev pub IsLastWritten : Option History → Option History → ℕ → Type 0
+IsLastWritten (Some h) (Some g) stale = Fresh h g stale
+IsLastWritten h g stale = Unit {0}
 
-abbrev pub AllHold : List History → List History → Type 0
-AllHold device histories = (at : ℕ) → Holds (slice_get device at) (slice_get histories at)
+abbrev pub AllWritten : List History → List History → Type 0
+AllWritten device histories = (at : ℕ) → WasWritten (slice_get device at) (slice_get histories at)
 
-abbrev pub AllHoldLast : List History → List History → (ℕ → ℕ) → Type 0
-AllHoldLast device histories stale = (at : ℕ) → HoldsLast (slice_get device at) (slice_get histories at) (stale at)
+abbrev pub AllLastWritten : List History → List History → (ℕ → ℕ) → Type 0
+AllLastWritten device histories stale = (at : ℕ) → IsLastWritten (slice_get device at) (slice_get histories at) (stale at)
 
 -- more may be stale
-pub last_more : (h g : Option History) (k l : ℕ) → k ≤ l → HoldsLast h g k → HoldsLast h g l
+pub last_more : (h g : Option History) (k l : ℕ) → k ≤ l → IsLastWritten h g k → IsLastWritten h g l
 last_more (Some h) (Some g) k l b (Same s) = Same s
 last_more (Some h) (Some g) k l b (Stale m) = Stale (omega arith)
 last_more None None k l b i = i
@@ -73,25 +73,25 @@ written_other device at other c n = grown_other (slice_get device at) c device a
 
 -- Device and history both get the content.
 
-both_here : (h g : Option History) (device histories : List History) (at : ℕ) (c : Content) → slice_get device at ≡ h → slice_get histories at ≡ g → Holds h g → Holds (slice_get (written device at c) at) (slice_get (written histories at c) at)
+both_here : (h g : Option History) (device histories : List History) (at : ℕ) (c : Content) → slice_get device at ≡ h → slice_get histories at ≡ g → WasWritten h g → WasWritten (slice_get (written device at c) at) (slice_get (written histories at c) at)
 both_here (Some h) (Some g) device histories at c e f i = rw (written_same device at h c e, written_same histories at g c f) (within_both h g c i)
 both_here None None device histories at c e f i = rw (written_none device at c e, written_none histories at c f, e, f) i
 both_here None (Some g) device histories at c e f i = absurd i
 both_here (Some h) None device histories at c e f i = absurd i
 
-pub both_written : (device histories : List History) (at : ℕ) (c : Content) → AllHold device histories → AllHold (written device at c) (written histories at c)
+pub both_written : (device histories : List History) (at : ℕ) (c : Content) → AllWritten device histories → AllWritten (written device at c) (written histories at c)
 both_written device histories at c i other = elim (cases_eq other at) [
   | inl e ↦ rw e (both_here (slice_get device at) (slice_get histories at) device histories at c refl refl (i at))
   | inr n ↦ rw (written_other device at other c n, written_other histories at other c n) (i other)
 ]
 
-both_last_here : (h g : Option History) (device histories : List History) (at k : ℕ) (c : Content) → slice_get device at ≡ h → slice_get histories at ≡ g → Holds h g → HoldsLast (slice_get (written device at c) at) (slice_get (written histories at c) at) k
+both_last_here : (h g : Option History) (device histories : List History) (at k : ℕ) (c : Content) → slice_get device at ≡ h → slice_get histories at ≡ g → WasWritten h g → IsLastWritten (slice_get (written device at c) at) (slice_get (written histories at c) at) k
 both_last_here (Some h) (Some g) device histories at k c e f i = rw (written_same device at h c e, written_same histories at g c f) (Same (newest-added h c ∙ sym (newest-added g c)))
 both_last_here None None device histories at k c e f i = rw (written_none device at c e, e) tt
 both_last_here None (Some g) device histories at k c e f i = absurd i
 both_last_here (Some h) None device histories at k c e f i = absurd i
 
-pub both_last : (device histories : List History) (stale : ℕ → ℕ) (at : ℕ) (c : Content) → AllHold device histories → AllHoldLast device histories stale → AllHoldLast (written device at c) (written histories at c) stale
+pub both_last : (device histories : List History) (stale : ℕ → ℕ) (at : ℕ) (c : Content) → AllWritten device histories → AllLastWritten device histories stale → AllLastWritten (written device at c) (written histories at c) stale
 both_last device histories stale at c i l other = elim (cases_eq other at) [
   | inl e ↦ rw e (both_last_here (slice_get device at) (slice_get histories at) device histories at (stale at) c refl refl (i at))
   | inr n ↦ rw (written_other device at other c n, written_other histories at other c n) (l other)
@@ -99,25 +99,25 @@ both_last device histories stale at c i l other = elim (cases_eq other at) [
 
 -- The history alone gets it: from now on the block is stale.
 
-alone_here : (h g : Option History) (device histories : List History) (at : ℕ) (c : Content) → slice_get device at ≡ h → slice_get histories at ≡ g → Holds h g → Holds (slice_get device at) (slice_get (written histories at c) at)
+alone_here : (h g : Option History) (device histories : List History) (at : ℕ) (c : Content) → slice_get device at ≡ h → slice_get histories at ≡ g → WasWritten h g → WasWritten (slice_get device at) (slice_get (written histories at c) at)
 alone_here (Some h) (Some g) device histories at c e f i = rw (e, written_same histories at g c f) (within_more h g c i)
 alone_here None None device histories at c e f i = rw (written_none histories at c f, e, f) i
 alone_here None (Some g) device histories at c e f i = absurd i
 alone_here (Some h) None device histories at c e f i = absurd i
 
-pub alone_written : (device histories : List History) (at : ℕ) (c : Content) → AllHold device histories → AllHold device (written histories at c)
+pub alone_written : (device histories : List History) (at : ℕ) (c : Content) → AllWritten device histories → AllWritten device (written histories at c)
 alone_written device histories at c i other = elim (cases_eq other at) [
   | inl e ↦ rw e (alone_here (slice_get device at) (slice_get histories at) device histories at c refl refl (i at))
   | inr n ↦ rw (written_other histories at other c n) (i other)
 ]
 
-any_stale : (h g : Option History) (k : ℕ) → 1 ≤ k → HoldsLast h g k
+any_stale : (h g : Option History) (k : ℕ) → 1 ≤ k → IsLastWritten h g k
 any_stale (Some h) (Some g) k m = Stale m
 any_stale None None k m = tt
 any_stale None (Some g) k m = tt
 any_stale (Some h) None k m = tt
 
-pub alone_last : (device histories : List History) (stale : ℕ → ℕ) (at : ℕ) (c : Content) → 1 ≤ stale at → AllHoldLast device histories stale → AllHoldLast device (written histories at c) stale
+pub alone_last : (device histories : List History) (stale : ℕ → ℕ) (at : ℕ) (c : Content) → 1 ≤ stale at → AllLastWritten device histories stale → AllLastWritten device (written histories at c) stale
 alone_last device histories stale at c m l other = elim (cases_eq other at) [
   | inl e ↦ rw e (any_stale (slice_get device at) (slice_get (written histories at c) at) (stale at) m)
   | inr n ↦ rw (written_other histories at other c n) (l other)

@@ -1,9 +1,7 @@
 -- The steps of a request that count, finish and answer, and those that read.
 use Rattle.std.proofs.Common.{◌≡◌, ℕ, List, [], ◌++◌, Option, Some, None, refl, sym, ap, ◌∙◌, slice_get, slice_set, map, append-nil}
 use Rattle.wb_words.specs.declared.word.Kind.TheVariants.{ReadMiss, WriteMiss}
-use Rattle.wb_words.specs.SharedWords.{counted, word_at, one_more}
 use Rattle.wb_words.specs.Cards.{counting, finishing}
-use Rattle.wb_words.specs.Ready.{HasNext}
 use Rattle.wb_tasks.specs.Ready.{block_of}
 use Rattle.wb_words.specs.declared.card.Card.{Card}
 use Rattle.wb_tasks.specs.declared.step.Answer.{Answer}
@@ -17,18 +15,18 @@ use Rattle.wb_world.specs.World.{Shape, State, task_job, task_outcome}
 use Rattle.wb_world.specs.Clerk.{Notes, Doing, Reading, Position}
 use Rattle.wb_world.specs.Headline.{DoneRightly}
 use Rattle.wb_world.proofs.Lists.{get_set_same, get_set_other}
-use Rattle.wb_world.proofs.Kept.{Kept, quiet, Good, good}
-use Rattle.wb_world.proofs.Phases.{Moving, Counting, Releasing, Ending, SoFar, script_in}
+use Rattle.wb_world.proofs.Invariant.{Invariant, quiet, Good, good}
+use Rattle.wb_world.proofs.Phases.{Moving, Counting, Releasing, Ending, SoFar, plan_in}
 use Rattle.wb_world.proofs.Rule.{rule_same}
 use Rattle.wb_world.proofs.Looking.{at_work, Working, acts, quietly}
 
 -- a write counts after it has finished
 pub count_written : (shape : Shape) (w : State) (n : Notes) (a : ℕ) (card : Card) (job : Job) (doing : Doing) → Working shape w n a card job doing Counting →
-    Good shape w n a (task_outcome w.device w.words (Some (job, script_in (task_job shape job) Counting)))
+    Good shape w n a (task_outcome w.device w.words (Some (job, plan_in (task_job shape job) Counting)))
 count_written shape w n a card (Read extent) doing k =
     let s = k.stands in
     good shape w n a (at_work shape card (Read extent) Counting) doing (Cell (Count ReadMiss)) Done k.actor k.noted
-    (quietly shape w n a card (Read extent) doing Counting (script_in (task_job shape (Read extent)) Releasing) (Count ReadMiss) k k.ready
+    (quietly shape w n a card (Read extent) doing Counting (plan_in (task_job shape (Read extent)) Releasing) (Count ReadMiss) k k.ready
     (acts shape (counting ReadMiss card) (Read extent) doing Releasing (slice_get n.doings a) k.noted (record { held_is = s.held_is; job_is = s.job_is; left_is = s.left_is; owns = tt; kept_is = s.kept_is; so_far = s.so_far; in_block = s.in_block; inside = s.inside }))
     refl refl refl refl refl)
     tt
@@ -36,19 +34,19 @@ count_written shape w n a card (Write extent content) doing k =
     let s = k.stands in
     let job = Write extent content in
     good shape w n a (at_work shape card job Counting) doing (Cell (Count WriteMiss)) Done k.actor k.noted
-    (quietly shape w n a card job doing Counting (script_in (task_job shape job) Releasing) (Count WriteMiss) k k.ready
+    (quietly shape w n a card job doing Counting (plan_in (task_job shape job) Releasing) (Count WriteMiss) k k.ready
     (acts shape (counting WriteMiss card) job doing Releasing (slice_get n.doings a) k.noted (record { held_is = s.held_is; job_is = s.job_is; left_is = s.left_is; owns = tt; kept_is = s.kept_is; so_far = s.so_far; in_block = s.in_block; inside = s.inside }))
     refl refl refl refl refl)
     tt
 
 -- With no sector left a read counts, and a write finishes.
 pub moved_all : (shape : Shape) (w : State) (n : Notes) (a : ℕ) (card : Card) (job : Job) (doing : Doing) → Working shape w n a card job doing (Moving []) →
-    Good shape w n a (task_outcome w.device w.words (Some (job, script_in (task_job shape job) (Moving []))))
+    Good shape w n a (task_outcome w.device w.words (Some (job, plan_in (task_job shape job) (Moving []))))
 moved_all shape w n a card (Read extent) doing k =
     let s = k.stands in
     let job = Read extent in
     good shape w n a (at_work shape card job (Moving [])) doing (Cell (Count ReadMiss)) Done k.actor k.noted
-    (quietly shape w n a card job doing (Moving []) (script_in (task_job shape job) Releasing) (Count ReadMiss) k k.ready
+    (quietly shape w n a card job doing (Moving []) (plan_in (task_job shape job) Releasing) (Count ReadMiss) k k.ready
     (acts shape (counting ReadMiss card) job doing Releasing (slice_get n.doings a) k.noted (record { held_is = s.held_is; job_is = s.job_is; left_is = s.left_is; owns = tt; kept_is = s.kept_is; so_far = s.so_far; in_block = s.in_block; inside = s.inside }))
     refl refl refl refl refl)
     tt
@@ -57,7 +55,7 @@ moved_all shape w n a card (Write extent content) doing k =
     let job = Write extent content in
     let block = block_of (task_job shape job) in
     good shape w n a (at_work shape card job (Moving [])) doing (Cell (Finish block)) Done k.actor k.noted
-    (quietly shape w n a card job doing (Moving []) (script_in (task_job shape job) Counting) (Finish block) k k.ready
+    (quietly shape w n a card job doing (Moving []) (plan_in (task_job shape job) Counting) (Finish block) k k.ready
     (acts shape (finishing block card) job doing Counting (slice_get n.doings a) k.noted (record { held_is = s.held_is; job_is = s.job_is; left_is = s.left_is; owns = tt; kept_is = s.kept_is; so_far = s.so_far; in_block = s.in_block; inside = s.inside }))
     refl refl refl refl refl)
     tt
@@ -75,7 +73,7 @@ no_doing = None
 -- nobody is at anything, and holds nothing
 rested : (shape : Shape) (w : State) (n n' : Notes) (a : ℕ) (card : Card) (job : Job) (doing : Doing) (answer : Answer) → Working shape w n a card job doing (Ending answer) →
     n'.doings ≡ slice_set n.doings a None → n'.histories ≡ n.histories → n'.floors ≡ n.floors →
-    Kept shape (record { device = w.device; words = w.words; actors = slice_set w.actors a (record { task = None; card = card }) }) n'
+    Invariant shape (record { device = w.device; words = w.words; actors = slice_set w.actors a (record { task = None; card = card }) }) n'
 rested shape w n n' a card job doing answer k d h f =
     quiet shape w n a (at_work shape card job (Ending answer)) (record { task = None; card = card }) w.words n' k.kept k.actor (record {
       others = λ b m. rw d (get_set_other n.doings a b no_doing m);
@@ -91,7 +89,7 @@ rested shape w n n' a card job doing answer k d h f =
     })
 
 pub answered : (shape : Shape) (w : State) (n : Notes) (a : ℕ) (card : Card) (job : Job) (doing : Doing) (answer : Answer) → Working shape w n a card job doing (Ending answer) →
-    Good shape w n a (task_outcome w.device w.words (Some (job, script_in (task_job shape job) (Ending answer))))
+    Good shape w n a (task_outcome w.device w.words (Some (job, plan_in (task_job shape job) (Ending answer))))
 answered shape w n a card job doing Finished k =
     good shape w n a (at_work shape card job (Ending Finished)) doing (End Finished) Done k.actor k.noted
     (rested shape w n _ a card job doing Finished k refl refl refl)

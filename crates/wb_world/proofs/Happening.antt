@@ -5,10 +5,10 @@ use Rattle.wb_types.specs.declared.refusal.Refusal.{Refusal}
 use Rattle.wb_disk.specs.Device.{History}
 use Rattle.wb_words.specs.SharedWords.{Words}
 use Rattle.wb_words.specs.declared.card.Card.{Card}
-use Rattle.wb_words.specs.Cards.{blank}
+use Rattle.wb_words.specs.Cards.{blank_card}
 use Rattle.wb_words.specs.Effects.{card_after}
 use Rattle.wb_cells.specs.Crews.{CrewState}
-use Rattle.wb_tasks.specs.Script.{Script, want}
+use Rattle.wb_tasks.specs.Plan.{Plan, want}
 use Rattle.wb_tasks.specs.declared.step.Want.{Want}
 use Rattle.wb_tasks.specs.declared.step.Want.TheVariants.{Cell, Device, Desk, End}
 use Rattle.wb_tasks.specs.declared.step.Got.{Got}
@@ -37,7 +37,7 @@ no_words device job (Cell step) next got true e f = absurd (cc)
 no_words device job (Desk step) next got true e f = absurd (cc)
 no_words device job (End answer) next got true e f = absurd (cc)
 
-untouched : (device : List History) (task : Option (Job × Script)) (next : Want) (got : Got) → Stepped next got ≡ task_failure device task → ((words : Words) → words_then words next ≡ words) × ((words : Words) (card : Card) → card_then words card next ≡ card)
+untouched : (device : List History) (task : Option (Job × Plan)) (next : Want) (got : Got) → Stepped next got ≡ task_failure device task → ((words : Words) → words_then words next ≡ words) × ((words : Words) (card : Card) → card_then words card next ≡ card)
 untouched device None next got f = absurd (cc)
 untouched device (Some doing) next got f = no_words device doing.0 (want doing.1) next got (can_fail device doing.0 (want doing.1)) refl f
 
@@ -50,7 +50,7 @@ nobody (m ∷ ms) (c ∷ cs) zero e = absurd (cc)
 nobody (m ∷ ms) (c ∷ cs) (suc a) e = nobody ms cs a e
 
 abbrev actor_at : Member → List Card → ℕ → Actor
-actor_at m cards a = record { task = m.task; card = slice_index_or cards a blank }
+actor_at m cards a = record { task = m.task; card = slice_index_or cards a blank_card }
 
 pub somebody : (members : List Member) (cards : List Card) (a : ℕ) (m : Member) → slice_get members a ≡ Some m → length members ≤ length cards → slice_get (actors_of members cards) a ≡ Some (actor_at m cards a)
 somebody [] cards a m e l = absurd (cc)
@@ -72,7 +72,7 @@ set_task (n ∷ ms) [] (suc a) m = refl
 set_task (n ∷ ms) (d ∷ cs) zero m = refl
 set_task (n ∷ ms) (d ∷ cs) (suc a) m = ap (λ xs. record { task = n.task; card = d } ∷ xs) (set_task ms cs a m)
 
-pub all_resting : (k : ℕ) → actors_of (replicate k (record { task = None })) (replicate k blank) ≡ replicate k resting
+pub all_resting : (k : ℕ) → actors_of (replicate k (record { task = None })) (replicate k blank_card) ≡ replicate k resting
 all_resting zero = refl
 all_resting (suc k) = ap (λ xs. resting ∷ xs) (all_resting k)
 
@@ -95,11 +95,11 @@ module _ (shape : Shape) (device : List History) (crew : CrewState) (members : L
 
   -- nothing changed
   stays : n.task ≡ m.task → state_of device crew (slice_set members a n) ≡ state_of device crew members
-  stays e = ap (λ xs. record { device = device; words = crew.words; actors = xs }) (set_task members crew.cards a n ∙ ap (λ t. slice_set (actors_of members crew.cards) a (record { task = t; card = slice_index_or crew.cards a blank })) e ∙ set_same (actors_of members crew.cards) a (actor_at m crew.cards a) there)
+  stays e = ap (λ xs. record { device = device; words = crew.words; actors = xs }) (set_task members crew.cards a n ∙ ap (λ t. slice_set (actors_of members crew.cards) a (record { task = t; card = slice_index_or crew.cards a blank_card })) e ∙ set_same (actors_of members crew.cards) a (actor_at m crew.cards a) there)
 
   -- a start
   start_leads : (job : Job) (what : What) → n.task ≡ task_given shape m.task job what → state_of device crew (slice_set members a n) ≡ after_what shape (state_of device crew members) (Start a job) what
-  start_leads job Started e = rw there (ap (λ xs. record { device = device; words = crew.words; actors = xs }) (set_task members crew.cards a n ∙ ap (λ t. slice_set (actors_of members crew.cards) a (record { task = t; card = slice_index_or crew.cards a blank })) e))
+  start_leads job Started e = rw there (ap (λ xs. record { device = device; words = crew.words; actors = xs }) (set_task members crew.cards a n ∙ ap (λ t. slice_set (actors_of members crew.cards) a (record { task = t; card = slice_index_or crew.cards a blank_card })) e))
   start_leads job Skipped e = stays e
   start_leads job (Refused refusal) e = stays e
   start_leads job (Stepped next got) e = stays e
@@ -110,11 +110,11 @@ module _ (shape : Shape) (device : List History) (crew : CrewState) (members : L
   start_happens job what o g = record { may = rw there o; leads = start_leads job what g }
 
   -- where the crew went on by a step
-  went_on : (next : Want) (got : Got) (t : Option (Job × Script)) → n.task ≡ t → actors_of (slice_set members a n) (crew_then crew a next).cards ≡ slice_set (actors_of members crew.cards) a (record { task = t; card = card_then crew.words (slice_index_or crew.cards a blank) next })
-  went_on (Cell step) got t e = set_both members crew.cards a n (card_after crew.words step (slice_index_or crew.cards a blank)) ∙ ap (λ v. slice_set (actors_of members crew.cards) a (record { task = v; card = card_after crew.words step (slice_index_or crew.cards a blank) })) e
-  went_on (Device step) got t e = set_task members crew.cards a n ∙ ap (λ v. slice_set (actors_of members crew.cards) a (record { task = v; card = slice_index_or crew.cards a blank })) e
-  went_on (Desk step) got t e = set_task members crew.cards a n ∙ ap (λ v. slice_set (actors_of members crew.cards) a (record { task = v; card = slice_index_or crew.cards a blank })) e
-  went_on (End answer) got t e = set_task members crew.cards a n ∙ ap (λ v. slice_set (actors_of members crew.cards) a (record { task = v; card = slice_index_or crew.cards a blank })) e
+  went_on : (next : Want) (got : Got) (t : Option (Job × Plan)) → n.task ≡ t → actors_of (slice_set members a n) (crew_then crew a next).cards ≡ slice_set (actors_of members crew.cards) a (record { task = t; card = card_then crew.words (slice_index_or crew.cards a blank_card) next })
+  went_on (Cell step) got t e = set_both members crew.cards a n (card_after crew.words step (slice_index_or crew.cards a blank_card)) ∙ ap (λ v. slice_set (actors_of members crew.cards) a (record { task = v; card = card_after crew.words step (slice_index_or crew.cards a blank_card) })) e
+  went_on (Device step) got t e = set_task members crew.cards a n ∙ ap (λ v. slice_set (actors_of members crew.cards) a (record { task = v; card = slice_index_or crew.cards a blank_card })) e
+  went_on (Desk step) got t e = set_task members crew.cards a n ∙ ap (λ v. slice_set (actors_of members crew.cards) a (record { task = v; card = slice_index_or crew.cards a blank_card })) e
+  went_on (End answer) got t e = set_task members crew.cards a n ∙ ap (λ v. slice_set (actors_of members crew.cards) a (record { task = v; card = slice_index_or crew.cards a blank_card })) e
 
   words_on : (next : Want) → (crew_then crew a next).words ≡ words_then crew.words next
   words_on (Cell step) = refl
@@ -135,7 +135,7 @@ module _ (shape : Shape) (device : List History) (crew : CrewState) (members : L
   step_happens what device' crew' s = record { may = rw there s.what_is; leads = rw (s.device_is, s.crew_is) (step_leads what s.task_is) }
 
   -- a step that fails, which is none on the words
-  fault_leads : (landed : Bool) (next : Want) (got : Got) → words_then crew.words next ≡ crew.words → card_then crew.words (slice_index_or crew.cards a blank) next ≡ slice_index_or crew.cards a blank → n.task ≡ task_then m.task next got →
+  fault_leads : (landed : Bool) (next : Want) (got : Got) → words_then crew.words next ≡ crew.words → card_then crew.words (slice_index_or crew.cards a blank_card) next ≡ slice_index_or crew.cards a blank_card → n.task ≡ task_then m.task next got →
       state_of (device_left_failing landed device m.task (Stepped next got)) crew (slice_set members a n) ≡ after_what shape (state_of device crew members) (FaultStep a landed) (Stepped next got)
   fault_leads landed next got words card e = rw there (λ i. record {
     device = device_left_failing landed device m.task (Stepped next got);
@@ -145,7 +145,7 @@ module _ (shape : Shape) (device : List History) (crew : CrewState) (members : L
 
   falter_leads : (landed : Bool) (what : What) → what ≡ task_failure device m.task → n.task ≡ task_left m.task what →
       state_of (device_left_failing landed device m.task what) crew (slice_set members a n) ≡ after_what shape (state_of device crew members) (FaultStep a landed) what
-  falter_leads landed (Stepped next got) f e = let still = untouched device m.task next got f in fault_leads landed next got (still.0 crew.words) (still.1 crew.words (slice_index_or crew.cards a blank)) e
+  falter_leads landed (Stepped next got) f e = let still = untouched device m.task next got f in fault_leads landed next got (still.0 crew.words) (still.1 crew.words (slice_index_or crew.cards a blank_card)) e
   falter_leads landed Skipped f e = stays e
   falter_leads landed (Refused refusal) f e = stays e
   falter_leads landed Started f e = stays e
@@ -190,7 +190,7 @@ faltered_happens shape device crew crew' members event a landed m n (Err refusal
 
 -- how many cards there are after a step
 pub cards_stay : (crew : CrewState) (a : ℕ) (what : What) → length (crew_left crew a what).cards ≡ length crew.cards
-cards_stay crew a (Stepped (Cell step) got) = length-set crew.cards a (card_after crew.words step (slice_index_or crew.cards a blank))
+cards_stay crew a (Stepped (Cell step) got) = length-set crew.cards a (card_after crew.words step (slice_index_or crew.cards a blank_card))
 cards_stay crew a (Stepped (Device step) got) = refl
 cards_stay crew a (Stepped (Desk step) got) = refl
 cards_stay crew a (Stepped (End answer) got) = refl

@@ -4,7 +4,7 @@ pub mod Starting
 pub mod Suiting
 pub mod Rule
 pub mod Phases
-pub mod Kept
+pub mod Invariant
 pub mod Looking
 pub mod Releasing
 pub mod Reading

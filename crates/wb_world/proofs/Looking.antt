@@ -1,5 +1,5 @@
 -- The steps of a request that look at words and take its block: they touch no sector.
-use Rattle.std.proofs.Common.{◌≡◌, subst, ◌==◌, ◌-◌, ◌^◌, ◌∙◌, ap, sym, eqb, ℕ, Bool, true, false, List, [], ◌∷◌, Option, Some, None, refl, slice_get, slice_set, if◌then◌else◌, inl, inr, arith}
+use Rattle.std.proofs.Common.{◌≡◌, subst, ◌==◌, ◌∙◌, ap, sym, eqb, ℕ, Bool, true, false, List, [], ◌∷◌, Option, Some, None, refl, slice_get, slice_set, if◌then◌else◌, inl, inr, arith}
 use Rattle.std.proofs.lemmas.Bool.{eqb-true}
 use Rattle.wb_types.specs.declared.refusal.Refusal.TheVariants.{Failed, Busy, Worn}
 use Rattle.wb_types.specs.declared.number.OBlock.{OBlock}
@@ -9,13 +9,13 @@ use Rattle.wb_words.specs.declared.card.Hold.TheVariants.{Held}
 use Rattle.wb_words.specs.declared.step.CellStep.{CellStep}
 use Rattle.wb_words.specs.declared.step.CellStep.TheVariants.{Look, Take}
 use Rattle.wb_words.specs.declared.step.CellResult.TheVariants.{Done as Won, Lost as CellLost}
-use Rattle.wb_words.specs.SharedWords.{can_take, taken, with_cell, Words, word_at, place_in, dirty_in}
+use Rattle.wb_words.specs.SharedWords.{can_take, taken, with_cell, word_at, place_in, dirty_in}
 use Rattle.wb_words.specs.Cards.{looked, losing, holding}
 use Rattle.wb_words.specs.Effects.{words_after, card_after}
 use Rattle.wb_words.specs.Ready.{IsReady}
-use Rattle.wb_tasks.specs.Job.{Job as TaskJob, Reading, Writing, access_of, work}
+use Rattle.wb_tasks.specs.Tables.{TaskJob, access_of, work}
 use Rattle.wb_tasks.specs.Ready.{block_of, MayTake}
-use Rattle.wb_tasks.specs.Script.{Script, want, is_worn, got_of}
+use Rattle.wb_tasks.specs.Plan.{Plan, want, is_worn, got_of}
 use Rattle.wb_tasks.specs.declared.step.Answer.TheVariants.{Done as Finished, Refused as Refuses}
 use Rattle.wb_tasks.specs.declared.step.Want.TheVariants.{Cell}
 use Rattle.wb_tasks.specs.declared.step.Got.TheVariants.{Word, Done, Lost}
@@ -24,48 +24,48 @@ use Rattle.wb_world.specs.declared.job.Job.TheVariants.{Read, Write}
 use Rattle.wb_world.specs.declared.event.What.TheVariants.{Stepped}
 use Rattle.wb_world.specs.World.{Shape, State, Actor, task_job, sectors_of, task_outcome}
 use Rattle.wb_world.specs.Clerk.{Notes, Doing}
-use Rattle.wb_world.proofs.Kept.{ActingOn, Kept, KeepsNothing, quiet, Good, good}
-use Rattle.wb_world.proofs.Phases.{Phase, FailLook, LockLook, Taking, SealLook, NumberLook, Moving, GivingBack, Ending, Stands, script_in}
+use Rattle.wb_world.proofs.Invariant.{ActingOn, Invariant, KeepsNothing, quiet, Good, good}
+use Rattle.wb_world.proofs.Phases.{Phase, FailLook, LockLook, Taking, SealLook, NumberLook, Moving, GivingBack, Ending, Stands, plan_in}
 use Rattle.wb_world.proofs.Rule.{task_fails, rule_after}
 
 -- an actor in a phase of its job
 abbrev pub at_work : Shape → Card → Job → Phase → Actor
-at_work shape card job phase = record { task = Some (job, script_in (task_job shape job) phase); card = card }
+at_work shape card job phase = record { task = Some (job, plan_in (task_job shape job) phase); card = card }
 
 -- What is known of an actor that takes a step.
 pub record Working (shape : Shape) (w : State) (n : Notes) (a : ℕ) (card : Card) (job : Job) (doing : Doing) (phase : Phase) : Type 0 where
-  pub kept : Kept shape w n
+  pub kept : Invariant shape w n
   pub actor : slice_get w.actors a ≡ Some (at_work shape card job phase)
   pub noted : slice_get n.doings a ≡ Some (Some doing)
   pub stands : Stands shape card job doing phase
-  pub ready : MayTake shape.origin_blocks card (want (script_in (task_job shape job) phase))
+  pub ready : MayTake shape.origin_blocks card (want (plan_in (task_job shape job) phase))
 
 -- an actor in a phase acts
 pub acts : (shape : Shape) (card : Card) (job : Job) (doing : Doing) (phase : Phase) (noted : Option (Option Doing)) → noted ≡ Some (Some doing) → Stands shape card job doing phase →
-    ActingOn shape card (Some (job, script_in (task_job shape job) phase)) noted
+    ActingOn shape card (Some (job, plan_in (task_job shape job) phase)) noted
 acts shape card job doing phase noted e s = (doing, phase, e, refl, s)
 
--- one of two scripts
-pub either : (P : Script → Type 0) (b : Bool) (s t : Script) → P s → P t → P (if b then s else t)
+-- one of two plans
+pub either : (P : Plan → Type 0) (b : Bool) (s t : Plan) → P s → P t → P (if b then s else t)
 either P true s t p q = p
 either P false s t p q = q
 
--- one of two scripts, knowing the test where it holds
-pub either_by : (P : Script → Type 0) (b : Bool) (s t : Script) → (b ≡ true → P s) → P t → P (if b then s else t)
+-- one of two plans, knowing the test where it holds
+pub either_by : (P : Plan → Type 0) (b : Bool) (s t : Plan) → (b ≡ true → P s) → P t → P (if b then s else t)
 either_by P true s t p q = p refl
 either_by P false s t p q = q
 
 -- a step on the words that tells of no failure, the clerk noting nothing
-pub quietly : (shape : Shape) (w : State) (n : Notes) (a : ℕ) (card : Card) (job : Job) (doing : Doing) (phase : Phase) (script' : Script) (step : CellStep) →
+pub quietly : (shape : Shape) (w : State) (n : Notes) (a : ℕ) (card : Card) (job : Job) (doing : Doing) (phase : Phase) (plan' : Plan) (step : CellStep) →
     Working shape w n a card job doing phase → IsReady shape.origin_blocks card step →
-    ActingOn shape (card_after w.words step card) (Some (job, script')) (slice_get n.doings a) →
+    ActingOn shape (card_after w.words step card) (Some (job, plan')) (slice_get n.doings a) →
     (card_after w.words step card).kept ≡ card.kept →
-    task_fails (Some (job, script')) ≡ false → task_fails (Some (job, script_in (task_job shape job) phase)) ≡ false →
+    task_fails (Some (job, plan')) ≡ false → task_fails (Some (job, plan_in (task_job shape job) phase)) ≡ false →
     (words_after w.words step).seals ≡ w.words.seals → (words_after w.words step).fail ≡ w.words.fail →
-    Kept shape (record { device = w.device; words = words_after w.words step; actors = slice_set w.actors a (record { task = Some (job, script'); card = card_after w.words step card }) }) n
-quietly shape w n a card job doing phase script' step k ready s g f f' l v =
+    Invariant shape (record { device = w.device; words = words_after w.words step; actors = slice_set w.actors a (record { task = Some (job, plan'); card = card_after w.words step card }) }) n
+quietly shape w n a card job doing phase plan' step k ready s g f f' l v =
     let x = at_work shape card job phase in
-    let y : Actor = record { task = Some (job, script'); card = card_after w.words step card } in
+    let y : Actor = record { task = Some (job, plan'); card = card_after w.words step card } in
     quiet shape w n a x y (words_after w.words step) n k.kept k.actor (record {
       others = λ b m. refl;
       stands = s;
@@ -80,12 +80,12 @@ quietly shape w n a card job doing phase script' step k ready s g f f' l v =
     })
 
 -- work begins with all sectors of the job
-pub begins : (shape : Shape) (job : Job) → record { job = task_job shape job; steps = work (task_job shape job) None false; answer = Finished } ≡ script_in (task_job shape job) (Moving (sectors_of job))
+pub begins : (shape : Shape) (job : Job) → record { job = task_job shape job; steps = work (task_job shape job) None false; answer = Finished } ≡ plan_in (task_job shape job) (Moving (sectors_of job))
 begins shape (Read extent) = refl
 begins shape (Write extent content) = refl
 
 -- and no part of it tells of a failure
-pub moves_on : (shape : Shape) (job : Job) (left : List ℕ) → task_fails (Some (job, script_in (task_job shape job) (Moving left))) ≡ false
+pub moves_on : (shape : Shape) (job : Job) (left : List ℕ) → task_fails (Some (job, plan_in (task_job shape job) (Moving left))) ≡ false
 moves_on shape (Read extent) [] = refl
 moves_on shape (Read extent) (at ∷ left) = refl
 moves_on shape (Write extent content) [] = refl
@@ -93,19 +93,19 @@ moves_on shape (Write extent content) (at ∷ left) = refl
 
 -- the fail word
 pub fail_look : (shape : Shape) (w : State) (n : Notes) (a : ℕ) (card : Card) (job : Job) (doing : Doing) → Working shape w n a card job doing FailLook →
-    Good shape w n a (task_outcome w.device w.words (Some (job, script_in (task_job shape job) FailLook)))
+    Good shape w n a (task_outcome w.device w.words (Some (job, plan_in (task_job shape job) FailLook)))
 fail_look shape w n a card job doing k =
     let tj = task_job shape job in
     let s = k.stands in
     let x = at_work shape card job FailLook in
     let card' : Card = looked Fail w.words.fail card in
     good shape w n a x doing (Cell (Look Fail)) (Word w.words.fail) k.actor k.noted
-    (either_by (λ (t : Script). Kept shape (record { device = w.device; words = w.words; actors = slice_set w.actors a (record { task = Some (job, t); card = card' }) }) n) (w.words.fail == 0)
-    (script_in tj LockLook) (script_in tj (Ending (Refuses Failed)))
-    (λ fine. quietly shape w n a card job doing FailLook (script_in tj LockLook) (Look Fail) k k.ready
+    (either_by (λ (t : Plan). Invariant shape (record { device = w.device; words = w.words; actors = slice_set w.actors a (record { task = Some (job, t); card = card' }) }) n) (w.words.fail == 0)
+    (plan_in tj LockLook) (plan_in tj (Ending (Refuses Failed)))
+    (λ fine. quietly shape w n a card job doing FailLook (plan_in tj LockLook) (Look Fail) k k.ready
     (acts shape card' job doing LockLook (slice_get n.doings a) k.noted (record { held_is = s.held_is; job_is = s.job_is; left_is = s.left_is; owns = tt; kept_is = none_kept (k.kept.failed a x k.actor) (eqb-true w.words.fail 0 fine); so_far = s.so_far; in_block = s.in_block; inside = s.inside }))
     refl refl refl refl refl)
-    (quietly shape w n a card job doing FailLook (script_in tj (Ending (Refuses Failed))) (Look Fail) k k.ready
+    (quietly shape w n a card job doing FailLook (plan_in tj (Ending (Refuses Failed))) (Look Fail) k k.ready
     (acts shape card' job doing (Ending (Refuses Failed)) (slice_get n.doings a) k.noted (record { held_is = s.held_is; job_is = s.job_is; left_is = tt; owns = tt; kept_is = tt; so_far = s.so_far; in_block = s.in_block; inside = s.inside }))
     refl refl refl refl refl))
     tt
@@ -116,19 +116,19 @@ fail_look shape w n a card job doing k =
 
 -- the lock word
 pub lock_look : (shape : Shape) (w : State) (n : Notes) (a : ℕ) (card : Card) (job : Job) (doing : Doing) → Working shape w n a card job doing LockLook →
-    Good shape w n a (task_outcome w.device w.words (Some (job, script_in (task_job shape job) LockLook)))
+    Good shape w n a (task_outcome w.device w.words (Some (job, plan_in (task_job shape job) LockLook)))
 lock_look shape w n a card job doing k =
     let tj = task_job shape job in
     let s = k.stands in
     let v : ℕ = word_at w.words.cells (block_of tj) in
     let card' : Card = looked (LockWord (block_of tj)) v card in
     good shape w n a (at_work shape card job LockLook) doing (Cell (Look (LockWord (block_of tj)))) (Word v) k.actor k.noted
-    (either (λ (t : Script). Kept shape (record { device = w.device; words = w.words; actors = slice_set w.actors a (record { task = Some (job, t); card = card' }) }) n) (can_take (access_of tj) v)
-    (script_in tj (Taking v)) (script_in tj (Ending (Refuses Busy)))
-    (quietly shape w n a card job doing LockLook (script_in tj (Taking v)) (Look (LockWord (block_of tj))) k k.ready
+    (either (λ (t : Plan). Invariant shape (record { device = w.device; words = w.words; actors = slice_set w.actors a (record { task = Some (job, t); card = card' }) }) n) (can_take (access_of tj) v)
+    (plan_in tj (Taking v)) (plan_in tj (Ending (Refuses Busy)))
+    (quietly shape w n a card job doing LockLook (plan_in tj (Taking v)) (Look (LockWord (block_of tj))) k k.ready
     (acts shape card' job doing (Taking v) (slice_get n.doings a) k.noted (record { held_is = s.held_is; job_is = s.job_is; left_is = s.left_is; owns = tt; kept_is = s.kept_is; so_far = s.so_far; in_block = s.in_block; inside = s.inside }))
     refl refl refl refl refl)
-    (quietly shape w n a card job doing LockLook (script_in tj (Ending (Refuses Busy))) (Look (LockWord (block_of tj))) k k.ready
+    (quietly shape w n a card job doing LockLook (plan_in tj (Ending (Refuses Busy))) (Look (LockWord (block_of tj))) k k.ready
     (acts shape card' job doing (Ending (Refuses Busy)) (slice_get n.doings a) k.noted (record { held_is = s.held_is; job_is = s.job_is; left_is = tt; owns = tt; kept_is = tt; so_far = s.so_far; in_block = s.in_block; inside = s.inside }))
     refl refl refl refl refl))
     tt
@@ -166,7 +166,7 @@ module _ (shape : Shape) (w : State) (n : Notes) (a : ℕ) (card : Card) (job : 
       let s = k.stands in
       let now : Card = card_after w.words step card in
       good shape w n a (at_work shape card job (Taking seen)) doing (Cell step) Done k.actor k.noted
-      (quietly shape w n a card job doing (Taking seen) (script_in tj SealLook) step k k.ready
+      (quietly shape w n a card job doing (Taking seen) (plan_in tj SealLook) step k k.ready
       (acts shape now job doing SealLook (slice_get n.doings a) k.noted (record { held_is = ap (λ t. (card_by t).hold) e; job_is = s.job_is; left_is = s.left_is; owns = tt; kept_is = kept_stays (eqb (word_at w.words.cells b) seen) ∙ s.kept_is; so_far = s.so_far; in_block = s.in_block; inside = s.inside }))
       (kept_stays (eqb (word_at w.words.cells b) seen)) refl refl (seals_stay (eqb (word_at w.words.cells b) seen)) (fail_stays (eqb (word_at w.words.cells b) seen)))
       tt
@@ -174,14 +174,14 @@ module _ (shape : Shape) (w : State) (n : Notes) (a : ℕ) (card : Card) (job : 
       let s = k.stands in
       let now : Card = card_after w.words step card in
       good shape w n a (at_work shape card job (Taking seen)) doing (Cell step) Lost k.actor k.noted
-      (quietly shape w n a card job doing (Taking seen) (script_in tj (Ending (Refuses Busy))) step k k.ready
+      (quietly shape w n a card job doing (Taking seen) (plan_in tj (Ending (Refuses Busy))) step k k.ready
       (acts shape now job doing (Ending (Refuses Busy)) (slice_get n.doings a) k.noted (record { held_is = ap (λ t. (card_by t).hold) e ∙ s.held_is; job_is = s.job_is; left_is = tt; owns = tt; kept_is = tt; so_far = s.so_far; in_block = s.in_block; inside = s.inside }))
       (kept_stays (eqb (word_at w.words.cells b) seen)) refl refl (seals_stay (eqb (word_at w.words.cells b) seen)) (fail_stays (eqb (word_at w.words.cells b) seen)))
       tt
 
 -- the seal: no block is cached
 pub seal_look : (shape : Shape) (w : State) (n : Notes) (a : ℕ) (card : Card) (job : Job) (doing : Doing) → Working shape w n a card job doing SealLook →
-    Good shape w n a (task_outcome w.device w.words (Some (job, script_in (task_job shape job) SealLook)))
+    Good shape w n a (task_outcome w.device w.words (Some (job, plan_in (task_job shape job) SealLook)))
 seal_look shape w n a card job doing k =
     let tj = task_job shape job in
     let s = k.stands in
@@ -189,32 +189,32 @@ seal_look shape w n a card job doing k =
     let unmapped : v ≡ 0 = k.kept.seals (block_of tj) in
     let card' : Card = looked (SealWord (block_of tj)) v card in
     let x = at_work shape card job SealLook in
-    let on : Script = record { job = tj; steps = Cell (Look (Number (block_of tj))) ∷ work tj (place_in v) (dirty_in v); answer = Finished } in
-    let same : on ≡ script_in tj NumberLook = ap (λ (z : ℕ). record { job = tj; steps = Cell (Look (Number (block_of tj))) ∷ work tj (place_in z) (dirty_in z); answer = Finished }) unmapped in
+    let on : Plan = record { job = tj; steps = Cell (Look (Number (block_of tj))) ∷ work tj (place_in v) (dirty_in v); answer = Finished } in
+    let same : on ≡ plan_in tj NumberLook = ap (λ (z : ℕ). record { job = tj; steps = Cell (Look (Number (block_of tj))) ∷ work tj (place_in z) (dirty_in z); answer = Finished }) unmapped in
     good shape w n a x doing (Cell (Look (SealWord (block_of tj)))) (Word v) k.actor k.noted
     (quietly shape w n a card job doing SealLook on (Look (SealWord (block_of tj))) k k.ready
-    (subst (λ (t : Script). ActingOn shape card' (Some (job, t)) (slice_get n.doings a)) (sym same)
+    (subst (λ (t : Plan). ActingOn shape card' (Some (job, t)) (slice_get n.doings a)) (sym same)
     (acts shape card' job doing NumberLook (slice_get n.doings a) k.noted (record { held_is = s.held_is; job_is = s.job_is; left_is = s.left_is; owns = tt; kept_is = s.kept_is; so_far = s.so_far; in_block = s.in_block; inside = s.inside })))
     refl refl refl refl refl)
     tt
 
 -- the number
 pub number_look : (shape : Shape) (w : State) (n : Notes) (a : ℕ) (card : Card) (job : Job) (doing : Doing) → Working shape w n a card job doing NumberLook →
-    Good shape w n a (task_outcome w.device w.words (Some (job, script_in (task_job shape job) NumberLook)))
+    Good shape w n a (task_outcome w.device w.words (Some (job, plan_in (task_job shape job) NumberLook)))
 number_look shape w n a card job doing k =
     let tj = task_job shape job in
     let s = k.stands in
     let v : ℕ = word_at w.words.numbers (block_of tj) in
     let card' : Card = looked (Number (block_of tj)) v card in
-    let on : Script = record { job = tj; steps = work tj None false; answer = Finished } in
-    let moving : on ≡ script_in tj (Moving (sectors_of job)) = begins shape job in
+    let on : Plan = record { job = tj; steps = work tj None false; answer = Finished } in
+    let moving : on ≡ plan_in tj (Moving (sectors_of job)) = begins shape job in
     good shape w n a (at_work shape card job NumberLook) doing (Cell (Look (Number (block_of tj)))) (Word v) k.actor k.noted
-    (either (λ (t : Script). Kept shape (record { device = w.device; words = w.words; actors = slice_set w.actors a (record { task = Some (job, t); card = card' }) }) n) (is_worn tj v)
-    (script_in tj (GivingBack Worn)) on
-    (quietly shape w n a card job doing NumberLook (script_in tj (GivingBack Worn)) (Look (Number (block_of tj))) k k.ready
+    (either (λ (t : Plan). Invariant shape (record { device = w.device; words = w.words; actors = slice_set w.actors a (record { task = Some (job, t); card = card' }) }) n) (is_worn tj v)
+    (plan_in tj (GivingBack Worn)) on
+    (quietly shape w n a card job doing NumberLook (plan_in tj (GivingBack Worn)) (Look (Number (block_of tj))) k k.ready
     (acts shape card' job doing (GivingBack Worn) (slice_get n.doings a) k.noted (record { held_is = s.held_is; job_is = s.job_is; left_is = tt; owns = tt; kept_is = s.kept_is; so_far = s.so_far; in_block = s.in_block; inside = s.inside }))
     refl refl refl refl refl)
-    (rw moving (quietly shape w n a card job doing NumberLook (script_in tj (Moving (sectors_of job))) (Look (Number (block_of tj))) k k.ready
+    (rw moving (quietly shape w n a card job doing NumberLook (plan_in tj (Moving (sectors_of job))) (Look (Number (block_of tj))) k k.ready
     (acts shape card' job doing (Moving (sectors_of job)) (slice_get n.doings a) k.noted (record { held_is = s.held_is; job_is = s.job_is; left_is = s.left_is; owns = tt; kept_is = s.kept_is; so_far = s.so_far; in_block = s.in_block; inside = s.inside }))
     refl (moves_on shape job (sectors_of job)) refl refl refl)))
     tt

@@ -1,20 +1,20 @@
 -- Where a request stands: what is left of its table, and what its actor holds there.
-use Rattle.std.proofs.Common.{◌≡◌, ◌/◌, ◌<◌, ℕ, true, false, List, [], ◌∷◌, ◌++◌, None, refl, map, All}
+use Rattle.std.proofs.Common.{◌≡◌, ◌/◌, ◌<◌, ℕ, false, List, [], ◌∷◌, ◌++◌, None, map, All}
 use Rattle.wb_types.specs.declared.mode.Dev.TheVariants.{Origin}
 use Rattle.wb_types.specs.declared.number.OBlock.{OBlock}
 use Rattle.wb_types.specs.declared.refusal.Refusal.{Refusal}
 use Rattle.wb_words.specs.declared.word.Access.TheVariants.{Shared, Owned}
 use Rattle.wb_words.specs.declared.word.Kind.TheVariants.{ReadMiss, WriteMiss}
 use Rattle.wb_words.specs.declared.word.Word.TheVariants.{Cell as LockWord, Seal as SealWord, Number}
-use Rattle.wb_tasks.specs.Job.{Job as TaskJob, Reading, Writing, part_of, access_of, acquire, taking, work}
-use Rattle.wb_tasks.specs.Script.{Script, release}
+use Rattle.wb_tasks.specs.Tables.{TaskJob, Reading, Writing, access_of, acquire, taking, work}
+use Rattle.wb_tasks.specs.Plan.{Plan, release}
 use Rattle.wb_words.specs.declared.card.Card.{Card}
 use Rattle.wb_words.specs.declared.card.Hold.{Hold}
 use Rattle.wb_words.specs.declared.card.Hold.TheVariants.{Nothing, Held}
 use Rattle.wb_tasks.specs.Ready.{block_of}
 use Rattle.wb_tasks.specs.declared.step.Answer.{Answer}
 use Rattle.wb_tasks.specs.declared.step.Answer.TheVariants.{Done as Finished, Refused as Refuses}
-use Rattle.wb_words.specs.declared.step.CellStep.TheVariants.{Look, Take, Release, Finish, Count, SetFailed}
+use Rattle.wb_words.specs.declared.step.CellStep.TheVariants.{Look, Release, Finish, Count, SetFailed}
 use Rattle.wb_tasks.specs.declared.step.DeviceStep.TheVariants.{Read as ReadSector, Write as WriteSector}
 use Rattle.wb_tasks.specs.declared.step.Want.{Want}
 use Rattle.wb_tasks.specs.declared.step.Want.TheVariants.{Cell, Device}
@@ -65,13 +65,8 @@ answer_in (Failing refusal) = Refuses refusal
 answer_in (Ending answer) = answer
 answer_in phase = Finished
 
-abbrev pub script_in : TaskJob → Phase → Script
-script_in job phase = record { job = job; steps = steps_in job phase; answer = answer_in phase }
-
--- once the number was seen, all sectors are to be moved
-pub work-moves : (job : TaskJob) → work job None false ≡ moves job (part_of job).sectors
-work-moves (Reading part) = refl
-work-moves (Writing part) = refl
+abbrev pub plan_in : TaskJob → Phase → Plan
+plan_in job phase = record { job = job; steps = steps_in job phase; answer = answer_in phase }
 
 -- what the actor holds
 abbrev pub hold_in : TaskJob → Phase → Hold

@@ -16,10 +16,9 @@ use Rattle.wb_world.specs.World.{Shape, State, Actor, task_job, stepped_or, read
 use Rattle.wb_world.specs.Clerk.{Notes, Doing, Reading, read_on, latest_of}
 use Rattle.wb_world.specs.Headline.{IsLatest}
 use Rattle.wb_world.proofs.Lists.{get_set_same, get_set_other}
-use Rattle.wb_world.proofs.Contents.{Holds, HoldsLast, Same, Stale}
-use Rattle.wb_world.proofs.Kept.{Kept, quiet, Good, good, GoodFault, good_fault, stale_of}
-use Rattle.wb_world.proofs.Phases.{Moving, GivingBack, SoFar, AllIn, script_in}
-use Rattle.wb_words.specs.declared.card.Hold.{Hold}
+use Rattle.wb_world.proofs.Contents.{WasWritten, IsLastWritten, Same, Stale}
+use Rattle.wb_world.proofs.Invariant.{Invariant, quiet, Good, good, GoodFault, good_fault, stale_of}
+use Rattle.wb_world.proofs.Phases.{Moving, GivingBack, SoFar, AllIn}
 use Rattle.wb_words.specs.Cards.{total, shares as shared_by}
 use Rattle.wb_tasks.specs.Ready.{block_of}
 use Rattle.wb_world.proofs.Rule.{shares, owns, leaves_stale, stale_is_owned, total_has, total_most, lock_of, rule_same}
@@ -44,7 +43,7 @@ not_stale shape w n a card extent doing at left k e =
     none_owns (suc o) sharers f h = absurd (omega (arith, f (omega arith)))
 
 -- so what it reads is the last entry
-pub last_entry : (h : History) (g : Option History) → Holds (Some h) g → HoldsLast (Some h) g 0 → latest_of g ≡ Some (newest h)
+pub last_entry : (h : History) (g : Option History) → WasWritten (Some h) g → IsLastWritten (Some h) g 0 → latest_of g ≡ Some (newest h)
 last_entry h None i l = absurd i
 last_entry h (Some g) i (Same e) = ap (λ c. Some c) (sym e)
 last_entry h (Some g) i (Stale m) = absurd (omega arith)
@@ -69,10 +68,10 @@ read_sector shape w n a card extent doing at left k (Some h) e =
     let latest = latest_of (slice_get n.histories at) in
     let doing' : Doing = record doing { left = left; readings = doing.readings ++ record { sector = at; content = newest h; latest = latest } ∷ [] } in
     let in_block = subst (λ (ss : List ℕ). AllIn shape.block_sectors (block_of (task_job shape job)).0 ss) s.left_is s.in_block in
-    let holds : Holds (Some h) (slice_get n.histories at) = subst (λ (v : Option History). Holds v (slice_get n.histories at)) e (k.kept.holds at) in
-    let last : HoldsLast (Some h) (slice_get n.histories at) 0 =
-    subst (λ (m : ℕ). HoldsLast (Some h) (slice_get n.histories at) m) (not_stale shape w n a card extent doing at left k in_block.0)
-    (subst (λ (v : Option History). HoldsLast v (slice_get n.histories at) (stale_of shape w.actors at)) e (k.kept.last a x k.actor at)) in
+    let holds : WasWritten (Some h) (slice_get n.histories at) = subst (λ (v : Option History). WasWritten v (slice_get n.histories at)) e (k.kept.holds at) in
+    let last : IsLastWritten (Some h) (slice_get n.histories at) 0 =
+    subst (λ (m : ℕ). IsLastWritten (Some h) (slice_get n.histories at) m) (not_stale shape w n a card extent doing at left k in_block.0)
+    (subst (λ (v : Option History). IsLastWritten v (slice_get n.histories at) (stale_of shape w.actors at)) e (k.kept.last a x k.actor at)) in
     let is_last = last_entry h (slice_get n.histories at) holds last in
     let noted : read_on doing doing.left n.histories (newest h) ≡ doing' = ap (λ ss. read_on doing ss n.histories (newest h)) s.left_is in
     good shape w n a x doing (Device (ReadSector Origin at)) (Content (newest h)) k.actor k.noted
@@ -108,7 +107,7 @@ read_failed shape w n a landed card extent doing at left k true =
     let s = k.stands in
     let x = at_work shape card job (Moving (at ∷ left)) in
     good_fault shape w n a landed x doing (Device (ReadSector Origin at)) Fault k.actor k.noted
-    (subst (λ (device : List History). Kept shape (record { device = device; words = w.words; actors = slice_set w.actors a (at_work shape card job (GivingBack (Io Origin))) }) n) (unchanged landed)
+    (subst (λ (device : List History). Invariant shape (record { device = device; words = w.words; actors = slice_set w.actors a (at_work shape card job (GivingBack (Io Origin))) }) n) (unchanged landed)
     (quiet shape w n a x (at_work shape card job (GivingBack (Io Origin))) w.words n k.kept k.actor (record {
       others = λ b m. refl;
       stands = acts shape card job doing (GivingBack (Io Origin)) (slice_get n.doings a) k.noted (record { held_is = s.held_is; job_is = s.job_is; left_is = tt; owns = tt; kept_is = s.kept_is; so_far = s.so_far; in_block = s.in_block; inside = s.inside });

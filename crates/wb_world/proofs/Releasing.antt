@@ -1,8 +1,6 @@
 -- Giving a block back, and keeping it for good.
-use Rattle.std.proofs.Common.{◌≡◌, ◌+◌, ℕ, Some, List, [], ◌∷◌, refl, sym, ap, ◌∙◌, arith, inr, slice_get}
+use Rattle.std.proofs.Common.{◌≡◌, ◌+◌, ℕ, Some, ◌∷◌, refl, sym, ap, ◌∙◌, arith, inr, slice_get}
 use Rattle.std.proofs.lemmas.Nat.{le_or_l, le_or_r}
-use Rattle.std.specs.Int.Bits.{bit_or}
-use Rattle.wb_types.specs.declared.number.OBlock.{OBlock}
 use Rattle.wb_types.specs.declared.refusal.Refusal.{Refusal}
 use Rattle.wb_words.specs.declared.word.Access.TheVariants.{Owned}
 use Rattle.wb_words.specs.declared.card.Card.{Card}
@@ -11,49 +9,48 @@ use Rattle.wb_words.specs.declared.card.Hold.TheVariants.{Nothing, Held}
 use Rattle.wb_words.specs.declared.step.CellStep.TheVariants.{Release, SetFailed}
 use Rattle.wb_words.specs.Cards.{total, is_block, owns as owned_by, holding, failing, failing_at}
 use Rattle.wb_words.specs.Effects.{words_after}
-use Rattle.wb_tasks.specs.Job.{access_of}
+use Rattle.wb_tasks.specs.Tables.{access_of}
 use Rattle.wb_tasks.specs.Ready.{block_of}
-use Rattle.wb_tasks.specs.declared.step.Answer.{Answer}
 use Rattle.wb_tasks.specs.declared.step.Answer.TheVariants.{Done as Finished, Refused as Refuses}
 use Rattle.wb_tasks.specs.declared.step.Want.TheVariants.{Cell}
 use Rattle.wb_tasks.specs.declared.step.Got.TheVariants.{Done}
 use Rattle.wb_world.specs.declared.job.Job.{Job}
-use Rattle.wb_world.specs.World.{Shape, State, Actor, task_job, task_outcome}
+use Rattle.wb_world.specs.World.{Shape, State, task_job, task_outcome}
 use Rattle.wb_world.specs.Clerk.{Notes, Doing}
-use Rattle.wb_world.proofs.Kept.{moved, Good, good, last_same}
-use Rattle.wb_world.proofs.Phases.{Releasing, GivingBack, Failing, Ending, script_in}
+use Rattle.wb_world.proofs.Invariant.{moved, Good, good, last_same}
+use Rattle.wb_world.proofs.Phases.{Releasing, GivingBack, Failing, Ending, plan_in}
 use Rattle.wb_world.proofs.Rule.{leaves_stale, rule_after}
 use Rattle.wb_world.proofs.Looking.{at_work, Working, acts, quietly}
 
 -- The last step of a request that has its block.
 pub releasing : (shape : Shape) (w : State) (n : Notes) (a : ℕ) (card : Card) (job : Job) (doing : Doing) → Working shape w n a card job doing Releasing →
-    Good shape w n a (task_outcome w.device w.words (Some (job, script_in (task_job shape job) Releasing)))
+    Good shape w n a (task_outcome w.device w.words (Some (job, plan_in (task_job shape job) Releasing)))
 releasing shape w n a card job doing k =
     let tj = task_job shape job in
     let s = k.stands in
     let step = Release (access_of tj) (block_of tj) in
     good shape w n a (at_work shape card job Releasing) doing (Cell step) Done k.actor k.noted
-    (quietly shape w n a card job doing Releasing (script_in tj (Ending Finished)) step k k.ready
+    (quietly shape w n a card job doing Releasing (plan_in tj (Ending Finished)) step k k.ready
     (acts shape (holding Nothing card) job doing (Ending Finished) (slice_get n.doings a) k.noted (record { held_is = refl; job_is = s.job_is; left_is = s.left_is; owns = tt; kept_is = tt; so_far = s.so_far; in_block = s.in_block; inside = s.inside }))
     refl refl refl refl refl)
     tt
 
 -- and of one that is refused
 pub giving_back : (shape : Shape) (w : State) (n : Notes) (a : ℕ) (card : Card) (job : Job) (doing : Doing) (refusal : Refusal) → Working shape w n a card job doing (GivingBack refusal) →
-    Good shape w n a (task_outcome w.device w.words (Some (job, script_in (task_job shape job) (GivingBack refusal))))
+    Good shape w n a (task_outcome w.device w.words (Some (job, plan_in (task_job shape job) (GivingBack refusal))))
 giving_back shape w n a card job doing refusal k =
     let tj = task_job shape job in
     let s = k.stands in
     let step = Release (access_of tj) (block_of tj) in
     good shape w n a (at_work shape card job (GivingBack refusal)) doing (Cell step) Done k.actor k.noted
-    (quietly shape w n a card job doing (GivingBack refusal) (script_in tj (Ending (Refuses refusal))) step k k.ready
+    (quietly shape w n a card job doing (GivingBack refusal) (plan_in tj (Ending (Refuses refusal))) step k k.ready
     (acts shape (holding Nothing card) job doing (Ending (Refuses refusal)) (slice_get n.doings a) k.noted (record { held_is = refl; job_is = s.job_is; left_is = tt; owns = tt; kept_is = tt; so_far = s.so_far; in_block = s.in_block; inside = s.inside }))
     refl refl refl refl refl)
     tt
 
 -- A failed write sets the failed bit, and its block is kept.
 pub failing_write : (shape : Shape) (w : State) (n : Notes) (a : ℕ) (card : Card) (job : Job) (doing : Doing) (refusal : Refusal) → Working shape w n a card job doing (Failing refusal) →
-    Good shape w n a (task_outcome w.device w.words (Some (job, script_in (task_job shape job) (Failing refusal))))
+    Good shape w n a (task_outcome w.device w.words (Some (job, plan_in (task_job shape job) (Failing refusal))))
 failing_write shape w n a card job doing refusal k =
     let tj = task_job shape job in
     let s = k.stands in

@@ -1,10 +1,8 @@
 -- What the rule of the shared words says of the actors of a world.
-use Rattle.std.proofs.Common.{◌≡◌, ◌≢◌, ◌+◌, ◌≤◌, ◌<◌, ◌==◌, ℕ, zero, suc, List, [], ◌∷◌, Option, Some, None, Bool, true, false, cond, refl, sym, ap, subst, ◌∙◌, arith, map, slice_get, slice_set}
+use Rattle.std.proofs.Common.{◌≡◌, ◌+◌, ◌≤◌, ◌<◌, ℕ, zero, suc, List, [], ◌∷◌, Option, Some, None, Bool, true, false, cond, refl, sym, ap, subst, ◌∙◌, arith, map, slice_get, slice_set}
 use mathlib.Core.Option.{some}
 use lib.ListN.{get_elem?, set}
-use Rattle.wb_types.specs.declared.number.OBlock.{OBlock}
 use Rattle.wb_words.specs.declared.card.Card.{Card}
-use Rattle.wb_words.specs.declared.card.Hold.{Hold}
 use Rattle.wb_words.specs.declared.step.CellStep.{CellStep}
 use Rattle.wb_words.specs.declared.step.CellStep.TheVariants.{SetFailed}
 use Rattle.wb_words.specs.SharedWords.{Words, word_at}
@@ -14,7 +12,7 @@ use Rattle.wb_words.specs.Effects.{words_after, card_after}
 use Rattle.wb_words.specs.Ready.{IsReady}
 use Rattle.wb_words.proofs.Totals.{total-set, total-same as total_kept, total_at, at_slice}
 use Rattle.wb_words.proofs.RuleKept.{step_keeps}
-use Rattle.wb_tasks.specs.Script.{Script}
+use Rattle.wb_tasks.specs.Plan.{Plan}
 use Rattle.wb_tasks.specs.declared.step.Want.{Want}
 use Rattle.wb_tasks.specs.declared.step.Want.TheVariants.{Cell}
 use Rattle.wb_world.specs.declared.job.Job.{Job}
@@ -25,7 +23,7 @@ abbrev pub is_failing : List Want → Bool
 is_failing (Cell SetFailed ∷ ws) = true
 is_failing ws = false
 
-abbrev pub task_fails : Option (Job × Script) → Bool
+abbrev pub task_fails : Option (Job × Plan) → Bool
 task_fails None = false
 task_fails (Some doing) = is_failing doing.1.steps
 

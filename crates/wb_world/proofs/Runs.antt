@@ -1,23 +1,18 @@
 -- Whole runs: each record keeps what is kept, so every answer is right and a crash leaves what was written.
-use Rattle.std.proofs.Common.{◌≡◌, ◌≤◌, ◌<◌, ◌+◌, ◌-◌, ◌*◌, ◌/◌, ◌&&◌, inl, inr, ℕ, zero, suc, Bool, true, false, List, [], ◌∷◌, Option, Some, None, refl, sym, ap, subst, ◌∙◌, arith, slice_get, slice_set, unwrap_or, replicate, Contains, mul_comm}
-use Rattle.std.proofs.lemmas.Bool.{eqb-true, leb-true}
-use Rattle.std.proofs.lemmas.List.{length-replicate}
+use Rattle.std.proofs.Common.{◌≡◌, ◌≤◌, ◌<◌, ◌+◌, ◌-◌, ◌/◌, inl, inr, ℕ, zero, suc, Bool, List, [], ◌∷◌, Option, Some, None, refl, sym, ap, subst, ◌∙◌, arith, slice_get, slice_set, unwrap_or, replicate, Contains}
 use Rattle.std.proofs.lemmas.List.Elements.{Contains-push_cases}
 use Rattle.std.proofs.lemmas.Nat.{div_below, le-div}
 use Rattle.std.proofs.lemmas.Option.{slice_get-get_or}
 use Rattle.std.proofs.Math.Nat.{div-mul-le_self}
-use Rattle.std.specs.Prelude.{nat_le, if◌then◌else◌}
 use Rattle.wb_types.specs.declared.refusal.Refusal.{Refusal}
-use Rattle.wb_types.specs.declared.refusal.Refusal.TheVariants.{Range, Crosses}
 use Rattle.wb_disk.specs.Device.{Content as Bytes, History, entries}
 use Rattle.wb_disk.specs.Memory.{blank}
 use Rattle.wb_disk.specs.Crash.{Choice, crashed, crashed_from, content_at, chosen_position}
 use Rattle.wb_disk.proofs.Crashes.{Contains-content_at}
-use Rattle.wb_tasks.specs.Job.{sectors_from}
-use Rattle.wb_tasks.specs.Script.{Script, want}
+use Rattle.wb_tasks.specs.Tables.{sectors_from}
+use Rattle.wb_tasks.specs.Plan.{Plan, want}
 use Rattle.wb_words.specs.declared.card.Card.{Card}
 use Rattle.wb_words.specs.declared.card.Hold.TheVariants.{Nothing}
-use Rattle.wb_world.specs.declared.job.Extent.{Extent}
 use Rattle.wb_world.specs.declared.job.Job.{Job}
 use Rattle.wb_world.specs.declared.job.Job.TheVariants.{Read, Write}
 use Rattle.wb_world.specs.declared.event.Event.{Event}
@@ -25,15 +20,15 @@ use Rattle.wb_world.specs.declared.event.Event.TheVariants.{Start, Step, FaultSt
 use Rattle.wb_world.specs.declared.event.What.{What}
 use Rattle.wb_world.specs.declared.event.What.TheVariants.{Skipped, Refused, Started, Stepped, Stopped}
 use Rattle.wb_world.specs.declared.event.Record.{Record}
-use Rattle.wb_world.specs.World.{Shape, State, Actor, start, resting, task_job, extent_of, sector_count, job_refusal, is_in_one_block, started_or, free_outcome, start_outcome, task_outcome, step_outcome, task_failure, fault_outcome, MayBe, IsRun, after_what, after_record, after_all, after_crash, given}
+use Rattle.wb_world.specs.World.{Shape, State, Actor, start, resting, task_job, extent_of, sector_count, job_refusal, started_or, free_outcome, start_outcome, task_outcome, step_outcome, task_failure, fault_outcome, MayBe, IsRun, after_what, after_record, after_all, after_crash, given}
 use Rattle.wb_world.specs.Clerk.{Notes, Doing, opened, begun, noted_what, note, noted}
 use Rattle.wb_world.specs.Headline.{AnswersRightly, ReadsLatest, IsAllowed, CrashConsistent}
 use Rattle.wb_world.proofs.Lists.{get_set_same, get_set_other, replicated}
-use Rattle.wb_world.proofs.Contents.{Holds, HoldsLast, Same}
-use Rattle.wb_world.proofs.Kept.{ActingOn, Kept, quiet, Good, GoodFault, stale_of}
-use Rattle.wb_world.proofs.Phases.{Phase, FailLook, LockLook, Taking, SealLook, NumberLook, Moving, Counting, Releasing, GivingBack, Failing, Ending, Stands, AllIn, script_in}
+use Rattle.wb_world.proofs.Contents.{WasWritten, IsLastWritten, Same}
+use Rattle.wb_world.proofs.Invariant.{ActingOn, Invariant, quiet, Good, GoodFault, stale_of}
+use Rattle.wb_world.proofs.Phases.{Phase, FailLook, LockLook, Taking, SealLook, NumberLook, Moving, Counting, Releasing, GivingBack, Failing, Ending, Stands, AllIn, plan_in}
 use Rattle.wb_words.specs.SharedWords.{fresh_words}
-use Rattle.wb_words.specs.Cards.{blank as blank_card}
+use Rattle.wb_words.specs.Cards.{blank_card}
 use Rattle.wb_words.specs.Rule.{LockRule}
 use Rattle.wb_words.proofs.RuleKept.{fresh_rule}
 use Rattle.wb_tasks.specs.Ready.{MayTake}
@@ -54,7 +49,7 @@ no_doing = None
 -- A step.
 
 in_phase : (shape : Shape) (w : State) (n : Notes) (a : ℕ) (card : Card) (job : Job) (doing : Doing) (phase : Phase) → Working shape w n a card job doing phase →
-    Good shape w n a (task_outcome w.device w.words (Some (job, script_in (task_job shape job) phase)))
+    Good shape w n a (task_outcome w.device w.words (Some (job, plan_in (task_job shape job) phase)))
 in_phase shape w n a card job doing FailLook k = fail_look shape w n a card job doing k
 in_phase shape w n a card job doing LockLook k = lock_look shape w n a card job doing k
 in_phase shape w n a card job doing (Taking seen) k = taking shape w n a card job doing seen k _ refl
@@ -69,22 +64,22 @@ in_phase shape w n a card job doing (GivingBack refusal) k = giving_back shape w
 in_phase shape w n a card job doing (Failing refusal) k = failing_write shape w n a card job doing refusal k
 in_phase shape w n a card job doing (Ending answer) k = answered shape w n a card job doing answer k
 
-task_kept : (shape : Shape) (w : State) (n : Notes) (a : ℕ) (card : Card) (task : Option (Job × Script)) → Kept shape w n → AllSuited shape.origin_blocks w.actors → slice_get w.actors a ≡ Some (record { task = task; card = card }) → ActingOn shape card task (slice_get n.doings a) →
+task_kept : (shape : Shape) (w : State) (n : Notes) (a : ℕ) (card : Card) (task : Option (Job × Plan)) → Invariant shape w n → AllSuited shape.origin_blocks w.actors → slice_get w.actors a ≡ Some (record { task = task; card = card }) → ActingOn shape card task (slice_get n.doings a) →
     Good shape w n a (task_outcome w.device w.words task)
 task_kept shape w n a card None i all e s = (i, tt)
-task_kept shape w n a card (Some (job, script)) i all e s =
-    let here : slice_get w.actors a ≡ Some (at_work shape card job s.1) = e ∙ ap (λ (t : Script). Some (record { task = Some (job, t); card = card })) s.3 in
-    subst (λ (t : Script). Good shape w n a (task_outcome w.device w.words (Some (job, t)))) (sym s.3)
-    (in_phase shape w n a card job s.0 s.1 (record { kept = i; actor = here; noted = s.2; stands = s.4; ready = subst (λ (t : Script). MayTake shape.origin_blocks card (want t)) s.3 (is_ready shape.origin_blocks script card (all a _ e)) }))
+task_kept shape w n a card (Some (job, plan)) i all e s =
+    let here : slice_get w.actors a ≡ Some (at_work shape card job s.1) = e ∙ ap (λ (t : Plan). Some (record { task = Some (job, t); card = card })) s.3 in
+    subst (λ (t : Plan). Good shape w n a (task_outcome w.device w.words (Some (job, t)))) (sym s.3)
+    (in_phase shape w n a card job s.0 s.1 (record { kept = i; actor = here; noted = s.2; stands = s.4; ready = subst (λ (t : Plan). MayTake shape.origin_blocks card (want t)) s.3 (is_ready shape.origin_blocks plan card (all a _ e)) }))
 
-actor_kept : (shape : Shape) (w : State) (n : Notes) (a : ℕ) (o : Option Actor) → slice_get w.actors a ≡ o → Kept shape w n → AllSuited shape.origin_blocks w.actors → Good shape w n a (step_outcome w o)
+actor_kept : (shape : Shape) (w : State) (n : Notes) (a : ℕ) (o : Option Actor) → slice_get w.actors a ≡ o → Invariant shape w n → AllSuited shape.origin_blocks w.actors → Good shape w n a (step_outcome w o)
 actor_kept shape w n a None e i all = (i, tt)
 actor_kept shape w n a (Some x) e i all = task_kept shape w n a x.card x.task i all e (i.acting a x e)
 
 -- A step that fails.
 
 in_phase_failing : (shape : Shape) (w : State) (n : Notes) (a : ℕ) (landed : Bool) (card : Card) (job : Job) (doing : Doing) (phase : Phase) → Working shape w n a card job doing phase →
-    GoodFault shape w n a landed (task_failure w.device (Some (job, script_in (task_job shape job) phase)))
+    GoodFault shape w n a landed (task_failure w.device (Some (job, plan_in (task_job shape job) phase)))
 in_phase_failing shape w n a landed card job doing FailLook k = k.kept
 in_phase_failing shape w n a landed card job doing LockLook k = k.kept
 in_phase_failing shape w n a landed card job doing (Taking seen) k = k.kept
@@ -101,15 +96,15 @@ in_phase_failing shape w n a landed card job doing (GivingBack refusal) k = k.ke
 in_phase_failing shape w n a landed card job doing (Failing refusal) k = k.kept
 in_phase_failing shape w n a landed card job doing (Ending answer) k = k.kept
 
-task_failing : (shape : Shape) (w : State) (n : Notes) (a : ℕ) (landed : Bool) (card : Card) (task : Option (Job × Script)) → Kept shape w n → AllSuited shape.origin_blocks w.actors → slice_get w.actors a ≡ Some (record { task = task; card = card }) → ActingOn shape card task (slice_get n.doings a) →
+task_failing : (shape : Shape) (w : State) (n : Notes) (a : ℕ) (landed : Bool) (card : Card) (task : Option (Job × Plan)) → Invariant shape w n → AllSuited shape.origin_blocks w.actors → slice_get w.actors a ≡ Some (record { task = task; card = card }) → ActingOn shape card task (slice_get n.doings a) →
     GoodFault shape w n a landed (task_failure w.device task)
 task_failing shape w n a landed card None i all e s = i
-task_failing shape w n a landed card (Some (job, script)) i all e s =
-    let here : slice_get w.actors a ≡ Some (at_work shape card job s.1) = e ∙ ap (λ (t : Script). Some (record { task = Some (job, t); card = card })) s.3 in
-    subst (λ (t : Script). GoodFault shape w n a landed (task_failure w.device (Some (job, t)))) (sym s.3)
-    (in_phase_failing shape w n a landed card job s.0 s.1 (record { kept = i; actor = here; noted = s.2; stands = s.4; ready = subst (λ (t : Script). MayTake shape.origin_blocks card (want t)) s.3 (is_ready shape.origin_blocks script card (all a _ e)) }))
+task_failing shape w n a landed card (Some (job, plan)) i all e s =
+    let here : slice_get w.actors a ≡ Some (at_work shape card job s.1) = e ∙ ap (λ (t : Plan). Some (record { task = Some (job, t); card = card })) s.3 in
+    subst (λ (t : Plan). GoodFault shape w n a landed (task_failure w.device (Some (job, t)))) (sym s.3)
+    (in_phase_failing shape w n a landed card job s.0 s.1 (record { kept = i; actor = here; noted = s.2; stands = s.4; ready = subst (λ (t : Plan). MayTake shape.origin_blocks card (want t)) s.3 (is_ready shape.origin_blocks plan card (all a _ e)) }))
 
-actor_failing : (shape : Shape) (w : State) (n : Notes) (a : ℕ) (landed : Bool) (o : Option Actor) → slice_get w.actors a ≡ o → Kept shape w n → AllSuited shape.origin_blocks w.actors → GoodFault shape w n a landed (fault_outcome w o)
+actor_failing : (shape : Shape) (w : State) (n : Notes) (a : ℕ) (landed : Bool) (o : Option Actor) → slice_get w.actors a ≡ o → Invariant shape w n → AllSuited shape.origin_blocks w.actors → GoodFault shape w n a landed (fault_outcome w o)
 actor_failing shape w n a landed None e i all = i
 actor_failing shape w n a landed (Some x) e i all = task_failing shape w n a landed x.card x.task i all e (i.acting a x e)
 
@@ -149,8 +144,8 @@ begun_stands shape card (Write extent content) held m = record {
   inside = div_below extent.first.0 shape.block_sectors shape.origin_blocks (some_sectors shape extent m) (first_inside shape extent m);
 }
 
-free_kept : (shape : Shape) (w : State) (n : Notes) (a : ℕ) (card : Card) (job : Job) (o : Option Refusal) → job_refusal shape (extent_of job) ≡ o → Kept shape w n → slice_get w.actors a ≡ Some (record { task = None; card = card }) → ActingOn shape card None (slice_get n.doings a) →
-    Kept shape (after_what shape w (Start a job) (started_or o)) (noted_what n (Start a job) (started_or o))
+free_kept : (shape : Shape) (w : State) (n : Notes) (a : ℕ) (card : Card) (job : Job) (o : Option Refusal) → job_refusal shape (extent_of job) ≡ o → Invariant shape w n → slice_get w.actors a ≡ Some (record { task = None; card = card }) → ActingOn shape card None (slice_get n.doings a) →
+    Invariant shape (after_what shape w (Start a job) (started_or o)) (noted_what n (Start a job) (started_or o))
 free_kept shape w n a card job (Some refusal) r i e s = i
 free_kept shape w n a card job None r i e s =
     let x : Actor = record { task = None; card = card } in
@@ -167,13 +162,13 @@ free_kept shape w n a card job None r i e s =
       floors = refl;
     }))
 
-given_kept : (shape : Shape) (w : State) (n : Notes) (a : ℕ) (card : Card) (task : Option (Job × Script)) (job : Job) → Kept shape w n → slice_get w.actors a ≡ Some (record { task = task; card = card }) → ActingOn shape card task (slice_get n.doings a) →
-    Kept shape (after_what shape w (Start a job) (free_outcome shape task job)) (noted_what n (Start a job) (free_outcome shape task job))
+given_kept : (shape : Shape) (w : State) (n : Notes) (a : ℕ) (card : Card) (task : Option (Job × Plan)) (job : Job) → Invariant shape w n → slice_get w.actors a ≡ Some (record { task = task; card = card }) → ActingOn shape card task (slice_get n.doings a) →
+    Invariant shape (after_what shape w (Start a job) (free_outcome shape task job)) (noted_what n (Start a job) (free_outcome shape task job))
 given_kept shape w n a card None job i e s = free_kept shape w n a card job (job_refusal shape (extent_of job)) refl i e s
 given_kept shape w n a card (Some task) job i e s = i
 
-started_kept : (shape : Shape) (w : State) (n : Notes) (a : ℕ) (job : Job) (o : Option Actor) → slice_get w.actors a ≡ o → Kept shape w n →
-    Kept shape (after_what shape w (Start a job) (start_outcome shape o job)) (noted_what n (Start a job) (start_outcome shape o job))
+started_kept : (shape : Shape) (w : State) (n : Notes) (a : ℕ) (job : Job) (o : Option Actor) → slice_get w.actors a ≡ o → Invariant shape w n →
+    Invariant shape (after_what shape w (Start a job) (start_outcome shape o job)) (noted_what n (Start a job) (start_outcome shape o job))
 started_kept shape w n a job None e i = i
 started_kept shape w n a job (Some x) e i = given_kept shape w n a x.card x.task job i e (i.acting a x e)
 
@@ -183,7 +178,7 @@ one_content : (c d : Bytes) → Contains (c ∷ []) d → c ≡ d
 one_content c d m = elim (Contains-push_cases [] c d m) [ inl none ↦ absurd (omega (arith, none.1)) | inr e ↦ e ]
 
 -- a sector keeps one of its contents, which stands in its history
-crash_holds : (choice : Choice) (k : ℕ) (device : List History) (at : ℕ) (g : Option History) → Holds (slice_get device at) g → Holds (slice_get (crashed_from choice k device) at) g
+crash_holds : (choice : Choice) (k : ℕ) (device : List History) (at : ℕ) (g : Option History) → WasWritten (slice_get device at) g → WasWritten (slice_get (crashed_from choice k device) at) g
 crash_holds choice k [] at g i = i
 crash_holds choice k (h ∷ hs) zero (Some g) i =
     let position = chosen_position choice k h in
@@ -191,7 +186,7 @@ crash_holds choice k (h ∷ hs) zero (Some g) i =
 crash_holds choice k (h ∷ hs) zero None i = absurd i
 crash_holds choice k (h ∷ hs) (suc at) g i = crash_holds choice (suc k) hs at g i
 
-stopped_kept : (shape : Shape) (w : State) (n : Notes) (choice : Choice) → Kept shape w n → Kept shape (after_crash w (crashed choice w.device)) (record n { doings = [] })
+stopped_kept : (shape : Shape) (w : State) (n : Notes) (choice : Choice) → Invariant shape w n → Invariant shape (after_crash w (crashed choice w.device)) (record n { doings = [] })
 stopped_kept shape w n choice i = record {
   acting = λ a x e. absurd (cc);
   seals = i.seals;
@@ -202,7 +197,7 @@ stopped_kept shape w n choice i = record {
   floors = i.floors;
 }
 
-stop_kept : (shape : Shape) (w : State) (n : Notes) (choice : Choice) (what : What) → Kept shape w n → Kept shape (after_what shape w (Stop choice) what) (noted_what n (Stop choice) what)
+stop_kept : (shape : Shape) (w : State) (n : Notes) (choice : Choice) (what : What) → Invariant shape w n → Invariant shape (after_what shape w (Stop choice) what) (noted_what n (Stop choice) what)
 stop_kept shape w n choice Stopped i = stopped_kept shape w n choice i
 stop_kept shape w n choice Skipped i = i
 stop_kept shape w n choice (Refused refusal) i = i
@@ -211,13 +206,13 @@ stop_kept shape w n choice (Stepped next got) i = i
 
 -- Each record.
 
-what_kept : (shape : Shape) (w : State) (n : Notes) (event : Event) (what : What) → Kept shape w n → AllSuited shape.origin_blocks w.actors → MayBe shape w event what → Kept shape (after_what shape w event what) (noted_what n event what)
+what_kept : (shape : Shape) (w : State) (n : Notes) (event : Event) (what : What) → Invariant shape w n → AllSuited shape.origin_blocks w.actors → MayBe shape w event what → Invariant shape (after_what shape w event what) (noted_what n event what)
 what_kept shape w n (Start a job) what i all m = rw m (started_kept shape w n a job (slice_get w.actors a) refl i)
 what_kept shape w n (Step a) what i all m = rw m (actor_kept shape w n a (slice_get w.actors a) refl i all).0
 what_kept shape w n (FaultStep a landed) what i all m = rw m (actor_failing shape w n a landed (slice_get w.actors a) refl i all)
 what_kept shape w n (Stop choice) what i all m = stop_kept shape w n choice what i
 
-what_right : (shape : Shape) (w : State) (n : Notes) (event : Event) (what : What) → Kept shape w n → AllSuited shape.origin_blocks w.actors → MayBe shape w event what → AnswersRightly n event what
+what_right : (shape : Shape) (w : State) (n : Notes) (event : Event) (what : What) → Invariant shape w n → AllSuited shape.origin_blocks w.actors → MayBe shape w event what → AnswersRightly n event what
 what_right shape w n (Start a job) what i all m = tt
 what_right shape w n (Step a) what i all m = rw m (actor_kept shape w n a (slice_get w.actors a) refl i all).1
 what_right shape w n (FaultStep a landed) what i all m = tt
@@ -225,11 +220,11 @@ what_right shape w n (Stop choice) what i all m = tt
 
 -- Whole runs.
 
-pub all_latest : (shape : Shape) (w : State) (n : Notes) (trace : List Record) → Kept shape w n → AllSuited shape.origin_blocks w.actors → IsRun shape w trace → ReadsLatest n trace
+pub all_latest : (shape : Shape) (w : State) (n : Notes) (trace : List Record) → Invariant shape w n → AllSuited shape.origin_blocks w.actors → IsRun shape w trace → ReadsLatest n trace
 all_latest shape w n [] i all m = tt
 all_latest shape w n (r ∷ rs) i all m = (what_right shape w n r.event r.what i all m.0, all_latest shape (after_record shape w r) (note n r) rs (what_kept shape w n r.event r.what i all m.0) (event_suits shape w r.event r.what all m.0) m.1)
 
-pub all_kept : (shape : Shape) (w : State) (n : Notes) (trace : List Record) → Kept shape w n → AllSuited shape.origin_blocks w.actors → IsRun shape w trace → Kept shape (after_all shape w trace) (noted n trace)
+pub all_kept : (shape : Shape) (w : State) (n : Notes) (trace : List Record) → Invariant shape w n → AllSuited shape.origin_blocks w.actors → IsRun shape w trace → Invariant shape (after_all shape w trace) (noted n trace)
 all_kept shape w n [] i all m = i
 all_kept shape w n (r ∷ rs) i all m = all_kept shape (after_record shape w r) (note n r) rs (what_kept shape w n r.event r.what i all m.0) (event_suits shape w r.event r.what all m.0) m.1
 
@@ -237,16 +232,16 @@ all_kept shape w n (r ∷ rs) i all m = all_kept shape (after_record shape w r) 
 position_of : (cs : List Bytes) (c : Bytes) → Contains cs c → (p : ℕ) × (slice_get cs p ≡ Some c)
 position_of cs c m = (m.0, slice_get-get_or cs m.0 c m.1 ∙ ap (λ d. Some d) m.2)
 
-allowed : (h : History) (g : Option History) (floor : ℕ) (content : Bytes) → floor ≡ 0 → Holds (Some h) g → Contains (entries h) content → IsAllowed g floor content
+allowed : (h : History) (g : Option History) (floor : ℕ) (content : Bytes) → floor ≡ 0 → WasWritten (Some h) g → Contains (entries h) content → IsAllowed g floor content
 allowed h None floor content z i m = i
 allowed h (Some g) floor content z i m =
     let p = position_of (entries g) content (i content m) in
     (p.0, omega arith, p.1)
 
-pub consistent : (shape : Shape) (w : State) (n : Notes) → Kept shape w n → CrashConsistent n w.device
+pub consistent : (shape : Shape) (w : State) (n : Notes) → Invariant shape w n → CrashConsistent n w.device
 consistent shape w n i = record {
   each = λ at h content e m. allowed h (slice_get n.histories at) (unwrap_or (slice_get n.floors at) 0) content (i.floors at)
-      (subst (λ (o : Option History). Holds o (slice_get n.histories at)) e (i.holds at)) m;
+      (subst (λ (o : Option History). WasWritten o (slice_get n.histories at)) e (i.holds at)) m;
 }
 
 -- At the start.
@@ -268,15 +263,15 @@ resting_cards : (k : ℕ) → cards_of (replicate k resting) ≡ replicate k bla
 resting_cards zero = refl
 resting_cards (suc k) = ap (λ cs. blank_card ∷ cs) (resting_cards k)
 
-same_holds : (o : Option History) → Holds o o
+same_holds : (o : Option History) → WasWritten o o
 same_holds None = tt
 same_holds (Some h) = λ c m. m
 
-same_last : (o : Option History) (k : ℕ) → HoldsLast o o k
+same_last : (o : Option History) (k : ℕ) → IsLastWritten o o k
 same_last None k = tt
 same_last (Some h) k = Same refl
 
-pub start_kept : (shape : Shape) → Kept shape (start shape) (opened shape)
+pub start_kept : (shape : Shape) → Invariant shape (start shape) (opened shape)
 start_kept shape = record {
   acting = λ a x e.
       let r = replicated shape.actors a resting x e in

@@ -1,5 +1,5 @@
 -- In every run each actor has what it needs for what is left of its task, so it is ready for each of its steps.
-use Rattle.std.proofs.Common.{◌≡◌, ◌≢◌, ◌∙◌, ◌<◌, inl, inr, ℕ, Bool, true, false, eqb, List, [], ◌∷◌, Option, Some, None, refl, sym, ap, subst, slice_get, slice_set, if◌then◌else◌}
+use Rattle.std.proofs.Common.{◌≡◌, ◌∙◌, inl, inr, ℕ, Bool, true, false, eqb, List, [], ◌∷◌, Option, Some, None, refl, sym, ap, subst, slice_get, slice_set, if◌then◌else◌}
 use Rattle.std.proofs.lemmas.Bool.{cases_eq}
 use Rattle.wb_types.specs.declared.mode.Dev.TheVariants.{Metadata, Cache, Origin}
 use Rattle.wb_types.specs.declared.refusal.Refusal.{Refusal}
@@ -11,10 +11,9 @@ use Rattle.wb_words.specs.declared.step.CellStep.TheVariants.{Look, Take, Releas
 use Rattle.wb_words.specs.declared.step.CellResult.TheVariants.{Done as Won, Lost as CellLost}
 use Rattle.wb_words.specs.SharedWords.{Words, word_at}
 use Rattle.wb_words.specs.Effects.{result_of}
-use Rattle.wb_tasks.specs.Script.{Script, want, after, Fits, got_of, table}
-use Rattle.wb_tasks.specs.Ready.{MayMake, Suits, block_of}
+use Rattle.wb_tasks.specs.Plan.{Plan, want, after, Fits, got_of}
+use Rattle.wb_tasks.specs.Ready.{MayMake, Suits}
 use Rattle.wb_tasks.proofs.Readiness.{keeps_ready, begins_ready, ends_holding_nothing}
-use Rattle.wb_tasks.specs.declared.step.Answer.{Answer}
 use Rattle.wb_tasks.specs.declared.step.DeviceStep.TheVariants.{Read as ReadSector, Write as WriteSector, Sync}
 use Rattle.wb_tasks.specs.declared.step.Want.{Want}
 use Rattle.wb_tasks.specs.declared.step.Want.TheVariants.{Cell, Device, Desk, End}
@@ -56,7 +55,7 @@ suited_set blocks actors a x y e h all b z f = elim (cases_eq b a) [
 ]
 
 -- a step of a task that was done
-module _ (blocks : ℕ) (device : List History) (words : Words) (card : Card) (job : Job) (s : Script) (h : Suits blocks s card) where
+module _ (blocks : ℕ) (device : List History) (words : Words) (card : Card) (job : Job) (s : Plan) (h : Suits blocks s card) where
   -- what a task and a card are after it
   abbrev Then : Want → Got → Type 0
   Then next got = TaskSuits blocks (card_then words card next) (task_then (Some (job, s)) next got)
@@ -111,44 +110,44 @@ module _ (blocks : ℕ) (device : List History) (words : Words) (card : Card) (j
 stepped_suits : (shape : Shape) (w : State) (a : ℕ) (x : Actor) → slice_get w.actors a ≡ Some x → AllSuited shape.origin_blocks w.actors → AllSuited shape.origin_blocks (after_what shape w (Step a) (task_outcome w.device w.words x.task)).actors
 stepped_suits shape w a x e all = go x.task refl
   where
-    go : (task : Option (Job × Script)) → x.task ≡ task → AllSuited shape.origin_blocks (after_what shape w (Step a) (task_outcome w.device w.words task)).actors
+    go : (task : Option (Job × Plan)) → x.task ≡ task → AllSuited shape.origin_blocks (after_what shape w (Step a) (task_outcome w.device w.words task)).actors
     go None t = all
     go (Some doing) t = by_got (performed w.device w.words doing.0 (want doing.1)) refl
       where
         suits : Suits shape.origin_blocks doing.1 x.card
-        suits = subst (λ (v : Option (Job × Script)). TaskSuits shape.origin_blocks x.card v) t (all a x e)
+        suits = subst (λ (v : Option (Job × Plan)). TaskSuits shape.origin_blocks x.card v) t (all a x e)
 
         by_got : (o : Option Got) → performed w.device w.words doing.0 (want doing.1) ≡ o → AllSuited shape.origin_blocks (after_what shape w (Step a) (stepped_or (want doing.1) o)).actors
         by_got None g = all
         by_got (Some got) g = rw e (suited_set shape.origin_blocks w.actors a x (actor_then w.words x (want doing.1) got) e
-            (subst (λ (v : Option (Job × Script)). TaskSuits shape.origin_blocks (card_then w.words x.card (want doing.1)) (task_then v (want doing.1) got)) (sym t)
+            (subst (λ (v : Option (Job × Plan)). TaskSuits shape.origin_blocks (card_then w.words x.card (want doing.1)) (task_then v (want doing.1) got)) (sym t)
             (step_suits shape.origin_blocks w.device w.words x.card doing.0 doing.1 suits (want doing.1) got refl g)) all)
 
 faulted_suits : (shape : Shape) (w : State) (a : ℕ) (landed : Bool) (x : Actor) → slice_get w.actors a ≡ Some x → AllSuited shape.origin_blocks w.actors → AllSuited shape.origin_blocks (after_what shape w (FaultStep a landed) (task_failure w.device x.task)).actors
 faulted_suits shape w a landed x e all = go x.task refl
   where
-    go : (task : Option (Job × Script)) → x.task ≡ task → AllSuited shape.origin_blocks (after_what shape w (FaultStep a landed) (task_failure w.device task)).actors
+    go : (task : Option (Job × Plan)) → x.task ≡ task → AllSuited shape.origin_blocks (after_what shape w (FaultStep a landed) (task_failure w.device task)).actors
     go None t = all
     go (Some doing) t = by_test (can_fail w.device doing.0 (want doing.1)) refl
       where
         suits : Suits shape.origin_blocks doing.1 x.card
-        suits = subst (λ (v : Option (Job × Script)). TaskSuits shape.origin_blocks x.card v) t (all a x e)
+        suits = subst (λ (v : Option (Job × Plan)). TaskSuits shape.origin_blocks x.card v) t (all a x e)
 
         by_test : (c : Bool) → can_fail w.device doing.0 (want doing.1) ≡ c → AllSuited shape.origin_blocks (after_what shape w (FaultStep a landed) (failed_or (want doing.1) c)).actors
         by_test false g = all
         by_test true g = rw e (suited_set shape.origin_blocks w.actors a x (actor_then w.words x (want doing.1) Fault) e
-            (subst (λ (v : Option (Job × Script)). TaskSuits shape.origin_blocks (card_then w.words x.card (want doing.1)) (task_then v (want doing.1) Fault)) (sym t)
+            (subst (λ (v : Option (Job × Plan)). TaskSuits shape.origin_blocks (card_then w.words x.card (want doing.1)) (task_then v (want doing.1) Fault)) (sym t)
             (fault_suits shape.origin_blocks w.device w.words x.card doing.0 doing.1 suits (want doing.1) refl g)) all)
 
 started_suits : (shape : Shape) (w : State) (a : ℕ) (job : Job) (x : Actor) → slice_get w.actors a ≡ Some x → AllSuited shape.origin_blocks w.actors → AllSuited shape.origin_blocks (after_what shape w (Start a job) (free_outcome shape x.task job)).actors
 started_suits shape w a job x e all = go x.task refl
   where
-    go : (task : Option (Job × Script)) → x.task ≡ task → AllSuited shape.origin_blocks (after_what shape w (Start a job) (free_outcome shape task job)).actors
+    go : (task : Option (Job × Plan)) → x.task ≡ task → AllSuited shape.origin_blocks (after_what shape w (Start a job) (free_outcome shape task job)).actors
     go (Some doing) t = all
     go None t = by_refusal (job_refusal shape (extent_of job)) refl
       where
         idle : x.card.hold ≡ Nothing
-        idle = subst (λ (v : Option (Job × Script)). TaskSuits shape.origin_blocks x.card v) t (all a x e)
+        idle = subst (λ (v : Option (Job × Plan)). TaskSuits shape.origin_blocks x.card v) t (all a x e)
 
         by_refusal : (o : Option Refusal) → job_refusal shape (extent_of job) ≡ o → AllSuited shape.origin_blocks (after_what shape w (Start a job) (started_or o)).actors
         by_refusal (Some refusal) r = all

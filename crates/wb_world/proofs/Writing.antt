@@ -14,8 +14,8 @@ use Rattle.wb_world.specs.declared.job.Job.TheVariants.{Write}
 use Rattle.wb_world.specs.World.{Shape, State, Actor, task_job, stepped_or, write_got, failed_or, device_failed}
 use Rattle.wb_world.specs.Clerk.{Notes, Doing, Position, write_on, entered_by, next_position}
 use Rattle.wb_world.proofs.Lists.{get_set_same, get_set_other}
-use Rattle.wb_world.proofs.Contents.{AllHold, AllHoldLast, last_more, both_written, both_last, alone_written, alone_last}
-use Rattle.wb_world.proofs.Kept.{Kept, moved, Good, good, GoodFault, good_fault, stale_of, last_same, stale_same}
+use Rattle.wb_world.proofs.Contents.{AllWritten, AllLastWritten, last_more, both_written, both_last, alone_written, alone_last}
+use Rattle.wb_world.proofs.Invariant.{Invariant, moved, Good, good, GoodFault, good_fault, stale_of, last_same, stale_same}
 use Rattle.wb_world.proofs.Phases.{Phase, Moving, Failing, Stands, SoFar, AllIn}
 use Rattle.wb_words.specs.Cards.{owns as owned_by}
 use Rattle.wb_tasks.specs.Ready.{block_of}
@@ -36,12 +36,12 @@ write_so_far doing extent content at left histories e s =
 -- what is changed by a step of a write that leaves its actor in this phase, and the device so
 pub record Wrote (shape : Shape) (w : State) (n : Notes) (a : ℕ) (card : Card) (extent : Extent) (content : Bytes) (doing : Doing) (at : ℕ) (left : List ℕ) (phase : Phase) (device : List History) : Type 0 where
   pub stands : Stands shape card (Write extent content) (write_noted doing at left n.histories) phase
-  pub holds : AllHold device (written n.histories at content)
-  pub last : AllHoldLast device (written n.histories at content) (stale_of shape (slice_set w.actors a (at_work shape card (Write extent content) phase)))
+  pub holds : AllWritten device (written n.histories at content)
+  pub last : AllLastWritten device (written n.histories at content) (stale_of shape (slice_set w.actors a (at_work shape card (Write extent content) phase)))
 
 pub wrote : (shape : Shape) (w : State) (n : Notes) (a : ℕ) (card : Card) (extent : Extent) (content : Bytes) (doing : Doing) (at : ℕ) (left : List ℕ) (phase : Phase) (device : List History) →
     Working shape w n a card (Write extent content) doing (Moving (at ∷ left)) → Wrote shape w n a card extent content doing at left phase device →
-    Kept shape (record { device = device; words = w.words; actors = slice_set w.actors a (at_work shape card (Write extent content) phase) })
+    Invariant shape (record { device = device; words = w.words; actors = slice_set w.actors a (at_work shape card (Write extent content) phase) })
     (record n { histories = entered_by doing.job doing.left n.histories; doings = slice_set n.doings a (Some (write_on doing doing.left n.histories)) })
 wrote shape w n a card extent content doing at left phase device k d =
     let job = Write extent content in
@@ -118,12 +118,12 @@ write_failed shape w n a landed card extent content doing at left k true =
     y = at_work shape card (Write extent content) (Failing (Io Origin))
 
     more : (device histories : List History) → ((other : ℕ) → stale_of shape w.actors other ≤ stale_of shape (slice_set w.actors a y) other) →
-        AllHoldLast device histories (stale_of shape w.actors) → AllHoldLast device histories (stale_of shape (slice_set w.actors a y))
+        AllLastWritten device histories (stale_of shape w.actors) → AllLastWritten device histories (stale_of shape (slice_set w.actors a y))
     more device histories m l other = last_more (slice_get device other) (slice_get histories other) (stale_of shape w.actors other) (stale_of shape (slice_set w.actors a y) other) (m other) (l other)
 
     by_landing : (landed : Bool) → Stands shape card (Write extent content) (write_noted doing at left n.histories) (Failing (Io Origin)) →
         (1 ≤ stale_of shape (slice_set w.actors a y) at) × ((other : ℕ) → stale_of shape w.actors other ≤ stale_of shape (slice_set w.actors a y) other) →
-        Kept shape (record { device = device_failed landed w.device (Write extent content) (Device (WriteSector Origin at)); words = w.words; actors = slice_set w.actors a y })
+        Invariant shape (record { device = device_failed landed w.device (Write extent content) (Device (WriteSector Origin at)); words = w.words; actors = slice_set w.actors a y })
         (record n { histories = entered_by doing.job doing.left n.histories; doings = slice_set n.doings a (Some (write_on doing doing.left n.histories)) })
     by_landing true stands stale = wrote shape w n a card extent content doing at left (Failing (Io Origin)) (written w.device at content) k (record {
       stands = stands;

@@ -8,5 +8,5 @@ pub record Log : Type 0 where
   pub capacity : ℕ
 
 -- the next record needs no memory
-abbrev pub HasRoom : Log → Type 0
-HasRoom log = length log.records < log.capacity
+abbrev pub RecordFits : Log → Type 0
+RecordFits log = length log.records < log.capacity

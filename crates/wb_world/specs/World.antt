@@ -6,10 +6,10 @@ use Rattle.wb_types.specs.declared.refusal.Refusal.TheVariants.{Range, Crosses}
 use Rattle.wb_disk.specs.Device.{Content as Bytes, History, newest, written}
 use Rattle.wb_disk.specs.Memory.{blank}
 use Rattle.wb_disk.specs.Crash.{Applies, crashed}
-use Rattle.wb_tasks.specs.Job.{Job as TaskJob, Reading, Writing, BlockRange, sectors_from}
-use Rattle.wb_tasks.specs.Script.{Script, table, want, after, got_of}
+use Rattle.wb_tasks.specs.Tables.{TaskJob, Reading, Writing, BlockRange, sectors_from}
+use Rattle.wb_tasks.specs.Plan.{Plan, table, want, after, got_of}
 use Rattle.wb_words.specs.SharedWords.{Words, fresh_words}
-use Rattle.wb_words.specs.Cards.{blank as blank_card}
+use Rattle.wb_words.specs.Cards.{blank_card}
 use Rattle.wb_words.specs.Effects.{result_of, words_after, card_after}
 use Rattle.wb_words.specs.declared.card.Card.{Card}
 use Rattle.wb_tasks.specs.declared.step.DeviceStep.TheVariants.{Read as ReadSector, Write as WriteSector}
@@ -34,7 +34,7 @@ pub record Shape : Type 0 where
 
 -- What an actor is at, and what is left of it, if it is at anything; and what it knows of the shared words.
 pub record Actor : Type 0 where
-  pub task : Option (Job × Script)
+  pub task : Option (Job × Plan)
   pub card : Card
 
 -- The device, the shared words, and the actors. After a crash there are no actors, and the words are of no account.
@@ -74,8 +74,8 @@ content_of (Read extent) = []
 content_of (Write extent content) = content
 
 -- the part of a block that an extent covers
-abbrev pub part_of : Shape → Job → BlockRange
-part_of shape job = record {
+abbrev pub block_range : Shape → Job → BlockRange
+block_range shape job = record {
   block_sectors = shape.block_sectors;
   block = record { 0 = (extent_of job).first.0 / shape.block_sectors };
   sectors = sectors_of job;
@@ -83,8 +83,8 @@ part_of shape job = record {
 
 -- the task of a job
 abbrev pub task_job : Shape → Job → TaskJob
-task_job shape (Read extent) = Reading (part_of shape (Read extent))
-task_job shape (Write extent content) = Writing (part_of shape (Write extent content))
+task_job shape (Read extent) = Reading (block_range shape (Read extent))
+task_job shape (Write extent content) = Writing (block_range shape (Write extent content))
 
 -- some sectors, all of the origin
 abbrev pub is_inside : Shape → Extent → Bool
@@ -108,7 +108,7 @@ started_or None = Started
 started_or (Some refusal) = Refused refusal
 
 -- a start applies where the actor is there and has no task
-abbrev pub free_outcome : Shape → Option (Job × Script) → Job → What
+abbrev pub free_outcome : Shape → Option (Job × Plan) → Job → What
 free_outcome shape None job = started_or (job_refusal shape (extent_of job))
 free_outcome shape (Some doing) job = Skipped
 
@@ -150,11 +150,11 @@ failed_or next true = Stepped next Fault
 failed_or next false = Skipped
 
 -- what a step of a task comes to, and what one that fails does
-abbrev pub task_outcome : List History → Words → Option (Job × Script) → What
+abbrev pub task_outcome : List History → Words → Option (Job × Plan) → What
 task_outcome device words None = Skipped
 task_outcome device words (Some doing) = stepped_or (want doing.1) (performed device words doing.0 (want doing.1))
 
-abbrev pub task_failure : List History → Option (Job × Script) → What
+abbrev pub task_failure : List History → Option (Job × Plan) → What
 task_failure device None = Skipped
 task_failure device (Some doing) = failed_or (want doing.1) (can_fail device doing.0 (want doing.1))
 
@@ -208,7 +208,7 @@ device_failed true device job next = device_by device job next
 device_failed false device job next = device
 
 -- the device as the job of a task changes it
-abbrev pub changed_by : List History → Option (Job × Script) → (Job → List History) → List History
+abbrev pub changed_by : List History → Option (Job × Plan) → (Job → List History) → List History
 changed_by device None change = device
 changed_by device (Some doing) change = change doing.0
 
@@ -222,7 +222,7 @@ card_then words card (Cell step) = card_after words step card
 card_then words card next = card
 
 -- what is left of a task after a step; after the answer nothing
-abbrev pub task_then : Option (Job × Script) → Want → Got → Option (Job × Script)
+abbrev pub task_then : Option (Job × Plan) → Want → Got → Option (Job × Plan)
 task_then None next got = None
 task_then (Some doing) (End answer) got = None
 task_then (Some doing) next got = Some (doing.0, after doing.1 got)

@@ -5,9 +5,9 @@ ghost use Rattle.wb_types.specs.declared.refusal.Refusal.TheVariants.{Memory};
 ghost use Rattle.wb_tasks.specs.declared.step.Want.TheVariants.{Device as DeviceWant};
 ghost use Rattle.wb_tasks.specs.declared.step.DeviceStep.TheVariants.{Write as WriteSector};
 ghost use Rattle.wb_types.specs.declared.mode.Dev.TheVariants.{Origin as OriginDevice};
-ghost use Rattle.wb_words.specs.Cards.{blank};
+ghost use Rattle.wb_words.specs.Cards.{blank_card};
 ghost use Rattle.wb_tasks.specs.Ready.{MayTake};
-ghost use Rattle.wb_world.specs.Performing.{Performs, Fails};
+ghost use Rattle.wb_world.specs.Performing.{Performs, FailsOn};
 ghost use Rattle.wb_world.specs.World.{read_got, write_got, device_by};
 
 use crate::Job;
@@ -33,7 +33,7 @@ impl Bench {
         want: Want,
     ) -> Result<Option<Got>, Refusal>
         requires actor { actor < length self.old.crew.cards }
-        requires ready { MayTake self.old.crew.blocks (slice_index_or self.old.crew.cards actor blank) want }
+        requires ready { MayTake self.old.crew.blocks (slice_index_or self.old.crew.cards actor blank_card) want }
         ensures ok { IfOk result (λ got. Performs self.old.disk.contents self.old.crew actor job.now want got self.new.disk.contents self.new.crew) }
         ensures err { OnErr result ((self.new.disk.contents ≡ self.old.disk.contents) × (self.new.crew ≡ self.old.crew)) }
         ensures refusal { IfErr result (λ refusal. refusal ≡ Memory) }
@@ -89,7 +89,7 @@ impl Bench {
     /// A step that fails; what it writes has landed or not. False where it is no step on the device that could
     /// be done, and then nothing has changed.
     pub(crate) fn fail(&mut self, job: &Job, want: Want, landed: bool) -> Result<bool, Refusal>
-        ensures ok { IfOk result (λ applies. Fails landed self.old.disk.contents job.now want applies self.new.disk.contents) }
+        ensures ok { IfOk result (λ applies. FailsOn landed self.old.disk.contents job.now want applies self.new.disk.contents) }
         ensures crew { self.new.crew ≡ self.old.crew }
         ensures err { OnErr result (self.new.disk.contents ≡ self.old.disk.contents) }
         ensures refusal { IfErr result (λ refusal. refusal ≡ Memory) }

@@ -7,17 +7,17 @@
 mod bench;
 mod event;
 mod job;
+mod law;
 mod member;
 mod start;
 #[cfg(test)]
 mod tests;
-mod theorem;
 mod trace;
 mod world;
 
 pub use event::{Event, Record, What};
 pub use job::{Extent, Job};
+pub use law::headline;
 pub use member::Member;
-pub use theorem::headline;
 pub use trace::Trace;
 pub use world::{ACTORS, Setup, World, run};

@@ -19,7 +19,7 @@ pub struct Member {
 
 impl Member {
     ghost use Rattle.std.specs.Prelude.{None};
-    ghost use Rattle.wb_words.specs.Cards.{blank};
+    ghost use Rattle.wb_words.specs.Cards.{blank_card};
     ghost use Rattle.wb_world.specs.declared.world.TheConstants.{ACTORS};
     ghost use Rattle.wb_world.specs.Life.{shape_of};
     ghost use Rattle.wb_world.specs.World.{free_outcome};
@@ -53,7 +53,7 @@ impl Member {
     /// nothing has changed then.
     pub(crate) fn step(&mut self, number: usize, bench: &mut Bench) -> Result<What, Refusal>
         requires there { number < length bench.old.crew.cards }
-        requires suits { TaskSuits bench.old.crew.blocks (slice_index_or bench.old.crew.cards number blank) self.old.task }
+        requires suits { TaskSuits bench.old.crew.blocks (slice_index_or bench.old.crew.cards number blank_card) self.old.task }
         ensures ok { IfOk result (λ what. Steps bench.old.disk.contents bench.old.crew number self.old.task what bench.new.disk.contents bench.new.crew self.new.task) }
         ensures err { OnErr result ((bench.new.disk.contents ≡ bench.old.disk.contents) × (bench.new.crew ≡ bench.old.crew) × (self.new ≡ self.old)) }
         ensures refusal { IfErr result (λ refusal. refusal ≡ Memory) }

@@ -1,7 +1,7 @@
 //! Whether a job may be started, and its task.
 
 ghost use Rattle.std.specs.Prelude.{◌≡◌, None};
-ghost use Rattle.wb_tasks.specs.Script.{table};
+ghost use Rattle.wb_tasks.specs.Plan.{table};
 ghost use Rattle.wb_world.specs.declared.world.TheConstants.{ACTORS};
 ghost use Rattle.wb_world.specs.World.{job_refusal, task_job, extent_of};
 ghost use Rattle.wb_world.specs.Life.{shape_of};

@@ -2,7 +2,7 @@
 
 ghost use Rattle.std.specs.Prelude.{◌≡◌, ◌<◌, ◌++◌, ◌∷◌, [], OnOk, OnErr, IfErr, length};
 ghost use Rattle.wb_types.specs.declared.refusal.Refusal.TheVariants.{Memory};
-ghost use Rattle.wb_world.specs.Log.{HasRoom};
+ghost use Rattle.wb_world.specs.Log.{RecordFits};
 
 use crate::event::Record;
 use std::alloc::Global;
@@ -44,7 +44,7 @@ impl Trace {
     /// Makes room for one record more. `Memory` where there is none for it. The records stay.
     pub(crate) fn reserve(&mut self) -> Result<(), Refusal>
         ensures records { self.new.records ≡ self.old.records }
-        ensures room { OnOk result (HasRoom self.new) }
+        ensures room { OnOk result (RecordFits self.new) }
         ensures refusal { IfErr result (λ refusal. refusal ≡ Memory) }
     {
         if self.records.len() == self.records.capacity() {
@@ -55,7 +55,7 @@ impl Trace {
 
     /// One record more, for which there is room.
     pub(crate) fn push_reserved(&mut self, happening: Record)
-        requires { HasRoom self.old }
+        requires { RecordFits self.old }
         ensures { self.new.records ≡ self.old.records ++ happening ∷ [] }
     {
         self.records.push_reserved(happening);

@@ -2,7 +2,7 @@
 
 ghost use Rattle.std.specs.Prelude.{◌≡◌, ◌+◌, ◌*◌, ◌<◌, if◌then◌else◌};
 ghost use Rattle.wb_words.specs.declared.card.Hold.TheVariants.{Nothing};
-ghost use Rattle.wb_words.specs.Cards.{blank, writes_on};
+ghost use Rattle.wb_words.specs.Cards.{blank_card, writes_on};
 ghost use Rattle.wb_cells.specs.Fractions.{IsWhole, the_whole, together};
 
 use crate::{Cells, Pass};
@@ -87,7 +87,7 @@ fn pair<R: Threads + Wait + Sync>(rt: &R, cells: &Cells, a: Pass, b: Pass, many:
 fn four<R: Threads + Wait + Sync>(rt: &R, cells: &Cells, pass: Pass) -> Pass
     requires at { pass.table ≡ cells.now.table }
     requires block { 0 < cells.now.blocks }
-    requires new { (pass.fraction ≡ the_whole) × (pass.card ≡ blank) }
+    requires new { (pass.fraction ≡ the_whole) × (pass.card ≡ blank_card) }
     ensures at { result.table ≡ cells.now.table }
     ensures whole { IsWhole result.fraction }
     ensures writes { writes_on 0 result.card ≡ 4000 }

@@ -31,7 +31,7 @@ fn perform(space: &mut Space, act: Act) -> bool {
 
 /// Whether the acts, one after the other on block 1 of three mapped ones, leave it held for this, and its neighbour
 /// as it was.
-fn leaves(alloc: Global, acts: &[Act], holding: Holding) -> bool {
+fn leaves(alloc: Global, acts: &[Act], shown: Holding) -> bool {
     let Ok(mut space) = space_of(alloc, 3, true, &[]) else {
         return false;
     };
@@ -40,7 +40,7 @@ fn leaves(alloc: Global, acts: &[Act], holding: Holding) -> bool {
             return false;
         }
     }
-    is_held(&space, 1, holding) && is_held(&space, 0, Holding::Mapped)
+    is_held(&space, 1, shown) && is_held(&space, 0, Holding::Mapped)
 }
 
 #[test]
@@ -65,8 +65,8 @@ fn a_removed_block_waits_for_a_commit_that_began_later(rt: HostRuntime) {
             Holding::Free,
         ),
     ];
-    for (acts, holding) in table {
-        assert!(rt; leaves(rt.alloc(), acts, holding), "{holding:?}");
+    for (acts, shown) in table {
+        assert!(rt; leaves(rt.alloc(), acts, shown), "{shown:?}");
     }
 }
 
@@ -89,8 +89,8 @@ fn a_kept_block_is_reserved_after_its_quarantine(rt: HostRuntime) {
             Holding::Free,
         ),
     ];
-    for (acts, holding) in table {
-        assert!(rt; leaves(rt.alloc(), acts, holding), "{holding:?}");
+    for (acts, shown) in table {
+        assert!(rt; leaves(rt.alloc(), acts, shown), "{shown:?}");
     }
 }
 
@@ -111,7 +111,7 @@ fn a_block_given_back_in_quarantine_stays_there(rt: HostRuntime) {
             Holding::Reserved,
         ),
     ];
-    for (acts, holding) in table {
-        assert!(rt; leaves(rt.alloc(), acts, holding), "{holding:?}");
+    for (acts, shown) in table {
+        assert!(rt; leaves(rt.alloc(), acts, shown), "{shown:?}");
     }
 }

@@ -33,12 +33,12 @@ fn removes_all(space: &mut Space) -> bool {
 /// Every third block is reserved, any other free.
 fn is_freed(space: &Space) -> bool {
     for c in 0..space.cache_blocks() {
-        let holding = if c % 3 == 1 {
+        let shown = if c % 3 == 1 {
             Holding::Reserved
         } else {
             Holding::Free
         };
-        if !is_held(space, c, holding) {
+        if !is_held(space, c, shown) {
             return false;
         }
     }

@@ -1,6 +1,6 @@
 //! Words and two small devices of one owner.
 
-ghost use Rattle.wb_tasks.specs.Script.{Fits};
+ghost use Rattle.wb_tasks.specs.Plan.{Fits};
 ghost use Rattle.wb_tasks.specs.declared.step.Want.TheVariants.{Cell, Device};
 
 use super::rows::Row;

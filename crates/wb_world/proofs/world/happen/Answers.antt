@@ -1,8 +1,7 @@
-use Rattle.std.proofs.Common.{◌∙◌, ap, refl, arith}
+use Rattle.std.proofs.Common.{arith}
 use Rattle.std.proofs.lemmas.Option.{slice_get_past, slice_get_read}
-use Rattle.std.proofs.lemmas.List.{length-set}
 use Rattle.wb_world.specs.declared.world.TheConstants.{ACTORS}
-use Rattle.wb_world.specs.Life.{shape_of, state_of}
+use Rattle.wb_world.specs.Life.{shape_of}
 use Rattle.wb_world.proofs.Happening.{start_happens, stepped_happens, faltered_happens, nobody_starts, nobody_steps, nobody_falters, somebody}
 use Rattle.wb_world.proofs.world.happen.Goals as goal
 

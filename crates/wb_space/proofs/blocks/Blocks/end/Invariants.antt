@@ -1,10 +1,10 @@
 use Rattle.std.proofs.Common.{◌≡◌, map}
 use Rattle.wb_bits.proofs.Chosen.{chosen}
-use Rattle.wb_space.specs.Blocks.{is_early, ended}
+use Rattle.wb_space.specs.Blocks.{is_early, commit_ended}
 use Rattle.wb_space.proofs.blocks.Blocks.end.Given as goal
 
 abbrev pub invariant-loop-c : goal.invariant-loop-c
-invariant-loop-c l = map ended l.self ≡ map ended l.initial.self
+invariant-loop-c l = map commit_ended l.self ≡ map commit_ended l.initial.self
 
 abbrev pub decreases-loop-c : goal.decreases-loop-c
 decreases-loop-c l = chosen is_early l.self

@@ -1,4 +1,3 @@
-use Rattle.std.proofs.Common.{◌∙◌}
 use Rattle.wb_target.proofs.Requests.{refused-not_range, Leads-kept, request_ready, request_ends}
 use Rattle.wb_target.proofs.owner.Owner.read.Goals as goal
 

@@ -1,5 +1,5 @@
 use Rattle.std.proofs.Common.{◌∙◌, sym, ap}
-use Rattle.wb_tasks.specs.Job.{BlockRange, sectors_from}
+use Rattle.wb_tasks.specs.Tables.{BlockRange, sectors_from}
 use Rattle.wb_tasks.specs.Phases.{write_left}
 use Rattle.wb_tasks.specs.declared.step.Got.TheVariants.{Fault}
 use Rattle.wb_tasks.proofs.Views.{by_view}

@@ -3,7 +3,7 @@ use Rattle.std.proofs.Common.{◌≡◌, ◌≢◌, ◌/◌, ◌≤◌, ◌⊎�
 use Rattle.std.proofs.lemmas.Bool.{cases_eq}
 use Rattle.wb_types.specs.declared.number.OBlock.{OBlock}
 use Rattle.wb_disk.specs.Device.{History}
-use Rattle.wb_tasks.specs.Script.{Script}
+use Rattle.wb_tasks.specs.Plan.{Plan}
 use Rattle.wb_words.specs.SharedWords.{Words, word_at}
 use Rattle.wb_words.specs.declared.card.Card.{Card}
 use Rattle.wb_words.specs.declared.card.Hold.TheVariants.{Nothing}
@@ -17,15 +17,15 @@ use Rattle.wb_world.specs.World.{Shape, State, Actor, task_job, stepped, changed
 use Rattle.wb_world.specs.Clerk.{Notes, Doing, noted_what, noted_step}
 use Rattle.wb_world.specs.Headline.{AnswersRightly}
 use Rattle.wb_world.proofs.Lists.{get_set_same, get_set_other}
-use Rattle.wb_world.proofs.Contents.{AllHold, AllHoldLast, last_more}
-use Rattle.wb_world.proofs.Phases.{Phase, Stands, script_in}
+use Rattle.wb_world.proofs.Contents.{AllWritten, AllLastWritten, last_more}
+use Rattle.wb_world.proofs.Phases.{Phase, Stands, plan_in}
 use Rattle.wb_words.specs.Cards.{total}
 use Rattle.wb_world.proofs.Rule.{Ruled, total_same, leaves_stale, task_fails}
 
 -- An actor with a task stands somewhere in its table, and the clerk knows its job; one without holds nothing.
-abbrev pub ActingOn : Shape → Card → Option (Job × Script) → Option (Option Doing) → Type 0
+abbrev pub ActingOn : Shape → Card → Option (Job × Plan) → Option (Option Doing) → Type 0
 ActingOn shape card None noted = (noted ≡ Some None) × (card.hold ≡ Nothing)
-ActingOn shape card (Some task) noted = (doing : Doing) × (phase : Phase) × (noted ≡ Some (Some doing)) × (task.1 ≡ script_in (task_job shape task.0) phase) × Stands shape card task.0 doing phase
+ActingOn shape card (Some task) noted = (doing : Doing) × (phase : Phase) × (noted ≡ Some (Some doing)) × (task.1 ≡ plan_in (task_job shape task.0) phase) × Stands shape card task.0 doing phase
 
 abbrev pub AllActing : Shape → List Actor → List (Option Doing) → Type 0
 AllActing shape actors doings = (a : ℕ) (x : Actor) → slice_get actors a ≡ Some x → ActingOn shape x.card x.task (slice_get doings a)
@@ -52,12 +52,12 @@ failed_set actors a x y fail fail' e l f i b z g = elim (cases_eq b a) [
 ]
 
 -- While there are actors, the words are theirs, and the device has the last entries.
-pub record Kept (shape : Shape) (w : State) (n : Notes) : Type 0 where
+pub record Invariant (shape : Shape) (w : State) (n : Notes) : Type 0 where
   pub acting : AllActing shape w.actors n.doings
   pub seals : (block : OBlock) → word_at w.words.seals block ≡ 0
   pub rule : (a : ℕ) (x : Actor) → slice_get w.actors a ≡ Some x → Ruled shape.origin_blocks w.words w.actors
-  pub holds : AllHold w.device n.histories
-  pub last : (a : ℕ) (x : Actor) → slice_get w.actors a ≡ Some x → AllHoldLast w.device n.histories (stale_of shape w.actors)
+  pub holds : AllWritten w.device n.histories
+  pub last : (a : ℕ) (x : Actor) → slice_get w.actors a ≡ Some x → AllLastWritten w.device n.histories (stale_of shape w.actors)
   pub failed : (a : ℕ) (x : Actor) → slice_get w.actors a ≡ Some x → KeepsNothing x.card.kept w.words.fail
   pub floors : (at : ℕ) → unwrap_or (slice_get n.floors at) 0 ≡ 0
 
@@ -81,13 +81,13 @@ pub record Moved (shape : Shape) (w : State) (n : Notes) (a : ℕ) (y : Actor) (
   pub fail : w.words.fail ≤ words.fail
   pub keeps : KeepsNothing y.card.kept words.fail
   pub rule : Ruled shape.origin_blocks words (slice_set w.actors a y)
-  pub holds : AllHold device n'.histories
-  pub last : AllHoldLast device n'.histories (stale_of shape (slice_set w.actors a y))
+  pub holds : AllWritten device n'.histories
+  pub last : AllLastWritten device n'.histories (stale_of shape (slice_set w.actors a y))
   pub floors : n'.floors ≡ n.floors
 
 pub moved : (shape : Shape) (w : State) (n : Notes) (a : ℕ) (x y : Actor) (words : Words) (device : List History) (n' : Notes) →
-    Kept shape w n → slice_get w.actors a ≡ Some x → Moved shape w n a y words device n' →
-    Kept shape (record { device = device; words = words; actors = slice_set w.actors a y }) n'
+    Invariant shape w n → slice_get w.actors a ≡ Some x → Moved shape w n a y words device n' →
+    Invariant shape (record { device = device; words = words; actors = slice_set w.actors a y }) n'
 moved shape w n a x y words device n' i e m = record {
   acting = acting_set shape w.actors n.doings n'.doings a x y e m.others m.stands i.acting;
   seals = λ block. rw m.seals (i.seals block);
@@ -103,7 +103,7 @@ pub stale_same : (b : ℕ) (x y : Actor) → y.card.kept ≡ x.card.kept → tas
 stale_same b x y k f g = rw (f, g, k) refl
 
 pub last_same : (shape : Shape) (w : State) (n : Notes) (a : ℕ) (x y : Actor) (device histories : List History) → slice_get w.actors a ≡ Some x → ((b : ℕ) → leaves_stale b y ≡ leaves_stale b x) →
-    AllHoldLast device histories (stale_of shape w.actors) → AllHoldLast device histories (stale_of shape (slice_set w.actors a y))
+    AllLastWritten device histories (stale_of shape w.actors) → AllLastWritten device histories (stale_of shape (slice_set w.actors a y))
 last_same shape w n a x y device histories e s l at =
     let b = at / shape.block_sectors in
     let same = total_same (leaves_stale b) w.actors a x y e (s b) in
@@ -123,8 +123,8 @@ pub record Quiet (shape : Shape) (w : State) (n : Notes) (a : ℕ) (x y : Actor)
   pub floors : n'.floors ≡ n.floors
 
 pub quiet : (shape : Shape) (w : State) (n : Notes) (a : ℕ) (x y : Actor) (words : Words) (n' : Notes) →
-    Kept shape w n → slice_get w.actors a ≡ Some x → Quiet shape w n a x y words n' →
-    Kept shape (record { device = w.device; words = words; actors = slice_set w.actors a y }) n'
+    Invariant shape w n → slice_get w.actors a ≡ Some x → Quiet shape w n a x y words n' →
+    Invariant shape (record { device = w.device; words = words; actors = slice_set w.actors a y }) n'
 quiet shape w n a x y words n' i e q = moved shape w n a x y words w.device n' i e (record {
   others = q.others;
   stands = q.stands;
@@ -139,17 +139,17 @@ quiet shape w n a x y words n' i e q = moved shape w n a x y words w.device n' i
 
 -- A step of an actor keeps all this, and what it answers is right.
 abbrev pub Good : Shape → State → Notes → ℕ → What → Type 0
-Good shape w n a what = Kept shape (after_what shape w (Step a) what) (noted_what n (Step a) what) × AnswersRightly n (Step a) what
+Good shape w n a what = Invariant shape (after_what shape w (Step a) what) (noted_what n (Step a) what) × AnswersRightly n (Step a) what
 
 pub good : (shape : Shape) (w : State) (n : Notes) (a : ℕ) (x : Actor) (doing : Doing) (next : Want) (got : Got) → slice_get w.actors a ≡ Some x → slice_get n.doings a ≡ Some (Some doing) →
-    Kept shape (stepped w a x next got (changed_by w.device x.task (λ job. device_by w.device job next))) (noted_step n a (Some (Some doing)) next got) →
+    Invariant shape (stepped w a x next got (changed_by w.device x.task (λ job. device_by w.device job next))) (noted_step n a (Some (Some doing)) next got) →
     AnswersRightly n (Step a) (Stepped next got) → Good shape w n a (Stepped next got)
 good shape w n a x doing next got e d k r = (rw (e, d) k, r)
 
 abbrev pub GoodFault : Shape → State → Notes → ℕ → Bool → What → Type 0
-GoodFault shape w n a landed what = Kept shape (after_what shape w (FaultStep a landed) what) (noted_what n (FaultStep a landed) what)
+GoodFault shape w n a landed what = Invariant shape (after_what shape w (FaultStep a landed) what) (noted_what n (FaultStep a landed) what)
 
 pub good_fault : (shape : Shape) (w : State) (n : Notes) (a : ℕ) (landed : Bool) (x : Actor) (doing : Doing) (next : Want) (got : Got) → slice_get w.actors a ≡ Some x → slice_get n.doings a ≡ Some (Some doing) →
-    Kept shape (stepped w a x next got (changed_by w.device x.task (λ job. device_failed landed w.device job next))) (noted_step n a (Some (Some doing)) next got) →
+    Invariant shape (stepped w a x next got (changed_by w.device x.task (λ job. device_failed landed w.device job next))) (noted_step n a (Some (Some doing)) next got) →
     GoodFault shape w n a landed (Stepped next got)
 good_fault shape w n a landed x doing next got e d k = rw (e, d) k

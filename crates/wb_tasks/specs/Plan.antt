@@ -3,7 +3,7 @@ use Rattle.wb_types.specs.declared.refusal.Refusal.{Refusal}
 use Rattle.wb_types.specs.declared.refusal.Refusal.TheVariants.{Busy, Failed, Worn, Io}
 use Rattle.wb_words.specs.declared.word.Word.TheVariants.{Cell as LockWord, Seal as SealWord, Number, Fail}
 use Rattle.wb_words.specs.SharedWords.{can_take, place_in, dirty_in}
-use Rattle.wb_tasks.specs.Job.{Job, Reading, Writing, part_of, access_of, acquire, taking, work}
+use Rattle.wb_tasks.specs.Tables.{TaskJob, Reading, Writing, range_of, access_of, acquire, taking, work}
 use Rattle.wb_words.specs.declared.step.CellResult.{CellResult}
 use Rattle.wb_words.specs.declared.step.CellResult.TheVariants.{Done as CellDone, Word as Found, Lost as CellLost}
 use Rattle.wb_words.specs.declared.step.CellStep.TheVariants.{Look, Take, Release, Seal, Finish, Count, SetFailed, SetSuspended}
@@ -18,21 +18,21 @@ use Rattle.wb_tasks.specs.declared.step.Got.TheVariants.{Begin, Done, Word, Lost
 -- What is left of a task: the job that it is on, the steps to come, as far as they are known, and the answer
 -- after them. The exchange is known once
 -- the lock word was seen, the work once the seal was.
-pub record Script : Type 0 where
-  pub job : Job
+pub record Plan : Type 0 where
+  pub job : TaskJob
   pub steps : List Want
   pub answer : Answer
 
 -- a job that has not begun
-abbrev pub table : Job → Script
-table job = record { job = job; steps = acquire (part_of job).block; answer = Finished }
+abbrev pub table : TaskJob → Plan
+table job = record { job = job; steps = acquire (range_of job).block; answer = Finished }
 
 abbrev pub first_step : List Want → Answer → Want
 first_step [] answer = End answer
 first_step (w ∷ ws) answer = w
 
 -- the next step, the answer being the last
-abbrev pub want : Script → Want
+abbrev pub want : Plan → Want
 want s = first_step s.steps s.answer
 
 abbrev pub later_steps : List Want → List Want
@@ -40,24 +40,24 @@ later_steps [] = []
 later_steps (w ∷ ws) = ws
 
 -- on to the next step
-abbrev pub onward : Script → Script
+abbrev pub onward : Plan → Plan
 onward s = record s { steps = later_steps s.steps }
 
 -- nothing is left but these steps and a refusal
-abbrev pub refused : Script → List Want → Refusal → Script
+abbrev pub refused : Plan → List Want → Refusal → Plan
 refused s steps refusal = record { job = s.job; steps = steps; answer = Refuses refusal }
 
 -- giving the block back
-abbrev pub release : Job → Want
-release job = Cell (Release (access_of job) (part_of job).block)
+abbrev pub release : TaskJob → Want
+release job = Cell (Release (access_of job) (range_of job).block)
 
 -- a write needs a number for itself
-abbrev pub is_worn : Job → ℕ → Bool
+abbrev pub is_worn : TaskJob → ℕ → Bool
 is_worn (Reading part) number = false
 is_worn (Writing part) number = number == 2 ^ 64 - 1
 
 -- what is left after a word was looked at
-abbrev pub after_look : Script → Want → ℕ → Script
+abbrev pub after_look : Plan → Want → ℕ → Plan
 after_look s (Cell (Look Fail)) word = if word == 0 then onward s else refused s [] Failed
 after_look s (Cell (Look (LockWord block))) word = if can_take (access_of s.job) word then record s { steps = taking (access_of s.job) block word } else refused s [] Busy
 after_look s (Cell (Look (SealWord block))) word = record s { steps = Cell (Look (Number block)) ∷ work s.job (place_in word) (dirty_in word) }
@@ -66,14 +66,14 @@ after_look s w word = onward s
 
 -- After a fault on a read the block is given back; after one on a write or sync the failed bit is set, and what is
 -- owned is kept.
-abbrev pub after_fault : Script → Want → Script
+abbrev pub after_fault : Plan → Want → Plan
 after_fault s (Device (Read device at)) = refused s (release s.job ∷ []) (Io device)
 after_fault s (Device (Write device at)) = refused s (Cell SetFailed ∷ []) (Io device)
 after_fault s (Device (Sync device)) = refused s (Cell SetFailed ∷ []) (Io device)
 after_fault s w = s
 
 -- what is left after the result of a step
-abbrev pub after : Script → Got → Script
+abbrev pub after : Plan → Got → Plan
 after s Begin = s
 after s Done = onward s
 after s (Word word) = after_look s (want s) word
@@ -117,7 +117,7 @@ IsStep (Desk step) = Unit {0}
 IsStep (End answer) = ⊥
 
 -- a result that a task may be handed: none yet, or one of its next step
-abbrev pub MayCome : Script → Got → Type 0
+abbrev pub MayCome : Plan → Got → Type 0
 MayCome s Begin = Unit {0}
 MayCome s Done = Fits (want s) Done
 MayCome s (Word value) = Fits (want s) (Word value)

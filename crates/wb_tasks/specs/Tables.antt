@@ -6,7 +6,7 @@ use Rattle.wb_types.specs.declared.number.CBlock.{CBlock}
 use Rattle.wb_words.specs.declared.word.Access.{Access}
 use Rattle.wb_words.specs.declared.word.Access.TheVariants.{Shared, Owned}
 use Rattle.wb_words.specs.declared.word.Kind.TheVariants.{ReadHit, ReadMiss, WriteHit, WriteMiss}
-use Rattle.wb_words.specs.declared.word.Word.TheVariants.{Cell as LockWord, Seal as SealWord, Number, Fail}
+use Rattle.wb_words.specs.declared.word.Word.TheVariants.{Cell as LockWord, Seal as SealWord, Fail}
 use Rattle.wb_words.specs.declared.step.CellStep.TheVariants.{Look, Take, Release, Seal, Finish, Count}
 use Rattle.wb_tasks.specs.declared.step.DeviceStep.TheVariants.{Read, Write}
 use Rattle.wb_tasks.specs.declared.step.Want.{Want}
@@ -24,16 +24,16 @@ sectors_from first zero = []
 sectors_from first (suc n) = first ∷ sectors_from (first + 1) n
 
 -- what a task is to do
-pub data Job : Type 0 where
-  Reading : BlockRange → Job
-  Writing : BlockRange → Job
+pub data TaskJob : Type 0 where
+  Reading : BlockRange → TaskJob
+  Writing : BlockRange → TaskJob
 
-abbrev pub part_of : Job → BlockRange
-part_of (Reading part) = part
-part_of (Writing part) = part
+abbrev pub range_of : TaskJob → BlockRange
+range_of (Reading part) = part
+range_of (Writing part) = part
 
 -- a read shares its block, a write owns it
-abbrev pub access_of : Job → Access
+abbrev pub access_of : TaskJob → Access
 access_of (Reading part) = Shared
 access_of (Writing part) = Owned
 
@@ -80,6 +80,6 @@ abbrev pub taking : Access → OBlock → ℕ → List Want
 taking access block seen = Cell (Take access block seen) ∷ Cell (Look (SealWord block)) ∷ []
 
 -- what a job does once it has its block, which stands at this place
-abbrev pub work : Job → Option CBlock → Bool → List Want
+abbrev pub work : TaskJob → Option CBlock → Bool → List Want
 work (Reading part) place dirty = map (read_step part place) part.sectors ++ read_count place ∷ Cell (Release Shared part.block) ∷ []
 work (Writing part) place dirty = dirtying part.block place dirty ++ map (write_step part place) part.sectors ++ Cell (Finish part.block) ∷ write_count place ∷ Cell (Release Owned part.block) ∷ []

@@ -2,8 +2,8 @@
 
 ghost use Rattle.std.specs.Prelude.{◌≡◌, ◌+◌, ◌*◌, ◌≤◌, ◌<◌, ℕ, List, length};
 ghost use Rattle.wb_types.specs.declared.refusal.Refusal.{Refusal as RefusalTerm};
-ghost use Rattle.wb_tasks.specs.Job.{Job, part_of, access_of};
-ghost use Rattle.wb_tasks.specs.Script.{Script, table, want, after, Fits};
+ghost use Rattle.wb_tasks.specs.Tables.{TaskJob, range_of, access_of};
+ghost use Rattle.wb_tasks.specs.Plan.{Plan, table, want, after, Fits};
 ghost use Rattle.wb_tasks.specs.Ready.{MayTake, MayMake, Suits, block_of};
 ghost use Rattle.wb_words.specs.declared.card.Card.{Card as CardTerm};
 ghost use Rattle.wb_words.specs.declared.card.Hold.TheVariants.{Nothing};
@@ -19,7 +19,7 @@ ghost use Rattle.wb_tasks.specs.declared.step.Got.{Got as GotTerm};
 /// The law that a read or write of n sectors answers within `2 n + 11` steps, by any stage: `drive`
 /// takes no more steps than `longest`.
 pub fn step_bound()
-    ensures { (job : Job) → longest (table job) ≤ 2 * length (part_of job).sectors + 11 }
+    ensures { (job : TaskJob) → longest (table job) ≤ 2 * length (range_of job).sectors + 11 }
 {}
 
 /// The law that a read or write refuses for a cause alone: `Io` only where a step on that device failed,
@@ -28,7 +28,7 @@ pub fn step_bound()
 /// up, and nothing else ever.
 #[tactic(auto, using(crate::proofs::Causing::refuses_for_cause))]
 pub fn refusal_causes()
-    ensures { (job : Job) (steps : List (WantTerm × GotTerm)) (refusal : RefusalTerm) → IsRunOf (table job) steps (Refuses refusal) → GaveCause (access_of job) refusal steps }
+    ensures { (job : TaskJob) (steps : List (WantTerm × GotTerm)) (refusal : RefusalTerm) → IsRunOf (table job) steps (Refuses refusal) → GaveCause (access_of job) refusal steps }
 {}
 
 /// The law that an actor of a read or write is ready for each of its steps on the shared words: it has what it
@@ -37,8 +37,8 @@ pub fn refusal_causes()
 /// nothing is held.
 #[tactic(auto, using(crate::proofs::Readiness::ends_holding_nothing))]
 pub fn steps_are_ready()
-    ensures begins { (blocks : ℕ) (job : Job) (card : CardTerm) → (block_of job).0 < blocks → card.hold ≡ Nothing → Suits blocks (table job) card }
-    ensures ready { (blocks : ℕ) (s : Script) (card : CardTerm) → Suits blocks s card → MayTake blocks card (want s) }
-    ensures keeps { (blocks : ℕ) (s : Script) (card card' : CardTerm) (got : GotTerm) → Suits blocks s card → Fits (want s) got → MayMake (want s) got card card' → Suits blocks (after s got) card' }
-    ensures ends { (blocks : ℕ) (s : Script) (card : CardTerm) (answer : AnswerTerm) → Suits blocks s card → want s ≡ End answer → card.hold ≡ Nothing }
+    ensures begins { (blocks : ℕ) (job : TaskJob) (card : CardTerm) → (block_of job).0 < blocks → card.hold ≡ Nothing → Suits blocks (table job) card }
+    ensures ready { (blocks : ℕ) (s : Plan) (card : CardTerm) → Suits blocks s card → MayTake blocks card (want s) }
+    ensures keeps { (blocks : ℕ) (s : Plan) (card card' : CardTerm) (got : GotTerm) → Suits blocks s card → Fits (want s) got → MayMake (want s) got card card' → Suits blocks (after s got) card' }
+    ensures ends { (blocks : ℕ) (s : Plan) (card : CardTerm) (answer : AnswerTerm) → Suits blocks s card → want s ≡ End answer → card.hold ≡ Nothing }
 {}

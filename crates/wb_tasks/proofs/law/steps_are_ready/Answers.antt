@@ -1,5 +1,5 @@
 use Rattle.wb_tasks.proofs.Readiness.{begins_ready, is_ready, keeps_ready}
-use Rattle.wb_tasks.proofs.laws.steps_are_ready.Goals as goal
+use Rattle.wb_tasks.proofs.law.steps_are_ready.Goals as goal
 
 pub returns-clause-begins : goal.returns-clause-begins
 returns-clause-begins c = begins_ready
