@@ -2,7 +2,8 @@
 //!
 //! `wb_bench FILE read|write SECTORS REQUESTS` drives so many requests of so many sectors each, up to a block of
 //! 64, one after another over all blocks of the file, and prints how many were done. `wb_bench sketch CACHE_BLOCKS
-//! ADDS` adds so many accesses to a frequency sketch, and prints the sum of every 1,024th estimate. `wb_bench space
+//! ADDS` adds so many accesses to a frequency sketch, and prints the sum of every 1,024th estimate; with `reset` in place
+//! of a number it prints the nanoseconds of the first access that resets the sketch. `wb_bench space
 //! CACHE_BLOCKS ROUNDS REMOVED` removes so many blocks of a full cache in each round, commits, fills the cache again,
 //! and prints the sum of the blocks that were filled. `wb_bench shares same|apart 1|2|4 ROUNDS` shares a block and leaves
 //! it so many times on so many threads, all the same block or each its own, and prints how many shares there were.
@@ -19,7 +20,7 @@ mod shares;
 mod stage;
 mod turnover;
 
-use crate::accesses::add_all;
+use crate::accesses::{add_all, time_reset};
 use crate::asked::{Asked, Direction, Requests, read_asked};
 use crate::mapping::{read_mapping, write_mapping};
 use crate::shares::share_all;
@@ -53,6 +54,10 @@ fn main(rt: HostRuntime) -> ExitCode {
         Asked::Accesses { cache_blocks, adds } => match add_all(alloc, cache_blocks, adds) {
             Ok(sum) => print(&rt, sum),
             Err(_) => failed(&rt, "out of memory"),
+        },
+        Asked::Reset { cache_blocks } => match time_reset(&rt, cache_blocks) {
+            Some(nanoseconds) => print(&rt, nanoseconds),
+            None => failed(&rt, "out of memory, or no clock"),
         },
         Asked::Turnover(turnover) => match turn_over(alloc, &turnover) {
             Ok(sum) => print(&rt, sum),
@@ -141,7 +146,7 @@ fn drive_all(asked: &Requests<'_>, blocks: u64, stage: &mut FileStage) -> Option
 
 fn usage(rt: &HostRuntime) -> ExitCode {
     let _ = eprintln!(rt;
-        "usage: wb_bench FILE read|write SECTORS REQUESTS | sketch CACHE_BLOCKS ADDS | space CACHE_BLOCKS ROUNDS REMOVED | shares same|apart 1|2|4 ROUNDS | FILE mapping CACHE_BLOCKS | FILE state"
+        "usage: wb_bench FILE read|write SECTORS REQUESTS | sketch CACHE_BLOCKS ADDS|reset | space CACHE_BLOCKS ROUNDS REMOVED | shares same|apart 1|2|4 ROUNDS | FILE mapping CACHE_BLOCKS | FILE state"
     );
     ExitCode::from(2)
 }
