@@ -42,8 +42,7 @@ pub enum Asked<'a> {
 pub fn read_asked(words: &[String]) -> Option<Asked<'_>> {
     match words {
         [_, sketch, cache_blocks, reset]
-            if sketch.as_str() == "sketch" && reset.as_str() == "reset" =>
-        {
+            if sketch.as_str() == "sketch" && reset.as_str() == "reset" => {
             Some(Asked::Reset {
                 cache_blocks: cache_blocks.as_str().parse::<u32>().ok()?,
             })

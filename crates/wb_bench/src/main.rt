@@ -29,16 +29,24 @@ use crate::turnover::turn_over;
 use std::env;
 use std::process::ExitCode;
 use wb_disk::{Disk, FileDisk};
+use wb_streams::hold_streams;
 use wb_tasks::{Answer, ReadTask, WriteTask, drive};
 use wb_types::{OBlock, Refusal, Sector};
 
 /// Sectors of a block.
 const BLOCK: u32 = 64;
 
+/// The exit status where the standard streams cannot be held, or the output failed.
+const STREAM_FAILED: u8 = 4;
+
 /// The most blocks that a run goes over.
 const MOST_BLOCKS: u64 = 1_048_576;
 
 fn main(rt: HostRuntime) -> ExitCode {
+    // Before any file is opened.
+    let Ok(_held) = hold_streams(&rt) else {
+        return ExitCode::from(STREAM_FAILED);
+    };
     let alloc = rt.alloc();
     let Ok(words) = env::args(&rt) else {
         return usage(&rt);
@@ -111,7 +119,10 @@ fn serve(rt: &HostRuntime, requests: &Requests<'_>) -> ExitCode {
 fn print(rt: &HostRuntime, number: u64) -> ExitCode {
     match println!(rt; "{number}") {
         Ok(()) => ExitCode::SUCCESS,
-        Err(_) => failed(rt, "the output failed"),
+        Err(_) => {
+            failed(rt, "the output failed");
+            ExitCode::from(STREAM_FAILED)
+        }
     }
 }
 
