@@ -1,5 +1,5 @@
 -- The sixteen counters of a word: read, raised and halved.
-use Rattle.std.proofs.Common.{◌≡◌, ◌≢◌, ◌<◌, ◌≤◌, ◌+◌, ◌*◌, ◌/◌, ◌%◌, ◌^◌, ℕ, zero, suc, refl, sym, ap, ◌∙◌, arith}
+use Rattle.std.proofs.Common.{◌≡◌, ◌≢◌, ◌<◌, ◌+◌, ◌*◌, ◌/◌, ◌%◌, ◌^◌, ℕ, zero, suc, refl, sym, ap, ◌∙◌, arith}
 use Rattle.std.proofs.lemmas.Nat.{shr-shr, pow-add, and_mask, and_shr, and_mod}
 use Rattle.std.specs.Int.RustNames.{bit_and}
 use Rattle.std.proofs.Math.Nat.{zero-div}
@@ -100,7 +100,3 @@ shifted word number =
 
 pub halve-is : (word number : ℕ) → number < 16 → counter_in (bit_and (word / 2) 8608480567731124087) number ≡ counter_in word number / 2
 halve-is word number within = masked 16 (word / 2) number within ∙ shifted word number
-
-pub counter_in-to : (word number : ℕ) → counter_in word number ≤ 15
-unfolding counter_in
-counter_in-to word number = omega arith
