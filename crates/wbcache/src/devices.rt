@@ -3,7 +3,7 @@
 ghost use Rattle.std.specs.Prelude.{◌≡◌, ◌<◌, ◌*◌, ◌^◌, ℕ, IfOk, IfErr};
 ghost use Rattle.wb_types.specs.Limits.{IsWithinLimits};
 
-use crate::reason::{Reason, Trouble};
+use crate::reason::{Trouble, Unopened};
 use crate::sizes::find_size_fault;
 use crate::table::{Table, find_table_fault, read_table};
 use std::fs::{File, OpenOptions, TryLockError};
@@ -27,7 +27,7 @@ impl Disks<FileDisk> {
     pub fn open<'a, R: Files<File = File>>(
         rt: &R,
         table: &Table<'a>,
-    ) -> Result<Disks<FileDisk>, Reason<'a>> {
+    ) -> Result<Disks<FileDisk>, Unopened<'a>> {
         Ok(Disks {
             metadata: open_file(rt, table.metadata, Dev::Metadata)?,
             cache: open_file(rt, table.cache, Dev::Cache)?,
@@ -40,9 +40,9 @@ impl Disks<FileDisk> {
 pub fn open_table<'a, R: Files<File = File>>(
     rt: &R,
     text: &'a str,
-) -> Result<(Disks<FileDisk>, Geometry), Reason<'a>> {
+) -> Result<(Disks<FileDisk>, Geometry), Unopened<'a>> {
     let Ok(table) = read_table(text) else {
-        return Err(Reason::Table(find_table_fault(text)));
+        return Err(Unopened::Table(find_table_fault(text)));
     };
     let disks = Disks::open(rt, &table)?;
     let (metadata, cache, origin) = (
@@ -52,7 +52,7 @@ pub fn open_table<'a, R: Files<File = File>>(
     );
     match measure(table.block, metadata, cache, origin) {
         Ok(geometry) => Ok((disks, geometry)),
-        Err(_) => Err(Reason::Size(find_size_fault(table.block, metadata, cache, origin))),
+        Err(_) => Err(Unopened::Size(find_size_fault(table.block, metadata, cache, origin))),
     }
 }
 
@@ -60,8 +60,8 @@ fn open_file<'a, R: Files<File = File>>(
     rt: &R,
     path: &'a str,
     device: Dev,
-) -> Result<FileDisk, Reason<'a>> {
-    open_locked(rt, path).map_err(|trouble| Reason::File {
+) -> Result<FileDisk, Unopened<'a>> {
+    open_locked(rt, path).map_err(|trouble| Unopened::File {
         device,
         path,
         trouble,

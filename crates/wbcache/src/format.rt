@@ -2,7 +2,7 @@
 
 use crate::devices::{Disks, open_table};
 use crate::ended::Ended;
-use crate::output::{StreamFailed, print, print_refusal};
+use crate::output::{StreamFailed, print, print_refusal, refuse};
 use crate::reason::Reason;
 use crate::status::Status;
 use std::alloc::Global;
@@ -24,18 +24,13 @@ pub fn format_files<'a, R: Files<File = File>, W: Write>(
     table: &'a str,
     writer: &mut W,
 ) -> Ended<'a> {
-    match format(rt, table) {
-        Ok(geometry) => Ended::new(report(alloc, Ok(geometry), writer), None),
-        Err(reason) => {
-            let printed = report(alloc, Err(reason.refusal()), writer);
-            Ended::new(printed, Some(reason))
+    let (disks, geometry) = match open_table(rt, table) {
+        Ok(opened) => opened,
+        Err(unopened) => {
+            let printed = refuse(alloc, unopened.refusal(), writer);
+            return Ended::new(printed, Some(Reason::Unopened(unopened)));
         }
-    }
-}
-
-/// Reads the table, opens and measures its files, and formats the metadata.
-fn format<'a, R: Files<File = File>>(rt: &R, table: &'a str) -> Result<Geometry, Reason<'a>> {
-    let (disks, geometry) = open_table(rt, table)?;
+    };
     let Disks {
         mut metadata,
         cache,
@@ -44,22 +39,21 @@ fn format<'a, R: Files<File = File>>(rt: &R, table: &'a str) -> Result<Geometry,
     let formatted = wb_meta::format(&mut metadata, &geometry);
     drop((cache, origin));
     match formatted {
-        Ok(()) => Ok(geometry),
-        Err(refusal) => Err(Reason::Refused(refusal)),
+        Ok(()) => Ended::new(report(alloc, &geometry, writer), None),
+        Err(refusal) => {
+            let printed = refuse(alloc, refusal, writer);
+            Ended::new(printed, Some(Reason::Refused(refusal)))
+        }
     }
 }
 
-/// Prints what came of it.
+/// Prints what was formatted.
 fn report<W: Write>(
     alloc: Global,
-    formatted: Result<Geometry, Refusal>,
+    geometry: &Geometry,
     writer: &mut W,
 ) -> Result<Status, StreamFailed> {
     let mut text = String::new(alloc);
-    let geometry = match formatted {
-        Ok(geometry) => geometry,
-        Err(refusal) => return print_refusal(refusal, &mut text, writer),
-    };
     let (cache, origin) = (geometry.cache_blocks, geometry.origin_blocks);
     if writeln!(text, "formatted {cache} {origin}").is_err() {
         return print_refusal(Refusal::Memory, &mut text, writer);

@@ -11,6 +11,17 @@ use wb_types::{Dev, Refusal};
 /// Why a run or a formatting did not end well.
 #[derive(Drop)]
 pub enum Reason<'a> {
+    Unopened(Unopened<'a>),
+    /// A step of an open device failed, or memory was refused.
+    Refused(Refusal),
+    /// Lines of a script were refused.
+    Lines(Tally),
+    Stream(StreamFailed),
+}
+
+/// Why the files of a table cannot serve.
+#[derive(Drop)]
+pub enum Unopened<'a> {
     Table(TableFault<'a>),
     /// A file cannot be opened, locked or measured.
     File {
@@ -19,11 +30,6 @@ pub enum Reason<'a> {
         trouble: Trouble,
     },
     Size(SizeFault),
-    /// A read, a write or a sync of an open device failed, or memory was refused.
-    Refused(Refusal),
-    /// Lines of a script were refused.
-    Lines(Tally),
-    Stream(StreamFailed),
 }
 
 /// What is the trouble with a file.
@@ -34,15 +40,39 @@ pub enum Trouble {
     Locked,
 }
 
-impl<'a> Reason<'a> {
-    /// What a target that cannot be opened for this reason is refused with.
+impl<'a> Unopened<'a> {
+    /// What is printed for it.
     pub fn refusal(&self) -> Refusal {
         match self {
-            Reason::Table(_) => Refusal::BadTable,
-            Reason::File { device, .. } => Refusal::Io(*device),
-            Reason::Size(_) => Refusal::Geometry,
-            Reason::Refused(refusal) => *refusal,
-            Reason::Lines(_) | Reason::Stream(_) => Refusal::Failed,
+            Unopened::Table(_) => Refusal::BadTable,
+            Unopened::File { device, .. } => Refusal::Io(*device),
+            Unopened::Size(_) => Refusal::Geometry,
+        }
+    }
+}
+
+impl<'a> Display for Unopened<'a> {
+    fn fmt<W: fmt::Write>(&self, f: &mut Formatter<W>) -> fmt::Result {
+        match self {
+            Unopened::Table(fault) => write!(f, "{fault}"),
+            Unopened::File {
+                device,
+                path,
+                trouble,
+            } => write!(f, "{device} file {path}: {trouble}"),
+            Unopened::Size(fault) => write!(f, "{fault}"),
+        }
+    }
+}
+
+impl Display for Trouble {
+    fn fmt<W: fmt::Write>(&self, f: &mut Formatter<W>) -> fmt::Result {
+        match self {
+            Trouble::System(error) => write!(f, "{error}"),
+            Trouble::Locked => write!(
+                f,
+                "locked, by another program or as another device of the table"
+            ),
         }
     }
 }
@@ -50,26 +80,11 @@ impl<'a> Reason<'a> {
 impl<'a> Display for Reason<'a> {
     fn fmt<W: fmt::Write>(&self, f: &mut Formatter<W>) -> fmt::Result {
         match self {
-            Reason::Table(fault) => write!(f, "{fault}"),
-            Reason::File {
-                device,
-                path,
-                trouble,
-            } => match trouble {
-                Trouble::System(error) => write!(f, "{device} file {path}: {error}"),
-                Trouble::Locked => write!(
-                    f,
-                    "{device} file {path}: locked, by another program or as another device of the table"
-                ),
-            },
-            Reason::Size(fault) => write!(f, "{fault}"),
-            Reason::Refused(refusal) => match refusal {
-                Refusal::Io(device) => write!(
-                    f,
-                    "{device}: the system refused to read, write or sync its file"
-                ),
-                refusal => write!(f, "{refusal}"),
-            },
+            Reason::Unopened(unopened) => write!(f, "{unopened}"),
+            Reason::Refused(Refusal::Io(device)) => {
+                write!(f, "{device} file: a read, a write or a sync failed")
+            }
+            Reason::Refused(refusal) => write!(f, "{refusal}"),
             Reason::Lines(tally) => write!(f, "{tally}"),
             Reason::Stream(StreamFailed::Reader) => write!(f, "the script cannot be read further"),
             Reason::Stream(StreamFailed::Writer) => write!(f, "an answer cannot be written"),

@@ -36,9 +36,9 @@ pub fn run<'a, R: Files<File = File>, I: BufRead, W: Write>(
 ) -> Ended<'a> {
     let (disks, geometry) = match open_table(rt, table) {
         Ok(opened) => opened,
-        Err(reason) => {
-            let printed = refuse(alloc, reason.refusal(), writer);
-            return Ended::new(printed, Some(reason));
+        Err(unopened) => {
+            let printed = refuse(alloc, unopened.refusal(), writer);
+            return Ended::new(printed, Some(Reason::Unopened(unopened)));
         }
     };
     let Disks {
