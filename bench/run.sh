@@ -1,17 +1,14 @@
 #!/bin/sh
 # Requests by the proved programs against the same requests by plain system calls, on one file in one run: prints a
-# table of seconds and ratios. It needs cc, and builds the programs where they are missing. See bench/README.md.
+# table of seconds and ratios. It needs cc, and builds the programs where they are missing or older than their sources. See bench/README.md.
 set -eu
 top=$(cd "$(dirname "$0")/.." && pwd)
 work=$(mktemp -d)
 trap 'rm -rf "$work"' EXIT
 requests=${1:-20000}
 
-test -x "$top/bin/wbcache" || sh "$top/scripts/build.sh"
-if ! test -x "$top/bin/wb_bench"; then
-  (cd "$top/crates/wb_bench" && rt run >/dev/null 2>&1 </dev/null || true)
-  cp "$top/crates/wb_bench/out/wb_bench" "$top/bin/wb_bench"
-fi
+sh "$top/scripts/build.sh" wbcache
+sh "$top/scripts/build.sh" wb_bench
 cc -O2 -o "$work/plain" "$top/bench/plain.c"
 truncate -s 2048 "$work/m.img"
 truncate -s 131072 "$work/c.img"
@@ -54,6 +51,12 @@ for blocks in 1024 1048575; do
   proved=$(seconds "$top/bin/wb_bench" sketch "$blocks" 20000000)
   printf '%-14s %9s %9s %9s\n' "$blocks blocks" "$plain" "$proved" "$(ratio "$proved" "$plain")"
 done
+median() { # of what a command prints in nine runs
+  for _ in 1 2 3 4 5 6 7 8 9; do "$@"; done | sort -n | sed -n 5p
+}
+plain=$(median "$work/sketch" 1048575 reset)
+proved=$(median "$top/bin/wb_bench" sketch 1048575 reset)
+printf '%-14s %9s %9s %9s  (nanoseconds)\n' 'one reset' "$plain" "$proved" "$(ratio "$proved" "$plain")"
 
 printf '\n%-30s %9s %9s %9s %9s\n' 'space, calls' plain proved proved/plain 'ns a call'
 cc -O2 -o "$work/space" "$top/bench/space.c"
@@ -74,16 +77,20 @@ turnover 1048575 100000 8
 turnover 1024 10000000 0
 turnover 1048575 10000000 0
 
-resident() { # cache blocks: the KiB that are resident while the rounds run
-  "$top/bin/wb_bench" space "$1" 1000000000000 8 >/dev/null &
+resident() { # the KiB that are resident while a command runs
+  "$@" >/dev/null &
   sleep 2
   awk '/^VmRSS/ { print $2 }' "/proc/$!/status"
   kill "$!"
 }
-few=$(resident 64)
-many=$(resident 1048575)
+few=$(resident "$top/bin/wb_bench" space 64 1000000000000 8)
+many=$(resident "$top/bin/wb_bench" space 1048575 1000000000000 8)
 printf '\nspace, resident: %s KiB with 64 blocks, %s KiB with 1048575, %s bytes a block\n' "$few" "$many" \
   "$(awk "BEGIN { printf \"%.2f\", ($many - $few) * 1024 / (1048575 - 64) }")"
+few=$(resident "$top/bin/wb_bench" sketch 64 1000000000000)
+many=$(resident "$top/bin/wb_bench" sketch 1048575 1000000000000)
+printf 'sketch, resident: %s KiB with 64 places, %s KiB with 1048576, %s bytes a place\n' "$few" "$many" \
+  "$(awk "BEGIN { printf \"%.2f\", ($many - $few) * 1024 / (1048576 - 64) }")"
 
 printf '\n%-30s %9s %9s %9s %9s\n' 'shares, taken and left' plain proved proved/plain 'ns in C'
 cc -O2 -pthread -o "$work/cells" "$top/bench/cells.c"

@@ -1,18 +1,19 @@
 #!/bin/sh
-# Tries the further bugs: edits in crates/NAME/bugs/ that the prover must refuse, too, but that the gate leaves out
-# for its time. Names of crates as arguments, or none for all. It works on a copy and leaves this tree alone.
+# Tries the wrong bodies in crates/NAME/bugs, which the gate leaves out: on a copy of this tree, as must-fail edits.
+#
+#     sh scripts/bugs.sh NAME..
+#
+# Before a crate lands, and after a change of its contracts. The last line for each crate is that of 'rt must-fail'.
 set -eu
-here=$(cd "$(dirname "$0")/.." && pwd)
-copy=$(mktemp -d)
-trap 'rm -rf "$copy"' EXIT
-git -C "$here" ls-files -z | (cd "$here" && xargs -0 cp --parents -t "$copy")
-cd "$copy"
-git init -q .
-rm -rf crates/*/must-fail
-if [ $# -eq 0 ]; then
-    set -- $(ls -d crates/*/bugs 2>/dev/null | cut -d/ -f2)
-fi
-for name; do
-    mv "crates/$name/bugs" "crates/$name/must-fail"
+top=$(cd "$(dirname "$0")/.." && pwd)
+work=$(mktemp -d)
+trap 'rm -rf "$work"' EXIT
+trap 'exit 1' HUP INT TERM
+cp -R "$top/crates" "$top/crates.txt" "$work/"
+test ! -e "$top/HANDLES" || cp "$top/HANDLES" "$work/"
+cd "$work"
+for name in "$@"; do
+  rm -rf "crates/$name/must-fail"
+  mv "crates/$name/bugs" "crates/$name/must-fail"
+  rt must-fail "$name"
 done
-rt must-fail "$@"

@@ -1,9 +1,10 @@
 #!/bin/sh
 # Makes three image files (10 origin blocks of 64 sectors, 4 cache blocks, 4 metadata sectors) in images/, formats the
-# metadata, and runs a script that writes a sector and reads it back. It prints 'formatted 4 10', 'ok' and '0 11'.
+# metadata, and runs a script that writes a sector and reads it back. It prints 'formatted 4 10', 'ok' and '0 11'. The
+# program is built first where it is missing or older than its sources: that takes some minutes, and tells how far it is.
 set -eu
 top=$(cd "$(dirname "$0")/.." && pwd)
-test -x "$top/bin/wbcache" || sh "$top/scripts/build.sh"
+sh "$top/scripts/build.sh"
 mkdir -p "$top/images"
 cd "$top/images"
 rm -f m.img c.img o.img

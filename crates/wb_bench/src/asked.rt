@@ -28,6 +28,8 @@ pub struct Requests<'a> {
 pub enum Asked<'a> {
     Requests(Requests<'a>),
     Accesses { cache_blocks: u32, adds: u64 },
+    /// The one access that resets a sketch for so many cache blocks.
+    Reset { cache_blocks: u32 },
     Turnover(Turnover),
     Shares(Shares),
     /// Write a full mapping of so many cache blocks to a file.
@@ -39,6 +41,12 @@ pub enum Asked<'a> {
 /// Reads the words of the command line, the program's name first.
 pub fn read_asked(words: &[String]) -> Option<Asked<'_>> {
     match words {
+        [_, sketch, cache_blocks, reset]
+            if sketch.as_str() == "sketch" && reset.as_str() == "reset" => {
+            Some(Asked::Reset {
+                cache_blocks: cache_blocks.as_str().parse::<u32>().ok()?,
+            })
+        }
         [_, sketch, cache_blocks, adds] if sketch.as_str() == "sketch" => Some(Asked::Accesses {
             cache_blocks: cache_blocks.as_str().parse::<u32>().ok()?,
             adds: adds.as_str().parse::<u64>().ok()?,

@@ -2,7 +2,8 @@
 //!
 //! `wb_bench FILE read|write SECTORS REQUESTS` drives so many requests of so many sectors each, up to a block of
 //! 64, one after another over all blocks of the file, and prints how many were done. `wb_bench sketch CACHE_BLOCKS
-//! ADDS` adds so many accesses to a frequency sketch, and prints the sum of every 1,024th estimate. `wb_bench space
+//! ADDS` adds so many accesses to a frequency sketch, and prints the sum of every 1,024th estimate; with `reset` in place
+//! of a number it prints the nanoseconds of the first access that resets the sketch. `wb_bench space
 //! CACHE_BLOCKS ROUNDS REMOVED` removes so many blocks of a full cache in each round, commits, fills the cache again,
 //! and prints the sum of the blocks that were filled. `wb_bench shares same|apart 1|2|4 ROUNDS` shares a block and leaves
 //! it so many times on so many threads, all the same block or each its own, and prints how many shares there were.
@@ -19,7 +20,7 @@ mod shares;
 mod turnover;
 mod unnoted;
 
-use crate::accesses::add_all;
+use crate::accesses::{add_all, time_reset};
 use crate::asked::{Asked, Direction, Requests, read_asked};
 use crate::mapping::{read_mapping, write_mapping};
 use crate::shares::share_all;
@@ -28,16 +29,24 @@ use crate::unnoted::Unnoted;
 use std::env;
 use std::process::ExitCode;
 use wb_disk::{Disk, FileDisk};
+use wb_streams::hold_streams;
 use wb_target::Owner;
 use wb_types::{OBlock, Refusal, SECTOR_BYTES, Sector};
 
 /// Sectors of a block.
 const BLOCK: u32 = 64;
 
+/// The exit status where the standard streams cannot be held, or the output failed.
+const STREAM_FAILED: u8 = 4;
+
 /// The most blocks that a run goes over.
 const MOST_BLOCKS: u64 = 1_048_576;
 
 fn main(rt: HostRuntime) -> ExitCode {
+    // Before any file is opened.
+    let Ok(_held) = hold_streams(&rt) else {
+        return ExitCode::from(STREAM_FAILED);
+    };
     let alloc = rt.alloc();
     let Ok(words) = env::args(&rt) else {
         return usage(&rt);
@@ -53,6 +62,10 @@ fn main(rt: HostRuntime) -> ExitCode {
         Asked::Accesses { cache_blocks, adds } => match add_all(alloc, cache_blocks, adds) {
             Ok(sum) => print(&rt, sum),
             Err(_) => failed(&rt, "out of memory"),
+        },
+        Asked::Reset { cache_blocks } => match time_reset(&rt, cache_blocks) {
+            Some(nanoseconds) => print(&rt, nanoseconds),
+            None => failed(&rt, "out of memory, or no clock"),
         },
         Asked::Turnover(turnover) => match turn_over(alloc, &turnover) {
             Ok(sum) => print(&rt, sum),
@@ -106,7 +119,10 @@ fn serve(rt: &HostRuntime, requests: &Requests<'_>) -> ExitCode {
 fn print(rt: &HostRuntime, number: u64) -> ExitCode {
     match println!(rt; "{number}") {
         Ok(()) => ExitCode::SUCCESS,
-        Err(_) => failed(rt, "the output failed"),
+        Err(_) => {
+            failed(rt, "the output failed");
+            ExitCode::from(STREAM_FAILED)
+        }
     }
 }
 
@@ -133,7 +149,7 @@ fn drive_all(asked: &Requests<'_>, blocks: u64, owner: &mut Owner<FileDisk, Unno
 
 fn usage(rt: &HostRuntime) -> ExitCode {
     let _ = eprintln!(rt;
-        "usage: wb_bench FILE read|write SECTORS REQUESTS | sketch CACHE_BLOCKS ADDS | space CACHE_BLOCKS ROUNDS REMOVED | shares same|apart 1|2|4 ROUNDS | FILE mapping CACHE_BLOCKS | FILE state"
+        "usage: wb_bench FILE read|write SECTORS REQUESTS | sketch CACHE_BLOCKS ADDS|reset | space CACHE_BLOCKS ROUNDS REMOVED | shares same|apart 1|2|4 ROUNDS | FILE mapping CACHE_BLOCKS | FILE state"
     );
     ExitCode::from(2)
 }

@@ -1,6 +1,6 @@
 -- Counters and bits that are raised, set, halved and cleared.
-use Rattle.std.proofs.Common.{◌≡◌, ◌≤◌, ◌<◌, ◌+◌, ◌/◌, ◌≢◌, ℕ, zero, suc, Bool, false, List, [], ◌∷◌, length, map, replicate, get_or, set, refl, sym, ◌∙◌, arith}
-use Rattle.std.proofs.lemmas.List.{length-map, length-replicate, get_or-replicate, ext_get_or}
+use Rattle.std.proofs.Common.{◌≡◌, ◌≤◌, ◌<◌, ◌+◌, ◌/◌, ◌≢◌, ℕ, zero, suc, List, [], ◌∷◌, length, map, get_or, set, refl, sym, ◌∙◌, arith}
+use Rattle.std.proofs.lemmas.List.{length-map, ext_get_or}
 use Rattle.std.proofs.lemmas.Bool.Decides.{nat_tests}
 use Rattle.wb_sketch.specs.Frequencies.{halved, raised_at}
 
@@ -23,16 +23,6 @@ pub halved_from : (row halves : List ℕ) → length halves ≡ length row
 halved_from row halves same each =
     ext_get_or 0 halves (halved row) (same ∙ sym (length-halved row))
     (λ k h. let l : k < length row = omega arith in each k l ∙ sym (get_or-halved row k))
-
--- a list of bits that are all clear
-pub cleared_from : (n : ℕ) (bits : List Bool) → length bits ≡ n
-    → ((k : ℕ) → k < n → get_or bits k false ≡ false) → bits ≡ replicate n false
-cleared_from n bits same each =
-    ext_get_or false bits (replicate n false) (same ∙ sym (length-replicate n false))
-    (λ k h. let l : k < n = omega arith in each k l ∙ sym (get_or-replicate n k false false l))
-
-pub at_most-halved : (row : List ℕ) → ((k : ℕ) → get_or row k 0 ≤ 15) → (k : ℕ) → get_or (halved row) k 0 ≤ 15
-at_most-halved row h k = rw get_or-halved (omega (arith, h k))
 
 pub raised_at-yes : (least place : ℕ) (row : List ℕ) → get_or row place 0 ≡ least → least < 15 → raised_at least place row ≡ set row place (least + 1)
 unfolding raised_at

@@ -211,9 +211,6 @@ DoorCovers-admitted f e block h =
           ];
     }
 
-member-is_part : (block : ℕ) → (f g : Frequencies) → f ≡ g → is_member f block ≡ is_member g block
-member-is_part block f g e = ap (λ h. is_member h block) e
-
 more-member : (f : Frequencies) (n block : ℕ) → is_member (frequencies f.cache_blocks f.row1 f.row2 f.row3 f.row4 f.doorkeeper n) block ≡ is_member f block
 unfolding is_member
 more-member f n block = refl

@@ -1,3 +1,6 @@
+pub mod Packing
+pub mod WordCounters
+pub mod WordMarks
 pub mod Counters
 pub mod Places
 pub mod Sizes

@@ -1,7 +1,8 @@
 -- The bits of a place in a row, found one after the other, and the limit of the sample.
-use Rattle.std.proofs.Common.{◌≡◌, inl, inr, ◌≤◌, ◌<◌, ◌+◌, ◌-◌, ◌*◌, ◌^◌, ◌%◌, ℕ, zero, suc, max, nat_le, true, false, refl, sym, arith}
+use Rattle.std.proofs.Common.{◌≡◌, inl, inr, ◌≤◌, ◌<◌, ◌+◌, ◌-◌, ◌*◌, ◌^◌, ◌%◌, ℕ, zero, suc, max, nat_le, true, false, refl, sym, ap, ◌∙◌, arith}
 use Rattle.std.proofs.Math.Nat.{mod-eq_of_lt, one-mul}
 use Rattle.std.proofs.Math.Pow.{pow_mono}
+use Rattle.std.proofs.lemmas.Nat.{pow-add}
 use Rattle.std.proofs.lemmas.Bool.{cases_lt}
 use Rattle.std.proofs.lemmas.Bool.Decides.{nat_tests}
 use Rattle.wb_sketch.specs.Sizes.{bits_from, row_bits, sample_limit}
@@ -51,6 +52,11 @@ one_shifted bits word h w =
     let high : 2 ^ 32 ≤ 2 ^ word = pow_mono w in
     let below : 2 ^ bits < 2 ^ word = omega arith in
     rw one-mul (mod-eq_of_lt below)
+
+-- words of 2 ^ per places each, as many as one shifted to the left
+pub words_shifted : (per words bits : ℕ) → per + words ≡ bits → words ≤ 23 → 2 ^ per * (1 * 2 ^ words % 2 ^ 64) ≡ 2 ^ bits
+words_shifted per words bits e h =
+    ap (λ (n : ℕ). 2 ^ per * n) (one_shifted words 64 h (omega arith)) ∙ sym (pow-add 2 per words) ∙ ap (λ (n : ℕ). 2 ^ n) e
 
 bits_from-to : (steps bits blocks : ℕ) → bits_from steps bits blocks ≤ bits + steps
 unfolding bits_from

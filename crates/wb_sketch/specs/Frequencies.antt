@@ -39,6 +39,10 @@ empty cache_blocks =
       sample = 0;
     }
 
+-- the row of a number from 1 to 4
+unfoldable pub row_of : Frequencies → ℕ → List ℕ
+row_of f number = if number == 1 then f.row1 else if number == 2 then f.row2 else if number == 3 then f.row3 else f.row4
+
 -- the counters of a block
 unfoldable pub counter1 : Frequencies → ℕ → ℕ
 counter1 f block = slice_index f.row1 (row_place row_constant1 f.cache_blocks block)

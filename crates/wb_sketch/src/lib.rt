@@ -14,4 +14,5 @@ mod sketch;
 mod tests;
 
 pub use law::estimate_law;
+pub use row::halve;
 pub use sketch::Sketch;

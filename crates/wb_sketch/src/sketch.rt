@@ -1,7 +1,8 @@
 //! The sketch: four rows, a doorkeeper and a sample.
 
 ghost use Rattle.std.specs.Prelude.{◌≡◌, ◌≤◌, ◌<◌, ◌+◌, ◌^◌, IfOk, IfErr};
-ghost use Rattle.wb_sketch.specs.Frequencies.{accessed, admitted, counted, empty, estimate_of, is_member, least_of, raised};
+ghost use Rattle.wb_sketch.specs.Frequencies.{accessed, admitted, counted, empty, estimate_of, is_member, least_of, raised, row_of};
+ghost use Rattle.wb_sketch.specs.Packed.{counters_in};
 ghost use Rattle.wb_sketch.specs.Sizes.{IsRowBits, row_bits, sample_limit};
 
 use crate::doorkeeper::Doorkeeper;
@@ -48,12 +49,12 @@ impl Sketch {
         ensures refused { IfErr result (λ e. e ≡ Refusal.Memory) }
     {
         let bits = bits_of_row(cache_blocks);
-        let places = 1usize << bits;
-        let row1 = Row::new(alloc, places)?;
-        let row2 = Row::new(alloc, places)?;
-        let row3 = Row::new(alloc, places)?;
-        let row4 = Row::new(alloc, places)?;
-        let doorkeeper = Doorkeeper::new(alloc, 1usize << (bits + 3))?;
+        let words = 1usize << (bits - 4);
+        let row1 = Row::new(alloc, words)?;
+        let row2 = Row::new(alloc, words)?;
+        let row3 = Row::new(alloc, words)?;
+        let row4 = Row::new(alloc, words)?;
+        let doorkeeper = Doorkeeper::new(alloc, 1usize << (bits - 3))?;
         Ok(Sketch {
             cache_blocks,
             bits,
@@ -101,6 +102,21 @@ impl Sketch {
         ensures below { result < sample_limit self.now.cache_blocks }
     {
         self.sample
+    }
+
+    /// The words of row 1, 2, 3 or 4. A word holds the counters of sixteen neighbouring places, four bits
+    /// each, the lowest place in the lowest four bits. Takes no memory.
+    pub fn row(&self, number: usize) -> &[u64]
+        requires from { 1 ≤ number }
+        requires to { number ≤ 4 }
+        ensures { counters_in result.now ≡ row_of self.now number }
+    {
+        match number {
+            1 => self.row1.words(),
+            2 => self.row2.words(),
+            3 => self.row3.words(),
+            _ => self.row4.words(),
+        }
     }
 
     /// Whether both of the block's bits are set in the doorkeeper.

@@ -2,41 +2,56 @@
 
 mod plain;
 
-use crate::Sketch;
 use crate::place::{DOOR1, DOOR2, ROW1, ROW2, ROW3, ROW4, place};
+use crate::{Sketch, halve};
 use plain::Plain;
 use std::test::Fail;
 use wb_types::OBlock;
 
+/// What a sketch says of block 7 after so many accesses to it alone: estimate, sample and, for a sketch of
+/// four cache blocks, the one word of row 1.
+const RUNS: [(u32, u32, u8, u32, u64); 12] = [
+    (4, 0, 0, 0, 0),
+    (4, 1, 1, 1, 0),
+    (4, 2, 2, 2, 0x10_0000),
+    (4, 15, 15, 15, 0xe0_0000),
+    (4, 16, 16, 16, 0xf0_0000),
+    (4, 17, 16, 17, 0xf0_0000),
+    (4, 63, 16, 63, 0xf0_0000),
+    (4, 64, 7, 32, 0x70_0000),
+    (4, 65, 8, 33, 0x70_0000),
+    (9, 71, 16, 71, 0xf0_0000),
+    (9, 72, 7, 36, 0x70_0000),
+    (9, 73, 8, 37, 0x70_0000),
+];
+
 #[test]
-fn a_block_accessed_until_the_reset(rt: HostRuntime) -> Result<(), Fail> {
+fn a_block_accessed_past_the_reset(rt: HostRuntime) -> Result<(), Fail> {
     let block = OBlock(7);
-    let mut sketch = Sketch::new(rt.alloc(), 4)?;
-    assert_eq!(rt; sketch.estimate(block), 0);
-    for times in 1..=63u32 {
-        sketch.add(block);
-        let want = if times < 16 { times as u8 } else { 16 };
-        assert_eq!(rt; sketch.estimate(block), want, "after {times}");
-        assert_eq!(rt; sketch.sample(), times);
+    for (cache_blocks, times, estimate, sample, word) in RUNS {
+        let mut sketch = Sketch::new(rt.alloc(), cache_blocks.min(64))?;
+        for _ in 0..times {
+            sketch.add(block);
+        }
+        let found = (sketch.estimate(block), sketch.sample());
+        assert_eq!(rt; found, (estimate, sample), "after {times}");
+        assert_eq!(rt; sketch.row(1), [word].as_slice(), "after {times}");
     }
-    sketch.add(block);
-    assert_eq!(rt; (sketch.estimate(block), sketch.sample()), (7, 32));
-    sketch.add(block);
-    assert_eq!(rt; (sketch.estimate(block), sketch.sample()), (8, 33));
     Ok(())
 }
 
 #[test]
-fn the_limit_follows_the_cache(rt: HostRuntime) -> Result<(), Fail> {
-    let block = OBlock(7);
-    let mut sketch = Sketch::new(rt.alloc(), 9)?;
-    for times in 1..=71u32 {
-        sketch.add(block);
-        assert_eq!(rt; sketch.sample(), times);
+fn words_are_halved_counter_by_counter(rt: HostRuntime) {
+    let table = [
+        (0x01ef, 0x0077),
+        (0, 0),
+        (u64::MAX, 0x7777_7777_7777_7777),
+        (0x1111_1111_1111_1111, 0),
+        (0xf0f0_0000_0000_0001, 0x7070_0000_0000_0000),
+    ];
+    for (word, half) in table {
+        assert_eq!(rt; halve(word), half, "of {word}");
     }
-    sketch.add(block);
-    assert_eq!(rt; (sketch.estimate(block), sketch.sample()), (7, 36));
-    Ok(())
 }
 
 #[test]
@@ -71,6 +86,8 @@ fn places_of_the_smallest_sketch(rt: HostRuntime) {
     }
 }
 
+/// Over 4,000 accesses, 49 resets among them, the sketch and the plain program agree, also in each of the
+/// four rows' counters.
 #[test]
 fn random_accesses_as_the_plain_program_counts_them(rt: HostRuntime) -> Result<(), Fail> {
     let mut sketch = Sketch::new(rt.alloc(), 20)?;
@@ -84,17 +101,21 @@ fn random_accesses_as_the_plain_program_counts_them(rt: HostRuntime) -> Result<(
         sketch.add(OBlock(x));
         plain.add(x);
         let other = ((state >> 52) & 127) as u32;
-        assert_eq!(rt;
-            sketch.estimate(OBlock(x)),
-            plain.estimate(x),
-            "of block {x}"
-        );
-        assert_eq!(rt;
-            sketch.estimate(OBlock(other)),
-            plain.estimate(other),
-            "of block {other}"
-        );
+        for block in [x, other] {
+            assert_eq!(rt;
+                sketch.estimate(OBlock(block)),
+                plain.estimate(block),
+                "of block {block}"
+            );
+        }
         assert_eq!(rt; sketch.sample(), plain.sample);
+        for number in 1..5usize {
+            assert_eq!(rt;
+                sketch.row(number),
+                plain.words(number).as_slice(),
+                "row {number}"
+            );
+        }
     }
     Ok(())
 }

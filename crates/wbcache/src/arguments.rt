@@ -1,5 +1,6 @@
 //! The arguments of the program.
 
+use crate::help::{ABOUT, TEXTS, VERSION};
 use clap::{Arg, ArgAction, Command, Error};
 use std::alloc::Global;
 
@@ -12,37 +13,54 @@ pub enum Asked<'a> {
     Run(&'a str),
 }
 
-/// Reads the words of the command line, the program's name first.
-pub fn read_arguments<'a>(alloc: Global, words: &'a [String]) -> Result<Option<Asked<'a>>, Error> {
+/// Reads the words of the command line, the program's name first: what is asked, and whether reasons are to be told.
+/// The error's kind is `DisplayHelp` or `DisplayVersion` where that is asked for.
+pub fn read_arguments<'a>(
+    alloc: Global,
+    words: &'a [String],
+) -> Result<Option<(Asked<'a>, bool)>, Error> {
     let matches = command(alloc)?.try_get_matches_from(words)?;
     Ok(match matches.subcommand() {
-        Some(("format", given)) => given.get_str("TABLE").map(|table| Asked::Format(table)),
-        Some(("run", given)) => given.get_str("TABLE").map(|table| Asked::Run(table)),
+        Some(("format", given)) => given
+            .get_str("TABLE")
+            .map(|table| (Asked::Format(table), given.get_flag("verbose"))),
+        Some(("run", given)) => given
+            .get_str("TABLE")
+            .map(|table| (Asked::Run(table), given.get_flag("verbose"))),
         _ => None,
     })
 }
 
 fn command<'a>(alloc: Global) -> Result<Command<'a>, Error> {
+    let verbose = Arg::new(alloc, "verbose")
+        .short('v')
+        .long("verbose")
+        .help("Say on standard error why something was refused")
+        .action(ArgAction::SetTrue)
+        .global(true);
     Ok(
         Command::new(alloc, "wbcache")
-            .disable_help_flag(true)
-            .disable_version_flag(true)
+            .about(ABOUT)
+            .version(VERSION)
+            .after_help(TEXTS)
             .disable_help_subcommand(true)
             .subcommand_required(true)
-            .subcommand(with_table(alloc, "format")?)?
-            .subcommand(with_table(alloc, "run")?)?,
+            .arg(verbose)?
+            .subcommand(with_table(alloc, "format", "Make the metadata those of an empty cache")?)?
+            .subcommand(with_table(alloc, "run", "Run a script over the files")?)?,
     )
 }
 
 /// A subcommand that takes a table.
-fn with_table<'a>(alloc: Global, name: &'a str) -> Result<Command<'a>, Error> {
+fn with_table<'a>(alloc: Global, name: &'a str, about: &'a str) -> Result<Command<'a>, Error> {
     let table = Arg::new(alloc, "TABLE")
+        .help("The three files and the size of a block, as below")
         .required(true)
         .action(ArgAction::Set);
     Ok(
         Command::new(alloc, name)
-            .disable_help_flag(true)
-            .disable_version_flag(true)
+            .about(about)
+            .after_help(TEXTS)
             .arg(table)?,
     )
 }

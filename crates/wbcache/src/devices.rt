@@ -3,8 +3,11 @@
 ghost use Rattle.std.specs.Prelude.{◌≡◌, ◌<◌, ◌*◌, ◌^◌, ℕ, IfOk, IfErr};
 ghost use Rattle.wb_types.specs.Limits.{IsWithinLimits};
 
-use crate::table::{Table, read_table};
-use std::fs::File;
+use crate::reason::{Trouble, Unopened};
+use crate::sizes::find_size_fault;
+use crate::table::{Table, find_table_fault, read_table};
+use std::fs::{File, OpenOptions, TryLockError};
+use std::io;
 use std::rt::Files;
 use wb_disk::{Disk, FileDisk};
 use wb_types::{Dev, Geometry, Refusal};
@@ -18,12 +21,13 @@ pub struct Disks<D> {
 }
 
 impl Disks<FileDisk> {
-    /// Opens the files of a table, the metadata first and the origin last; `Io` for the first that cannot be
-    /// opened for reading and writing, or measured.
-    pub fn open<R: Files<File = File>>(
+    /// Opens the files of a table, the metadata first and the origin last, and locks each for as long as its disk
+    /// lives. The reason is that of the first that cannot be opened for reading and writing, locked or measured: one
+    /// that another program holds, or that the table named before, is locked already.
+    pub fn open<'a, R: Files<File = File>>(
         rt: &R,
-        table: &Table<'_>,
-    ) -> Result<Disks<FileDisk>, Refusal> {
+        table: &Table<'a>,
+    ) -> Result<Disks<FileDisk>, Unopened<'a>> {
         Ok(Disks {
             metadata: open_file(rt, table.metadata, Dev::Metadata)?,
             cache: open_file(rt, table.cache, Dev::Cache)?,
@@ -33,23 +37,50 @@ impl Disks<FileDisk> {
 }
 
 /// Reads a table, opens its files and measures them: `BadTable`, `Io` for the first that cannot be opened, `Geometry`.
-pub fn open_table<R: Files<File = File>>(
+pub fn open_table<'a, R: Files<File = File>>(
     rt: &R,
-    table: &str,
-) -> Result<(Disks<FileDisk>, Geometry), Refusal> {
-    let table = read_table(table)?;
+    text: &'a str,
+) -> Result<(Disks<FileDisk>, Geometry), Unopened<'a>> {
+    let Ok(table) = read_table(text) else {
+        return Err(Unopened::Table(find_table_fault(text)));
+    };
     let disks = Disks::open(rt, &table)?;
-    let geometry = measure(
-        table.block,
+    let (metadata, cache, origin) = (
         disks.metadata.sectors(),
         disks.cache.sectors(),
         disks.origin.sectors(),
-    )?;
-    Ok((disks, geometry))
+    );
+    match measure(table.block, metadata, cache, origin) {
+        Ok(geometry) => Ok((disks, geometry)),
+        Err(_) => Err(Unopened::Size(find_size_fault(table.block, metadata, cache, origin))),
+    }
 }
 
-fn open_file<R: Files<File = File>>(rt: &R, path: &str, device: Dev) -> Result<FileDisk, Refusal> {
-    FileDisk::open(rt, path).map_err(|_| Refusal::Io(device))
+fn open_file<'a, R: Files<File = File>>(
+    rt: &R,
+    path: &'a str,
+    device: Dev,
+) -> Result<FileDisk, Unopened<'a>> {
+    open_locked(rt, path).map_err(|trouble| Unopened::File {
+        device,
+        path,
+        trouble,
+    })
+}
+
+/// Opens a file, locks it and measures it.
+fn open_locked<R: Files<File = File>>(rt: &R, path: &str) -> Result<FileDisk, Trouble> {
+    let mut options = OpenOptions::new();
+    options.read(true).write(true);
+    let file = options
+        .open(rt, path)
+        .map_err(|error| Trouble::System(error))?;
+    match file.try_lock() {
+        Ok(()) => {}
+        Err(TryLockError::WouldBlock) => return Err(Trouble::Locked),
+        Err(TryLockError::Error(error)) => return Err(Trouble::System(error)),
+    }
+    FileDisk::over(file).map_err(|_| Trouble::System(io::Error::from(io::ErrorKind::NotSeekable)))
 }
 
 /// The geometry of a target over devices of these sizes in sectors; `Geometry` where they lie outside the limits,

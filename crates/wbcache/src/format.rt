@@ -1,7 +1,9 @@
 //! Formatting of a target's metadata.
 
 use crate::devices::{Disks, open_table};
-use crate::output::{StreamFailed, exit_code, print, print_refusal};
+use crate::ended::Ended;
+use crate::output::{StreamFailed, print, print_refusal, refuse};
+use crate::reason::Reason;
 use crate::status::Status;
 use std::alloc::Global;
 use std::fmt::Write as _;
@@ -11,38 +13,47 @@ use std::rt::Files;
 use wb_types::{Geometry, Refusal};
 
 /// Formats the metadata over the files of a table, prints `formatted <cache blocks> <origin blocks>` or the refusal,
-/// and gives the exit status. The cache and the origin are opened and measured, and left alone.
+/// and gives the exit status with the reason of a refusal. The cache and the origin are opened, locked and measured,
+/// and left alone.
 ///
 /// 0 where the metadata were formatted, 1 where that was refused, 3 where a device failed, 4 where the writer did. A
 /// formatting that was refused can be repeated.
-pub fn format_files<R: Files<File = File>, W: Write>(
+pub fn format_files<'a, R: Files<File = File>, W: Write>(
     rt: &R,
     alloc: Global,
-    table: &str,
+    table: &'a str,
     writer: &mut W,
-) -> u8 {
-    exit_code(report(alloc, format(rt, table), writer))
+) -> Ended<'a> {
+    let (disks, geometry) = match open_table(rt, table) {
+        Ok(opened) => opened,
+        Err(unopened) => {
+            let printed = refuse(alloc, unopened.refusal(), writer);
+            return Ended::new(printed, Some(Reason::Unopened(unopened)));
+        }
+    };
+    let Disks {
+        mut metadata,
+        cache,
+        origin,
+    } = disks;
+    let formatted = wb_meta::format(&mut metadata, &geometry);
+    drop((cache, origin));
+    match formatted {
+        Ok(()) => Ended::new(report(alloc, &geometry, writer), None),
+        Err(refusal) => {
+            let printed = refuse(alloc, refusal, writer);
+            Ended::new(printed, Some(Reason::Refused(refusal)))
+        }
+    }
 }
 
-/// Reads the table, opens and measures its files, and formats the metadata.
-fn format<R: Files<File = File>>(rt: &R, table: &str) -> Result<Geometry, Refusal> {
-    let (disks, geometry) = open_table(rt, table)?;
-    let Disks { mut metadata, .. } = disks;
-    wb_meta::format(&mut metadata, &geometry)?;
-    Ok(geometry)
-}
-
-/// Prints what came of it.
+/// Prints what was formatted.
 fn report<W: Write>(
     alloc: Global,
-    formatted: Result<Geometry, Refusal>,
+    geometry: &Geometry,
     writer: &mut W,
 ) -> Result<Status, StreamFailed> {
     let mut text = String::new(alloc);
-    let geometry = match formatted {
-        Ok(geometry) => geometry,
-        Err(refusal) => return print_refusal(refusal, &mut text, writer),
-    };
     let (cache, origin) = (geometry.cache_blocks, geometry.origin_blocks);
     if writeln!(text, "formatted {cache} {origin}").is_err() {
         return print_refusal(Refusal::Memory, &mut text, writer);

@@ -3,33 +3,48 @@
 
 mod arguments;
 mod devices;
+mod ended;
 mod engine;
 mod fill;
 mod format;
 mod found;
+mod help;
 mod line;
 mod number;
 mod output;
 mod part;
+mod reason;
 mod script;
+mod sizes;
 mod status;
 mod table;
+mod tally;
 #[cfg(test)]
 mod tests;
 mod words;
 
 use crate::arguments::{Asked, read_arguments};
+use crate::ended::Ended;
+use clap::Error;
 use clap::error::ErrorKind;
-use std::io::BufReader;
+use std::io::{BufReader, IsTerminal};
 use std::process::ExitCode;
 use std::{env, io};
+use wb_streams::hold_streams;
 use wb_types::Refusal;
 
 /// What is asked of who calls the program otherwise.
 const USAGE: &str = "usage: wbcache format TABLE | run TABLE";
 
+/// The exit status of a reader or a writer that failed.
+const STREAM_FAILED: u8 = 4;
+
 fn main(rt: HostRuntime) -> ExitCode {
-    ExitCode::from(serve(&rt))
+    // Before any file is opened.
+    match hold_streams(&rt) {
+        Ok(_held) => ExitCode::from(serve(&rt)),
+        Err(_) => ExitCode::from(STREAM_FAILED),
+    }
 }
 
 /// Does what the arguments ask, and gives the exit status.
@@ -41,15 +56,39 @@ fn serve(rt: &HostRuntime) -> u8 {
     let Ok(words) = words.collect::<Vec<String>>(alloc) else {
         return no_memory(rt);
     };
-    match read_arguments(alloc, words.as_slice()) {
-        Ok(Some(Asked::Format(table))) => {
-            format::format_files(rt, alloc, table, &mut io::writer(rt))
-        }
-        Ok(Some(Asked::Run(table))) => match BufReader::new(alloc, rt.reader()) {
+    let (asked, verbose) = match read_arguments(alloc, words.as_slice()) {
+        Ok(Some(read)) => read,
+        Ok(None) => return usage(rt),
+        Err(error) => return no_task(rt, &error),
+    };
+    let ended = match asked {
+        Asked::Format(table) => format::format_files(rt, alloc, table, &mut io::writer(rt)),
+        Asked::Run(table) => match BufReader::new(alloc, rt.reader()) {
             Ok(mut reader) => script::run(rt, alloc, table, &mut reader, &mut io::writer(rt)),
-            Err(_) => no_memory(rt),
+            Err(_) => return no_memory(rt),
         },
-        Err(error) if error.kind() == ErrorKind::OutOfMemory => no_memory(rt),
+    };
+    tell(rt, &ended, verbose)
+}
+
+/// Says why a run ended as it did, where somebody asked or is there to read it, and gives the exit status.
+fn tell(rt: &HostRuntime, ended: &Ended<'_>, verbose: bool) -> u8 {
+    if let Some(reason) = &ended.reason {
+        if verbose || rt.stderr().is_terminal() {
+            let _ = eprintln!(rt; "wbcache: {reason}");
+        }
+    }
+    ended.code
+}
+
+/// Gives help or the version where they are asked for, and else says what the program takes.
+fn no_task(rt: &HostRuntime, error: &Error) -> u8 {
+    match error.kind() {
+        ErrorKind::DisplayHelp | ErrorKind::DisplayVersion => match error.print(rt) {
+            Ok(()) => 0,
+            Err(_) => STREAM_FAILED,
+        },
+        ErrorKind::OutOfMemory => no_memory(rt),
         _ => usage(rt),
     }
 }

@@ -14,7 +14,10 @@ const OUT_OF_MEMORY: &[u8] = b"refused 7 Memory\n";
 
 /// The reader or the writer of a script failed.
 #[derive(Clone, Copy, Debug, PartialEq, Eq)]
-pub struct StreamFailed;
+pub enum StreamFailed {
+    Reader,
+    Writer,
+}
 
 /// The exit status of a run that ended so.
 pub fn exit_code(ended: Result<Status, StreamFailed>) -> u8
@@ -23,7 +26,7 @@ pub fn exit_code(ended: Result<Status, StreamFailed>) -> u8
 {
     match ended {
         Ok(status) => status.code(),
-        Err(StreamFailed) => Status::StreamFailed.code(),
+        Err(_) => Status::StreamFailed.code(),
     }
 }
 
@@ -74,6 +77,6 @@ pub fn print_bad_line<W: Write>(
 
 /// Writes all of it at once, and sees that it is out.
 fn send<W: Write>(bytes: &[u8], writer: &mut W) -> Result<(), StreamFailed> {
-    writer.write_all(bytes).map_err(|_| StreamFailed)?;
-    writer.flush().map_err(|_| StreamFailed)
+    writer.write_all(bytes).map_err(|_| StreamFailed::Writer)?;
+    writer.flush().map_err(|_| StreamFailed::Writer)
 }

@@ -1,56 +1,86 @@
 //! Scripts: a line in, its answer out.
 
 use crate::devices::{Disks, open_table};
+use crate::ended::Ended;
 use crate::engine::Engine;
 use crate::line::{Line, read_line};
-use crate::output::{StreamFailed, exit_code, print, print_bad_line, print_refusal, refuse};
+use crate::output::{StreamFailed, print, print_bad_line, print_refusal, refuse};
+use crate::reason::Reason;
 use crate::status::Status;
+use crate::tally::{Said, Tally};
 use std::alloc::Global;
 use std::fs::File;
-use std::io::{BufRead, ErrorKind, Write};
+use std::io::{BufRead, ErrorKind, Read, Write};
 use std::rt::Files;
-use wb_disk::{Disk, FileDisk};
+use wb_disk::Disk;
 use wb_types::Refusal;
 
 /// Room for an answer of one line, made before the first line is read.
 const ONE_LINE: usize = 64;
 
-/// Runs a script over the files of a table, and gives the exit status. Each line's answer is out, in one write,
-/// before the next line is read.
+/// So many bytes without a line break are no line of a script: 1 MiB.
+const MOST_OF_A_LINE: u64 = 1_048_576;
+
+/// Runs a script over the files of a table, and gives the exit status with the reason of what was refused. Each
+/// line's answer is out, in one write, before the next line is read. The metadata and cache files are left alone; all
+/// three are locked until the script ends.
 ///
 /// 0 where each line was answered, 1 where one was refused or was no line of a script, 3 where a device failed, 4
 /// where the reader or the writer did.
-pub fn run<R: Files<File = File>, I: BufRead, W: Write>(
+pub fn run<'a, R: Files<File = File>, I: BufRead, W: Write>(
     rt: &R,
     alloc: Global,
-    table: &str,
+    table: &'a str,
     reader: &mut I,
     writer: &mut W,
-) -> u8 {
-    let played = match open(rt, alloc, table) {
-        Ok(mut engine) => play(alloc, &mut engine, reader, writer),
-        Err(refusal) => refuse(alloc, refusal, writer),
+) -> Ended<'a> {
+    let (disks, geometry) = match open_table(rt, table) {
+        Ok(opened) => opened,
+        Err(unopened) => {
+            let printed = refuse(alloc, unopened.refusal(), writer);
+            return Ended::new(printed, Some(Reason::Unopened(unopened)));
+        }
     };
-    exit_code(played)
+    let Disks {
+        metadata,
+        cache,
+        origin,
+    } = disks;
+    let ended = match Engine::new(alloc, geometry, origin) {
+        Ok(mut engine) => play_all(alloc, &mut engine, reader, writer),
+        Err(refusal) => Ended::new(
+            refuse(alloc, refusal, writer),
+            Some(Reason::Refused(refusal)),
+        ),
+    };
+    drop((metadata, cache));
+    ended
 }
 
-/// Reads the table, and then opens and measures its files. The metadata and cache files are left alone.
-fn open<R: Files<File = File>>(
-    rt: &R,
+/// Plays a script, and gives the refused lines as its reason.
+fn play_all<'a, D: Disk + Drop, I: BufRead, W: Write>(
     alloc: Global,
-    table: &str,
-) -> Result<Engine<FileDisk>, Refusal> {
-    let (disks, geometry) = open_table(rt, table)?;
-    let Disks { origin, .. } = disks;
-    Engine::new(alloc, geometry, origin)
+    engine: &mut Engine<D>,
+    reader: &mut I,
+    writer: &mut W,
+) -> Ended<'a> {
+    let mut tally = Tally::new();
+    let played = play(alloc, engine, reader, writer, &mut tally);
+    let reason = if tally.first.is_some() {
+        Some(Reason::Lines(tally))
+    } else {
+        None
+    };
+    Ended::new(played, reason)
 }
 
-/// Plays the lines of a script on an engine.
+/// Plays the lines of a script on an engine, and counts those that are refused.
 pub fn play<D: Disk + Drop, I: BufRead, W: Write>(
     alloc: Global,
     engine: &mut Engine<D>,
     reader: &mut I,
     writer: &mut W,
+    tally: &mut Tally,
 ) -> Result<Status, StreamFailed> {
     let Ok(mut text) = String::with_capacity(alloc, ONE_LINE) else {
         return refuse(alloc, Refusal::Memory, writer);
@@ -63,6 +93,7 @@ pub fn play<D: Disk + Drop, I: BufRead, W: Write>(
             Input::Asks(asked) => engine.answer(asked, &mut text),
             Input::TooLong => Err(Refusal::Memory),
             Input::Bad => {
+                tally.note(number, Said::BadLine);
                 print_bad_line(number, &mut text, writer)?;
                 return Ok(status.max(Status::Refused));
             }
@@ -70,7 +101,10 @@ pub fn play<D: Disk + Drop, I: BufRead, W: Write>(
         };
         status = status.max(match answered {
             Ok(()) => print(&text, writer)?,
-            Err(refusal) => print_refusal(refusal, &mut text, writer)?,
+            Err(refusal) => {
+                tally.note(number, Said::Refused(refusal));
+                print_refusal(refusal, &mut text, writer)?
+            }
         });
     }
     Ok(status)
@@ -79,7 +113,7 @@ pub fn play<D: Disk + Drop, I: BufRead, W: Write>(
 /// What comes next in a script.
 enum Input {
     Asks(Line),
-    /// A line outside the table of lines.
+    /// A line outside the table of lines, or one that is too long to be read.
     Bad,
     /// A line that has no room; it was passed over.
     TooLong,
@@ -88,17 +122,25 @@ enum Input {
 
 fn next_input<I: BufRead>(reader: &mut I, line: &mut Vec<u8>) -> Result<Input, StreamFailed> {
     line.clear();
-    match reader.read_until(b'\n', line) {
+    match reader.take(MOST_OF_A_LINE).read_until(b'\n', line) {
         Ok(0) => Ok(Input::End),
-        Ok(_) => Ok(match read_line(without_break(line.as_slice())) {
-            Some(asked) => Input::Asks(asked),
-            None => Input::Bad,
-        }),
+        Ok(_) => Ok(read_input(line.as_slice())),
         Err(error) if error.kind() == ErrorKind::OutOfMemory => {
-            reader.skip_until(b'\n').map_err(|_| StreamFailed)?;
+            reader.skip_until(b'\n').map_err(|_| StreamFailed::Reader)?;
             Ok(Input::TooLong)
         }
-        Err(_) => Err(StreamFailed),
+        Err(_) => Err(StreamFailed::Reader),
+    }
+}
+
+/// What the bytes of a line are, with its line break where it has one.
+fn read_input(line: &[u8]) -> Input {
+    if line.len() as u64 >= MOST_OF_A_LINE && !line.ends_with(b"\n") {
+        return Input::Bad;
+    }
+    match read_line(without_break(line)) {
+        Some(asked) => Input::Asks(asked),
+        None => Input::Bad,
     }
 }
 

@@ -3,10 +3,13 @@
 mod device;
 mod files;
 mod format;
+mod refused;
 mod stream;
 
+use crate::ended::Ended;
 use std::fs;
 use std::fs::File;
+use std::process::Abort;
 use std::rt::Files;
 use std::test::Fail;
 
@@ -19,5 +22,19 @@ fn make_file<R: AllocGlobal + Files<File = File>>(
 ) -> Result<(), Fail> {
     let content = vec![in rt.alloc(); value; bytes]?;
     fs::write(rt, path, content.as_slice())?;
+    Ok(())
+}
+
+/// Sees what reason a run ended with: the empty text is none.
+fn expect_reason<R: Abort + AllocGlobal>(
+    rt: &R,
+    ended: &Ended<'_>,
+    reason: &str,
+) -> Result<(), Fail> {
+    let told = match &ended.reason {
+        Some(reason) => format!(in rt.alloc(); "{reason}")?,
+        None => String::new(rt.alloc()),
+    };
+    assert_eq!(rt; told.as_str(), reason);
     Ok(())
 }

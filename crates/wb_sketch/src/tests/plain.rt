@@ -73,6 +73,20 @@ impl Plain {
         }
     }
 
+    /// The counters of row 1, 2, 3 or 4, sixteen to a word: the first is a word's last hexadecimal digit.
+    pub(crate) fn words(&self, number: usize) -> [u64; 2] {
+        let mut words = [0u64; 2];
+        for place in 0..32usize {
+            let first = number.wrapping_sub(1).wrapping_mul(32);
+            let counter = self.counters.get(first.wrapping_add(31 - place));
+            let word = &mut words[(31 - place) / 16];
+            *word = word
+                .wrapping_mul(16)
+                .wrapping_add(counter.map_or(0, |counter| u64::from(*counter)));
+        }
+        words
+    }
+
     fn knows(&self, x: u32) -> bool {
         let mut known = true;
         for constant in DOOR_CONSTANTS {

@@ -5,8 +5,8 @@ ghost use Rattle.std.specs.Prelude.{[], vec_len};
 use crate::engine::Engine;
 use crate::script::play;
 use crate::status::Status;
+use crate::tally::Tally;
 use std::alloc::Global;
-use std::process::Abort;
 use std::test::Fail;
 use wb_disk::{Disk, DiskFault};
 use wb_types::{Content, Geometry, SECTOR_BYTES};
@@ -65,44 +65,45 @@ fn engine(alloc: Global, unreadable: u64, unwritable: u64) -> Result<Engine<Fail
     Ok(Engine::new(alloc, Geometry::new(64, 4, 10, 4)?, origin)?)
 }
 
-fn expect(
-    rt: &(impl Abort + AllocGlobal),
-    unreadable: u64,
-    unwritable: u64,
-    script: &str,
-    printed: &str,
-    status: Status,
-) -> Result<(), Fail> {
-    let mut engine = engine(rt.alloc(), unreadable, unwritable)?;
-    let mut reader = script.as_bytes();
-    let mut writer: Vec<u8> = Vec::new(rt.alloc());
-    let given = play(rt.alloc(), &mut engine, &mut reader, &mut writer)?;
-    let text = String::from_utf8(writer)?;
-    assert_eq!(rt; text.as_str(), printed, "of {script}");
-    assert_eq!(rt; given, status, "of {script}");
+/// Plays each script over a device with a sector that cannot be read and one that cannot be written, and sees what is
+/// printed. The first line that was refused is counted in each, and with it all others.
+#[test]
+fn a_device_that_fails(rt: HostRuntime) -> Result<(), Fail> {
+    let rows = [
+        // A read that fails is answered, and the script goes on.
+        (
+            70,
+            640,
+            "r 63 1\nr 63 9\nr 70 1\nr 69 1\nw 70 1 11\nr 70 1\nr 71 1\n",
+            "63 00\nrefused 5 Io origin\nrefused 5 Io origin\n69 00\nok\nrefused 5 Io origin\n71 00\n",
+            "3 lines were refused, the first at line 2: 5 Io origin",
+        ),
+        // A write that fails leaves the target failed.
+        (
+            640,
+            70,
+            "w 0 1 11\nw 60 20 22\nr 0 1\nw 0 1 33\nr 640 1\n",
+            "ok\nrefused 5 Io origin\nrefused 6 Failed\nrefused 6 Failed\nrefused 1 Range\n",
+            "4 lines were refused, the first at line 2: 5 Io origin",
+        ),
+    ];
+    for (unreadable, unwritable, script, printed, reason) in rows {
+        let mut engine = engine(rt.alloc(), unreadable, unwritable)?;
+        let mut reader = script.as_bytes();
+        let mut writer: Vec<u8> = Vec::new(rt.alloc());
+        let mut tally = Tally::new();
+        let given = play(
+            rt.alloc(),
+            &mut engine,
+            &mut reader,
+            &mut writer,
+            &mut tally,
+        )?;
+        let text = String::from_utf8(writer)?;
+        assert_eq!(rt; text.as_str(), printed, "of {script}");
+        assert_eq!(rt; given, Status::DeviceFailed, "of {script}");
+        let told = format!(in rt.alloc(); "{tally}")?;
+        assert_eq!(rt; told.as_str(), reason, "of {script}");
+    }
     Ok(())
-}
-
-#[test]
-fn a_failed_read_is_answered_and_the_script_goes_on(rt: HostRuntime) -> Result<(), Fail> {
-    expect(
-        &rt,
-        70,
-        640,
-        "r 63 1\nr 63 9\nr 70 1\nr 69 1\nw 70 1 11\nr 70 1\nr 71 1\n",
-        "63 00\nrefused 5 Io origin\nrefused 5 Io origin\n69 00\nok\nrefused 5 Io origin\n71 00\n",
-        Status::DeviceFailed,
-    )
-}
-
-#[test]
-fn a_failed_write_leaves_the_target_failed(rt: HostRuntime) -> Result<(), Fail> {
-    expect(
-        &rt,
-        640,
-        70,
-        "w 0 1 11\nw 60 20 22\nr 0 1\nw 0 1 33\nr 640 1\n",
-        "ok\nrefused 5 Io origin\nrefused 6 Failed\nrefused 6 Failed\nrefused 1 Range\n",
-        Status::DeviceFailed,
-    )
 }

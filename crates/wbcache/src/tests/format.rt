@@ -24,7 +24,7 @@ fn expect<R: Abort + AllocGlobal + Files<File = File>>(
     status: u8,
 ) -> Result<(), Fail> {
     let mut writer: Vec<u8> = Vec::new(rt.alloc());
-    let given = format_files(rt, rt.alloc(), table, &mut writer);
+    let given = format_files(rt, rt.alloc(), table, &mut writer).code;
     let text = String::from_utf8(writer)?;
     assert_eq!(rt; text.as_str(), printed, "of {table}");
     assert_eq!(rt; given, status, "of {table}");
@@ -75,52 +75,6 @@ fn a_refused_formatting_can_be_repeated(rt: HostRuntime) -> Result<(), Fail> {
     Ok(())
 }
 
-#[test]
-fn what_cannot_be_formatted_is_refused(rt: HostRuntime) -> Result<(), Fail> {
-    make_file(&rt, "refused.m.img", 2048, 0)?;
-    make_file(&rt, "refused.c.img", 131_072, 0)?;
-    make_file(&rt, "refused.o.img", 327_680, 0)?;
-    make_file(&rt, "refused.short.img", 131_584, 0)?;
-    for (table, printed, status) in [
-        ("cache refused.m.img", "refused 16 BadTable\n", 1),
-        (
-            "cache no.img no.img no.img 96 0 tinylfu 0",
-            "refused 16 BadTable\n",
-            1,
-        ),
-        (
-            "cache no.img no.img no.img 64 0 tinylfu 0",
-            "refused 5 Io metadata\n",
-            3,
-        ),
-        (
-            "cache refused.m.img no.img no.img 64 0 tinylfu 0",
-            "refused 5 Io cache\n",
-            3,
-        ),
-        (
-            "cache refused.m.img refused.c.img no.img 64 0 tinylfu 0",
-            "refused 5 Io origin\n",
-            3,
-        ),
-        (
-            "cache refused.m.img refused.short.img refused.o.img 64 0 tinylfu 0",
-            "refused 9 Geometry\n",
-            1,
-        ),
-        (
-            "cache refused.m.img refused.c.img refused.short.img 64 0 tinylfu 0",
-            "refused 9 Geometry\n",
-            1,
-        ),
-    ] {
-        expect(&rt, table, printed, status)?;
-    }
-    let metadata = fs::read(&rt, "refused.m.img")?;
-    assert!(rt; metadata.iter().all(|byte| *byte == 0));
-    Ok(())
-}
-
 /// Takes nothing.
 #[derive(Drop)]
 struct Closed;
@@ -144,7 +98,7 @@ fn an_answer_that_cannot_be_written_ends_with_4(rt: HostRuntime) -> Result<(), F
         "cache closed.m.img closed.c.img closed.o.img 64 0 tinylfu 0",
         "cache",
     ] {
-        assert_eq!(rt; format_files(&rt, rt.alloc(), table, &mut Closed), 4);
+        assert_eq!(rt; format_files(&rt, rt.alloc(), table, &mut Closed).code, 4);
     }
     Ok(())
 }

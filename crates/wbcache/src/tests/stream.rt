@@ -1,12 +1,9 @@
 //! Scripts over readers and writers that fail.
 
+use super::{expect_reason, make_file};
 use crate::script::run;
 use std::cell::Cell;
-use std::fs;
-use std::fs::File;
 use std::io::{BufReader, Error, ErrorKind, Read, Result as IoResult, Write};
-use std::process::Abort;
-use std::rt::Files;
 use std::test::Fail;
 
 /// Gives a script a line at a time, and only once the answer of the line before is out; at its end it fails, or
@@ -64,60 +61,48 @@ impl<'a> Write for Answerer<'a> {
 
 const LINES: [&str; 4] = ["w 60 8 ab\n", "r 63 2\n", "r 640 1\n", "r 67 2\n"];
 
-/// Runs the lines, and sees what was printed and the exit status.
-fn expect<R: Abort + AllocGlobal + Files<File = File>>(
-    rt: &R,
-    name: &str,
-    fails_at: usize,
-    reader_fails: bool,
-    printed: &str,
-    status: u8,
-) -> Result<(), Fail> {
-    for (device, bytes) in [("m", 2048), ("c", 131_072), ("o", 327_680)] {
-        let path = format!(in rt.alloc(); "{name}.{device}.img")?;
-        let content = vec![in rt.alloc(); 0u8; bytes]?;
-        fs::write(rt, path.as_str(), content.as_slice())?;
+/// An answer is out in one write before the next line is read; a reader that fails, and a writer that fails at each of
+/// its writes, end the script with 4.
+#[test]
+fn streams_that_end_or_fail(rt: HostRuntime) -> Result<(), Fail> {
+    let all = "ok\n63 ab\n64 ab\nrefused 1 Range\n67 ab\n68 00\n";
+    let refused = "1 line was refused, the first at line 3: 1 Range";
+    let rows = [
+        (99, false, all, 1, refused),
+        (99, true, all, 4, "the script cannot be read further"),
+        (0, false, "", 4, "an answer cannot be written"),
+        (1, false, "ok\n", 4, "an answer cannot be written"),
+        (
+            2,
+            false,
+            "ok\n63 ab\n64 ab\n",
+            4,
+            "an answer cannot be written",
+        ),
+    ];
+    let table = "cache streams.m.img streams.c.img streams.o.img 64 0 tinylfu 0";
+    for (fails_at, reader_fails, printed, status, reason) in rows {
+        make_file(&rt, "streams.m.img", 2048, 0)?;
+        make_file(&rt, "streams.c.img", 131_072, 0)?;
+        make_file(&rt, "streams.o.img", 327_680, 0)?;
+        let answered = Cell::new(0);
+        let asker = Asker {
+            lines: &LINES,
+            given: 0,
+            answered: &answered,
+            fails: reader_fails,
+        };
+        let mut reader = BufReader::new(rt.alloc(), asker)?;
+        let mut writer = Answerer {
+            text: Vec::new(rt.alloc()),
+            written: 0,
+            answered: &answered,
+            fails_at,
+        };
+        let ended = run(&rt, rt.alloc(), table, &mut reader, &mut writer);
+        assert_eq!(rt; writer.text.as_slice(), printed.as_bytes());
+        assert_eq!(rt; ended.code, status, "with {fails_at} writes");
+        expect_reason(&rt, &ended, reason)?;
     }
-    let table = format!(in rt.alloc();
-        "cache {name}.m.img {name}.c.img {name}.o.img 64 0 tinylfu 0"
-    )?;
-    let answered = Cell::new(0);
-    let asker = Asker {
-        lines: &LINES,
-        given: 0,
-        answered: &answered,
-        fails: reader_fails,
-    };
-    let mut reader = BufReader::new(rt.alloc(), asker)?;
-    let mut writer = Answerer {
-        text: Vec::new(rt.alloc()),
-        written: 0,
-        answered: &answered,
-        fails_at,
-    };
-    let given = run(rt, rt.alloc(), table.as_str(), &mut reader, &mut writer);
-    assert_eq!(rt; writer.text.as_slice(), printed.as_bytes());
-    assert_eq!(rt; given, status);
     Ok(())
-}
-
-#[test]
-fn each_answer_is_out_in_one_write_before_the_next_line_is_read(
-    rt: HostRuntime,
-) -> Result<(), Fail> {
-    let printed = "ok\n63 ab\n64 ab\nrefused 1 Range\n67 ab\n68 00\n";
-    expect(&rt, "turns", 99, false, printed, 1)
-}
-
-#[test]
-fn a_reader_that_fails(rt: HostRuntime) -> Result<(), Fail> {
-    let printed = "ok\n63 ab\n64 ab\nrefused 1 Range\n67 ab\n68 00\n";
-    expect(&rt, "reader", 99, true, printed, 4)
-}
-
-#[test]
-fn a_writer_that_fails(rt: HostRuntime) -> Result<(), Fail> {
-    expect(&rt, "writer", 0, false, "", 4)?;
-    expect(&rt, "writer", 1, false, "ok\n", 4)?;
-    expect(&rt, "writer", 2, false, "ok\n63 ab\n64 ab\n", 4)
 }

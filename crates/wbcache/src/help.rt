@@ -1,0 +1,28 @@
+//! What the program says of itself.
+
+/// The program's version, and what it is proved with, as `rt version` tells it.
+pub const VERSION: &str = "0.1.0, proved with rattle-kit-13b logic dac8208d650f15bf";
+
+pub const ABOUT: &str = "A write-back block cache over three files.";
+
+/// What a table and a script are, for both subcommands.
+pub const TEXTS: &str = "\
+TABLE is one argument, words parted by spaces:
+  cache <metadata> <cache> <origin> <block size> 0 tinylfu 0
+Three files that are there, and sectors of 512 bytes in a block: 64 to 2097152,
+a multiple of 64. Cache and origin have whole blocks, 1048575 and 1048576 at
+most. The metadata have 2 sectors and 2 for each node of a tree over the cache
+blocks, 32 a node: 4 sectors serve 32 cache blocks.
+
+A script, one answer a line, is read from standard input:
+  w S N hh    fill N sectors from S on with the byte hh: prints 'ok'
+  r S N       read them: prints '<sector> <hh>' or '<sector> mixed' for each
+  # ..        nothing; empty lines too
+What is refused prints 'refused <number> <Name>'. What was written is durable
+only after a flush, which comes with the cache. Status: 0 all was answered, 1
+something was refused, 2 the arguments, 3 a device failed, 4 a stream failed.
+
+Example:
+  truncate -s 2048 m; truncate -s 131072 c; truncate -s 327680 o
+  wbcache format 'cache m c o 64 0 tinylfu 0'
+  echo 'w 0 1 11' | wbcache run 'cache m c o 64 0 tinylfu 0'";

@@ -1,0 +1,63 @@
+//! The refused lines of a script.
+
+use std::fmt;
+use std::fmt::{Display, Formatter};
+use wb_types::Refusal;
+
+/// What a line was answered that was not done.
+#[derive(Clone, Copy, Debug, PartialEq, Eq)]
+pub enum Said {
+    Refused(Refusal),
+    /// It is no line of a script.
+    BadLine,
+}
+
+/// How many lines were refused, and the first of them: its number from 1 on, and what it was answered.
+#[derive(Clone, Copy, Debug, PartialEq, Eq)]
+pub struct Tally {
+    pub count: u64,
+    pub first: Option<(u64, Said)>,
+}
+
+impl Tally {
+    pub fn new() -> Tally {
+        Tally {
+            count: 0,
+            first: None,
+        }
+    }
+
+    /// Counts a line that was refused.
+    pub fn note(&mut self, number: u64, said: Said) {
+        self.count = self.count.saturating_add(1);
+        if self.first.is_none() {
+            self.first = Some((number, said));
+        }
+    }
+}
+
+impl Display for Said {
+    fn fmt<W: fmt::Write>(&self, f: &mut Formatter<W>) -> fmt::Result {
+        match self {
+            Said::Refused(refusal) => write!(f, "{refusal}"),
+            Said::BadLine => write!(f, "bad line"),
+        }
+    }
+}
+
+impl Display for Tally {
+    fn fmt<W: fmt::Write>(&self, f: &mut Formatter<W>) -> fmt::Result {
+        let Some((number, said)) = self.first else {
+            return write!(f, "no line was refused");
+        };
+        if self.count == 1 {
+            write!(f, "1 line was refused, the first at line {number}: {said}")
+        } else {
+            let count = self.count;
+            write!(
+                f,
+                "{count} lines were refused, the first at line {number}: {said}"
+            )
+        }
+    }
+}

@@ -1,0 +1,251 @@
+#!/bin/sh
+# What no test of the gate can show of the programs and the scripts: a build that fails or is stale, closed descriptors,
+# files that another program holds, a limit of the file size, help and version. It prints what failed, and at the end
+# 'N passed, N failed'; its status is 0 where nothing failed.
+#
+#     sh scripts/check-program.sh [WBCACHE WB_BENCH]
+#
+# tries these two programs, as the gate built them, or else those that scripts/build.sh leaves.
+set -u
+top=$(cd "$(dirname "$0")/.." && pwd)
+whole() { echo "$(cd "$(dirname "$1")" && pwd)/$(basename "$1")"; }
+if test $# = 2; then
+  cache=$(whole "$1")
+  bench=$(whole "$2")
+else
+  cache=$top/bin/wbcache
+  bench=$top/bin/wb_bench
+fi
+work=$(mktemp -d)
+trap 'rm -rf "$work"' EXIT
+passed=0
+failed=0
+
+check() { # name, what was found, what is wanted
+  if test "$2" = "$3"; then
+    passed=$((passed + 1))
+  else
+    failed=$((failed + 1))
+    printf 'failed: %s\n  wanted: %s\n  found:  %s\n' "$1" "$3" "$2"
+  fi
+}
+has() { # name, text, part of it
+  case $2 in
+    *"$3"*) check "$1" yes yes ;;
+    *) check "$1" "$2" "..$3.." ;;
+  esac
+}
+
+# --- The build script, over a tree of dummy crates and a stand-in for rt.
+tree=$work/tree
+mkdir -p "$tree/scripts" "$tree/crates/low/src" "$tree/crates/wbcache/src" "$tree/crates/wb_bench/src" "$work/bin"
+cp "$top/scripts/build.sh" "$top/scripts/first-script.sh" "$tree/scripts/"
+printf 'low:\nwbcache: low\nwb_bench: low\n' >"$tree/crates.txt"
+echo 'fn main() {}' >"$tree/crates/wbcache/src/main.rt"
+echo 'fn low() {}' >"$tree/crates/low/src/lib.rt"
+cat >"$work/bin/rt" <<'STAND_IN'
+#!/bin/sh
+# Stands in for rt: refuses a crate with a source that has the word BROKEN, and 'builds' a program that prints its name.
+echo "$*" >>"$CALLS"
+case $1 in
+  version) echo 'stand-in'; exit 0 ;;
+esac
+if grep -rq BROKEN src; then
+  echo 'error: BROKEN does not parse'
+  exit 1
+fi
+if test "$1" = run; then
+  mkdir -p out
+  printf '#!/bin/sh\ncat <<END\nbuilt from: %s\nEND\n' "$(cat src/*)" >"out/$(basename "$PWD")"
+  chmod +x "out/$(basename "$PWD")"
+fi
+STAND_IN
+chmod +x "$work/bin/rt"
+export CALLS="$work/calls"
+build() { # the rest of PATH: prints 'status N', after what the script wrote
+  : >"$CALLS"
+  PATH=$1:/usr/bin:/bin sh "$tree/scripts/build.sh" wbcache 2>&1
+  echo "status $?"
+}
+works() { grep -c '^run\|^lib' "$CALLS"; }
+there() { if test -e "$tree/bin/wbcache"; then "$tree/bin/wbcache"; else echo none; fi; }
+
+said=$(build "$work/bin")
+has 'a build ends with 0' "$said" 'status 0'
+has 'a build tells how far it is' "$said" '[2/2] wbcache'
+has 'a build says what it takes' "$said" 'GB of memory'
+check 'a build leaves the program' "$(there)" 'built from: fn main() {}'
+said=$(build "$work/bin")
+check 'what was built from these sources is not built again' "$said $(works)" 'status 0 0'
+echo 'fn low() { 1 }' >"$tree/crates/low/src/lib.rt"
+touch -d '2001-01-01' "$tree/crates/low/src/lib.rt"
+said=$(build "$work/bin")
+check 'what is older than its sources is built again' "$(works)" 2
+echo 'fn main() { BROKEN' >"$tree/crates/wbcache/src/main.rt"
+said=$(build "$work/bin")
+has 'a build that fails ends with 1' "$said" 'status 1'
+has 'a build that fails says why' "$said" 'error: BROKEN does not parse'
+check 'a build that fails leaves no old program' "$(there)" none
+said=$(PATH=$work/bin:/usr/bin:/bin sh "$tree/scripts/first-script.sh" 2>&1; echo "status $?")
+has 'the first script ends where the build fails' "$said" 'status 1'
+echo 'fn main() {}' >"$tree/crates/wbcache/src/main.rt"
+if PATH=/usr/bin:/bin command -v rt >/dev/null; then
+  echo 'not tried: rt stands in /usr/bin or /bin'
+else
+  said=$(build /nowhere)
+  has 'without rt the build ends with 1' "$said" 'status 1'
+  has 'without rt the build says so' "$said" 'rt is not on the path'
+fi
+check 'a build leaves nothing but the program' "$(cd "$tree" && find . -type f -newer "$work/bin/rt" ! -path './crates/*' | sort | tr '\n' ' ')" ''
+unset CALLS
+
+# --- The programs.
+if test $# != 2; then
+  for program in wbcache wb_bench; do
+    if ! sh "$top/scripts/build.sh" "$program"; then
+      echo "failed: $program cannot be built"
+      echo "$passed passed, $((failed + 1)) failed"
+      exit 1
+    fi
+  done
+fi
+cd "$work" || exit 1
+fresh() {
+  rm -f m.img c.img o.img
+  truncate -s 2048 m.img
+  truncate -s 131072 c.img
+  truncate -s 327680 o.img
+}
+table='cache m.img c.img o.img 64 0 tinylfu 0'
+sums() { cksum m.img c.img o.img | cut -d' ' -f1 | tr '\n' ' '; }
+
+# Descriptors 0 to 2.
+fresh
+before=$(sums)
+"$cache" format "$table" >&-
+check 'format without a standard output ends with 4' $? 4
+fresh
+printf 'r 0 1\n' | "$cache" run "$table" >&-
+check 'run without a standard output ends with 4' $? 4
+check 'run without a standard output leaves the files' "$(sums)" "$before"
+"$cache" run "$table" <&- >out.txt
+check 'run without a standard input ends with 4' "$? $(cat out.txt)" '4 '
+printf 'x\n' | "$cache" -v run "$table" 2>&- >out.txt
+check 'run without a standard error answers' "$? $(cat out.txt)" '1 bad line 1'
+printf 'r 0 1\n' | "$cache" run "$table" >&- 2>&-
+check 'run without both outputs ends with 4' $? 4
+check 'the files are left' "$(sums)" "$before"
+"$bench" o.img read 8 16 >&- 2>/dev/null
+check 'wb_bench without a standard output ends with 4' $? 4
+check 'wb_bench without a standard output leaves its file' "$(sums)" "$before"
+"$bench" o.img read 8 16 <&- >&- 2>&-
+check 'wb_bench without any ends with 4' "$? $(sums)" "4 $before"
+
+# A file that another program holds.
+fresh
+mkfifo script
+"$cache" run "$table" <script >first.txt &
+first=$!
+exec 3>script
+printf 'r 0 1\n' >&3
+tries=0
+while ! test -s first.txt && test $tries -lt 100; do
+  sleep 0.1
+  tries=$((tries + 1))
+done
+said=$("$cache" -v format "$table" 2>&1)
+check 'a format over files that a run holds' "$? $said" '3 refused 5 Io metadata
+wbcache: metadata file m.img: locked, by another program or as another device of the table'
+said=$(printf 'r 0 1\n' | "$cache" run "$table" 2>&1)
+check 'a run over files that a run holds' "$? $said" '3 refused 5 Io metadata'
+truncate -s 2048 n.img
+for held in c o; do
+  case $held in
+    c) other='cache n.img c.img o.img 64 0 tinylfu 0' device=cache ;;
+    o) truncate -s 131072 d.img; other='cache n.img d.img o.img 64 0 tinylfu 0' device=origin ;;
+  esac
+  said=$("$cache" format "$other" 2>&1)
+  check "a format over the $device that a run holds" "$? $said" "3 refused 5 Io $device"
+done
+exec 3>&-
+wait "$first"
+check 'the first run ends well' "$? $(cat first.txt)" '0 0 00'
+said=$("$cache" format "$table" 2>&1)
+check 'a format after the run ended' "$? $said" '0 formatted 4 10'
+
+# One file named twice.
+said=$("$cache" -v format 'cache m.img o.img o.img 64 0 tinylfu 0' 2>&1)
+check 'one file named twice' "$? $said" '3 refused 5 Io origin
+wbcache: origin file o.img: locked, by another program or as another device of the table'
+
+# Reasons.
+reason() { # script, arguments: the standard error and the status
+  printf '%s' "$1" >lines
+  shift
+  said=$("$cache" "$@" <lines 2>&1 >/dev/null)
+  echo "$? $said"
+}
+check 'no reason without -v' "$(reason '' run "${table% 0}")" '1 '
+check 'a word of the table' "$(reason '' -v run "cache m.img c.img o.img 96 0 tinylfu 0")" \
+  "1 wbcache: word 5 of the table is '96', and has to be the sectors of a block, 64 to 2097152, a multiple of 64"
+check 'a short table' "$(reason '' run -v "cache m.img c.img")" '1 wbcache: the table ends before word 4, the origin file'
+check 'a long table' "$(reason '' run --verbose "$table 0")" "1 wbcache: the table goes on after its last word, with '0'"
+has 'a file that is not there' "$(reason '' -v run 'cache no.img c.img o.img 64 0 tinylfu 0')" '3 wbcache: metadata file no.img: No such file or directory'
+has 'a folder' "$(reason '' -v run 'cache . c.img o.img 64 0 tinylfu 0')" 's a directory'
+truncate -s 1536 short.img
+check 'a size' "$(reason '' -v run 'cache short.img c.img o.img 64 0 tinylfu 0')" \
+  '1 wbcache: metadata: it has 3 sectors, and takes 4 to 4294967295 for this cache'
+check 'a part of a block' "$(reason '' -v run 'cache m.img short.img o.img 64 0 tinylfu 0')" \
+  '1 wbcache: cache: 3 sectors are no whole number of blocks of 64'
+check 'refused lines' "$(reason 'r 0 1
+r 640 1
+r 641 1
+x
+' -v run "$table")" '1 wbcache: 3 lines were refused, the first at line 2: 1 Range'
+check 'one refused line' "$(reason 'w 0 641 11
+' -v run "$table")" '1 wbcache: 1 line was refused, the first at line 1: 1 Range'
+check 'a writer that fails' "$( (printf 'r 0 1\n' | "$cache" -v run "$table" >/dev/full) 2>&1; echo $?)" 'wbcache: an answer cannot be written
+4'
+if test "$(id -u)" != 0; then
+  chmod 000 c.img
+  has 'no permission' "$(reason '' -v run "$table")" '3 wbcache: cache file c.img: Permission denied'
+  chmod 600 c.img
+fi
+
+# Lines past their limit.
+awk 'BEGIN { for (i = 0; i < 1048575; i++) printf " "; print ""; print "r 0 1" }' >long
+check 'a line of 1 MiB with its end' "$("$cache" run "$table" <long)" '0 00'
+awk 'BEGIN { for (i = 0; i < 1048576; i++) printf " "; print ""; print "r 0 1" }' >long
+check 'a line of 1 MiB without its end' "$("$cache" run "$table" <long; echo $?)" 'bad line 1
+1'
+check 'a line without an end takes no memory' "$(
+  (ulimit -v 65536; head -c 1000000000 /dev/zero | "$cache" run "$table" 2>&1; echo $?)
+)" 'bad line 1
+1'
+
+# Past the limit of the file size: the kit cannot ignore the signal, a shell can (docs/DECISIONS.md).
+fresh
+said=$( (trap '' XFSZ; ulimit -f 100; printf 'w 0 1 11\nw 400 1 22\n' | "$cache" run "$table") 2>&1)
+check 'past the limit of the file size, the signal ignored' "$? $said" '3 ok
+refused 5 Io origin'
+
+# Help, version and what is not read.
+for words in -h --help 'run --help' 'format -h'; do
+  # shellcheck disable=SC2086 # the words are apart
+  said=$("$cache" $words 2>&1)
+  has "status of $words" "$? $said" '0 '
+  has "$words explains the table" "$said" 'cache <metadata> <cache> <origin> <block size> 0 tinylfu 0'
+  has "$words explains the script" "$said" 'w S N hh'
+done
+check 'help is for standard output' "$("$cache" --help 2>&1 >/dev/null)" ''
+check 'the version' "$("$cache" --version)" "wbcache 0.1.0, proved with $(rt version)"
+"$cache" --help >/dev/full 2>&1
+check 'help that cannot be written ends with 4' $? 4
+for words in '' 'run' 'format' 'help' 'run a b' 'replay x' '-x' 'run -x a'; do
+  # shellcheck disable=SC2086 # the words are apart
+  said=$("$cache" $words 2>&1)
+  check "the usage for '$words'" "$? $said" '2 usage: wbcache format TABLE | run TABLE'
+done
+
+echo "$passed passed, $failed failed"
+test "$failed" = 0
