@@ -1,5 +1,6 @@
 -- Places of which none stands twice, when one more is reached.
-use Rattle.std.proofs.Common.{◌≡◌, ◌≤◌, ◌<◌, ◌+◌, ◌-◌, ◌==◌, ◌||◌, ℕ, Bool, true, false, cond, nat_eq, List, [], ◌∷◌, ◌++◌, length, map, refl, sym, ◌∙◌, ap, subst, arith}
+use Rattle.std.proofs.Common.{◌≡◌, ◌≤◌, ◌<◌, ◌+◌, ◌-◌, ◌==◌, ◌||◌, ℕ, zero, suc, get_or, Bool, true, false, cond, nat_eq, List, [], ◌∷◌, ◌++◌, length, map, refl, sym, ◌∙◌, ap, subst, arith}
+use Rattle.std.specs.Prelude.{Contains}
 use Rattle.std.specs.List.{AllByRecursion, IsDistinct, list_any}
 use Rattle.std.proofs.lemmas.Bool.Decides.{nat_tests}
 use Rattle.std.proofs.lemmas.List.{map-append, length-map, length-append}
@@ -11,6 +12,15 @@ use Rattle.wb_tree.specs.Reading.{is_reached}
 use Rattle.wb_tree.specs.Loading.{Loading, IsFresh}
 use Rattle.wb_meta.specs.States.{places_of}
 use Rattle.wb_meta.specs.Reads.{AreApart, IsTreeOn}
+
+-- what holds of all holds of one of them
+all_at : {X : Type 0} (P : X → Type 0) (xs : List X) (k : ℕ) (x : X) → AllByRecursion P xs → k < length xs → get_or xs k x ≡ x → P x
+all_at P [] k x all inside e = absurd (omega (arith, inside))
+all_at P (y ∷ xs) zero x all inside e = subst P e all.0
+all_at P (y ∷ xs) (suc k) x all inside e = all_at P xs k x all.1 (omega (arith, inside)) e
+
+pub all_contained : {X : Type 0} (P : X → Type 0) (xs : List X) (x : X) → AllByRecursion P xs → Contains xs x → P x
+all_contained P xs x all has = all_at P xs has.0 x all has.1 has.2
 
 all_pushed : {X : Type 0} (P : X → Type 0) (xs : List X) (x : X) → AllByRecursion P xs → P x → AllByRecursion P (xs ++ x ∷ [])
 all_pushed P [] x all p = (p, tt)

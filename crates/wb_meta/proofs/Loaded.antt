@@ -14,8 +14,8 @@ use Rattle.wb_tree.specs.Loading.{Loading, outcome, wanted_place, Fails}
 use Rattle.std.specs.Prelude.{Result, IfErr}
 use Rattle.std.specs.Result.{IsErrAnd}
 use Rattle.wb_tree.proofs.ReachedLemmas.{is_reached-push}
-use Rattle.wb_meta.specs.Holding.{ReadsThere}
-use Rattle.wb_meta.specs.States.{ReadThere, IsDamagedAt, IsRefusedBy, IsOfReading, CountsFault}
+use Rattle.wb_meta.specs.Representing.{ReadsThere, ReadThere}
+use Rattle.wb_meta.specs.States.{IsDamagedAt, IsRefusedBy, IsOfReading, CountsFault}
 use Rattle.wb_meta.specs.Reads.{HasLoaded}
 use Rattle.wb_meta.proofs.Framing.{reads_one, reached_before, reached_last}
 
@@ -57,8 +57,8 @@ wanted_node (Some node) place e = record { node = node; some = refl; there = cc 
 
 -- what holds of the refusal that a `?` hands on
 pub IfErr-handed : {T E : Type 0} (r : Result T E) (refusal : E) (P : E → Type 0) → IsErrAnd r (λ e. e ≡ refusal) → P refusal → IfErr r P
-IfErr-handed (Ok x) refusal P handed holds = tt
-IfErr-handed (Err e) refusal P handed holds = subst P (sym handed) holds
+IfErr-handed (Ok x) refusal P handed represents = tt
+IfErr-handed (Err e) refusal P handed represents = subst P (sym handed) represents
 
 -- a sector reads alike in all ways to read it
 pub there_one : (sectors : List Content) (a b : Nodes) (place : ℕ) → ReadsThere sectors a place → ReadsThere sectors b place → a place ≡ b place

@@ -14,8 +14,8 @@ use Rattle.wb_disk.specs.Device.{Content}
 use Rattle.wb_format.specs.declared.root.Root.{Root}
 use Rattle.wb_tree.specs.Mapping.{Mapping, IsMapping, IsPlaceOf, Forgets, entry_at}
 use Rattle.wb_tree.specs.Images.{AreFree}
-use Rattle.wb_meta.specs.States.{IsStateOf}
-use Rattle.wb_meta.proofs.Settled.{reached-listed}
+use Rattle.wb_meta.specs.States.{RepresentsState}
+use Rattle.wb_meta.proofs.Round.{reached-listed}
 
 -- ---- mappings
 
@@ -116,9 +116,9 @@ pub change-places : (old new : Mapping) (block : ℕ) (entry : Entry) → (entry
     → (place : Place) → IsPlaceOf new place → IsPlaceOf old place
 change-places old new block entry same forgets place is = elim (has_entry (entry_at old block) entry) [
   | inl e ↦ subst (λ (m : Mapping). IsPlaceOf m place) (same e) is
-  | inr off ↦ let f = forgets off in record { level = is.level; index = is.index; known = f.kept is.level is.index place is.known }
+  | inr off ↦ let f = forgets off in record { level = is.level; index = is.index; known = f.stays is.level is.index place is.known }
 ]
 
 -- the places of a tree that was read are told
-pub state-used : (sectors : List Content) (root : Root) (tree : Mapping) (used : List Place) → IsStateOf sectors root tree used → (place : Place) → IsPlaceOf tree place → Contains used place
+pub state-used : (sectors : List Content) (root : Root) (tree : Mapping) (used : List Place) → RepresentsState sectors root tree used → (place : Place) → IsPlaceOf tree place → Contains used place
 state-used sectors root tree used state place is = subst (λ (ps : List Place). Contains ps place) (sym state.used_are) (reached-listed state.found.reached place (state.loaded.reached place is))

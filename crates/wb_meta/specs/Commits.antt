@@ -55,9 +55,19 @@ HasCome image before NodesSynced now = SyncedNodes image before now
 HasCome image before RootWritten now = WroteRoot image before now
 HasCome image before Done now = SyncedRoot image before now
 
--- a commit that began over this device has failed at some step
-abbrev pub HasFailed : Image → List History → List History → Type 0
-HasFailed image before now = Grew (IsNodeHere image.nodes.items) before now ⊎ MayHaveRoot image before now
+-- the root was not written yet
+abbrev pub IsBeforeRoot : CommitSteps → Type 0
+IsBeforeRoot (NodesWritten count) = Unit {0}
+IsBeforeRoot NodesSynced = Unit {0}
+IsBeforeRoot RootWritten = ⊥
+IsBeforeRoot Done = ⊥
+
+-- a commit that began over this device and had come so far has failed at its next step
+abbrev pub HasFailed : Image → List History → CommitSteps → List History → Type 0
+HasFailed image before (NodesWritten count) now = Grew (IsNodeHere image.nodes.items) before now
+HasFailed image before NodesSynced now = MayHaveRoot image before now
+HasFailed image before RootWritten now = MayHaveRoot image before now
+HasFailed image before Done now = ⊥
 
 -- how many steps are left of a commit of so many nodes
 abbrev pub steps_left : ℕ → CommitSteps → ℕ

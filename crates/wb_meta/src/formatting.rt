@@ -6,7 +6,7 @@ ghost use Rattle.wb_types.specs.declared.mode.Dev.TheVariants.{Metadata};
 ghost use Rattle.wb_disk.specs.Device.{OneMore};
 ghost use Rattle.wb_meta.specs.Formats.{IsFormatted, SlotsAlone};
 
-use crate::sector::{put_root, put_zeros, settle};
+use crate::sector::{put_root, put_zeros, sync};
 use wb_disk::Disk;
 use wb_format::{Root, Version};
 use wb_types::{Geometry, Refusal};
@@ -30,7 +30,7 @@ pub fn format<D: Disk>(disk: &mut D, geometry: &Geometry) -> Result<(), Refusal>
     }
     put_zeros(disk, 0)?;
     put_zeros(disk, 1)?;
-    settle(disk)?;
+    sync(disk)?;
     let root = Root {
         generation: 0,
         version: Version::One,
@@ -39,5 +39,5 @@ pub fn format<D: Disk>(disk: &mut D, geometry: &Geometry) -> Result<(), Refusal>
         top: None,
     };
     put_root(disk, 0, &root)?;
-    settle(disk)
+    sync(disk)
 }

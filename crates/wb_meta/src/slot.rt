@@ -15,7 +15,7 @@ use wb_types::{Dev, Refusal, SECTOR_BYTES};
 /// The valid root of a slot, where there is one. `Io` where the device fails.
 pub(crate) fn read_slot<D: Disk>(disk: &mut D, slot: u32) -> Result<Option<Root>, Refusal>
     ensures size { D.size disk.new ≡ D.size disk.old }
-    ensures kept { D.tells → D.contents disk.new ≡ D.contents disk.old }
+    ensures same { D.tells → D.contents disk.new ≡ D.contents disk.old }
     ensures found { D.tells → IfOk result (IsInSlot (map newest (D.contents disk.old)) slot) }
     ensures refused { IfErr result (λ refusal. refusal ≡ Io Metadata) }
     ensures no_fault { D.tells → OnOk result (D.faults disk.new ≡ D.faults disk.old) }

@@ -1,5 +1,5 @@
--- An edit of one entry keeps what is known of the tree.
-use Rattle.std.proofs.Common.{◌≡◌, ◌≤◌, ◌<◌, ◌⊎◌, ◌+◌, ◌*◌, ◌/◌, ◌^◌, ◌∙◌, sym, ap, ℕ, suc, Bool, true, false, List, Option, Some, None, take, drop, set, slice_set, arith, add-one, get_or, ◌-◌, inl, inr}
+-- An edit of one entry leaves what is known of the tree as it is, or unknown.
+use Rattle.std.proofs.Common.{◌≡◌, ◌≤◌, ◌<◌, ◌⊎◌, ◌+◌, ◌*◌, ◌/◌, ◌^◌, ◌∙◌, sym, ap, subst, refl, ℕ, suc, Bool, true, false, List, Option, Some, None, take, drop, set, slice_set, arith, add-one, get_or, ◌-◌, inl, inr}
 use Rattle.std.specs.Prelude.{IsSome, is_some}
 use Rattle.std.specs.List.{list_any}
 use Rattle.std.proofs.lemmas.Bool.{cases_lt, cases_Bool}
@@ -9,7 +9,8 @@ use Rattle.wb_types.specs.declared.entry.Entry.{Entry}
 use Rattle.wb_types.specs.declared.number.Place.{Place}
 use Rattle.wb_format.specs.declared.node.Node.{Node}
 use Rattle.wb_tree.specs.Mapping.{Mapping, NodeName, IsSound, IsPlaceOf, IsOnPath, AreInside, Forgets, exists, place_of}
-use Rattle.wb_tree.specs.Images.{Keeps, IsNodeOf, word_at}
+use Rattle.wb_tree.specs.Images.{Stores, IsNodeOf, word_at}
+use Rattle.wb_tree.specs.Edits.{IsEdited}
 use Rattle.wb_tree.proofs.Grown.{up_block, word_same, no_place}
 use Rattle.wb_tree.proofs.PlacedLists.{option_cases, some_of}
 
@@ -61,7 +62,7 @@ yes_and_no b p q = absurd cc
 child_same : (old new : Mapping) (block : ℕ) (entry : Option Entry) → IsSound old → IsSound new → new.entries ≡ slice_set old.entries block entry → Forgets old new block
     → (level index child : ℕ) (place : Place) → 1 ≤ level → place_of new (level + 1) index ≡ Some place → child / 32 ≡ index → place_of old level child ≡ place_of new level child
 child_same old new block entry sound sound' is forgets level index child place from known below = elim (option_cases (place_of new level child)) [
-  | inl some ↦ forgets.kept level child some.0 some.1 ∙ sym some.1
+  | inl some ↦ forgets.stays level child some.0 some.1 ∙ sym some.1
   | inr none ↦
       let off : IsOnPath block level child → ⊥ = λ on. off_path old new block (level + 1) index place forgets (omega arith) known (ap (λ n. block / 32 ^ n) (add-one level) ∙ (up_block block level ∙ (ap (λ n. n / 32) on ∙ below))) in
       let gone : exists new.entries level child ≡ false = elim (cases_Bool (exists new.entries level child)) [
@@ -86,34 +87,53 @@ words_same old new block entry sound sound' is forgets level index j place known
     (λ k inner. child_same old new block entry sound sound' is forgets (suc k) index (32 * index + j) place (omega arith)
     (ap (λ l. place_of new l index) (add-one (suc k) ∙ sym inner) ∙ known) (omega arith))
 
--- ---- what an edit keeps
+-- ---- what edits leave
 
-kept_node : (old new : Mapping) (block : ℕ) (entry : Option Entry) → IsSound old → IsSound new → new.entries ≡ slice_set old.entries block entry → Forgets old new block
-    → (generation level index : ℕ) (place : Place) (node : Node) → place_of new level index ≡ Some place → IsNodeOf old generation level index node → IsNodeOf new generation level index node
-kept_node old new block entry sound sound' is forgets generation level index place node known right =
+-- one edit
+pub edited-once : (old new : Mapping) (block : ℕ) (entry : Option Entry) → IsSound old → IsSound new → new.entries ≡ slice_set old.entries block entry → Forgets old new block → IsEdited old new
+edited-once old new block entry sound sound' is forgets = record {
+  stays = forgets.stays;
+  words = λ level index j place known less. words_same old new block entry sound sound' is forgets level index j place known less;
+}
+
+-- none
+pub edited-none : (m : Mapping) → IsEdited m m
+edited-none m = record { stays = λ level index place known. known; words = λ level index j place known less. refl }
+
+pub edited-nothing : (old new : Mapping) → new ≡ old → IsEdited old new
+edited-nothing old new same = subst (λ (m : Mapping). IsEdited old m) (sym same) (edited-none old)
+
+-- some, and some more
+pub edited-more : (a b c : Mapping) → IsEdited a b → IsEdited b c → IsEdited a c
+edited-more a b c first next = record {
+  stays = λ level index place known. first.stays level index place (next.stays level index place known);
+  words = λ level index j place known less. first.words level index j place (next.stays level index place known) less ∙ next.words level index j place known less;
+}
+
+node_edited : (old new : Mapping) → IsEdited old new → (generation level index : ℕ) (place : Place) (node : Node) → place_of new level index ≡ Some place → IsNodeOf old generation level index node → IsNodeOf new generation level index node
+node_edited old new edited generation level index place node known right =
     let l : node.level ≡ level = ap (λ (n : NodeName). n.level) right.name in
     let i : node.index ≡ index = ap (λ (n : NodeName). n.index) right.name in
     let here : place_of new node.level node.index ≡ Some place = ap (λ k. place_of new k node.index) l ∙ (ap (λ k. place_of new level k) i ∙ known) in
     record {
       name = right.name;
       not_newer = right.not_newer;
-      words = λ j less. right.words j less ∙ words_same old new block entry sound sound' is forgets node.level node.index j place here less;
+      words = λ j less. right.words j less ∙ edited.words node.level node.index j place here less;
     }
 
-pub keeps-edited : (old new : Mapping) (block : ℕ) (entry : Option Entry) (sectors : List (List ℕ)) (generation : ℕ) → IsSound old → IsSound new → new.entries ≡ slice_set old.entries block entry → Forgets old new block
-    → Keeps sectors old generation → Keeps sectors new generation
-keeps-edited old new block entry sectors generation sound sound' is forgets keeps level index place known =
-    let k = keeps level index place (forgets.kept level index place known) in
+pub stored-edited : (old new : Mapping) (sectors : List (List ℕ)) (generation : ℕ) → IsEdited old new → Stores sectors old generation → Stores sectors new generation
+stored-edited old new sectors generation edited stores level index place known =
+    let k = stores level index place (edited.stays level index place known) in
     record {
       sector = k.sector;
       there = k.there;
       node = k.node;
       spelled = k.spelled;
-      right = kept_node old new block entry sound sound' is forgets generation level index place k.node known k.right;
+      right = node_edited old new edited generation level index place k.node known k.right;
     }
 
-pub places-edited : (old new : Mapping) (block : ℕ) (place : Place) → Forgets old new block → IsPlaceOf new place → IsPlaceOf old place
-places-edited old new block place forgets is = record { level = is.level; index = is.index; known = forgets.kept is.level is.index place is.known }
+pub places-edited : (old new : Mapping) (place : Place) → IsEdited old new → IsPlaceOf new place → IsPlaceOf old place
+places-edited old new place edited is = record { level = is.level; index = is.index; known = edited.stays is.level is.index place is.known }
 
-pub inside-edited : (old new : Mapping) (block meta_sectors : ℕ) → Forgets old new block → AreInside meta_sectors old → AreInside meta_sectors new
-inside-edited old new block meta_sectors forgets inside place is = inside place (places-edited old new block place forgets is)
+pub inside-edited : (old new : Mapping) (meta_sectors : ℕ) → IsEdited old new → AreInside meta_sectors old → AreInside meta_sectors new
+inside-edited old new meta_sectors edited inside place is = inside place (places-edited old new place edited is)

@@ -11,7 +11,7 @@ use Rattle.wb_format.specs.declared.node.Node.{Node}
 use Rattle.wb_format.specs.Words.{entry_word}
 use Rattle.wb_tree.specs.declared.placed.PlacedNode.{PlacedNode}
 use Rattle.wb_tree.specs.Mapping.{Mapping, place_in, place_of, entry_at}
-use Rattle.wb_tree.specs.Stored.{AreApart}
+use Rattle.wb_tree.specs.Fields.{AreApart}
 use Rattle.wb_tree.specs.Reading.{Found, Nodes, is_node_of, is_reached}
 use Rattle.wb_tree.specs.Images.{word_at, place_word}
 use Rattle.wb_tree.proofs.Names.{IsBelow}

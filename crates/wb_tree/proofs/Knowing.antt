@@ -6,7 +6,7 @@ use Rattle.std.proofs.lemmas.Option.{slice_get-get_or}
 use Rattle.wb_types.specs.declared.number.Place.{Place}
 use Rattle.wb_tree.specs.declared.placed.PlacedNode.{PlacedNode}
 use Rattle.wb_tree.specs.Mapping.{Mapping, IsSound, IsPlaceOf, place_in}
-use Rattle.wb_tree.specs.Stored.{AreApart}
+use Rattle.wb_tree.specs.Fields.{AreApart}
 use Rattle.wb_tree.proofs.Placing.{either_place}
 use Rattle.wb_tree.proofs.Truth.{and_true, yes}
 

@@ -10,7 +10,7 @@ use Rattle.wb_format.specs.declared.root.Root.{Root}
 use Rattle.wb_format.specs.declared.node.Node.{Node}
 use Rattle.wb_tree.specs.declared.placed.PlacedNode.{PlacedNode}
 use Rattle.wb_tree.specs.Mapping.{place_in}
-use Rattle.wb_tree.specs.Stored.{AreApart}
+use Rattle.wb_tree.specs.Fields.{AreApart}
 use Rattle.wb_tree.specs.Reading.{Found, Reading, Nodes, ◌then◌, each_step, entry_in, entry_read, child_read, names_child, is_node_of, reached_at, words_read, node_read, nothing_found, top_read, tree_read}
 use Rattle.wb_tree.proofs.Steps.{names_child-is, then_ok, test_ok, nothing_there}
 use Rattle.wb_tree.proofs.PlacedLists.{PlacesApart}

@@ -31,3 +31,4 @@ pub mod Truth
 pub mod Whole
 pub mod WholePlan
 pub mod WordSpelling
+pub mod EntryChanges

@@ -1,4 +1,4 @@
--- The tree that was found, where every node that was reached has an entry below it: what a tree keeps holds of it, no
+-- The tree that was found, where every node that was reached has an entry below it: what holds of every tree holds of it, no
 -- node counts as changed, and each is read as the tree has it.
 use Rattle.std.proofs.Common.{◌≡◌, ◌≤◌, ◌<◌, ◌+◌, ◌-◌, ◌*◌, ◌/◌, ◌^◌, ◌∙◌, ◌&&◌, ◌==◌, sym, ap, subst, refl, ℕ, suc, true, leb, List, [], ◌∷◌, ◌++◌, Option, Some, None, Ok, length, replicate, get_or, take, drop, arith}
 use Rattle.std.specs.Prelude.{IsSome, is_some, slice_index_or, All}
@@ -17,10 +17,11 @@ use Rattle.wb_tree.specs.Mapping.{Mapping, NodeName, IsSound, AreInside, place_i
 use Rattle.wb_tree.specs.Reading.{Found, Nodes, tree_read}
 use Rattle.wb_tree.specs.Images.{AreRead, word_at, name_of}
 use Rattle.wb_tree.specs.Loaded.{IsWhole, IsLoaded}
-use Rattle.wb_tree.specs.Stored.{AreApart, IsStored, padded}
+use Rattle.wb_tree.specs.Fields.{AreApart, AreFields, padded}
 use Rattle.wb_tree.proofs.Names.{IsBelow, nodes_below-below, nodes_below-exist}
 use Rattle.wb_tree.proofs.PlacedLists.{one_name, place_in-reached, place_in-member, member-named}
 use Rattle.wb_tree.proofs.LoaderSteps.{depth_range}
+use Rattle.wb_tree.proofs.Counting.{count-reached}
 use Rattle.wb_tree.proofs.Grown.{tree_with}
 use Rattle.wb_tree.proofs.KnownTree.{IsKnownTree, known_tree}
 use Rattle.wb_tree.proofs.Truth.{and_true}
@@ -135,18 +136,18 @@ unknown_sound entries = record {
   apart = λ level index level' index' place e e'. absurd cc;
 }
 
-pub stored_none : (blocks : ℕ) (entries : List (Option Entry)) → length entries ≡ blocks → IsStored blocks entries None
+pub fields_none : (blocks : ℕ) (entries : List (Option Entry)) → length entries ≡ blocks → AreFields blocks entries None
 unfolding with_known
-stored_none blocks entries size = record {
+fields_none blocks entries size = record {
   size = omega (arith, size);
   sound = unknown_sound (padded blocks entries);
   complete = tt;
 }
 
 -- all nodes that were reached are known
-pub stored_all : (root : Root) (nodes : Nodes) (found : Found) (known : Vec PlacedNode) → tree_read root nodes ≡ Ok found → known.items ≡ found.reached → IsWhole found → IsStored root.geometry.cache_blocks found.entries (Some known)
+pub fields_all : (root : Root) (nodes : Nodes) (found : Found) (known : Vec PlacedNode) → tree_read root nodes ≡ Ok found → known.items ≡ found.reached → IsWhole found → AreFields root.geometry.cache_blocks found.entries (Some known)
 unfolding with_known
-stored_all root nodes found known reads same whole =
+fields_all root nodes found known reads same whole =
     let h = known_tree root nodes found reads in
     let tree : with_known found.entries found.reached ≡ with_known (padded root.geometry.cache_blocks found.entries) known.items =
     ap (λ es. with_known es found.reached) (all_padded root.geometry.cache_blocks found.entries h.size) ∙ ap (λ ks. with_known (padded root.geometry.cache_blocks found.entries) ks) (sym same) in
@@ -155,6 +156,7 @@ stored_all root nodes found known reads same whole =
       sound = subst IsSound tree (loaded_sound root nodes found h whole);
       complete = record {
         once = subst AreApart (sym same) h.once;
+        few = omega (arith, count-reached root nodes found reads, ap length same);
         all = subst (λ m. changed m (depth_of root.geometry.cache_blocks) ≡ []) tree (loaded_whole root nodes found h);
       };
     }
@@ -164,15 +166,16 @@ unknown_read : (entries : List (Option Entry)) (nodes : Nodes) (generation : ℕ
 unfolding with_known
 unknown_read entries nodes generation level index place e = absurd cc
 
-pub loaded_none : (root : Root) (found : Found) (m : Mapping) → m.entries ≡ found.entries → m.known ≡ [] → (IsWhole found → ⊥) → IsLoaded root found m
+pub loaded_none : (root : Root) (told : Nodes) (found : Found) (m : Mapping) → tree_read root told ≡ Ok found → m.entries ≡ found.entries → m.known ≡ [] → (IsWhole found → ⊥) → IsLoaded root found m
 unfolding with_known
-loaded_none root found m entries known broken =
+loaded_none root told found m reads entries known broken =
     let tree : with_known m.entries [] ≡ m = ap (λ ks. with_known m.entries ks) (sym known) in
     subst (IsLoaded root found) tree (record {
       sound = unknown_sound m.entries;
       inside = λ place p. absurd (let e = p.known in cc);
       reached = λ place p. absurd (let e = p.known in cc);
       read = λ nodes reads. unknown_read m.entries nodes root.generation;
+      few = count-reached root told found reads;
       none_changed = λ whole. absurd (broken whole);
     })
 
@@ -186,6 +189,7 @@ loaded_all root told found m reads entries known whole =
       inside = loaded_inside root told found h;
       reached = λ place p. place_in-reached found.reached p.level p.index place p.known;
       read = λ nodes again. loaded_read root nodes found (known_tree root nodes found again);
+      few = count-reached root told found reads;
       none_changed = λ w. loaded_whole root told found h;
     })
 

@@ -12,7 +12,7 @@ use Rattle.wb_format.specs.Words.{entry_word}
 use Rattle.wb_tree.specs.Mapping.{NodeName, exists, each_from, nodes_below, place_in, place_of}
 use Rattle.wb_tree.specs.Images.{word_at, place_word}
 use Rattle.wb_tree.specs.Planning.{placed, planned, IsWritten, AreWritten}
-use Rattle.wb_tree.specs.Stored.{padded}
+use Rattle.wb_tree.specs.Fields.{padded}
 use Rattle.wb_tree.proofs.Padding.{padded-past}
 
 -- ---- which nodes exist
@@ -80,7 +80,7 @@ written-padded blocks entries depth generation free nodes h = record {
   places = h.places;
   each = All-weaker (IsWritten (planned entries depth free) generation) (IsWritten (planned (padded blocks entries) depth free) generation)
       (λ node w. record {
-        settled = sym (known_same blocks entries depth free node.1.level node.1.index) ∙ w.settled;
+        stands = sym (known_same blocks entries depth free node.1.level node.1.index) ∙ w.stands;
         written_in = w.written_in;
         words = λ j below. w.words j below ∙ word_same blocks entries depth free node.1.level node.1.index j;
       })

@@ -2,7 +2,7 @@
 use Rattle.std.proofs.Common.{◌≡◌, ◌<◌, ◌≤◌, ◌+◌, ◌-◌, ℕ, Option, None, List, ◌++◌, length, take, set, get_or, replicate, refl, sym, ap, ◌∙◌, append_assoc, arith}
 use Rattle.std.proofs.lemmas.List.{set-append_left, set-get_or, length-set, take_all, replicate-append-replicate, length-append, length-replicate, get_or-append_right, get_or_append_left, get_or_default}
 use Rattle.wb_types.specs.declared.entry.Entry.{Entry}
-use Rattle.wb_tree.specs.Stored.{padded}
+use Rattle.wb_tree.specs.Fields.{padded}
 use Rattle.wb_tree.proofs.Steps.{nothing_there}
 
 -- a list in which an item is set to what it is
@@ -37,9 +37,9 @@ length-padded blocks entries fits =
     omega (arith, length-append entries (replicate (blocks - length entries) None), length-replicate {A = Option Entry} (blocks - length entries) None)
 
 -- after the part that is kept has grown to hold a cache block
-pub padded-after_resize : (blocks : ℕ) (entries new : List (Option Entry)) (kept i : ℕ) → kept ≡ length entries → kept ≤ i → i < length (padded blocks entries) → length entries ≤ blocks
-    → new ≡ take (i + 1) entries ++ replicate (i + 1 - kept) None → padded blocks new ≡ padded blocks entries
-padded-after_resize blocks entries new kept i same from inside fits e =
+pub padded-after_resize : (blocks : ℕ) (entries new : List (Option Entry)) (stays i : ℕ) → stays ≡ length entries → stays ≤ i → i < length (padded blocks entries) → length entries ≤ blocks
+    → new ≡ take (i + 1) entries ++ replicate (i + 1 - stays) None → padded blocks new ≡ padded blocks entries
+padded-after_resize blocks entries new stays i same from inside fits e =
     let len = length-padded blocks entries fits in
     let shape : new ≡ take (i + 1) entries ++ replicate (i + 1 - length entries) None = e ∙ ap (λ k. take (i + 1) entries ++ replicate {A = Option Entry} (i + 1 - k) None) same in
     ap (padded blocks) shape ∙ padded-grown blocks entries (i + 1) (omega arith) (omega arith)

@@ -6,7 +6,7 @@ use Rattle.wb_types.specs.declared.number.Place.{Place}
 use Rattle.wb_tree.specs.declared.placed.PlacedNode.{PlacedNode}
 use Rattle.wb_tree.specs.Mapping.{place_in}
 use Rattle.wb_tree.specs.Reading.{is_reached}
-use Rattle.wb_tree.specs.Stored.{AreApart}
+use Rattle.wb_tree.specs.Fields.{AreApart}
 use Rattle.wb_tree.proofs.Truth.{and_true, yes}
 
 -- no place comes twice

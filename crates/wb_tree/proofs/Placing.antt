@@ -7,7 +7,7 @@ use Rattle.wb_types.specs.declared.number.Place.{Place}
 use Rattle.wb_tree.specs.declared.placed.PlacedNode.{PlacedNode}
 use Rattle.wb_tree.specs.Mapping.{NodeName, place_in}
 use Rattle.wb_tree.specs.Planning.{placed}
-use Rattle.wb_tree.specs.Stored.{AreApart as AreKnownApart}
+use Rattle.wb_tree.specs.Fields.{AreApart as AreKnownApart}
 use Rattle.wb_tree.proofs.Names.{has, had_right, AreApart, same_name}
 use Rattle.wb_tree.proofs.Truth.{yes}
 

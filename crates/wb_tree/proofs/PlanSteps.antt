@@ -140,7 +140,7 @@ pub next-written : (entries : List (Option Entry)) (depth : ℕ) (free : List Pl
 next-written entries depth free front generation level index nodes nodes' new node h written same more a b one =
     let m : Mapping = planned entries depth free in
     let here : place_of m node.1.level node.1.index ≡ place_of m level index = ap (λ l. place_of m l node.1.index) a ∙ ap (λ i. place_of m level i) b in
-    let there : slice_get free (length nodes) ≡ Some node.0 = sym h.place ∙ (sym here ∙ one.settled) in
+    let there : slice_get free (length nodes) ≡ Some node.0 = sym h.place ∙ (sym here ∙ one.stands) in
     subst (AreWritten m generation free) (sym (more ∙ ap (λ (ns : List (Place × Node)). ns ++ node ∷ []) same)) (written-more m generation free nodes node written h.inside there one)
 
 -- the names of the nodes with one more

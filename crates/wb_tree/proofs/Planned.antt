@@ -1,5 +1,5 @@
 -- The tree whose nodes all stand at the first of some free places.
-use Rattle.std.proofs.Common.{◌≡◌, ◌≤◌, ◌<◌, ◌+◌, ◌∙◌, ◌&&◌, ◌==◌, sym, ap, subst, refl, ℕ, Bool, true, false, cond, List, [], ◌∷◌, Option, Some, None, map, take, length, inl, inr}
+use Rattle.std.proofs.Common.{◌≡◌, ◌≤◌, ◌<◌, ◌+◌, ◌∙◌, ◌&&◌, ◌==◌, sym, ap, subst, refl, ℕ, Bool, true, false, cond, List, [], ◌∷◌, Option, Some, None, map, take, length, inl, inr, arith}
 use Rattle.std.specs.Prelude.{◌⊎◌, IsSome, slice_get}
 use Rattle.std.specs.List.{AllByRecursion}
 use Rattle.std.proofs.lemmas.List.{length-map}
@@ -13,7 +13,8 @@ use Rattle.wb_tree.specs.declared.placed.PlacedNode.{PlacedNode}
 use Rattle.wb_tree.specs.Mapping.{Mapping, NodeName, IsSound, AreInside, exists, nodes_of, place_in, place_of, changed, changed_of}
 use Rattle.wb_tree.specs.Images.{HasWordsOf, name_of}
 use Rattle.wb_tree.specs.Planning.{placed, planned, names, IsWritten, AreWritten}
-use Rattle.wb_tree.specs.Stored.{IsComplete}
+use Rattle.wb_tree.specs.Fields.{IsComplete}
+use Rattle.wb_tree.proofs.Counting.{count-nodes}
 use Rattle.wb_tree.proofs.Names.{IsBelow, has, same_name, nodes_below-below, nodes_below-exist, nodes_below-apart, nodes_below-closed}
 use Rattle.wb_tree.proofs.Placing.{placed-apart, placed-some, placed-had, placed-looked, placed-take, places_of}
 use Rattle.wb_tree.proofs.PlanSteps.{planned-is}
@@ -94,11 +95,21 @@ planned-sound entries depth geometry free can =
           same_node level index level' index' (slice_get (nodes_of entries depth) p.at) p.node (ap (λ k. slice_get (nodes_of entries depth) k) at ∙ q.node);
     }
 
+placed-few : (names : List NodeName) (places : List Place) → length (placed names places) ≤ length names
+placed-few [] places = omega arith
+placed-few (name ∷ names) [] = omega arith
+placed-few (name ∷ names) (place ∷ places) = omega (arith, placed-few names places)
+
 -- all its nodes are known
 pub planned-complete : (entries : List (Option Entry)) (depth : ℕ) (geometry : Geometry) (free : List Place) → CanPlace entries depth geometry free → IsComplete geometry.cache_blocks (planned entries depth free)
 unfolding planned
 planned-complete entries depth geometry free can = record {
   once = placed-apart (nodes_of entries depth) free (nodes_below-apart entries depth 0);
+  few =
+      let long = placed-few (nodes_of entries depth) free in
+      let most = count-nodes entries geometry.cache_blocks (omega (arith, can.size)) in
+      let same : length (nodes_of entries depth) ≡ length (nodes_of entries (depth_of geometry.cache_blocks)) = ap (λ d. length (nodes_of entries d)) can.levels in
+      omega (arith, long, most, same);
   all =
       let m : Mapping = planned entries depth free in
       ap (changed m) (sym can.levels)
@@ -139,10 +150,10 @@ all-written_is m entries depth geometry generation free nodes can same none ns h
     let n : Mapping = planned entries depth free in
     record {
       same_entries = planned_entries entries depth free ∙ sym same;
-      kept = λ level index place e. let nothing : place_of m level index ≡ None = ap (λ (ks : List PlacedNode). place_in ks level index) none in absurd cc;
+      stays = λ level index place e. let nothing : place_of m level index ≡ None = ap (λ (ks : List PlacedNode). place_in ks level index) none in absurd cc;
       nodes_are = ns ∙ (sym (all_changed m none (nodes_of entries depth)) ∙ (ap (λ (es : List (Option Entry)). changed_of m (nodes_of es depth)) (sym same) ∙ ap (changed m) can.levels));
       places_are = h.places;
-      settled = All-weaker (IsWritten n generation) (λ (node : Place × Node). place_of n node.1.level node.1.index ≡ Some node.0) (λ node w. w.settled) nodes h.each;
+      stands = All-weaker (IsWritten n generation) (λ (node : Place × Node). place_of n node.1.level node.1.index ≡ Some node.0) (λ node w. w.stands) nodes h.each;
       generations = All-weaker (IsWritten n generation) (λ (node : Place × Node). node.1.generation ≡ generation) (λ node w. w.written_in) nodes h.each;
       words = All-weaker (IsWritten n generation) (λ (node : Place × Node). HasWordsOf n node.1) (λ node w. w.words) nodes h.each;
     }

@@ -12,7 +12,7 @@ use Rattle.wb_tree.specs.declared.placed.PlacedNode.{PlacedNode}
 use Rattle.wb_tree.specs.Mapping.{Mapping, NodeName, IsMapping, IsSound, AreInside, nodes_of, place_in}
 use Rattle.wb_tree.specs.Images.{AreFree}
 use Rattle.wb_tree.specs.Planning.{planned, names, MayPlan, AreWritten}
-use Rattle.wb_tree.specs.Stored.{padded, mapping_of, IsComplete, IsStored}
+use Rattle.wb_tree.specs.Fields.{padded, mapping_of, IsComplete, AreFields}
 use Rattle.wb_tree.proofs.Counting.{count-nodes}
 use Rattle.wb_tree.proofs.Imaging.{WritesChanged}
 use Rattle.wb_tree.proofs.PaddedPlan.{nodes_below-padded, entry-padded, written-padded}
@@ -98,7 +98,7 @@ if_some (Some y) x P e h = h
 
 -- a tree of which some nodes are known is sound, and all are
 pub all-known : (m : Mapping) (blocks : ℕ) (entries : List (Option Entry)) (known : Option (Vec PlacedNode)) (nodes : Vec PlacedNode) (geometry : Geometry) → mapping_of blocks entries known ≡ m → known ≡ Some nodes
-    → IsStored blocks entries known → IsMapping geometry.cache_blocks geometry.origin_blocks m.entries → IsSound m × IsComplete geometry.cache_blocks m
+    → AreFields blocks entries known → IsMapping geometry.cache_blocks geometry.origin_blocks m.entries → IsSound m × IsComplete geometry.cache_blocks m
 all-known m blocks entries known nodes geometry e some stored mapping =
     let long = length-padded blocks entries stored.size in
     let same : padded blocks entries ≡ m.entries = ap (λ (k : Mapping). k.entries) e in

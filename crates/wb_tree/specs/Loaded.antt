@@ -1,6 +1,6 @@
 -- What a tree that was read knows of its nodes.
-use Rattle.std.specs.Prelude.{◌≡◌, Ok, [], All, true}
-use Rattle.wb_types.specs.Limits.{depth_of}
+use Rattle.std.specs.Prelude.{◌≡◌, ◌≤◌, Ok, [], All, true, length}
+use Rattle.wb_types.specs.Limits.{depth_of, node_count}
 use Rattle.wb_types.specs.declared.number.Place.{Place}
 use Rattle.wb_format.specs.declared.root.Root.{Root}
 use Rattle.wb_tree.specs.Mapping.{Mapping, IsSound, AreInside, IsPlaceOf, exists, changed}
@@ -18,4 +18,6 @@ pub record IsLoaded (root : Root) (found : Found) (m : Mapping) : Type 0 where
   pub inside : AreInside root.geometry.meta_sectors m
   pub reached : (place : Place) → IsPlaceOf m place → is_reached place.0 found.reached ≡ true
   pub read : (nodes : Nodes) → tree_read root nodes ≡ Ok found → AreRead nodes m root.generation
+  -- as many nodes at most as a tree of this size can have
+  pub few : length found.reached ≤ node_count root.geometry.cache_blocks
   pub none_changed : IsWhole found → changed m (depth_of root.geometry.cache_blocks) ≡ []

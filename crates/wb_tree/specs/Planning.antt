@@ -37,7 +37,7 @@ pub record MayPlan (entries : List (Option Entry)) (depth : ℕ) (free : List Pl
 
 -- a node as an image of a tree has it: at its place, of the image's generation, and with the words of the tree
 pub record IsWritten (m : Mapping) (generation : ℕ) (node : Place × Node) : Type 0 where
-  pub settled : place_of m node.1.level node.1.index ≡ Some node.0
+  pub stands : place_of m node.1.level node.1.index ≡ Some node.0
   pub written_in : node.1.generation ≡ generation
   pub words : HasWordsOf m node.1
 

@@ -21,7 +21,7 @@ mod tests;
 mod tree;
 
 pub use image::Image;
-pub use law::edit_law;
+pub use law::{edit_law, mapping_law};
 pub use loader::Loader;
 pub use placed::PlacedNode;
 pub use tree::Tree;

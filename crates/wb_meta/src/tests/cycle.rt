@@ -86,7 +86,7 @@ fn has_entries(tree: &Tree<Global>, blocks: u32, entries: &[(u32, u8)]) -> bool
 fn change(tree: &mut Tree<Global>, geometry: &Geometry, block: u32, hint: u8) -> Result<(), Refusal>
     requires { length tree.old.entries ≡ geometry.now.cache_blocks }
     ensures size { OnOk result (length tree.new.entries ≡ geometry.now.cache_blocks) }
-    ensures kept { OnOk result ((place : PlaceValue) → IsPlaceOf tree.new place → IsPlaceOf tree.old place) }
+    ensures same { OnOk result ((place : PlaceValue) → IsPlaceOf tree.new place → IsPlaceOf tree.old place) }
 {
     if block >= geometry.cache_blocks {
         return Err(Refusal::Range);

@@ -34,7 +34,7 @@ fn change(tree: &mut Tree<Global>, block: u32, hint: Option<u8>) -> Result<(), R
     requires own { (block : ℕ) (entry : EntryValue) → entry_at tree.old block ≡ Some entry → (entry.origin.0 ≡ block) × (entry.hint ≤ 16) }
     ensures size { OnOk result (length tree.new.entries ≡ length tree.old.entries) }
     ensures own { OnOk result ((block : ℕ) (entry : EntryValue) → entry_at tree.new block ≡ Some entry → (entry.origin.0 ≡ block) × (entry.hint ≤ 16)) }
-    ensures kept { OnOk result ((place : PlaceValue) → IsPlaceOf tree.new place → IsPlaceOf tree.old place) }
+    ensures stays { OnOk result ((place : PlaceValue) → IsPlaceOf tree.new place → IsPlaceOf tree.old place) }
 {
     let Some(hint) = hint else {
         tree.clear(CBlock(block));

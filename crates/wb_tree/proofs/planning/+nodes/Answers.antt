@@ -64,7 +64,7 @@ plan_node-returns-clause-planned t c =
     next-written es c.args.plan.now.depth free (names c.args.nodes.now.items) c.args.plan.now.generation c.args.level c.args.index c.plan_words.new.nodes.items c.reserve.new.self.items c.push_reserved.new.self.items _
     next c.in_ok-words.ensures.planned c.in_ok-reserve.ensures.items c.push_reserved.ensures.items refl refl
     (record {
-      settled = next-there es c.args.plan.now.depth free (names c.args.nodes.now.items) c.args.level c.args.index c.plan_words.new.nodes.items c.len.result (record { 0 = 0 }) next long;
+      stands = next-there es c.args.plan.now.depth free (names c.args.nodes.now.items) c.args.level c.args.index c.plan_words.new.nodes.items c.len.result (record { 0 = 0 }) next long;
       written_in = refl;
       words = c.in_ok-words.ensures.words;
     })

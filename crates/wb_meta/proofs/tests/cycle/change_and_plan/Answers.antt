@@ -19,8 +19,8 @@ loop-block-init c =
 pub loop-block-preserved : goal.loop-block-preserved
 loop-block-preserved c = record {
   size = c.in_ok-change.ensures.size;
-  used = λ place is. c.loop-block.invariant.used place (c.in_ok-change.ensures.kept place is);
-  inside = λ place is. c.loop-block.invariant.inside place (c.in_ok-change.ensures.kept place is);
+  used = λ place is. c.loop-block.invariant.used place (c.in_ok-change.ensures.same place is);
+  inside = λ place is. c.loop-block.invariant.inside place (c.in_ok-change.ensures.same place is);
 }
 
 pub plan_at-requires-clause-used : goal.plan_at-requires-clause-used

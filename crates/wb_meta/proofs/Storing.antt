@@ -9,10 +9,10 @@ use Rattle.wb_format.specs.declared.root.Root.{Root}
 use Rattle.wb_tree.specs.declared.placed.PlacedNode.{PlacedNode}
 use Rattle.wb_tree.specs.Mapping.{Mapping, IsMapping, IsSound, AreInside, place_of, place_in, changed}
 use Rattle.wb_tree.specs.Reading.{Nodes, ReadsAs, IsNewestRoot}
-use Rattle.wb_tree.specs.Images.{IsNodeOf, ReadsNode, AreRead, Keeps}
+use Rattle.wb_tree.specs.Images.{IsNodeOf, ReadsNode, AreRead, Stores}
 use Rattle.wb_tree.specs.Whole.{found_of}
 use Rattle.wb_tree.proofs.Whole.{StandsThere, reached_below-known, read_back}
-use Rattle.wb_meta.specs.Holding.{ReadsThere, Holds}
+use Rattle.wb_meta.specs.Representing.{ReadsThere, Represents}
 
 -- the first of two that is there
 either_of : {X : Type 0} → Option X → Option X → Option X
@@ -33,7 +33,7 @@ either_right None b h = h
 pub same_place : (a b : Place) → a.0 ≡ b.0 → a ≡ b
 same_place a b e = let made : ℕ → Place = λ n. record { 0 = n } in ap made e
 
-module _ (sectors : List Content) (m : Mapping) (generation : ℕ) (sound : IsSound m) (keeps : Keeps sectors m generation) where
+module _ (sectors : List Content) (m : Mapping) (generation : ℕ) (sound : IsSound m) (stores : Stores sectors m generation) where
   if_here : (level index place : ℕ) (there : Place) → place_of m level index ≡ Some there → (there.0 ≡ place) ⊎ (there.0 ≢ place) → Option (StandsThere m place)
   if_here level index place there known (inl same) = Some (record { level = level; index = index; where_it_is = there; known = known; here = same })
   if_here level index place there known (inr other) = None
@@ -80,53 +80,53 @@ module _ (sectors : List Content) (m : Mapping) (generation : ℕ) (sound : IsSo
 
   node_here : (place : ℕ) → Option (StandsThere m place) → Option Node
   node_here place None = None
-  node_here place (Some s) = Some (keeps s.level s.index s.where_it_is s.known).node
+  node_here place (Some s) = Some (stores s.level s.index s.where_it_is s.known).node
 
   -- what the sectors read as where the tree's nodes stand
-  kept_nodes : Nodes
-  kept_nodes place = node_here place (first_here place m.known)
+  stored_nodes : Nodes
+  stored_nodes place = node_here place (first_here place m.known)
 
   stands_first : (place : ℕ) → StandsThere m place → is_some (first_here place m.known) ≡ true
   stands_first place s = first_here-some s.level s.index place s.where_it_is s.known s.here m.known s.known
 
   -- every node of the tree is read
-  kept_read : AreRead kept_nodes m generation
-  unfolding kept_nodes node_here
-  kept_read level index place known =
+  stored_read : AreRead stored_nodes m generation
+  unfolding stored_nodes node_here
+  stored_read level index place known =
       by_first (first_here place.0 m.known) refl (stands_first place.0 (record { level = level; index = index; where_it_is = place; known = known; here = refl }))
     where
-      by_first : (o : Option (StandsThere m place.0)) → first_here place.0 m.known ≡ o → is_some o ≡ true → ReadsNode kept_nodes m generation level index place.0
+      by_first : (o : Option (StandsThere m place.0)) → first_here place.0 m.known ≡ o → is_some o ≡ true → ReadsNode stored_nodes m generation level index place.0
       by_first None e h = absurd (false≢true h)
       by_first (Some s) e h =
-          let kept = keeps s.level s.index s.where_it_is s.known in
+          let stored = stores s.level s.index s.where_it_is s.known in
           let both = sound.apart s.level s.index level index place (s.known ∙ ap Some (same_place s.where_it_is place s.here)) known in
           record {
-            node = kept.node;
+            node = stored.node;
             reads = ap (node_here place.0) e;
-            right = subst (λ i. IsNodeOf m generation level i kept.node) both.1 (subst (λ l. IsNodeOf m generation l s.index kept.node) both.0 kept.right);
+            right = subst (λ i. IsNodeOf m generation level i stored.node) both.1 (subst (λ l. IsNodeOf m generation l s.index stored.node) both.0 stored.right);
           }
 
   -- where a node of the tree stands the sector reads so
-  kept_there : (place : ℕ) → StandsThere m place → ReadsThere sectors kept_nodes place
-  unfolding kept_nodes node_here
-  kept_there place stands = by_first (first_here place m.known) refl (stands_first place stands)
+  stored_there : (place : ℕ) → StandsThere m place → ReadsThere sectors stored_nodes place
+  unfolding stored_nodes node_here
+  stored_there place stands = by_first (first_here place m.known) refl (stands_first place stands)
     where
-      by_first : (o : Option (StandsThere m place)) → first_here place m.known ≡ o → is_some o ≡ true → ReadsThere sectors kept_nodes place
+      by_first : (o : Option (StandsThere m place)) → first_here place m.known ≡ o → is_some o ≡ true → ReadsThere sectors stored_nodes place
       by_first None e h = absurd (false≢true h)
       by_first (Some s) e h =
-          let kept = keeps s.level s.index s.where_it_is s.known in
+          let stored = stores s.level s.index s.where_it_is s.known in
           record {
-            sector = kept.sector;
-            there = ap (λ at. slice_get sectors at) (sym s.here) ∙ kept.there;
-            reads = subst (λ (o : Option Node). ReadsAs kept.sector o) (sym (ap (node_here place) e)) kept.spelled;
+            sector = stored.sector;
+            there = ap (λ at. slice_get sectors at) (sym s.here) ∙ stored.there;
+            reads = subst (λ (o : Option Node). ReadsAs stored.sector o) (sym (ap (node_here place) e)) stored.spelled;
           }
 
 -- sectors that keep a tree by their newest root hold it
-pub Holds-kept : (sectors : List Content) (root : Root) (m : Mapping) → IsMapping root.geometry.cache_blocks root.geometry.origin_blocks m.entries → IsSound m → AreInside root.geometry.meta_sectors m
-    → changed m (depth_of root.geometry.cache_blocks) ≡ [] → root.top ≡ place_of m (depth_of root.geometry.cache_blocks) 0 → IsNewestRoot sectors root → Keeps sectors m root.generation → Holds sectors root (found_of root m)
-Holds-kept sectors root m mapping sound inside none_changed top newest keeps = record {
+pub Represents-stored : (sectors : List Content) (root : Root) (m : Mapping) → IsMapping root.geometry.cache_blocks root.geometry.origin_blocks m.entries → IsSound m → AreInside root.geometry.meta_sectors m
+    → changed m (depth_of root.geometry.cache_blocks) ≡ [] → root.top ≡ place_of m (depth_of root.geometry.cache_blocks) 0 → IsNewestRoot sectors root → Stores sectors m root.generation → Represents sectors root (found_of root m)
+Represents-stored sectors root m mapping sound inside none_changed top newest stores = record {
   newest = newest;
-  nodes = kept_nodes sectors m root.generation sound keeps;
-  reached = λ place r. kept_there sectors m root.generation sound keeps place (reached_below-known m (depth_of root.geometry.cache_blocks) 0 place r);
-  reads = read_back m root (kept_nodes sectors m root.generation sound keeps) mapping sound inside none_changed top (kept_read sectors m root.generation sound keeps);
+  nodes = stored_nodes sectors m root.generation sound stores;
+  reached = λ place r. stored_there sectors m root.generation sound stores place (reached_below-known m (depth_of root.geometry.cache_blocks) 0 place r);
+  reads = read_back m root (stored_nodes sectors m root.generation sound stores) mapping sound inside none_changed top (stored_read sectors m root.generation sound stores);
 }

@@ -1,0 +1,8 @@
+use Rattle.wb_meta.proofs.Reopening.{opening_may, opening_stores}
+use Rattle.wb_meta.proofs.law.opening_law.Goals as goal
+
+pub returns-clause-may : goal.returns-clause-may
+returns-clause-may c = opening_may
+
+pub returns-clause-stores : goal.returns-clause-stores
+returns-clause-stores c = opening_stores
