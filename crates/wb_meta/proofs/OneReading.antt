@@ -209,9 +209,11 @@ damage_reading sectors place damage = record { newest = damage.newest; nodes = d
 pub one_reading : (sectors : List Content) (a b : Root) (r t : Reading) → RepresentsReading sectors a r → RepresentsReading sectors b t → (a ≡ b) × (r ≡ t)
 one_reading sectors a b r t x y =
     let nodes = joined x.nodes y.nodes x.reached in
-    let same = one_newest sectors a b x.newest y.newest in
-    (same, sym (x.reads nodes (there_first sectors x.nodes y.nodes x.reached x.there))
-    ∙ (ap (λ (q : Root). tree_read q nodes) same ∙ y.reads nodes (there_second sectors x.nodes y.nodes x.reached y.reached x.there y.there)))
+    let same = one_newest sectors a b x.newest y.newest in (
+      same,
+      sym (x.reads nodes (there_first sectors x.nodes y.nodes x.reached x.there))
+          ∙ (ap (λ (q : Root). tree_read q nodes) same ∙ y.reads nodes (there_second sectors x.nodes y.nodes x.reached y.reached x.there y.there)),
+    )
 
 pub whole_read : (sectors : List Content) (nodes : Nodes) (root : Root) (reading : Reading) → RepresentsReading sectors root reading → AreNodes sectors nodes → tree_read root nodes ≡ reading
 whole_read sectors nodes root reading held are = held.reads nodes (λ here r. let w = held.there here r in record { sector = w.sector; there = w.there; reads = are here w.sector w.there })

@@ -20,7 +20,7 @@ use Rattle.wb_meta.specs.Imaging.{DeviceStores}
 use Rattle.wb_meta.specs.Laws.{Wanted}
 use Rattle.wb_meta.specs.Openings.{IsOpening, reopened}
 use Rattle.wb_meta.specs.Representing.{Represents, RepresentsAndStores, Stored}
-use Rattle.wb_meta.specs.Placing.{IsPlaced, MayCommit}
+use Rattle.wb_meta.specs.Placing.{HavePlaces, IsPlaced, MayCommit}
 use Rattle.wb_tree.proofs.Steps.{then_ok, test_ok}
 
 -- what was read without a fault is read so
@@ -133,6 +133,15 @@ module _ (old : Root) where
             record { sector = now.0; there = now.1; reads = subst (λ (c : Content). ReadsAs c (held.nodes place)) same there.reads };
         reads = ap (λ (r : Root). tree_read r held.nodes) opening.root_is ∙ top_later held.nodes old.top found held.reads;
       }
+
+-- its nodes have places of the device, as there are none
+pub opening_places : (image : Image) (root : Root) → IsOpening image root → HavePlaces image.nodes.items root.geometry.meta_sectors
+opening_places image root opening = record {
+  slots = let from = root.geometry.within.meta_from in omega (arith, from);
+  from = λ i node listed. absurd (no_node image root opening i node listed);
+  to = λ i node listed. absurd (no_node image root opening i node listed);
+  apart = λ i j node other listed also same. absurd (no_node image root opening i node listed);
+}
 
 -- the image of an opening may be committed over what a device stores
 pub opening_may : (m : Mapping) (image : Image) (device : List History) (old : Stored) (used : List Place) → DeviceStores m device old used → IsOpening image old.root → MayCommit image device old (Wanted image old.found m)

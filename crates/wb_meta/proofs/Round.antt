@@ -20,7 +20,7 @@ use Rattle.wb_disk.specs.Crashes.{MayLeave, AfterEveryCrash}
 use Rattle.wb_meta.specs.Formats.{IsFormatted}
 use Rattle.wb_meta.specs.Representing.{Represents, RepresentsTree, Stored}
 use Rattle.wb_tree.specs.Edits.{IsEdited}
-use Rattle.wb_meta.specs.Imaging.{DeviceStores, AreUnused, IsNextImage, IsPlannedOn}
+use Rattle.wb_meta.specs.Imaging.{DeviceStores, AreUnused, IsNextImage, IsPlanned, Follows}
 use Rattle.wb_meta.specs.Laws.{of_first}
 use Rattle.wb_meta.specs.Reads.{AreApart, FitsDevice}
 use Rattle.wb_meta.proofs.Counting.{all_contained}
@@ -129,27 +129,31 @@ stored_edited m n device old used stores edited sound = record {
   used_few = stores.used_few;
 }
 
-pub unused_free : (m : Mapping) (device : List History) (old : Stored) (used free : List Place) → DeviceStores m device old used → AreUnused old.root.geometry used free → AreFree m old.root.geometry free
-unused_free m device old used free stores unused = record {
+-- places that are not used are free for a tree whose places are
+pub free_of_used : (m : Mapping) (geometry : Geometry) (used free : List Place) → ((place : Place) → IsPlaceOf m place → Contains used place) → AreUnused geometry used free → AreFree m geometry free
+free_of_used m geometry used free known unused = record {
   enough = unused.enough;
   behind = unused.behind;
   inside = unused.inside;
   apart = unused.apart;
-  unused = λ i place h known. unused.unused i place h (stores.known_used place known);
+  unused = λ i place h is. unused.unused i place h (known place is);
 }
 
-pub next_planned : (m n : Mapping) (plan : ImagePlan) (image : Image) (device : List History) (old : Stored) (used : List Place) → DeviceStores m device old used → IsPlannedOn m n plan image old used → IsNextImage m n plan image device old
-next_planned m n plan image device old used stores planned = record {
+pub unused_free : (m : Mapping) (device : List History) (old : Stored) (used free : List Place) → DeviceStores m device old used → AreUnused old.root.geometry used free → AreFree m old.root.geometry free
+unused_free m device old used free stores unused = free_of_used m old.root.geometry used free stores.known_used unused
+
+pub next_planned : (m n : Mapping) (plan : ImagePlan) (image : Image) (device : List History) (old : Stored) (used : List Place) → DeviceStores m device old used → IsPlanned m n plan image used → Follows plan old → IsNextImage m n plan image device old
+next_planned m n plan image device old used stores planned follows = record {
   mapping = planned.mapping;
   old_sound = stores.sound;
   new_sound = planned.sound;
   inside = planned.inside;
-  free_are = subst (λ (g : Geometry). AreFree m g plan.free) planned.same_geometry
-      (unused_free m device old used plan.free stores (subst (λ (g : Geometry). AreUnused g used plan.free) (sym planned.same_geometry) planned.free_are));
+  free_are = subst (λ (g : Geometry). AreFree m g plan.free) follows.same_geometry
+      (unused_free m device old used plan.free stores (subst (λ (g : Geometry). AreUnused g used plan.free) (sym follows.same_geometry) planned.free_are));
   image_is = planned.image_is;
-  size = stores.size ∙ ap (λ (g : Geometry). g.meta_sectors) planned.same_geometry;
-  same_geometry = planned.same_geometry;
-  next = planned.next;
+  size = stores.size ∙ ap (λ (g : Geometry). g.meta_sectors) follows.same_geometry;
+  same_geometry = follows.same_geometry;
+  next = follows.next;
   represents = stores.represents;
   stores = stores.stores;
   outside = λ i place h. false_from_ne_true (is_reached place.0 old.found.reached) (λ r. planned.free_are.unused i place h (stores.reached_used place r));

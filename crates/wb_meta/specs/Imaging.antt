@@ -62,12 +62,15 @@ pub record IsNextImage (m n : Mapping) (plan : ImagePlan) (image : Image) (devic
   -- no free place is one that the root's tree reaches
   pub outside : (i : ℕ) (place : Place) → slice_get plan.free i ≡ Some place → is_reached place.0 old.found.reached ≡ false
 
--- what is wanted of an image that follows on what a device stores
-pub record IsPlannedOn (m n : Mapping) (plan : ImagePlan) (image : Image) (old : Stored) (used : List Place) : Type 0 where
+-- The image leads from the tree m to the tree n, on places that are not used.
+pub record IsPlanned (m n : Mapping) (plan : ImagePlan) (image : Image) (used : List Place) : Type 0 where
   pub mapping : IsMapping plan.geometry.cache_blocks plan.geometry.origin_blocks m.entries
   pub free_are : AreUnused plan.geometry used plan.free
   pub image_is : IsImage m n plan image
   pub sound : IsSound n
   pub inside : AreInside plan.geometry.meta_sectors n
+
+-- it is of the geometry of what was stored before, and of the next generation
+pub record Follows (plan : ImagePlan) (old : Stored) : Type 0 where
   pub same_geometry : old.root.geometry ≡ plan.geometry
   pub next : plan.generation ≡ old.root.generation + 1

@@ -19,7 +19,7 @@ use Rattle.wb_meta.specs.Steps.{DoesStep, FailsStep, steps_after}
 use Rattle.wb_meta.specs.Placing.{HavePlaces, MayCommit}
 use Rattle.wb_meta.specs.Commits.{HasCome, HasFailed, IsBeforeRoot}
 use Rattle.wb_meta.specs.Formats.{IsFirstRoot, IsFormatted}
-use Rattle.wb_meta.specs.Imaging.{DeviceStores, AreUnused, IsNextImage, IsPlannedOn}
+use Rattle.wb_meta.specs.Imaging.{DeviceStores, AreUnused, IsNextImage, IsPlanned, Follows}
 use Rattle.wb_meta.specs.Openings.{IsOpening}
 use Rattle.wb_meta.specs.Reads.{FitsDevice}
 use Rattle.wb_meta.specs.States.{RepresentsState, HasNoRoot, HasOtherSize, HasFittingRoot, IsDamagedAt, IsRefusedBy, SpeaksOfSectors}
@@ -153,7 +153,7 @@ UnusedAreFree = (m : Mapping) (device : List History) (old : Stored) (used free 
 -- an image of the tree, on places that are not used, is the next
 abbrev pub PlannedIsNext : Type 0
 PlannedIsNext = (m n : Mapping) (plan : ImagePlan) (image : Image) (device : List History) (old : Stored) (used : List Place)
-    → DeviceStores m device old used → IsPlannedOn m n plan image old used → IsNextImage m n plan image device old
+    → DeviceStores m device old used → IsPlanned m n plan image used → Follows plan old → IsNextImage m n plan image device old
 
 -- once it is committed, the device stores the new tree, and the image's places are used
 abbrev pub CommittedStores : Type 0
@@ -168,6 +168,10 @@ CommittedStores = (m n : Mapping) (plan : ImagePlan) (image : Image) (before now
 abbrev pub OpeningMayCommit : Type 0
 OpeningMayCommit = (m : Mapping) (image : Image) (device : List History) (old : Stored) (used : List Place) → DeviceStores m device old used
     → IsOpening image old.root → MayCommit image device old (Wanted image old.found m)
+
+-- it has no node, so its nodes have places of the device
+abbrev pub OpeningHasPlaces : Type 0
+OpeningHasPlaces = (image : Image) (root : Root) → IsOpening image root → HavePlaces image.nodes.items root.geometry.meta_sectors
 
 -- once it is committed, the device stores what it stored, by the new root
 abbrev pub OpeningStores : Type 0

@@ -41,10 +41,11 @@ pub enum CommitSteps {
 
 impl CommitSteps {
     ghost use Rattle.wb_tree.specs.declared.image.Image.{Image as ImageValue};
-    ghost use Rattle.wb_meta.specs.declared.commit_steps.CommitSteps.TheVariants.{Done};
+    ghost use Rattle.wb_meta.specs.declared.commit_steps.CommitSteps.TheVariants.{NodesWritten, NodesSynced, Done};
 
     /// A commit that has done nothing.
     pub fn new() -> CommitSteps
+        ensures is { result ≡ NodesWritten 0 }
         ensures begins { (image : ImageValue) (before : List History) → HasCome image before result before }
         ensures left { (nodes : ℕ) → steps_left nodes result ≡ nodes + 3 }
     {
@@ -53,6 +54,7 @@ impl CommitSteps {
 
     /// A commit that begins at the root, for an image without nodes, as an opening's is.
     pub fn root_alone() -> CommitSteps
+        ensures is { result ≡ NodesSynced }
         ensures begins { (image : ImageValue) (before : List History) → image.nodes.items ≡ [] → HasCome image before result before }
         ensures left { (nodes : ℕ) → steps_left nodes result ≡ 2 }
     {

@@ -4,7 +4,7 @@ ghost use Rattle.wb_disk.specs.Crashes.{CrashIsLeft, ReadIsLeft, SyncedIsLeft, C
 ghost use Rattle.wb_meta.specs.Laws.{CommitGoesOn, CommitFails, OldOrWantedDuring, OldOrWantedAfterFailure, OldBeforeRoot, OldAfterFailedNode, WantedWhenDone};
 ghost use Rattle.wb_meta.specs.Laws.{ImageHasPlaces, ImageMayCommit, OldOrTreeDuring, OldOrTreeAfterFailure, TreeWhenDone};
 ghost use Rattle.wb_meta.specs.Laws.{FormattedIsFirst, FormattedIsEmpty, FormattedStores, ReadStores, EditedStores, UnusedAreFree, PlannedIsNext, CommittedStores};
-ghost use Rattle.wb_meta.specs.Laws.{OpeningMayCommit, OpeningStores};
+ghost use Rattle.wb_meta.specs.Laws.{OpeningHasPlaces, OpeningMayCommit, OpeningStores};
 ghost use Rattle.wb_meta.specs.Laws.{OneRoot, OneTree, OneState, OneRefusal, StateAlone, FittingAlone, TreeIsNotRefused, OldOrTreeIsRead, OldOrTreeIsNotRefused};
 ghost use Rattle.wb_meta.specs.Laws.{StateIsRepresented, DamageIsRepresented, TreeIsRepresented, OneReading, WholeIsRead};
 
@@ -52,6 +52,7 @@ pub fn cycle_law()
 /// The root that an opening writes over a tree that a device stores: it may be committed, and then the device stores the
 /// same tree by it. That holds of every tree that can be read, also of one with a node that has no entry below it.
 pub fn opening_law()
+    ensures places { OpeningHasPlaces }
     ensures may { OpeningMayCommit }
     ensures stores { OpeningStores }
 {}

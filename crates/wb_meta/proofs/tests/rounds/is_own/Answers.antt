@@ -1,6 +1,6 @@
 use Rattle.std.proofs.Common.{arith}
 use Rattle.wb_meta.proofs.TestTrees.{own-mapping}
-use Rattle.wb_meta.proofs.tests.cycle.is_own.Goals as goal
+use Rattle.wb_meta.proofs.tests.rounds.is_own.Goals as goal
 
 pub returns : goal.returns
 returns c = λ yes origin_blocks few.
