@@ -17,8 +17,8 @@ use Rattle.wb_tree.specs.declared.image.Image.{Image}
 use Rattle.wb_tree.specs.Mapping.{Mapping, NodeName, IsMapping, IsSound, AreInside, place_of, exists, changed}
 use Rattle.wb_tree.specs.Reading.{Found, IsNewestRoot}
 use Rattle.wb_tree.specs.Images.{AreFree, ImagePlan, IsImage, StoresNode, Stores, HasWordsOf, name_of, place_word, word_at}
-use Rattle.wb_tree.proofs.Names.{has, same_name}
-use Rattle.wb_tree.proofs.Listed.{unknown_changed}
+use Rattle.wb_tree.proofs.Nodes.Names.{has, same_name}
+use Rattle.wb_tree.proofs.Nodes.Listed.{unknown_changed}
 use Rattle.wb_meta.specs.declared.commit_steps.CommitSteps.{CommitSteps}
 use Rattle.wb_meta.specs.Commits.{SyncedRoot, HasCome, HasFailed}
 use Rattle.wb_disk.specs.Crashes.{MayLeave, AfterEveryCrash}

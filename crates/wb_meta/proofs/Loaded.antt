@@ -13,7 +13,7 @@ use Rattle.wb_tree.specs.Reading.{Reading, Nodes, ReadsAs, IsNewestRoot, is_reac
 use Rattle.wb_tree.specs.Loading.{Loading, outcome, wanted_place, Fails}
 use Rattle.std.specs.Prelude.{Result, IfErr}
 use Rattle.std.specs.Result.{IsErrAnd}
-use Rattle.wb_tree.proofs.ReachedLemmas.{is_reached-push}
+use Rattle.wb_tree.proofs.Reading.ReachedLemmas.{is_reached-push}
 use Rattle.wb_meta.specs.Representing.{ReadsThere, ReadThere}
 use Rattle.wb_meta.specs.States.{IsDamagedAt, IsRefusedBy, IsOfReading, CountsFault}
 use Rattle.wb_meta.specs.Reads.{HasLoaded}

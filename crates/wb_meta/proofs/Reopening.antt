@@ -21,7 +21,7 @@ use Rattle.wb_meta.specs.Laws.{Wanted}
 use Rattle.wb_meta.specs.Openings.{IsOpening, reopened}
 use Rattle.wb_meta.specs.Representing.{Represents, RepresentsAndStores, Stored}
 use Rattle.wb_meta.specs.Placing.{HavePlaces, IsPlaced, MayCommit}
-use Rattle.wb_tree.proofs.Steps.{then_ok, test_ok}
+use Rattle.wb_tree.proofs.Reading.Steps.{then_ok, test_ok}
 
 -- what was read without a fault is read so
 abbrev Later : (Found → Reading) → (Found → Reading) → Type 0

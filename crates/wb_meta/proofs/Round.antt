@@ -13,8 +13,8 @@ use Rattle.wb_tree.specs.Mapping.{Mapping, IsMapping, IsSound, IsPlaceOf, AreIns
 use Rattle.wb_tree.specs.Images.{AreFree, ImagePlan, IsImage, Stores}
 use Rattle.wb_tree.specs.declared.image.Image.{Image}
 use Rattle.wb_tree.specs.Reading.{Found, is_reached, nothing_found}
-use Rattle.wb_tree.proofs.Edited.{stored-edited, inside-edited, places-edited}
-use Rattle.wb_tree.proofs.Whole.{reached_below-known}
+use Rattle.wb_tree.proofs.Stored.Edited.{stored-edited, inside-edited, places-edited}
+use Rattle.wb_tree.proofs.Stored.Whole.{reached_below-known}
 use Rattle.wb_tree.specs.Whole.{found_of, marked, reached_below}
 use Rattle.wb_disk.specs.Crashes.{MayLeave, AfterEveryCrash}
 use Rattle.wb_meta.specs.Formats.{IsFormatted}

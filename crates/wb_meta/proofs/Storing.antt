@@ -11,7 +11,7 @@ use Rattle.wb_tree.specs.Mapping.{Mapping, IsMapping, IsSound, AreInside, place_
 use Rattle.wb_tree.specs.Reading.{Nodes, ReadsAs, IsNewestRoot}
 use Rattle.wb_tree.specs.Images.{IsNodeOf, ReadsNode, AreRead, Stores}
 use Rattle.wb_tree.specs.Whole.{found_of}
-use Rattle.wb_tree.proofs.Whole.{StandsThere, reached_below-known, read_back}
+use Rattle.wb_tree.proofs.Stored.Whole.{StandsThere, reached_below-known, read_back}
 use Rattle.wb_meta.specs.Representing.{ReadsThere, Represents}
 
 -- the first of two that is there

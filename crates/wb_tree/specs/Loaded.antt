@@ -3,9 +3,13 @@ use Rattle.std.specs.Prelude.{◌≡◌, ◌≤◌, Ok, [], All, true, length}
 use Rattle.wb_types.specs.Limits.{depth_of, node_count}
 use Rattle.wb_types.specs.declared.number.Place.{Place}
 use Rattle.wb_format.specs.declared.root.Root.{Root}
-use Rattle.wb_tree.specs.Mapping.{Mapping, IsSound, AreInside, IsPlaceOf, exists, changed}
+use Rattle.wb_tree.specs.Mapping.{Mapping, IsMapping, IsSound, AreInside, IsPlaceOf, exists, changed}
 use Rattle.wb_tree.specs.Reading.{Found, Nodes, is_reached, tree_read}
 use Rattle.wb_tree.specs.Images.{AreRead}
+
+-- the entries are a mapping of the sizes that a root names
+abbrev pub IsMappingOf : Root → Mapping → Type 0
+IsMappingOf root m = IsMapping root.geometry.cache_blocks root.geometry.origin_blocks m.entries
 
 -- every node that was reached has an entry below it
 abbrev pub IsWhole : Found → Type 0

@@ -1,10 +1,11 @@
 -- A reading that has come to some node, and what is left of it.
-use Rattle.std.specs.Prelude.{◌≡◌, ◌≤◌, ◌<◌, ◌+◌, ◌-◌, ◌*◌, ℕ, Bool, true, false, Option, Some, None, Ok, Err, List, [], ◌∷◌, length, slice_index, reverse}
+use Rattle.std.specs.Prelude.{◌≡◌, ◌≤◌, ◌<◌, ◌+◌, ◌-◌, ◌*◌, ℕ, Bool, true, false, Option, Some, None, Ok, Err, List, [], ◌∷◌, ◌++◌, length, slice_index, reverse}
 use Rattle.wb_types.specs.Limits.{depth_of}
 use Rattle.wb_types.specs.declared.entry.Entry.{Entry}
 use Rattle.wb_types.specs.declared.number.Place.{Place}
 use Rattle.wb_types.specs.declared.refusal.Refusal.{Refusal}
 use Rattle.wb_types.specs.declared.refusal.Refusal.TheVariants.{Memory, Damaged}
+use Rattle.wb_format.specs.declared.node.Node.{Node}
 use Rattle.wb_format.specs.declared.root.Root.{Root}
 use Rattle.wb_tree.specs.declared.placed.PlacedNode.{PlacedNode}
 use Rattle.wb_tree.specs.declared.frame.Frame.{Frame}
@@ -76,6 +77,20 @@ abbrev pub Fails : Refusal → Reading → Type 0
 Fails Memory reading = Unit {0}
 Fails (Damaged place) reading = reading ≡ Err place
 Fails _ reading = ⊥
+
+-- told what the sector of the wanted node reads as, a reading goes on so: what is left gives what it gave before
+abbrev pub GoesOn : Loading → Option Node → Loading → Type 0
+GoesOn l node next = (wanted : PlacedNode) (nodes : Nodes) → l.wanted ≡ Some wanted → nodes wanted.place.0 ≡ node
+    → outcome next nodes ≡ outcome l nodes
+
+-- and the node was reached
+abbrev pub HasReached : Loading → Loading → Type 0
+HasReached l next = (wanted : PlacedNode) → l.wanted ≡ Some wanted → next.found.reached ≡ l.found.reached ++ wanted ∷ []
+
+-- or it fails so
+abbrev pub FailsAt : Loading → Option Node → Refusal → Type 0
+FailsAt l node refusal = (wanted : PlacedNode) (nodes : Nodes) → l.wanted ≡ Some wanted → nodes wanted.place.0 ≡ node
+    → Fails refusal (outcome l nodes)
 
 -- the same is read at the places that were reached
 abbrev pub AgreeAt : List PlacedNode → Nodes → Nodes → Type 0

@@ -6,13 +6,12 @@
 #![tactic(auto)]
 
 mod below;
-mod entering;
 mod frame;
+mod frames;
 mod image;
 mod law;
 mod leaf;
 mod loader;
-mod next;
 mod placed;
 mod planning;
 mod reached;

@@ -126,7 +126,8 @@ impl<A: Allocator> Tree<A> {
         requires mapping { IsMapping geometry.now.cache_blocks geometry.now.origin_blocks self.old.entries }
         requires inside { AreInside geometry.now.meta_sectors self.old }
         requires free { AreFree self.old geometry.now free.now }
-        ensures image { IfOk result (IsImage self.old self.new (record { geometry = geometry.now; generation = generation; clean = clean; free = free.now })) }
+        ensures image { IfOk result (IsImage self.old self.new
+            (record { geometry = geometry.now; generation = generation; clean = clean; free = free.now })) }
         ensures err { OnErr result (self.new ≡ self.old) }
         ensures refused { IfErr result (λ refusal. refusal ≡ OutOfMemory) }
         ensures sound { IsSound self.new }

@@ -1,4 +1,4 @@
-use Rattle.wb_tree.proofs.Edited.{edited-once, edited-none, edited-more, stored-edited, places-edited}
+use Rattle.wb_tree.proofs.Stored.Edited.{edited-once, edited-none, edited-more, stored-edited, places-edited}
 use Rattle.wb_tree.proofs.law.edit_law.Goals as goal
 
 pub returns-clause-once : goal.returns-clause-once

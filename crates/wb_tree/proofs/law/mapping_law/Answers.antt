@@ -1,4 +1,4 @@
-use Rattle.wb_tree.proofs.EntryChanges.{set-mapping, clear-mapping}
+use Rattle.wb_tree.proofs.Stored.EntryChanges.{set-mapping, clear-mapping}
 use Rattle.wb_tree.proofs.law.mapping_law.Goals as goal
 
 pub returns-clause-set : goal.returns-clause-set

@@ -4,9 +4,9 @@ use Rattle.wb_format.specs.Words.{IsInnerWord}
 use Rattle.wb_tree.specs.Mapping.{NodeName, exists, nodes_below, place_of}
 use Rattle.wb_tree.specs.Images.{place_word}
 use Rattle.wb_tree.specs.Planning.{planned, names}
-use Rattle.wb_tree.proofs.Listing.{nodes_below-shut, each_from-none, exists-before, leaf-children}
-use Rattle.wb_tree.proofs.PlanWords.{word_more, words_everywhere, IsInnerWord-zero}
-use Rattle.wb_tree.proofs.PlanSteps.{planned-none, begins-children, next-child, child-more, leaf-word, inner-word, next-is, next-there, next-written, names-pushed}
+use Rattle.wb_tree.proofs.Nodes.Listing.{nodes_below-shut, each_from-none, exists-before, leaf-children}
+use Rattle.wb_tree.proofs.Images.PlanWords.{word_more, words_everywhere, IsInnerWord-zero}
+use Rattle.wb_tree.proofs.Images.PlanSteps.{planned-none, begins-children, next-child, child-more, leaf-word, inner-word, next-is, next-there, next-written, names-pushed}
 use Rattle.wb_tree.proofs.planning.+nodes.Goals as goal
 
 pub plan_node-returns-then-not-exists-clause-names : goal.plan_node-returns-then-not-exists-clause-names

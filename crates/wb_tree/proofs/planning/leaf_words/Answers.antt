@@ -1,7 +1,7 @@
 use Rattle.std.proofs.Common.{◌≡◌, ◌<◌, ◌+◌, ◌*◌, None, length, slice_index_or, sym, ap, ◌∙◌, arith}
 use Rattle.std.proofs.lemmas.List.{length-set}
 use Rattle.wb_format.specs.Words.{IsLeafWord, entry_word}
-use Rattle.wb_tree.proofs.PlanWords.{word_more, words_everywhere, IsLeafWord-zero, spelled-entry_word, may_spell}
+use Rattle.wb_tree.proofs.Images.PlanWords.{word_more, words_everywhere, IsLeafWord-zero, spelled-entry_word, may_spell}
 use Rattle.wb_tree.proofs.planning.leaf_words.Goals as goal
 
 pub word_of-requires : goal.word_of-requires

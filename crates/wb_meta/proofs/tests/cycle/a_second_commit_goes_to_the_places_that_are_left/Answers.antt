@@ -1,7 +1,7 @@
 use Rattle.std.proofs.Common.{sym, subst, List}
 use Rattle.std.specs.Prelude.{Contains}
 use Rattle.wb_types.specs.declared.number.Place.{Place}
-use Rattle.wb_tree.proofs.Edited.{places-edited}
+use Rattle.wb_tree.proofs.Stored.Edited.{places-edited}
 use Rattle.wb_meta.proofs.tests.cycle.a_second_commit_goes_to_the_places_that_are_left.Goals as goal
 
 pub plan_at-requires-clause-used : goal.plan_at-requires-clause-used

@@ -3,7 +3,7 @@ use Rattle.std.specs.Prelude.{Contains}
 use Rattle.wb_types.specs.declared.geometry.Geometry.{Geometry}
 use Rattle.wb_types.specs.declared.number.Place.{Place}
 use Rattle.wb_tree.specs.Mapping.{AreInside}
-use Rattle.wb_tree.proofs.Edited.{places-edited}
+use Rattle.wb_tree.proofs.Stored.Edited.{places-edited}
 use Rattle.wb_meta.proofs.tests.cycle.change_and_plan.Goals as goal
 
 pub loop-block-init : goal.loop-block-init

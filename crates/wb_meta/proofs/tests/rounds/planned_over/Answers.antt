@@ -2,7 +2,7 @@ use Rattle.std.proofs.Common.{List, sym, subst}
 use Rattle.std.specs.Prelude.{Contains}
 use Rattle.wb_types.specs.declared.number.Place.{Place}
 use Rattle.wb_tree.specs.Mapping.{AreInside}
-use Rattle.wb_tree.proofs.Edited.{places-edited}
+use Rattle.wb_tree.proofs.Stored.Edited.{places-edited}
 use Rattle.wb_meta.proofs.tests.rounds.planned_over.Goals as goal
 
 pub plan_at-requires-clause-used : goal.plan_at-requires-clause-used

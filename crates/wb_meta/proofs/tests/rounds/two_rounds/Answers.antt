@@ -8,7 +8,7 @@ use Rattle.wb_tree.specs.declared.placed.PlacedNode.{PlacedNode}
 use Rattle.wb_tree.specs.Mapping.{Mapping, empty_mapping}
 use Rattle.wb_tree.specs.Images.{ImagePlan}
 use Rattle.wb_tree.specs.Whole.{found_of}
-use Rattle.wb_tree.proofs.Edited.{places-edited}
+use Rattle.wb_tree.proofs.Stored.Edited.{places-edited}
 use Rattle.wb_meta.specs.Imaging.{DeviceStores, IsPlanned, Follows}
 use Rattle.wb_meta.specs.Laws.{of_first}
 use Rattle.wb_meta.specs.Representing.{Stored}

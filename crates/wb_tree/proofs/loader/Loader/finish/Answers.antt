@@ -7,9 +7,9 @@ use Rattle.wb_tree.specs.Reading.{tree_read}
 use Rattle.wb_tree.specs.Loading.{Loading, loading_of}
 use Rattle.wb_tree.specs.Loaded.{IsLoaded}
 use Rattle.wb_tree.specs.Fields.{AreFields, known_nodes}
-use Rattle.wb_tree.proofs.LoaderSteps.{told-read}
-use Rattle.wb_tree.proofs.Loaded.{reached_levels, fields_none, fields_all, loaded_none, loaded_all, same_exist}
-use Rattle.wb_tree.proofs.MappingRead.{mapping_read}
+use Rattle.wb_tree.proofs.Reading.LoaderSteps.{told-read}
+use Rattle.wb_tree.proofs.Reading.Loaded.{reached_levels, fields_none, fields_all, loaded_none, loaded_all, same_exist}
+use Rattle.wb_tree.proofs.Reading.MappingRead.{mapping_read}
 use Rattle.wb_tree.proofs.loader.Loader.finish.Goals.{then-all_exist, else-all_exist}
 use Rattle.wb_tree.proofs.loader.Loader.finish.Goals as goal
 

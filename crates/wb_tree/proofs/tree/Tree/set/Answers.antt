@@ -1,7 +1,7 @@
 use Rattle.std.proofs.Common.{◌≡◌, ◌<◌, ◌≤◌, Some, None, ap, subst, ◌∙◌, sym, slice_set, length, arith}
 use Rattle.wb_tree.specs.Mapping.{Mapping}
 use Rattle.wb_tree.specs.Fields.{padded}
-use Rattle.wb_tree.proofs.Padding.{padded-set, padded-after_resize, set_same}
+use Rattle.wb_tree.proofs.Images.Padding.{padded-set, padded-after_resize, set_same}
 use Rattle.wb_tree.proofs.Equality.{same_option}
 use Rattle.wb_tree.proofs.tree.Tree.set.Goals.{then-at-len+in_ok-resize, else-at-len}
 use Rattle.wb_tree.proofs.tree.Tree.set.Goals as goal

@@ -8,7 +8,7 @@ use Rattle.wb_tree.specs.declared.placed.PlacedNode.{PlacedNode}
 use Rattle.wb_tree.specs.Mapping.{NodeName, place_in}
 use Rattle.wb_tree.specs.Planning.{placed}
 use Rattle.wb_tree.specs.Fields.{AreApart as AreKnownApart}
-use Rattle.wb_tree.proofs.Names.{has, had_right, AreApart, same_name}
+use Rattle.wb_tree.proofs.Nodes.Names.{has, had_right, AreApart, same_name}
 use Rattle.wb_tree.proofs.Truth.{yes}
 
 -- what is not listed has no place

@@ -14,7 +14,7 @@ use Rattle.wb_tree.specs.declared.placed.PlacedNode.{PlacedNode}
 use Rattle.wb_tree.specs.Mapping.{Mapping, IsSound, IsPlaceOf, place_in, place_of, changed}
 use Rattle.wb_tree.specs.Images.{HasWordsOf, IsImage, name_of}
 use Rattle.wb_tree.specs.Fields.{IsComplete}
-use Rattle.wb_tree.proofs.Knowing.{places, used-are, used-once}
+use Rattle.wb_tree.proofs.Nodes.Knowing.{places, used-are, used-once}
 
 -- what the nodes of an image are, before their places are told
 pub record WritesChanged (m n : Mapping) (geometry : Geometry) (generation : ℕ) (free : List Place) (nodes : List (Place × Node)) : Type 0 where

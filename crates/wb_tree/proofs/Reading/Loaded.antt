@@ -18,12 +18,12 @@ use Rattle.wb_tree.specs.Reading.{Found, Nodes, tree_read}
 use Rattle.wb_tree.specs.Images.{AreRead, word_at, name_of}
 use Rattle.wb_tree.specs.Loaded.{IsWhole, IsLoaded}
 use Rattle.wb_tree.specs.Fields.{AreApart, AreFields, padded}
-use Rattle.wb_tree.proofs.Names.{IsBelow, nodes_below-below, nodes_below-exist}
-use Rattle.wb_tree.proofs.PlacedLists.{one_name, place_in-reached, place_in-member, member-named}
-use Rattle.wb_tree.proofs.LoaderSteps.{depth_range}
-use Rattle.wb_tree.proofs.Counting.{count-reached}
-use Rattle.wb_tree.proofs.Grown.{tree_with}
-use Rattle.wb_tree.proofs.KnownTree.{IsKnownTree, known_tree}
+use Rattle.wb_tree.proofs.Nodes.Names.{IsBelow, nodes_below-below, nodes_below-exist}
+use Rattle.wb_tree.proofs.Reading.PlacedLists.{one_name, place_in-reached, place_in-member, member-named}
+use Rattle.wb_tree.proofs.Reading.LoaderSteps.{depth_range}
+use Rattle.wb_tree.proofs.Nodes.Counting.{count-reached}
+use Rattle.wb_tree.proofs.Reading.Grown.{tree_with}
+use Rattle.wb_tree.proofs.Reading.KnownTree.{IsKnownTree, known_tree}
 use Rattle.wb_tree.proofs.Truth.{and_true}
 
 -- ---- a node that exists has an entry below it

@@ -7,7 +7,7 @@ use Rattle.wb_format.specs.declared.root.Root.{Root}
 use Rattle.wb_tree.specs.declared.placed.PlacedNode.{PlacedNode}
 use Rattle.wb_tree.specs.Reading.{Found, Reading, ◌then◌, each_step, entry_read, entry_in, may_map}
 use Rattle.wb_tree.specs.Loading.{leaf_read, found_with}
-use Rattle.wb_tree.proofs.Steps.{each_step-next, each_step-none, entry_read-some, entry_read-fault, entry_read-none}
+use Rattle.wb_tree.proofs.Reading.Steps.{each_step-next, each_step-none, entry_read-some, entry_read-fault, entry_read-none}
 
 abbrev pub leaf_step : Root → PlacedNode → List ℕ → ℕ → Found → Reading
 leaf_step root leaf words j = entry_read root leaf.place (32 * leaf.index + j) (entry_in (slice_index words j))

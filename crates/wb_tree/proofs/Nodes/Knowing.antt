@@ -7,7 +7,7 @@ use Rattle.wb_types.specs.declared.number.Place.{Place}
 use Rattle.wb_tree.specs.declared.placed.PlacedNode.{PlacedNode}
 use Rattle.wb_tree.specs.Mapping.{Mapping, IsSound, IsPlaceOf, place_in}
 use Rattle.wb_tree.specs.Fields.{AreApart}
-use Rattle.wb_tree.proofs.Placing.{either_place}
+use Rattle.wb_tree.proofs.Nodes.Placing.{either_place}
 use Rattle.wb_tree.proofs.Truth.{and_true, yes}
 
 -- the places of nodes, in their order

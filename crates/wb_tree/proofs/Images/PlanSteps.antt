@@ -11,9 +11,9 @@ use Rattle.wb_format.specs.Words.{IsInnerWord, entry_word}
 use Rattle.wb_tree.specs.Mapping.{Mapping, NodeName, exists, each_from, nodes_below, nodes_of, place_in, place_of}
 use Rattle.wb_tree.specs.Images.{name_of, word_at, place_word}
 use Rattle.wb_tree.specs.Planning.{placed, planned, names, Begins, MayPlan, IsWritten, AreWritten}
-use Rattle.wb_tree.proofs.Names.{AreApart, has_not, nodes_below-exist, nodes_below-apart}
-use Rattle.wb_tree.proofs.Placing.{IsPlaced, placed-none, placed-is, placed-behind}
-use Rattle.wb_tree.proofs.Listing.{each_from-more, each_from-split, nodes_below-open}
+use Rattle.wb_tree.proofs.Nodes.Names.{AreApart, has_not, nodes_below-exist, nodes_below-apart}
+use Rattle.wb_tree.proofs.Nodes.Placing.{IsPlaced, placed-none, placed-is, placed-behind}
+use Rattle.wb_tree.proofs.Nodes.Listing.{each_from-more, each_from-split, nodes_below-open}
 
 -- ---- where the planned nodes stand
 

@@ -15,11 +15,11 @@ use Rattle.wb_tree.specs.declared.placed.PlacedNode.{PlacedNode}
 use Rattle.wb_tree.specs.Mapping.{Mapping, place_in}
 use Rattle.wb_tree.specs.Reading.{Found, Nodes, ◌then◌, each_step, entry_in, entry_read, may_map, is_node_of, is_reached, reached_at}
 use Rattle.wb_tree.specs.Images.{word_at, place_word}
-use Rattle.wb_tree.proofs.Names.{IsBelow, below_up}
-use Rattle.wb_tree.proofs.PlacedLists.{named-itself, unnamed, is_some_of, some_of, place_in-first, place_in-later, place_in-cases, reached-first, unreached-both, some-append_right}
-use Rattle.wb_tree.proofs.Grown.{Grown, WasRead, at, tree_with, up_block, below-self, word_same, no_place}
+use Rattle.wb_tree.proofs.Nodes.Names.{IsBelow, below_up}
+use Rattle.wb_tree.proofs.Reading.PlacedLists.{named-itself, unnamed, is_some_of, some_of, place_in-first, place_in-later, place_in-cases, reached-first, unreached-both, some-append_right}
+use Rattle.wb_tree.proofs.Reading.Grown.{Grown, WasRead, at, tree_with, up_block, below-self, word_same, no_place}
 use Rattle.wb_tree.proofs.Truth.{and_true, yes}
-use Rattle.wb_tree.proofs.Steps.{then_ok}
+use Rattle.wb_tree.proofs.Reading.Steps.{then_ok}
 
 -- ---- the entries of a leaf
 

@@ -12,10 +12,10 @@ use Rattle.wb_tree.specs.declared.placed.PlacedNode.{PlacedNode}
 use Rattle.wb_tree.specs.Mapping.{place_in}
 use Rattle.wb_tree.specs.Fields.{AreApart}
 use Rattle.wb_tree.specs.Reading.{Found, Reading, Nodes, ◌then◌, each_step, entry_in, entry_read, child_read, names_child, is_node_of, reached_at, words_read, node_read, nothing_found, top_read, tree_read}
-use Rattle.wb_tree.proofs.Steps.{names_child-is, then_ok, test_ok, nothing_there}
-use Rattle.wb_tree.proofs.PlacedLists.{PlacesApart}
-use Rattle.wb_tree.proofs.Grown.{Grown, WasRead, Covers, at, tree_with, up_block, grown_then, grown_none, grown_tops}
-use Rattle.wb_tree.proofs.GrownNodes.{MayRead, IsNewPlace, grown_leaf, grown_inner}
+use Rattle.wb_tree.proofs.Reading.Steps.{names_child-is, then_ok, test_ok, nothing_there}
+use Rattle.wb_tree.proofs.Reading.PlacedLists.{PlacesApart}
+use Rattle.wb_tree.proofs.Reading.Grown.{Grown, WasRead, Covers, at, tree_with, up_block, grown_then, grown_none, grown_tops}
+use Rattle.wb_tree.proofs.Reading.GrownNodes.{MayRead, IsNewPlace, grown_leaf, grown_inner}
 
 -- ---- children
 

@@ -15,9 +15,9 @@ use Rattle.wb_tree.specs.declared.placed.PlacedNode.{PlacedNode}
 use Rattle.wb_tree.specs.declared.frame.Frame.{Frame}
 use Rattle.wb_tree.specs.Reading.{Found, Reading, Nodes, ◌then◌, is_node_of, is_reached, reached_at, node_read, nothing_found, top_read, tree_read}
 use Rattle.wb_tree.specs.Loading.{Loading, outcome, wanted_rest, frames_rest, leaf_read, found_with, node_on_top, top_node, IsFresh, IsLoading, Fails, AgreeAt}
-use Rattle.wb_tree.proofs.FrameSteps.{frames_rest-lowest}
-use Rattle.wb_tree.proofs.ReachedLemmas.{is_reached-push}
-use Rattle.wb_tree.proofs.NodeSteps.{node_read-none, node_read-other, node_read-leaf, node_read-inner}
+use Rattle.wb_tree.proofs.Reading.FrameSteps.{frames_rest-lowest}
+use Rattle.wb_tree.proofs.Reading.ReachedLemmas.{is_reached-push}
+use Rattle.wb_tree.proofs.Reading.NodeSteps.{node_read-none, node_read-other, node_read-leaf, node_read-inner}
 
 -- the node that is wanted, and then what is left
 pub outcome-wanted : (l : Loading) (wanted : PlacedNode) (nodes : Nodes) → l.wanted ≡ Some wanted → outcome l nodes ≡ wanted_rest l.root nodes (reverse l.frames) (Some wanted) l.found

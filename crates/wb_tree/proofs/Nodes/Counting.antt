@@ -13,8 +13,8 @@ use Rattle.wb_format.specs.declared.root.Root.{Root}
 use Rattle.wb_tree.specs.declared.placed.PlacedNode.{PlacedNode}
 use Rattle.wb_tree.specs.Mapping.{NodeName, exists, each_from, nodes_below, nodes_of}
 use Rattle.wb_tree.specs.Reading.{Found, Reading, Nodes, ◌then◌, each_step, entry_in, entry_read, may_map, child_read, names_child, is_node_of, reached_at, words_read, node_read, nothing_found, top_read, tree_read}
-use Rattle.wb_tree.proofs.Fronts.{begins_inside}
-use Rattle.wb_tree.proofs.Steps.{names_child-is, then_ok, test_ok}
+use Rattle.wb_tree.proofs.Nodes.Fronts.{begins_inside}
+use Rattle.wb_tree.proofs.Reading.Steps.{names_child-is, then_ok, test_ok}
 
 -- how many nodes of a level and below it stand before one of its nodes, where every cache block has an entry
 before : ℕ → ℕ → ℕ → ℕ

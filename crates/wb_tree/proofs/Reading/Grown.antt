@@ -14,8 +14,8 @@ use Rattle.wb_tree.specs.Mapping.{Mapping, place_in, place_of, entry_at}
 use Rattle.wb_tree.specs.Fields.{AreApart}
 use Rattle.wb_tree.specs.Reading.{Found, Nodes, is_node_of, is_reached}
 use Rattle.wb_tree.specs.Images.{word_at, place_word}
-use Rattle.wb_tree.proofs.Names.{IsBelow}
-use Rattle.wb_tree.proofs.PlacedLists.{PlacesApart, option_cases, place_in-append_none, place_in-append_some, place_in-append_cases, some-append_left, some-append_right, reached-cases, unreached-both, apart-append, names-append}
+use Rattle.wb_tree.proofs.Nodes.Names.{IsBelow}
+use Rattle.wb_tree.proofs.Reading.PlacedLists.{PlacesApart, option_cases, place_in-append_none, place_in-append_some, place_in-append_cases, some-append_left, some-append_right, reached-cases, unreached-both, apart-append, names-append}
 
 -- the entry of a block
 abbrev pub at : Found → ℕ → Option Entry

@@ -13,11 +13,11 @@ use Rattle.wb_tree.specs.Mapping.{Mapping, NodeName, IsMapping, IsSound, AreInsi
 use Rattle.wb_tree.specs.Images.{AreFree}
 use Rattle.wb_tree.specs.Planning.{planned, names, MayPlan, AreWritten}
 use Rattle.wb_tree.specs.Fields.{padded, mapping_of, IsComplete, AreFields}
-use Rattle.wb_tree.proofs.Counting.{count-nodes}
-use Rattle.wb_tree.proofs.Imaging.{WritesChanged}
-use Rattle.wb_tree.proofs.PaddedPlan.{nodes_below-padded, entry-padded, written-padded}
-use Rattle.wb_tree.proofs.Padding.{length-padded}
-use Rattle.wb_tree.proofs.Planned.{CanPlace, known_node, known-planned, planned-sound, planned-complete, planned-inside, all-written_is}
+use Rattle.wb_tree.proofs.Nodes.Counting.{count-nodes}
+use Rattle.wb_tree.proofs.Images.Imaging.{WritesChanged}
+use Rattle.wb_tree.proofs.Images.PaddedPlan.{nodes_below-padded, entry-padded, written-padded}
+use Rattle.wb_tree.proofs.Images.Padding.{length-padded}
+use Rattle.wb_tree.proofs.Images.Planned.{CanPlace, known_node, known-planned, planned-sound, planned-complete, planned-inside, all-written_is}
 
 can-place : (m : Mapping) (entries : List (Option Entry)) (geometry : Geometry) (free : List Place) (depth : ℕ) → m.entries ≡ entries → IsMapping geometry.cache_blocks geometry.origin_blocks m.entries → AreFree m geometry free
     → depth ≡ depth_of geometry.cache_blocks → CanPlace entries depth geometry free

@@ -3,8 +3,8 @@ use Rattle.std.proofs.Common.{◌≡◌, ◌≤◌, ◌<◌, ◌+◌, ◌-◌, �
 use Rattle.std.proofs.lemmas.List.{append-nil}
 use Rattle.wb_types.specs.declared.entry.Entry.{Entry}
 use Rattle.wb_tree.specs.Mapping.{NodeName, exists, each_from, nodes_below}
-use Rattle.wb_tree.proofs.Fronts.{begins_inside}
-use Rattle.wb_tree.proofs.Steps.{index_below}
+use Rattle.wb_tree.proofs.Nodes.Fronts.{begins_inside}
+use Rattle.wb_tree.proofs.Reading.Steps.{index_below}
 
 -- one list more
 pub each_from-more : (f : ℕ → List NodeName) (count first : ℕ) → each_from f (count + 1) first ≡ each_from f count first ++ f (first + count)

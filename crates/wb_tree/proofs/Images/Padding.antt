@@ -3,7 +3,7 @@ use Rattle.std.proofs.Common.{◌≡◌, ◌<◌, ◌≤◌, ◌+◌, ◌-◌, �
 use Rattle.std.proofs.lemmas.List.{set-append_left, set-get_or, length-set, take_all, replicate-append-replicate, length-append, length-replicate, get_or-append_right, get_or_append_left, get_or_default}
 use Rattle.wb_types.specs.declared.entry.Entry.{Entry}
 use Rattle.wb_tree.specs.Fields.{padded}
-use Rattle.wb_tree.proofs.Steps.{nothing_there}
+use Rattle.wb_tree.proofs.Reading.Steps.{nothing_there}
 
 -- a list in which an item is set to what it is
 pub set_same : {X : Type 0} (xs : List X) (i : ℕ) (x d : X) → get_or xs i d ≡ x → xs ≡ set xs i x

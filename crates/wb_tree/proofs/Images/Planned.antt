@@ -14,11 +14,11 @@ use Rattle.wb_tree.specs.Mapping.{Mapping, NodeName, IsSound, AreInside, exists,
 use Rattle.wb_tree.specs.Images.{HasWordsOf, name_of}
 use Rattle.wb_tree.specs.Planning.{placed, planned, names, IsWritten, AreWritten}
 use Rattle.wb_tree.specs.Fields.{IsComplete}
-use Rattle.wb_tree.proofs.Counting.{count-nodes}
-use Rattle.wb_tree.proofs.Names.{IsBelow, has, same_name, nodes_below-below, nodes_below-exist, nodes_below-apart, nodes_below-closed}
-use Rattle.wb_tree.proofs.Placing.{placed-apart, placed-some, placed-had, placed-looked, placed-take, places_of}
-use Rattle.wb_tree.proofs.PlanSteps.{planned-is}
-use Rattle.wb_tree.proofs.Imaging.{WritesChanged}
+use Rattle.wb_tree.proofs.Nodes.Counting.{count-nodes}
+use Rattle.wb_tree.proofs.Nodes.Names.{IsBelow, has, same_name, nodes_below-below, nodes_below-exist, nodes_below-apart, nodes_below-closed}
+use Rattle.wb_tree.proofs.Nodes.Placing.{placed-apart, placed-some, placed-had, placed-looked, placed-take, places_of}
+use Rattle.wb_tree.proofs.Images.PlanSteps.{planned-is}
+use Rattle.wb_tree.proofs.Images.Imaging.{WritesChanged}
 
 either_had : (b r : Bool) → cond b true r ≡ true → (b ≡ true) ⊎ (r ≡ true)
 either_had true r h = inl refl

@@ -11,8 +11,8 @@ use Rattle.wb_format.specs.declared.node.Node.{Node}
 use Rattle.wb_tree.specs.Mapping.{Mapping, NodeName, IsSound, IsPlaceOf, IsOnPath, AreInside, Forgets, exists, place_of}
 use Rattle.wb_tree.specs.Images.{Stores, IsNodeOf, word_at}
 use Rattle.wb_tree.specs.Edits.{IsEdited}
-use Rattle.wb_tree.proofs.Grown.{up_block, word_same, no_place}
-use Rattle.wb_tree.proofs.PlacedLists.{option_cases, some_of}
+use Rattle.wb_tree.proofs.Reading.Grown.{up_block, word_same, no_place}
+use Rattle.wb_tree.proofs.Reading.PlacedLists.{option_cases, some_of}
 
 -- ---- entries
 

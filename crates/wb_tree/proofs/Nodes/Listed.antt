@@ -6,9 +6,9 @@ use Rattle.wb_types.specs.declared.entry.Entry.{Entry}
 use Rattle.wb_types.specs.declared.number.Place.{Place}
 use Rattle.wb_types.specs.Limits.{depth_of}
 use Rattle.wb_tree.specs.Mapping.{Mapping, NodeName, place_of, exists, nodes_below, nodes_of, changed_of, changed}
-use Rattle.wb_tree.proofs.Fronts.{begins_inside, none_there}
-use Rattle.wb_tree.proofs.Names.{has, same_name, nodes_below-itself, nodes_below-closed}
-use Rattle.wb_tree.proofs.Whole.{depth_enough, one_more}
+use Rattle.wb_tree.proofs.Nodes.Fronts.{begins_inside, none_there}
+use Rattle.wb_tree.proofs.Nodes.Names.{has, same_name, nodes_below-itself, nodes_below-closed}
+use Rattle.wb_tree.proofs.Stored.Whole.{depth_enough, one_more}
 
 -- an entry lies in these cache blocks
 record HasEntry (entries : List (Option Entry)) (first count : ℕ) : Type 0 where

@@ -13,7 +13,7 @@ use Rattle.wb_tree.specs.Mapping.{NodeName, exists, each_from, nodes_below, plac
 use Rattle.wb_tree.specs.Images.{word_at, place_word}
 use Rattle.wb_tree.specs.Planning.{placed, planned, IsWritten, AreWritten}
 use Rattle.wb_tree.specs.Fields.{padded}
-use Rattle.wb_tree.proofs.Padding.{padded-past}
+use Rattle.wb_tree.proofs.Images.Padding.{padded-past}
 
 -- ---- which nodes exist
 

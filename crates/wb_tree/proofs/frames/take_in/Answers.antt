@@ -1,8 +1,8 @@
 use Rattle.std.proofs.Common.{◌≡◌, ◌∙◌, sym, ap, refl, ◌++◌, ◌∷◌, [], length, take, drop, reverse, Ok, Err, Some}
 use Rattle.std.proofs.lemmas.List.{take_at}
 use Rattle.wb_tree.specs.Loading.{frames_rest, wanted_rest, leaf_read, found_with}
-use Rattle.wb_tree.proofs.LoaderSteps.{rest-leaf_read, rest-inner, pushed_same, found_same, fails_there}
-use Rattle.wb_tree.proofs.entering.take_in.Goals as goal
+use Rattle.wb_tree.proofs.Reading.LoaderSteps.{rest-leaf_read, rest-inner, pushed_same, found_same, fails_there}
+use Rattle.wb_tree.proofs.frames.take_in.Goals as goal
 
 pub returns-in-Err-clause-err : goal.returns-in-Err-clause-err
 returns-in-Err-clause-err g c nodes reached e =
