@@ -12,9 +12,10 @@ use Rattle.wb_tree.specs.Reading.{Found, Reading, Nodes, ReadsAs, AreNodes, ◌t
 use Rattle.wb_format.proofs.Values.{one_node}
 use Rattle.wb_tree.proofs.Reading.ReachedLemmas.{is_reached-push}
 use Rattle.wb_tree.proofs.Reading.Steps.{then_ok, test_ok}
-use Rattle.wb_tree.proofs.Truth.{yes}
+use Rattle.wb_types.proofs.Truth.{yes}
 use Rattle.wb_tree.specs.Loading.{AgreeAt}
 use Rattle.wb_meta.specs.Representing.{Represents}
+use Rattle.wb_types.proofs.Truth.{or_true}
 
 -- what was reached is still reached, and where the same is read there, another reading gives the same
 record Follows (a b : Nodes) (other : Reading) (found next : Found) : Type 0 where
@@ -74,12 +75,8 @@ child_following : (a b : Nodes) (root : Root) (here : Place) (level index : ℕ)
 child_following a b root here level index read other h word found next e =
     child_by a b (word == 0) (names_child root found.reached level index word) here (read index (record { 0 = word })) (other index (record { 0 = word })) (h index (record { 0 = word })) found next e
 
-both_true : (t r : Bool) → r ≡ true → cond t true r ≡ true
-both_true true r e = refl
-both_true false r e = e
-
 pub reached_before : (place : ℕ) (xs : List PlacedNode) (node : PlacedNode) → is_reached place xs ≡ true → is_reached place (xs ++ node ∷ []) ≡ true
-reached_before place xs node r = is_reached-push place xs node ∙ both_true (nat_eq node.place.0 place) (is_reached place xs) r
+reached_before place xs node r = is_reached-push place xs node ∙ or_true (nat_eq node.place.0 place) (is_reached place xs) r
 
 pub reached_last : (node : PlacedNode) (xs : List PlacedNode) → is_reached node.place.0 (xs ++ node ∷ []) ≡ true
 reached_last node xs = is_reached-push node.place.0 xs node ∙ ap (λ t. cond t true (is_reached node.place.0 xs)) (yes node.place.0)
@@ -121,10 +118,3 @@ reads_one sector None None x y = refl
 reads_one sector None (Some node) x y = absurd (x node y)
 reads_one sector (Some node) None x y = absurd (y node x)
 reads_one sector (Some node) (Some other) x y = ap (λ n. Some n) (one_node sector node other x y)
-
--- what sectors hold is what is read of them
-pub Represents-read : (sectors : List Content) (root : Root) (found : Found) (nodes : Nodes) → Represents sectors root found → AreNodes sectors nodes → tree_read root nodes ≡ Ok found
-Represents-read sectors root found nodes held are =
-    top_following held.nodes nodes root root.top found held.reads (λ place r.
-    let there = held.reached place r in
-    reads_one there.sector (held.nodes place) (nodes place) there.reads (are place there.sector there.there))

@@ -22,7 +22,7 @@ use Rattle.wb_meta.specs.Representing.{Represents, RepresentsTree, Stored}
 use Rattle.wb_tree.specs.Edits.{IsEdited}
 use Rattle.wb_meta.specs.Imaging.{DeviceStores, AreUnused, IsNextImage, IsPlanned, Follows}
 use Rattle.wb_meta.specs.Laws.{of_first}
-use Rattle.wb_meta.specs.Reads.{AreApart, FitsDevice}
+use Rattle.wb_meta.specs.Reads.{AreApartPlaces, FitsDevice}
 use Rattle.wb_meta.proofs.Counting.{all_contained}
 use Rattle.wb_meta.specs.States.{RepresentsState, places_of}
 use Rattle.wb_meta.proofs.Storing.{same_place}
@@ -98,7 +98,7 @@ stored_formatted geometry device formatted size = record {
     none_contained : (place : Place) → Contains [] place → ⊥
     none_contained place has = omega (arith, has.1)
 
-apart_inside : (sectors : ℕ) (used : List Place) (place : Place) → AreApart sectors used → Contains used place → (2 ≤ place.0) × (place.0 < sectors)
+apart_inside : (sectors : ℕ) (used : List Place) (place : Place) → AreApartPlaces sectors used → Contains used place → (2 ≤ place.0) × (place.0 < sectors)
 apart_inside sectors used place apart has =
     (all_contained (λ (p : Place). 2 ≤ p.0) used place apart.from has, all_contained (λ (p : Place). p.0 < sectors) used place apart.to has)
 

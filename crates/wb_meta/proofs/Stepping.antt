@@ -157,10 +157,3 @@ fails image sectors before now new (NodesWritten count) places come failed = nod
 fails image sectors before now new NodesSynced places come failed = root_failed image sectors before now new (slot_of image.root).0 places refl come failed
 fails image sectors before now new RootWritten places come failed = root_unsynced image before now new come failed
 fails image sectors before now new Done places come failed = absurd failed
-
--- a commit of an image without nodes may begin at the root
-pub begins_at_root : (image : Image) (device : List History) → image.nodes.items ≡ [] → SyncedNodes image device device
-begins_at_root image device none = record {
-  grew = Grew-none (IsNodeHere image.nodes.items) device;
-  nodes = λ at h content e has i node below listed here. absurd (let few : length image.nodes.items ≡ 0 = ap (λ (ns : List (Place × Node)). length ns) none in omega (arith, few, below));
-}

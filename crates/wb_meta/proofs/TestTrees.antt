@@ -12,18 +12,13 @@ use Rattle.wb_types.specs.declared.geometry.Geometry.{Geometry}
 use Rattle.wb_types.specs.declared.number.Place.{Place}
 use Rattle.wb_tree.specs.Mapping.{Mapping, IsMapping, IsPlaceOf, Forgets, entry_at}
 use Rattle.wb_meta.specs.Imaging.{AreUnused}
+use Rattle.wb_tree.proofs.TestTrees.{some_inside, places-numbers}
 
 -- ---- mappings
 
 -- each entry before a cache block is for the origin block of its own number
 abbrev pub AreOwnBefore : ℕ → List (Option Entry) → Type 0
 AreOwnBefore end entries = (block : ℕ) (entry : Entry) → block < end → slice_index_or entries block None ≡ Some entry → (entry.origin.0 ≡ block) × (entry.hint ≤ 16)
-
-some_inside : (entries : List (Option Entry)) (block : ℕ) (entry : Entry) → slice_index_or entries block None ≡ Some entry → block < length entries
-some_inside entries block entry e = elim (cases_lt block (length entries)) [
-  | inl inside ↦ inside
-  | inr past ↦ let none = get_or_past entries block None past in absurd cc
-]
 
 pub own-mapping : (cache_blocks origin_blocks : ℕ) (entries : List (Option Entry)) → length entries ≡ cache_blocks → cache_blocks ≤ origin_blocks → AreOwnBefore cache_blocks entries → IsMapping cache_blocks origin_blocks entries
 own-mapping cache_blocks origin_blocks entries size few own = record {
@@ -41,20 +36,6 @@ own-mapping cache_blocks origin_blocks entries size few own = record {
 }
 
 -- ---- places
-
-numbered : ℕ → Place
-numbered number = record { 0 = number }
-
-places-numbers : (first count i : ℕ) (place : Place) → slice_get (map (λ number. record { 0 = number }) (range_with_len first count)) i ≡ Some place → (place.0 ≡ first + i) × (i < count)
-unfolding numbered
-places-numbers first zero i place h = absurd cc
-places-numbers first (suc count) zero place h =
-    let e : numbered first ≡ place = cc in
-    let n : first ≡ place.0 = ap (λ (p : Place). p.0) e in
-    (omega arith, omega arith)
-places-numbers first (suc count) (suc i) place h =
-    let rest = places-numbers (first + 1) count i place h in
-    (omega (arith, rest.0), omega (arith, rest.1))
 
 pub places-unused : (geometry : Geometry) (first count : ℕ) (free : List Place) → free ≡ map (λ number. record { 0 = number }) (range_with_len first count)
     → (used : List Place) → All (λ place. first ≤ place.0 → first + count ≤ place.0) used → 2 ≤ first → node_count geometry.cache_blocks ≤ count → first + count ≤ geometry.meta_sectors → AreUnused geometry used free

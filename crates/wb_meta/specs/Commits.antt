@@ -75,3 +75,17 @@ steps_left nodes (NodesWritten count) = (nodes - count) + 3
 steps_left nodes NodesSynced = 2
 steps_left nodes RootWritten = 1
 steps_left nodes Done = 0
+
+-- ---- one step
+
+-- one step less is left
+abbrev pub IsOneStepLess : Image → CommitSteps → CommitSteps → Type 0
+IsOneStepLess image old new = steps_left (length image.nodes.items) new ≡ steps_left (length image.nodes.items) old - 1
+
+-- whatever device the commit began over, it came from where it had come to where it has come now
+abbrev pub Comes : Image → CommitSteps → List History → CommitSteps → List History → Type 0
+Comes image old was new now = (before : List History) → HasCome image before old was → HasCome image before new now
+
+-- or it failed there
+abbrev pub FailsWhere : Image → CommitSteps → List History → List History → Type 0
+FailsWhere image old was now = (before : List History) → HasCome image before old was → HasFailed image before old now

@@ -1,5 +1,5 @@
 -- How far a reading has come, as the sectors show it.
-use Rattle.std.specs.Prelude.{◌≡◌, ◌≤◌, ◌<◌, ◌+◌, ◌-◌, ◌==◌, ℕ, Option, Some, None, IsSome, List, length, map, slice_get, Contains}
+use Rattle.std.specs.Prelude.{◌≡◌, ◌⊎◌, ◌≤◌, ◌<◌, ◌+◌, ◌-◌, ◌==◌, ℕ, Option, Some, None, IsSome, List, length, map, slice_get, Contains}
 use Rattle.std.specs.List.{AllByRecursion, IsDistinct}
 use Rattle.wb_types.specs.declared.number.Place.{Place}
 use Rattle.wb_types.specs.declared.refusal.Refusal.{Refusal}
@@ -16,7 +16,7 @@ use Rattle.wb_meta.specs.Representing.{ReadThere}
 use Rattle.wb_meta.specs.States.{RepresentsState, IsRefusedBy, places_of}
 
 -- places of a device of so many sectors: behind the slots, and none twice
-pub record AreApart (sectors : ℕ) (used : List Place) : Type 0 where
+pub record AreApartPlaces (sectors : ℕ) (used : List Place) : Type 0 where
   pub from : AllByRecursion (λ place. 2 ≤ place.0) used
   pub to : AllByRecursion (λ place. place.0 < sectors) used
   pub apart : IsDistinct (λ (a b : Place). a.0 == b.0) used
@@ -25,7 +25,7 @@ pub record AreApart (sectors : ℕ) (used : List Place) : Type 0 where
 pub record IsTreeOn (sectors : ℕ) (root : Root) (l : Loading) : Type 0 where
   pub size : root.geometry.meta_sectors ≡ sectors
   pub root_is : l.root ≡ root
-  pub used : AreApart sectors (places_of l.found.reached)
+  pub used : AreApartPlaces sectors (places_of l.found.reached)
 
 -- a sound tree of a mapping on a device of so many sectors, with the places of its nodes
 pub record FitsDevice (sectors : ℕ) (root : Root) (tree : Mapping) (used : List Place) : Type 0 where
@@ -35,7 +35,7 @@ pub record FitsDevice (sectors : ℕ) (root : Root) (tree : Mapping) (used : Lis
   pub inside : AreInside sectors tree
   -- every place at which a node of the tree is known to stand is used
   pub known_used : (place : Place) → IsPlaceOf tree place → Contains used place
-  pub used_are : AreApart sectors used
+  pub used_are : AreApartPlaces sectors used
   -- as many places at most as a tree of this size can have nodes
   pub used_few : length used ≤ node_count root.geometry.cache_blocks
 
@@ -77,15 +77,15 @@ IsDone (Done state) = Unit {0}
 
 -- ---- one sector a step
 
-abbrev pub number_of : Option Place → Option ℕ
-number_of (Some place) = Some place.0
-number_of None = None
+abbrev pub place_number : Option Place → Option ℕ
+place_number (Some place) = Some place.0
+place_number None = None
 
 -- the sector that the next step reads; none where the reading is done
 abbrev pub coming_sector : {A : Type 0} → ReadSteps A → Option ℕ
 coming_sector (Begun alloc global) = Some 0
 coming_sector (FirstSlotRead alloc global first) = Some 1
-coming_sector (RootFound global root loader) = number_of (wanted_place loader.wanted)
+coming_sector (RootFound global root loader) = place_number (wanted_place loader.wanted)
 coming_sector (Done state) = None
 
 -- how many sectors were read, each by a step
@@ -109,11 +109,19 @@ pub record AgreeThere (at : Option ℕ) (device : List History) (sectors : List 
 
 -- A step of a reading goes on so: of whatever sectors the reading had come so far, as far as they agree with the device in
 -- the one sector that the step reads, it has come one step further.
-abbrev pub GoesOn : {A : Type 0} → ReadSteps A → List History → ReadSteps A → Type 0
-GoesOn steps device next = (sectors : List Content) → AgreeThere (coming_sector steps) device sectors
+abbrev pub ReadingGoesOn : {A : Type 0} → ReadSteps A → List History → ReadSteps A → Type 0
+ReadingGoesOn steps device next = (sectors : List Content) → AgreeThere (coming_sector steps) device sectors
     → HasRead sectors steps → HasRead sectors next
 
 -- and so it is refused: of whatever such sectors, for what stands there
 abbrev pub StopsBy : {A : Type 0} → ReadSteps A → List History → Refusal → Type 0
 StopsBy steps device refusal = (sectors : List Content) → AgreeThere (coming_sector steps) device sectors
     → HasRead sectors steps → IsRefusedBy sectors refusal
+
+-- after a step fewer steps are left, unless none was
+abbrev pub StepsFewer : {A : Type 0} → ℕ → ReadSteps A → ReadSteps A → Type 0
+StepsFewer sectors old new = IsDone old ⊎ (steps_left sectors new < steps_left sectors old)
+
+-- and one sector more was read
+abbrev pub ReadOneMore : {A : Type 0} → ReadSteps A → ReadSteps A → Type 0
+ReadOneMore old new = IsDone old ⊎ (sectors_read new ≡ sectors_read old + 1)

@@ -1,12 +1,12 @@
 //! The commit of an image.
 
-ghost use Rattle.std.specs.Prelude.{◌≡◌, ◌≤◌, ◌↔◌, ◌+◌, ◌-◌, ℕ, [], List, OnOk, OnErr, IfErr, IsTrue, IsFalse, length};
+ghost use Rattle.std.specs.Prelude.{◌≡◌, ◌≤◌, ◌↔◌, ◌+◌, ℕ, [], List, OnOk, OnErr, IfErr, IsTrue, IsFalse};
 ghost use Rattle.wb_types.specs.declared.refusal.Refusal.TheVariants.{Io};
 ghost use Rattle.wb_types.specs.declared.mode.Dev.TheVariants.{Metadata};
 ghost use Rattle.wb_disk.specs.Device.{History, OneMore};
 ghost use Rattle.wb_meta.specs.Placing.{HavePlaces};
 ghost use Rattle.wb_meta.specs.Steps.{DoesStep, FailsStep, coming_step, steps_after};
-ghost use Rattle.wb_meta.specs.Commits.{HasCome, HasFailed, steps_left};
+ghost use Rattle.wb_meta.specs.Commits.{HasCome, Comes, FailsWhere, IsOneStepLess, steps_left};
 ghost use Rattle.wb_meta.specs.Laws.{TreeCommitted, TreeOrOld, WantedCommitted, WantedOrOld};
 
 use crate::Image;
@@ -55,7 +55,8 @@ impl CommitSteps {
     /// A commit that begins at the root, for an image without nodes, as an opening's is.
     pub fn root_alone() -> CommitSteps
         ensures is { result ≡ NodesSynced }
-        ensures begins { (image : ImageValue) (before : List History) → image.nodes.items ≡ [] → HasCome image before result before }
+        ensures begins { (image : ImageValue) (before : List History) → image.nodes.items ≡ []
+            → HasCome image before result before }
         ensures left { (nodes : ℕ) → steps_left nodes result ≡ 2 }
     {
         CommitSteps::NodesSynced
@@ -95,9 +96,9 @@ impl CommitSteps {
         ensures stays { OnErr result (self.new ≡ self.old) }
         ensures does { D.tells → OnOk result (DoesStep image.now self.old (D.contents disk.old) (D.contents disk.new)) }
         ensures fails { D.tells → OnErr result (FailsStep image.now self.old (D.contents disk.old) (D.contents disk.new)) }
-        ensures left { OnOk result (steps_left (length image.now.nodes.items) self.new ≡ steps_left (length image.now.nodes.items) self.old - 1) }
-        ensures come { D.tells → (before : List History) → HasCome image.now before self.old (D.contents disk.old) → OnOk result (HasCome image.now before self.new (D.contents disk.new)) }
-        ensures failed { D.tells → (before : List History) → HasCome image.now before self.old (D.contents disk.old) → OnErr result (HasFailed image.now before self.old (D.contents disk.new)) }
+        ensures left { OnOk result (IsOneStepLess image.now self.old self.new) }
+        ensures come { D.tells → OnOk result (Comes image.now self.old (D.contents disk.old) self.new (D.contents disk.new)) }
+        ensures failed { D.tells → OnErr result (FailsWhere image.now self.old (D.contents disk.old) (D.contents disk.new)) }
         ensures refused { IfErr result (λ refusal. refusal ≡ Io Metadata) }
         ensures no_fault { D.tells → OnOk result (D.faults disk.new ≡ D.faults disk.old) }
         ensures cause { D.tells → OnErr result (OneMore (D.faults disk.old) (D.faults disk.new)) }

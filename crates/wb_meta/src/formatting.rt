@@ -21,9 +21,11 @@ pub fn format<D: Disk>(disk: &mut D, geometry: &Geometry) -> Result<(), Refusal>
     ensures empty { D.tells → OnOk result (IsFormatted geometry.now (D.contents disk.new)) }
     ensures slots { D.tells → OnOk result (SlotsAlone (D.contents disk.old) (D.contents disk.new)) }
     ensures no_fault { D.tells → OnOk result (D.faults disk.new ≡ D.faults disk.old) }
-    ensures cause { D.tells → IfErr result (λ refusal. refusal ≡ Io Metadata → OneMore (D.faults disk.old) (D.faults disk.new)) }
+    ensures cause { D.tells → IfErr result (λ refusal. refusal ≡ Io Metadata
+        → OneMore (D.faults disk.old) (D.faults disk.new)) }
     ensures refused { IfErr result (λ refusal. (refusal ≡ Io Metadata) ⊎ (refusal ≡ WrongSize)) }
-    ensures wrong_size { IfErr result (λ refusal. refusal ≡ WrongSize → (geometry.now.meta_sectors ≢ D.size disk.old) × (disk.new ≡ disk.old)) }
+    ensures wrong_size { IfErr result (λ refusal. refusal ≡ WrongSize
+        → (geometry.now.meta_sectors ≢ D.size disk.old) × (disk.new ≡ disk.old)) }
 {
     if disk.sectors() != u64::from(geometry.meta_sectors) {
         return Err(Refusal::Geometry);

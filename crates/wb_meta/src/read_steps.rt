@@ -4,7 +4,7 @@ ghost use Rattle.std.specs.Prelude.{◌≡◌, ◌≤◌, ◌<◌, ◌↔◌, �
 ghost use Rattle.wb_types.specs.declared.refusal.Refusal.TheVariants.{Memory as OutOfMemory};
 ghost use Rattle.wb_disk.specs.Device.{Content, newest};
 ghost use Rattle.wb_meta.specs.States.{RepresentsState, IsRefusedBy, IsOfReading, CountsFault};
-ghost use Rattle.wb_meta.specs.Reads.{IsTreeOn, FitsDevice, AreStepsOn, HasLoaded, HasRead, GoesOn, StopsBy, IsDone, coming_sector, known_root, sectors_read, steps_left};
+ghost use Rattle.wb_meta.specs.Reads.{IsTreeOn, FitsDevice, AreStepsOn, HasLoaded, HasRead, ReadingGoesOn, StopsBy, IsDone, StepsFewer, ReadOneMore, coming_sector, known_root, sectors_read, steps_left};
 
 use crate::sector::get_node;
 use crate::slot::{newest_root, read_slot};
@@ -104,14 +104,15 @@ impl<A: Allocator> ReadSteps<A> {
         ensures size { D.size disk.new ≡ D.size disk.old }
         ensures same { D.tells → D.contents disk.new ≡ D.contents disk.old }
         ensures on { IfOk result (AreStepsOn (D.size disk.old)) }
-        ensures left { IfOk result (λ steps. IsDone self ⊎ (steps_left (D.size disk.old) steps < steps_left (D.size disk.old) self)) }
-        ensures one_more { IfOk result (λ steps. IsDone self ⊎ (sectors_read steps ≡ sectors_read self + 1)) }
+        ensures left { IfOk result (StepsFewer (D.size disk.old) self) }
+        ensures one_more { IfOk result (ReadOneMore self) }
         ensures idle { IfOk result (λ steps. IsDone self → steps ≡ self) }
-        ensures read { D.tells → IfOk result (GoesOn self (D.contents disk.old)) }
+        ensures read { D.tells → IfOk result (ReadingGoesOn self (D.contents disk.old)) }
         ensures refused { D.tells → IfErr result (StopsBy self (D.contents disk.old)) }
         ensures kinds { IfErr result IsOfReading }
         ensures no_fault { D.tells → OnOk result (D.faults disk.new ≡ D.faults disk.old) }
-        ensures cause { D.tells → IfErr result (λ refusal. CountsFault refusal (D.faults disk.old) (D.faults disk.new)) }
+        ensures cause { D.tells → IfErr result (λ refusal. CountsFault refusal (D.faults disk.old)
+            (D.faults disk.new)) }
     {
         match self {
             ReadSteps::Begun { alloc, global } => {
@@ -155,9 +156,11 @@ fn go_on<A: Allocator>(
     loader: Loader<A>,
 ) -> Result<ReadSteps<A>, Refusal>
     ensures on { (sectors : ℕ) → IsTreeOn sectors root loader → IfOk result (AreStepsOn sectors) }
-    ensures left { (sectors : ℕ) → IfOk result (λ steps. steps_left sectors steps ≤ sectors - length loader.found.reached) }
+    ensures left { (sectors : ℕ) → IfOk result (λ steps. steps_left sectors steps
+        ≤ sectors - length loader.found.reached) }
     ensures count { IfOk result (λ steps. sectors_read steps ≡ 2 + length loader.found.reached) }
-    ensures read { (sectors : List Content) → IsTreeOn (length sectors) root loader → HasLoaded sectors root loader → IfOk result (HasRead sectors) }
+    ensures read { (sectors : List Content) → IsTreeOn (length sectors) root loader
+        → HasLoaded sectors root loader → IfOk result (HasRead sectors) }
     ensures refused { IfErr result (λ refusal. refusal ≡ OutOfMemory) }
 {
     if loader.wanted().is_some() {
@@ -181,7 +184,8 @@ pub fn read_state<A: Allocator, D: Disk>(
     ensures size { D.size disk.new ≡ D.size disk.old }
     ensures same { D.tells → D.contents disk.new ≡ D.contents disk.old }
     ensures fits { IfOk result (λ state. FitsDevice (D.size disk.old) state.root state.tree state.used.items) }
-    ensures read { D.tells → IfOk result (λ state. RepresentsState (map newest (D.contents disk.old)) state.root state.tree state.used.items) }
+    ensures read { D.tells → IfOk result (λ state. RepresentsState (map newest (D.contents disk.old))
+        state.root state.tree state.used.items) }
     ensures refused { D.tells → IfErr result (IsRefusedBy (map newest (D.contents disk.old))) }
     ensures kinds { IfErr result IsOfReading }
     ensures no_fault { D.tells → OnOk result (D.faults disk.new ≡ D.faults disk.old) }

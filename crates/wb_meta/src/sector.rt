@@ -16,8 +16,10 @@ use wb_types::{Content, Dev, Refusal, SECTOR_BYTES};
 pub(crate) fn put_node<D: Disk>(disk: &mut D, at: u64, node: &Node) -> Result<(), Refusal>
     requires { at < D.size disk.old }
     ensures size { D.size disk.new ≡ D.size disk.old }
-    ensures ok { D.tells → OnOk result (Puts (λ content. SpellsNode content node.now) at (D.contents disk.old) (D.contents disk.new)) }
-    ensures err { D.tells → OnErr result (MayPut (λ content. SpellsNode content node.now) at (D.contents disk.old) (D.contents disk.new)) }
+    ensures ok { D.tells → OnOk result (Puts (λ content. SpellsNode content node.now) at
+        (D.contents disk.old) (D.contents disk.new)) }
+    ensures err { D.tells → OnErr result (MayPut (λ content. SpellsNode content node.now) at
+        (D.contents disk.old) (D.contents disk.new)) }
     ensures no_fault { D.tells → OnOk result (D.faults disk.new ≡ D.faults disk.old) }
     ensures cause { D.tells → OnErr result (OneMore (D.faults disk.old) (D.faults disk.new)) }
     ensures refused { IfErr result (λ refusal. refusal ≡ Io Metadata) }
@@ -32,8 +34,10 @@ pub(crate) fn put_node<D: Disk>(disk: &mut D, at: u64, node: &Node) -> Result<()
 pub(crate) fn put_root<D: Disk>(disk: &mut D, at: u64, root: &Root) -> Result<(), Refusal>
     requires { at < D.size disk.old }
     ensures size { D.size disk.new ≡ D.size disk.old }
-    ensures ok { D.tells → OnOk result (Puts (λ content. SpellsRoot content root.now) at (D.contents disk.old) (D.contents disk.new)) }
-    ensures err { D.tells → OnErr result (MayPut (λ content. SpellsRoot content root.now) at (D.contents disk.old) (D.contents disk.new)) }
+    ensures ok { D.tells → OnOk result (Puts (λ content. SpellsRoot content root.now) at
+        (D.contents disk.old) (D.contents disk.new)) }
+    ensures err { D.tells → OnErr result (MayPut (λ content. SpellsRoot content root.now) at
+        (D.contents disk.old) (D.contents disk.new)) }
     ensures no_fault { D.tells → OnOk result (D.faults disk.new ≡ D.faults disk.old) }
     ensures cause { D.tells → OnErr result (OneMore (D.faults disk.old) (D.faults disk.new)) }
     ensures refused { IfErr result (λ refusal. refusal ≡ Io Metadata) }

@@ -46,9 +46,11 @@ pub(crate) fn newest_root(
     second: Option<Root>,
     sectors: u64,
 ) -> Result<Root, Refusal>
-    ensures newest { IfOk result (λ root. (contents : List Content) → IsInSlot contents 0 first → IsInSlot contents 1 second → IsNewestRoot contents root) }
+    ensures newest { IfOk result (λ root. (contents : List Content) → IsInSlot contents 0 first
+        → IsInSlot contents 1 second → IsNewestRoot contents root) }
     ensures size { IfOk result (λ root. root.geometry.meta_sectors ≡ sectors) }
-    ensures refused { IfErr result (λ refusal. (contents : List Content) → length contents ≡ sectors → IsInSlot contents 0 first → IsInSlot contents 1 second → IsRefusedBy contents refusal) }
+    ensures refused { IfErr result (λ refusal. (contents : List Content) → length contents ≡ sectors
+        → IsInSlot contents 0 first → IsInSlot contents 1 second → IsRefusedBy contents refusal) }
     ensures causes { IfErr result (λ refusal. (refusal ≡ NotFormatted) ⊎ (refusal ≡ Mismatch)) }
 {
     let Some(root) = newer(first, second) else {
@@ -62,7 +64,8 @@ pub(crate) fn newest_root(
 
 /// The root of higher generation of the two slots' roots.
 fn newer(first: Option<Root>, second: Option<Root>) -> Option<Root>
-    ensures { (contents : List Content) → IsInSlot contents 0 first → IsInSlot contents 1 second → IsNewest contents result }
+    ensures { (contents : List Content) → IsInSlot contents 0 first → IsInSlot contents 1 second
+        → IsNewest contents result }
 {
     let Some(a) = first else {
         return second;

@@ -4,4 +4,3 @@ pub mod Nodes
 pub mod Reading
 pub mod Stored
 pub mod TestTrees
-pub mod Truth

@@ -6,7 +6,7 @@ use Rattle.wb_types.specs.Limits.{depth_of, node_count}
 use Rattle.wb_format.specs.declared.node.Node.{Node}
 use Rattle.wb_format.specs.declared.version.Version.TheVariants.{One}
 use Rattle.wb_format.specs.Layout.{SpellsNode}
-use Rattle.wb_format.specs.Words.{entry_word}
+use Rattle.wb_format.specs.NodeWords.{entry_word}
 use Rattle.wb_tree.specs.declared.image.Image.{Image}
 use Rattle.wb_tree.specs.Mapping.{Mapping, NodeName, IsPlaceOf, entry_at, place_of, changed}
 use Rattle.wb_tree.specs.Reading.{Nodes}

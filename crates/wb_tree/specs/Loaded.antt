@@ -12,8 +12,8 @@ abbrev pub IsMappingOf : Root → Mapping → Type 0
 IsMappingOf root m = IsMapping root.geometry.cache_blocks root.geometry.origin_blocks m.entries
 
 -- every node that was reached has an entry below it
-abbrev pub IsWhole : Found → Type 0
-IsWhole found = All (λ node. exists found.entries node.level node.index ≡ true) found.reached
+abbrev pub NodesHaveEntries : Found → Type 0
+NodesHaveEntries found = All (λ node. exists found.entries node.level node.index ≡ true) found.reached
 
 -- The tree knows nodes that were reached alone, and what was read of them is what the tree has there. Where every
 -- node that was reached has an entry below it, none counts as changed.
@@ -24,4 +24,4 @@ pub record IsLoaded (root : Root) (found : Found) (m : Mapping) : Type 0 where
   pub read : (nodes : Nodes) → tree_read root nodes ≡ Ok found → AreRead nodes m root.generation
   -- as many nodes at most as a tree of this size can have
   pub few : length found.reached ≤ node_count root.geometry.cache_blocks
-  pub none_changed : IsWhole found → changed m (depth_of root.geometry.cache_blocks) ≡ []
+  pub none_changed : NodesHaveEntries found → changed m (depth_of root.geometry.cache_blocks) ≡ []

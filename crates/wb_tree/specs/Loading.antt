@@ -73,14 +73,14 @@ pub record IsFresh (root : Root) (reached : List PlacedNode) (place : Place) : T
   pub unread : is_reached place.0 reached ≡ false
 
 -- a refusal of want of memory says nothing of a reading, one of damage names its first fault, and no other comes
-abbrev pub Fails : Refusal → Reading → Type 0
-Fails Memory reading = Unit {0}
-Fails (Damaged place) reading = reading ≡ Err place
-Fails _ reading = ⊥
+abbrev pub FailsBy : Refusal → Reading → Type 0
+FailsBy Memory reading = Unit {0}
+FailsBy (Damaged place) reading = reading ≡ Err place
+FailsBy _ reading = ⊥
 
 -- told what the sector of the wanted node reads as, a reading goes on so: what is left gives what it gave before
-abbrev pub GoesOn : Loading → Option Node → Loading → Type 0
-GoesOn l node next = (wanted : PlacedNode) (nodes : Nodes) → l.wanted ≡ Some wanted → nodes wanted.place.0 ≡ node
+abbrev pub LoadingGoesOn : Loading → Option Node → Loading → Type 0
+LoadingGoesOn l node next = (wanted : PlacedNode) (nodes : Nodes) → l.wanted ≡ Some wanted → nodes wanted.place.0 ≡ node
     → outcome next nodes ≡ outcome l nodes
 
 -- and the node was reached
@@ -90,7 +90,7 @@ HasReached l next = (wanted : PlacedNode) → l.wanted ≡ Some wanted → next.
 -- or it fails so
 abbrev pub FailsAt : Loading → Option Node → Refusal → Type 0
 FailsAt l node refusal = (wanted : PlacedNode) (nodes : Nodes) → l.wanted ≡ Some wanted → nodes wanted.place.0 ≡ node
-    → Fails refusal (outcome l nodes)
+    → FailsBy refusal (outcome l nodes)
 
 -- the same is read at the places that were reached
 abbrev pub AgreeAt : List PlacedNode → Nodes → Nodes → Type 0

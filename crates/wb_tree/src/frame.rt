@@ -37,7 +37,7 @@ impl Frame {
             → MatchOption child
             (frame_rest root.now nodes self.old found ≡ Ok found)
             (λ node. frame_rest root.now nodes self.old found
-                ≡ (node_read root.now nodes node.level node.index node.place found then frame_rest root.now nodes self.new))) }
+            ≡ (node_read root.now nodes node.level node.index node.place found then frame_rest root.now nodes self.new))) }
         ensures fresh { IfOk result (λ child. IfSome child (λ node. IsFresh root.now reached.now node.place)) }
         ensures level { IfOk result (λ child. IfSome child (λ node. node.level + 1 ≡ self.old.node.level)) }
         ensures err { IfErr result (λ refusal. refusal ≡ Damaged self.old.node.place) }

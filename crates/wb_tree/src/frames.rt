@@ -3,7 +3,7 @@
 ghost use Rattle.std.specs.Prelude.{◌≡◌, ◌≤◌, [], ◌∷◌, ◌++◌, true, ℕ, List, Some, None, IfOk, IfErr, OnOk, IfSome, length, reverse};
 ghost use Rattle.wb_tree.specs.declared.placed.PlacedNode.{PlacedNode as NodeAt};
 ghost use Rattle.wb_tree.specs.Reading.{Found, Nodes, is_node_of as is_right_node};
-ghost use Rattle.wb_tree.specs.Loading.{frames_rest, wanted_rest, found_with, IsFresh, Fails};
+ghost use Rattle.wb_tree.specs.Loading.{frames_rest, wanted_rest, found_with, IsFresh, FailsBy};
 
 use crate::PlacedNode;
 use crate::frame::Frame;
@@ -29,13 +29,13 @@ pub(crate) fn take_in<A: Allocator>(
     requires mapped { length mapped.old.items ≡ root.now.geometry.origin_blocks }
     ensures ok { OnOk result ((nodes : Nodes) (reached : List NodeAt) → nodes wanted.place.0 ≡ Some node.now
         → wanted_rest root.now nodes (reverse frames.old.items) (Some wanted)
-            (found_with reached entries.old.items mapped.old.items)
+        (found_with reached entries.old.items mapped.old.items)
         ≡ frames_rest root.now nodes (reverse frames.new.items) (found_with (reached ++ wanted ∷ []) entries.new.items mapped.new.items)) }
     ensures entries { OnOk result (length entries.new.items ≡ length entries.old.items) }
     ensures mapped { OnOk result (length mapped.new.items ≡ length mapped.old.items) }
     ensures err { IfErr result (λ refusal. (nodes : Nodes) (reached : List NodeAt) → nodes wanted.place.0 ≡ Some node.now
-        → Fails refusal (wanted_rest root.now nodes (reverse frames.old.items) (Some wanted)
-            (found_with reached entries.old.items mapped.old.items))) }
+        → FailsBy refusal (wanted_rest root.now nodes (reverse frames.old.items) (Some wanted)
+        (found_with reached entries.old.items mapped.old.items))) }
 {
     if wanted.level == 1 {
         if let Err(refusal) = read_entries(root, wanted, &node.words, entries, mapped) {
@@ -67,7 +67,7 @@ pub(crate) fn next_wanted(
     ensures level_from { IfOk result (λ wanted. IfSome wanted (λ node. 1 ≤ node.level)) }
     ensures level_to { IfOk result (λ wanted. IfSome wanted (λ node. node.level ≤ 4)) }
     ensures err { IfErr result (λ refusal. (nodes : Nodes) (found : Found) → found.reached ≡ reached.now
-        → Fails refusal (frames_rest root.now nodes (reverse frames.old.items) found)) }
+        → FailsBy refusal (frames_rest root.now nodes (reverse frames.old.items) found)) }
 {
     while let Some(mut frame) = frames.pop() {
         if let Some(child) = frame.next_child(root, reached)? {

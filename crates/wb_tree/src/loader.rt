@@ -3,7 +3,7 @@
 ghost use Rattle.std.specs.Prelude.{◌≡◌, ◌≤◌, [], ◌∷◌, ◌++◌, true, Some, None, Ok, IfOk, IfErr, IfSome, IfNone, IsSome, map};
 ghost use Rattle.wb_types.specs.declared.refusal.Refusal.TheVariants.{Memory as OutOfMemory};
 ghost use Rattle.wb_tree.specs.Reading.{Nodes, tree_read, is_node_of as is_right_node};
-ghost use Rattle.wb_tree.specs.Loading.{outcome, wanted_place, top_node, IsFresh, Fails, GoesOn, HasReached, FailsAt};
+ghost use Rattle.wb_tree.specs.Loading.{outcome, wanted_place, top_node, IsFresh, FailsBy, LoadingGoesOn, HasReached, FailsAt};
 ghost use Rattle.wb_tree.specs.Loaded.{IsLoaded, IsMappingOf};
 
 use crate::frame::Frame;
@@ -81,7 +81,7 @@ impl<A: Allocator> Loader<A> {
     /// wanted. `Damaged` with the place that the first fault of the tree names, `Memory` where there is no room for
     /// what the node is remembered by.
     pub fn tell(self, node: Option<Node>) -> Result<Loader<A>, Refusal>
-        ensures goes_on { IfOk result (λ l. GoesOn self node l) }
+        ensures goes_on { IfOk result (λ l. LoadingGoesOn self node l) }
         ensures reached { IfOk result (λ l. HasReached self l) }
         ensures root { IfOk result (λ l. l.root ≡ self.root) }
         ensures idle { IfOk result (λ l. self.wanted ≡ None → l ≡ self) }
@@ -138,7 +138,7 @@ impl<A: Allocator> Loader<A> {
         ensures reached { IfOk result (λ l. l.found.reached ≡ self.found.reached ++ wanted ∷ []) }
         ensures root { IfOk result (λ l. l.root ≡ self.root) }
         ensures err { IfErr result (λ refusal. (nodes : Nodes) → nodes wanted.place.0 ≡ Some node.now
-            → Fails refusal (outcome self nodes)) }
+            → FailsBy refusal (outcome self nodes)) }
     {
         let Loader {
             root,

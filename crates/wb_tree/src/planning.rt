@@ -3,7 +3,7 @@
 ghost use Rattle.std.specs.Prelude.{◌≡◌, ◌≤◌, ◌<◌, ◌+◌, ◌-◌, ◌*◌, ◌^◌, ◌++◌, ℕ, Some, IfOk, OnOk, IfErr, take, drop, length, slice_index, slice_index_or};
 ghost use Rattle.wb_types.specs.declared.entry.Entry.{Entry as EntryValue};
 ghost use Rattle.wb_types.specs.declared.refusal.Refusal.TheVariants.{Memory as OutOfMemory};
-ghost use Rattle.wb_format.specs.Words.{IsEntry, IsLeafWord, IsWord, entry_word};
+ghost use Rattle.wb_format.specs.NodeWords.{IsEntry, IsLeafWord, IsWord, entry_word};
 ghost use Rattle.wb_tree.specs.Mapping.{exists as does_exist, nodes_below, nodes_of, each_from, place_of};
 ghost use Rattle.wb_tree.specs.Images.{word_at, place_word};
 ghost use Rattle.wb_tree.specs.Planning.{names, tree_of, ArePlanned, CanPlan, ComeNext};

@@ -52,7 +52,8 @@ fn change_and_plan(
     ensures fits { IfOk result (λ planned. HavePlaces planned.1.nodes.items (length disk.old.contents)) }
     ensures sectors { IfOk result (λ planned. planned.1.root.geometry.meta_sectors ≡ length disk.old.contents) }
     ensures tree { IfOk result (λ planned. length planned.0.entries ≡ planned.1.root.geometry.cache_blocks) }
-    ensures used { IfOk result (λ planned. (place : PlaceValue) → IsPlaceOf planned.0 place → Contains planned.1.used.items place) }
+    ensures used { IfOk result (λ planned. (place : PlaceValue) → IsPlaceOf planned.0 place
+        → Contains planned.1.used.items place) }
     ensures inside { IfOk result (λ planned. AreInside planned.1.root.geometry.meta_sectors planned.0) }
 {
     let State {

@@ -24,7 +24,8 @@ use wb_types::{CBlock, Entry, Geometry, OBlock, Place, Refusal};
 /// So many places, from one on.
 fn places_from(alloc: Global, first: u32, count: u32) -> Result<Vec<Place>, Refusal>
     requires { first + count < 1000 }
-    ensures { IfOk result (λ places. places.items ≡ map (λ number. record { 0 = number }) (range_with_len first count)) }
+    ensures { IfOk result (λ places. places.items
+        ≡ map (λ number. record { 0 = number }) (range_with_len first count)) }
 {
     let places = (first..first + count)
         .map(|number| Place(number))
@@ -51,7 +52,8 @@ pub(super) fn entry_of(block: u32, hint: u8) -> Entry {
 /// Whether each entry is for the origin block of its own number, with a hint of 16 at most.
 fn is_own(tree: &Tree<Global>, blocks: u32) -> bool
     requires { length tree.now.entries ≡ blocks }
-    ensures { IsTrue result → (origin_blocks : ℕ) → blocks ≤ origin_blocks → IsMapping blocks origin_blocks tree.now.entries }
+    ensures { IsTrue result → (origin_blocks : ℕ) → blocks ≤ origin_blocks
+        → IsMapping blocks origin_blocks tree.now.entries }
 {
     for block in 0..blocks {
         if let Some(entry) = tree.get(CBlock(block)) {
@@ -94,9 +96,11 @@ pub(super) fn plan_at(
     requires size { length tree.old.entries ≡ geometry.now.cache_blocks }
     requires used { (place : PlaceValue) → IsPlaceOf tree.old place → Contains used.now place }
     requires inside { AreInside geometry.now.meta_sectors tree.old }
-    ensures planned { IfOk result (λ image. (plan : ImagePlan) × (plan.geometry ≡ geometry.now) × (plan.generation ≡ generation) × IsPlanned tree.old tree.new plan image used.now) }
+    ensures planned { IfOk result (λ image. (plan : ImagePlan) × (plan.geometry ≡ geometry.now)
+        × (plan.generation ≡ generation) × IsPlanned tree.old tree.new plan image used.now) }
     ensures size { OnOk result (length tree.new.entries ≡ geometry.now.cache_blocks) }
-    ensures used { IfOk result (λ image. (place : PlaceValue) → IsPlaceOf tree.new place → Contains image.used.items place) }
+    ensures used { IfOk result (λ image. (place : PlaceValue) → IsPlaceOf tree.new place
+        → Contains image.used.items place) }
     ensures inside { AreInside geometry.now.meta_sectors tree.new }
     ensures fits { IfOk result (λ image. HavePlaces image.nodes.items geometry.now.meta_sectors) }
     ensures geometry { IfOk result (λ image. image.root.geometry ≡ geometry.now) }
@@ -125,7 +129,9 @@ fn two_rounds<D: Disk>(
     first: (u8, u8),
     second: (u8, u8),
 ) -> Result<Tree<Global>, Refusal>
-    ensures { D.tells → IfOk result (λ tree. (old : Stored) × (used : List PlaceValue) × (old.root.generation ≡ 2) × DeviceStores tree (D.contents disk.new) old used × AfterEveryCrash (λ sectors. RepresentsTree sectors old.root tree) (D.contents disk.new)) }
+    ensures { D.tells → IfOk result (λ tree. (old : Stored) × (used : List PlaceValue) × (old.root.generation ≡ 2)
+        × DeviceStores tree (D.contents disk.new) old used
+        × AfterEveryCrash (λ sectors. RepresentsTree sectors old.root tree) (D.contents disk.new)) }
 {
     format(disk, geometry)?;
     let mut tree = Tree::new(alloc, geometry.cache_blocks);
@@ -141,7 +147,8 @@ fn two_rounds<D: Disk>(
 /// An opening: synced and read, and then a root of the next generation over the same tree, whatever nodes it has, without
 /// a node and without the sync before it: whatever a crash leaves, the device stores the tree by it.
 fn reopened<D: Disk>(alloc: Global, disk: &mut D) -> Result<Tree<Global>, Refusal>
-    ensures { D.tells → IfOk result (λ tree. (old : Stored) × (used : List PlaceValue) × DeviceStores tree (D.contents disk.new) old used × (old.root.clean ≡ false)) }
+    ensures { D.tells → IfOk result (λ tree. (old : Stored) × (used : List PlaceValue)
+        × DeviceStores tree (D.contents disk.new) old used × (old.root.clean ≡ false)) }
 {
     sync(disk)?;
     let State { root, tree, used } = read_state(alloc, alloc, disk)?;

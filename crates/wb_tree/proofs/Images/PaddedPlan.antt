@@ -8,7 +8,7 @@ use Rattle.std.proofs.lemmas.List.Elements.{All-weaker}
 use Rattle.wb_types.specs.declared.entry.Entry.{Entry}
 use Rattle.wb_types.specs.declared.number.Place.{Place}
 use Rattle.wb_format.specs.declared.node.Node.{Node}
-use Rattle.wb_format.specs.Words.{entry_word}
+use Rattle.wb_format.specs.NodeWords.{entry_word}
 use Rattle.wb_tree.specs.Mapping.{NodeName, exists, each_from, nodes_below, place_in, place_of}
 use Rattle.wb_tree.specs.Images.{word_at, place_word}
 use Rattle.wb_tree.specs.Planning.{placed, planned, IsWritten, AreWritten}

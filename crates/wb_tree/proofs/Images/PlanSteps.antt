@@ -7,7 +7,7 @@ use Rattle.std.proofs.lemmas.Option.{get_or_from_slice_get, slice_get-get_or}
 use Rattle.wb_types.specs.declared.entry.Entry.{Entry}
 use Rattle.wb_types.specs.declared.number.Place.{Place}
 use Rattle.wb_format.specs.declared.node.Node.{Node}
-use Rattle.wb_format.specs.Words.{IsInnerWord, entry_word}
+use Rattle.wb_format.specs.NodeWords.{IsInnerWord, entry_word}
 use Rattle.wb_tree.specs.Mapping.{Mapping, NodeName, exists, each_from, nodes_below, nodes_of, place_in, place_of}
 use Rattle.wb_tree.specs.Images.{name_of, word_at, place_word}
 use Rattle.wb_tree.specs.Planning.{placed, planned, names, Begins, MayPlan, IsWritten, AreWritten}

@@ -4,17 +4,7 @@ use Rattle.std.specs.Prelude.{IfSome}
 use Rattle.std.proofs.lemmas.Bool.{cases_lt}
 use Rattle.std.proofs.lemmas.List.{get_or-set_other, get_or-set_same, get_or_past}
 use Rattle.wb_types.specs.declared.entry.Entry.{Entry}
-use Rattle.wb_format.specs.Words.{IsEntry, SpellsEntry, IsLeafWord, IsInnerWord, entry_word}
-
--- one word more
-pub word_more : (P : ℕ → ℕ → Type 0) (words : List ℕ) (i word : ℕ) → i < length words → ((k : ℕ) → k < i → P k (slice_index words k)) → P i word
-    → (k : ℕ) → k < i + 1 → P k (slice_index (set words i word) k)
-word_more P words i word inside before here k below = elim (cases_lt k i) [
-  | inl earlier ↦ subst (P k) (sym (get_or-set_other words i k word 0 (omega arith))) (before k earlier)
-  | inr last ↦
-      let e : i ≡ k = omega arith in
-      subst (λ n. P n (slice_index (set words i word) n)) e (subst (P i) (sym (get_or-set_same words i word 0 inside)) here)
-]
+use Rattle.wb_format.specs.NodeWords.{IsEntry, SpellsEntry, IsLeafWord, IsInnerWord, entry_word}
 
 -- what holds of each word, and of 0, holds past the last word too
 pub words_everywhere : (P : ℕ → Type 0) (words : List ℕ) → ((k : ℕ) → k < length words → P (slice_index words k)) → P 0 → (k : ℕ) → P (slice_index words k)

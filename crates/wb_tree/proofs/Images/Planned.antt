@@ -19,15 +19,12 @@ use Rattle.wb_tree.proofs.Nodes.Names.{IsBelow, has, same_name, nodes_below-belo
 use Rattle.wb_tree.proofs.Nodes.Placing.{placed-apart, placed-some, placed-had, placed-looked, placed-take, places_of}
 use Rattle.wb_tree.proofs.Images.PlanSteps.{planned-is}
 use Rattle.wb_tree.proofs.Images.Imaging.{WritesChanged}
-
-either_had : (b r : Bool) → cond b true r ≡ true → (b ≡ true) ⊎ (r ≡ true)
-either_had true r h = inl refl
-either_had false r h = inr h
+use Rattle.wb_types.proofs.Truth.{either_true}
 
 -- what each of these nodes has, a listed one has
 each_had : (P : NodeName → Type 0) (nodes : List NodeName) (level index : ℕ) → AllByRecursion P nodes → has nodes level index ≡ true → P (record { level = level; index = index })
 each_had P [] level index each h = absurd cc
-each_had P (node ∷ nodes) level index each h = elim (either_had ((node.level == level) && (node.index == index)) (has nodes level index) h) [
+each_had P (node ∷ nodes) level index each h = elim (either_true ((node.level == level) && (node.index == index)) (has nodes level index) h) [
   | inl here ↦ subst P (same_name node level index here) each.0
   | inr later ↦ each_had P nodes level index each.1 later
 ]

@@ -1,7 +1,7 @@
 -- The entry that a word spells is the one whose word it is.
 use Rattle.std.proofs.Common.{◌≡◌, ◌≤◌, ◌+◌, ◌*◌, ◌/◌, ◌%◌, ◌^◌, ◌==◌, ap, subst, refl, ℕ, zero, suc, Bool, true, false, cond, Option, Some, None, arith}
 use Rattle.wb_types.specs.declared.entry.Entry.{Entry}
-use Rattle.wb_format.specs.Words.{entry_word}
+use Rattle.wb_format.specs.NodeWords.{entry_word}
 use Rattle.wb_tree.specs.Reading.{entry_in}
 
 entry_of_parts : ℕ → Bool → ℕ → Entry

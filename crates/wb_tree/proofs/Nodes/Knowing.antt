@@ -8,7 +8,7 @@ use Rattle.wb_tree.specs.declared.placed.PlacedNode.{PlacedNode}
 use Rattle.wb_tree.specs.Mapping.{Mapping, IsSound, IsPlaceOf, place_in}
 use Rattle.wb_tree.specs.Fields.{AreApart}
 use Rattle.wb_tree.proofs.Nodes.Placing.{either_place}
-use Rattle.wb_tree.proofs.Truth.{and_true, yes}
+use Rattle.wb_types.proofs.Truth.{and_true, yes}
 
 -- the places of nodes, in their order
 abbrev pub places : List PlacedNode → List Place
@@ -17,7 +17,7 @@ places known = map (λ node. node.place) known
 same_names : (a b c d : ℕ) → ((a == b) && (c == d)) ≡ true → (a ≡ b) × (c ≡ d)
 same_names a b c d h = let both = and_true (a == b) (c == d) h in (eqb-true a b both.0, eqb-true c d both.1)
 
-none_or_some : (o : Option Place) (place : Place) → o ≡ None → o ≡ Some place → ⊥
+pub none_or_some : (o : Option Place) (place : Place) → o ≡ None → o ≡ Some place → ⊥
 none_or_some o place a b = absurd cc
 
 -- a node in front changes no place of the others

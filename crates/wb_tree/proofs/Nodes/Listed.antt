@@ -9,6 +9,7 @@ use Rattle.wb_tree.specs.Mapping.{Mapping, NodeName, place_of, exists, nodes_bel
 use Rattle.wb_tree.proofs.Nodes.Fronts.{begins_inside, none_there}
 use Rattle.wb_tree.proofs.Nodes.Names.{has, same_name, nodes_below-itself, nodes_below-closed}
 use Rattle.wb_tree.proofs.Stored.Whole.{depth_enough, one_more}
+use Rattle.wb_types.proofs.Truth.{or_true}
 
 -- an entry lies in these cache blocks
 record HasEntry (entries : List (Option Entry)) (first count : ℕ) : Type 0 where
@@ -68,10 +69,6 @@ listed_up entries depth enough zero level index some e h =
 listed_up entries depth enough (suc up) level index some e h =
     nodes_below-closed entries depth 0 level (index / 32) index some (listed_up entries depth enough up (level + 1) (index / 32) (omega arith) (omega arith) (parent_exists entries level index h)) refl h
 
-either_true : (b r : Bool) → r ≡ true → cond b true r ≡ true
-either_true true r h = refl
-either_true false r h = h
-
 changed_had : (m : Mapping) (nodes : List NodeName) (level index : ℕ) → has nodes level index ≡ true → place_of m level index ≡ None → has (changed_of m nodes) level index ≡ true
 changed_had m [] level index h none = h
 changed_had m (node ∷ nodes) level index h none =
@@ -79,7 +76,7 @@ changed_had m (node ∷ nodes) level index h none =
   where
     later : (b : Bool) → has (changed_of m nodes) level index ≡ true → has (cond b (changed_of m nodes) (node ∷ changed_of m nodes)) level index ≡ true
     later true rest = rest
-    later false rest = either_true ((node.level == level) && (node.index == index)) (has (changed_of m nodes) level index) rest
+    later false rest = or_true ((node.level == level) && (node.index == index)) (has (changed_of m nodes) level index) rest
 
     here : (b : Bool) → is_some (place_of m node.level node.index) ≡ b → ((node.level == level) && (node.index == index)) ≡ true → has (cond b (changed_of m nodes) (node ∷ changed_of m nodes)) level index ≡ true
     here true e same =

@@ -6,7 +6,7 @@ use Rattle.std.proofs.lemmas.Bool.{eqb-true, cases_lt, false_from_ne_true}
 use Rattle.std.proofs.Math.Nat.{div-div-eq-div-mul, div-one, pow-suc}
 use Rattle.wb_types.specs.declared.entry.Entry.{Entry}
 use Rattle.wb_tree.specs.Mapping.{NodeName, exists, each_from, nodes_below}
-use Rattle.wb_tree.proofs.Truth.{and_true, yes}
+use Rattle.wb_types.proofs.Truth.{and_true, yes}
 
 -- what holds of the nodes of two lists holds of those of both together
 pub AllByRecursion-append : (P : NodeName → Type 0) (xs ys : List NodeName) → AllByRecursion P xs → AllByRecursion P ys → AllByRecursion P (xs ++ ys)

@@ -9,7 +9,8 @@ use Rattle.wb_tree.specs.Mapping.{NodeName, place_in}
 use Rattle.wb_tree.specs.Planning.{placed}
 use Rattle.wb_tree.specs.Fields.{AreApart as AreKnownApart}
 use Rattle.wb_tree.proofs.Nodes.Names.{has, had_right, AreApart, same_name}
-use Rattle.wb_tree.proofs.Truth.{yes}
+use Rattle.wb_types.proofs.Truth.{yes}
+use Rattle.wb_types.proofs.Truth.{either_false}
 
 -- what is not listed has no place
 pub placed-none : (nodes : List NodeName) (places : List Place) (level index : ℕ) → has nodes level index ≡ false → place_in (placed nodes places) level index ≡ None
@@ -48,15 +49,11 @@ flip_one a b = grind (arith, nat_tests)
 flip : (a b c d : ℕ) → ((b == a) && (d == c)) ≡ false → ((a == b) && (c == d)) ≡ false
 flip a b c d h = ap (λ (t : Bool). t && (c == d)) (flip_one a b) ∙ (ap (λ (t : Bool). (b == a) && t) (flip_one c d) ∙ h)
 
-not_first : (b r : Bool) → cond b true r ≡ false → (b ≡ false) × (r ≡ false)
-not_first true r h = absurd cc
-not_first false r h = (refl, h)
-
 -- a node in front that is none of these changes no place of theirs
 places-skip : (front : PlacedNode) (known : List PlacedNode) (nodes : List NodeName) → has nodes front.level front.index ≡ false → places_of (front ∷ known) nodes ≡ places_of known nodes
 places-skip front known [] h = refl
 places-skip front known (node ∷ nodes) h =
-    let a = not_first ((node.level == front.level) && (node.index == front.index)) (has nodes front.level front.index) h in
+    let a = either_false ((node.level == front.level) && (node.index == front.index)) (has nodes front.level front.index) h in
     let flipped : ((front.level == node.level) && (front.index == node.index)) ≡ false = flip front.level node.level front.index node.index a.0 in
     let here : place_in (front ∷ known) node.level node.index ≡ place_in known node.level node.index = rw flipped refl in
     let rest : places_of (front ∷ known) nodes ≡ places_of known nodes = places-skip front known nodes a.1 in

@@ -10,7 +10,7 @@ use Rattle.wb_types.specs.declared.entry.Entry.{Entry}
 use Rattle.wb_types.specs.declared.number.Place.{Place}
 use Rattle.wb_format.specs.declared.root.Root.{Root}
 use Rattle.wb_format.specs.declared.node.Node.{Node}
-use Rattle.wb_format.specs.Words.{entry_word, IsLeafWord}
+use Rattle.wb_format.specs.NodeWords.{entry_word, IsLeafWord}
 use Rattle.wb_tree.specs.declared.placed.PlacedNode.{PlacedNode}
 use Rattle.wb_tree.specs.Mapping.{Mapping, place_in}
 use Rattle.wb_tree.specs.Reading.{Found, Nodes, ◌then◌, each_step, entry_in, entry_read, may_map, is_node_of, is_reached, reached_at}
@@ -18,7 +18,7 @@ use Rattle.wb_tree.specs.Images.{word_at, place_word}
 use Rattle.wb_tree.proofs.Nodes.Names.{IsBelow, below_up}
 use Rattle.wb_tree.proofs.Reading.PlacedLists.{named-itself, unnamed, is_some_of, some_of, place_in-first, place_in-later, place_in-cases, reached-first, unreached-both, some-append_right}
 use Rattle.wb_tree.proofs.Reading.Grown.{Grown, WasRead, at, tree_with, up_block, below-self, word_same, no_place}
-use Rattle.wb_tree.proofs.Truth.{and_true, yes}
+use Rattle.wb_types.proofs.Truth.{and_true, yes}
 use Rattle.wb_tree.proofs.Reading.Steps.{then_ok}
 
 -- ---- the entries of a leaf

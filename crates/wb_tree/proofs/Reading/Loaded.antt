@@ -16,7 +16,7 @@ use Rattle.wb_tree.specs.declared.placed.PlacedNode.{PlacedNode}
 use Rattle.wb_tree.specs.Mapping.{Mapping, NodeName, IsSound, AreInside, place_in, place_of, exists, nodes_of, changed, changed_of}
 use Rattle.wb_tree.specs.Reading.{Found, Nodes, tree_read}
 use Rattle.wb_tree.specs.Images.{AreRead, word_at, name_of}
-use Rattle.wb_tree.specs.Loaded.{IsWhole, IsLoaded}
+use Rattle.wb_tree.specs.Loaded.{NodesHaveEntries, IsLoaded}
 use Rattle.wb_tree.specs.Fields.{AreApart, AreFields, padded}
 use Rattle.wb_tree.proofs.Nodes.Names.{IsBelow, nodes_below-below, nodes_below-exist}
 use Rattle.wb_tree.proofs.Reading.PlacedLists.{one_name, place_in-reached, place_in-member, member-named}
@@ -24,7 +24,7 @@ use Rattle.wb_tree.proofs.Reading.LoaderSteps.{depth_range}
 use Rattle.wb_tree.proofs.Nodes.Counting.{count-reached}
 use Rattle.wb_tree.proofs.Reading.Grown.{tree_with}
 use Rattle.wb_tree.proofs.Reading.KnownTree.{IsKnownTree, known_tree}
-use Rattle.wb_tree.proofs.Truth.{and_true}
+use Rattle.wb_types.proofs.Truth.{and_true}
 
 -- ---- a node that exists has an entry below it
 
@@ -62,7 +62,7 @@ reached_if root nodes found level index h from to some =
     let w = entry_below found.entries level index some in
     subst (λ i. IsSome (place_in found.reached level i)) w.under (h.covered w.block w.there level from to)
 
-pub loaded_sound : (root : Root) (nodes : Nodes) (found : Found) → IsKnownTree root nodes found → IsWhole found → IsSound (tree_with found found.reached)
+pub loaded_sound : (root : Root) (nodes : Nodes) (found : Found) → IsKnownTree root nodes found → NodesHaveEntries found → IsSound (tree_with found found.reached)
 loaded_sound root nodes found h whole = record {
   known_level = λ level index place e. let l = h.levels level index place e in let same = ap depth_of h.size in let to = l.1 in (l.0, omega (arith, same));
   known_exist = λ level index place e.
@@ -145,7 +145,7 @@ fields_none blocks entries size = record {
 }
 
 -- all nodes that were reached are known
-pub fields_all : (root : Root) (nodes : Nodes) (found : Found) (known : Vec PlacedNode) → tree_read root nodes ≡ Ok found → known.items ≡ found.reached → IsWhole found → AreFields root.geometry.cache_blocks found.entries (Some known)
+pub fields_all : (root : Root) (nodes : Nodes) (found : Found) (known : Vec PlacedNode) → tree_read root nodes ≡ Ok found → known.items ≡ found.reached → NodesHaveEntries found → AreFields root.geometry.cache_blocks found.entries (Some known)
 unfolding with_known
 fields_all root nodes found known reads same whole =
     let h = known_tree root nodes found reads in
@@ -166,7 +166,7 @@ unknown_read : (entries : List (Option Entry)) (nodes : Nodes) (generation : ℕ
 unfolding with_known
 unknown_read entries nodes generation level index place e = absurd cc
 
-pub loaded_none : (root : Root) (told : Nodes) (found : Found) (m : Mapping) → tree_read root told ≡ Ok found → m.entries ≡ found.entries → m.known ≡ [] → (IsWhole found → ⊥) → IsLoaded root found m
+pub loaded_none : (root : Root) (told : Nodes) (found : Found) (m : Mapping) → tree_read root told ≡ Ok found → m.entries ≡ found.entries → m.known ≡ [] → (NodesHaveEntries found → ⊥) → IsLoaded root found m
 unfolding with_known
 loaded_none root told found m reads entries known broken =
     let tree : with_known m.entries [] ≡ m = ap (λ ks. with_known m.entries ks) (sym known) in
@@ -179,7 +179,7 @@ loaded_none root told found m reads entries known broken =
       none_changed = λ whole. absurd (broken whole);
     })
 
-pub loaded_all : (root : Root) (told : Nodes) (found : Found) (m : Mapping) → tree_read root told ≡ Ok found → m.entries ≡ found.entries → m.known ≡ found.reached → IsWhole found → IsLoaded root found m
+pub loaded_all : (root : Root) (told : Nodes) (found : Found) (m : Mapping) → tree_read root told ≡ Ok found → m.entries ≡ found.entries → m.known ≡ found.reached → NodesHaveEntries found → IsLoaded root found m
 unfolding with_known
 loaded_all root told found m reads entries known whole =
     let h = known_tree root told found reads in

@@ -14,7 +14,7 @@ use Rattle.wb_format.specs.declared.node.Node.{Node}
 use Rattle.wb_tree.specs.declared.placed.PlacedNode.{PlacedNode}
 use Rattle.wb_tree.specs.declared.frame.Frame.{Frame}
 use Rattle.wb_tree.specs.Reading.{Found, Reading, Nodes, ◌then◌, is_node_of, is_reached, reached_at, node_read, nothing_found, top_read, tree_read}
-use Rattle.wb_tree.specs.Loading.{Loading, outcome, wanted_rest, frames_rest, leaf_read, found_with, node_on_top, top_node, IsFresh, IsLoading, Fails, AgreeAt}
+use Rattle.wb_tree.specs.Loading.{Loading, outcome, wanted_rest, frames_rest, leaf_read, found_with, node_on_top, top_node, IsFresh, IsLoading, FailsBy, AgreeAt}
 use Rattle.wb_tree.proofs.Reading.FrameSteps.{frames_rest-lowest}
 use Rattle.wb_tree.proofs.Reading.ReachedLemmas.{is_reached-push}
 use Rattle.wb_tree.proofs.Reading.NodeSteps.{node_read-none, node_read-other, node_read-leaf, node_read-inner}
@@ -69,15 +69,12 @@ pub found_same : (reached reached' : List PlacedNode) (entries entries' : List (
 found_same reached reached' entries entries' mapped mapped' a b c =
     ap (λ (r : List PlacedNode). found_with r entries mapped) a ∙ (ap (λ (es : List (Option Entry)). found_with reached' es mapped) b ∙ ap (λ (ms : List Bool). found_with reached' entries' ms) c)
 
-pub frames_same : (root : Root) (nodes : Nodes) (frames frames' : List Frame) (found found' : Found) → frames ≡ frames' → found ≡ found' → frames_rest root nodes (reverse frames) found ≡ frames_rest root nodes (reverse frames') found'
-frames_same root nodes frames frames' found found' a b = ap (λ (fs : List Frame). frames_rest root nodes (reverse fs) found) a ∙ ap (frames_rest root nodes (reverse frames')) b
-
 -- what is wanted is one node
 pub same_wanted : (a b : PlacedNode) → ◌≡◌ {A = Option PlacedNode} (Some a) (Some b) → a ≡ b
 same_wanted a b e = cc
 
 -- a refusal that names the place of the fault
-pub fails_there : (refusal : Refusal) (place : Place) (reading : Reading) → refusal ≡ Damaged place → reading ≡ Err place → Fails refusal reading
+pub fails_there : (refusal : Refusal) (place : Place) (reading : Reading) → refusal ≡ Damaged place → reading ≡ Err place → FailsBy refusal reading
 fails_there refusal place reading e h = rw e h
 
 -- ---- the top

@@ -9,11 +9,11 @@ use Rattle.wb_types.specs.declared.number.Place.{Place}
 use Rattle.wb_types.specs.Limits.{depth_of}
 use Rattle.wb_format.specs.declared.root.Root.{Root}
 use Rattle.wb_format.specs.declared.node.Node.{Node}
-use Rattle.wb_format.specs.Words.{IsLeafWord}
+use Rattle.wb_format.specs.NodeWords.{IsLeafWord}
 use Rattle.wb_tree.specs.Mapping.{IsMapping}
 use Rattle.wb_tree.specs.Reading.{Found, Reading, Nodes, ◌then◌, each_step, entry_in, entry_read, may_map, child_read, names_child, is_node_of, reached_at, words_read, node_read, nothing_found, top_read, tree_read}
 use Rattle.wb_tree.proofs.Reading.Grown.{at}
-use Rattle.wb_tree.proofs.Truth.{and_true}
+use Rattle.wb_types.proofs.Truth.{and_true}
 use Rattle.wb_tree.proofs.Reading.Steps.{then_ok, test_ok, nothing_there}
 
 -- what a reading leaves true

@@ -31,11 +31,11 @@ node_read-leaf root nodes leaf node found one e right =
     let right' : is_node_of root 1 leaf.index node ≡ true = subst (λ l. is_node_of root l leaf.index node ≡ true) one right in
     subst (λ l. node_read root nodes l leaf.index leaf.place found ≡ leaf_read root leaf node.words (reached_at l leaf.index leaf.place found)) (sym one) (rw (e, right') refl)
 
-inner : (root : Root) (nodes : Nodes) (level index : ℕ) (here : Place) (node : Node) (found : Found) → nodes here.0 ≡ Some node → is_node_of root (suc (suc level)) index node ≡ true
+pub read_above_leaves : (root : Root) (nodes : Nodes) (level index : ℕ) (here : Place) (node : Node) (found : Found) → nodes here.0 ≡ Some node → is_node_of root (suc (suc level)) index node ≡ true
     → node_read root nodes (suc (suc level)) index here found
     ≡ each_step (λ j. child_read root here (suc level) (32 * index + j) (node_read root nodes (suc level)) (slice_index node.words j)) 32 0 (reached_at (suc (suc level)) index here found)
 unfolding node_read
-inner root nodes level index here node found e right = rw (e, right) refl
+read_above_leaves root nodes level index here node found e right = rw (e, right) refl
 
 -- a node above the leaves
 pub node_read-inner : (root : Root) (nodes : Nodes) (frame : Frame) (node : Node) (found : Found) → 2 ≤ frame.node.level → frame.next ≡ 0 → frame.words ≡ node.words
@@ -45,7 +45,7 @@ node_read-inner root nodes frame node found two next words e right =
     let level : frame.node.level ≡ suc (suc (frame.node.level - 2)) = omega arith in
     let below : frame.node.level - 1 ≡ suc (frame.node.level - 2) = omega arith in
     let right' : is_node_of root (suc (suc (frame.node.level - 2))) frame.node.index node ≡ true = subst (λ l. is_node_of root l frame.node.index node ≡ true) level right in
-    let read = inner root nodes (frame.node.level - 2) frame.node.index frame.node.place node found e right' in
+    let read = read_above_leaves root nodes (frame.node.level - 2) frame.node.index frame.node.place node found e right' in
     let all : ℕ → List ℕ → ℕ → Reading = λ below words level. each_step (λ j. child_read root frame.node.place below (32 * frame.node.index + j) (node_read root nodes below) (slice_index words j)) 32 0 (reached_at level frame.node.index frame.node.place found) in
     ap (λ l. node_read root nodes l frame.node.index frame.node.place found) level
     ∙ (read

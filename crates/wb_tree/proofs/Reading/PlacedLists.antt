@@ -7,7 +7,8 @@ use Rattle.wb_tree.specs.declared.placed.PlacedNode.{PlacedNode}
 use Rattle.wb_tree.specs.Mapping.{place_in}
 use Rattle.wb_tree.specs.Reading.{is_reached}
 use Rattle.wb_tree.specs.Fields.{AreApart}
-use Rattle.wb_tree.proofs.Truth.{and_true, yes}
+use Rattle.wb_types.proofs.Truth.{and_true, yes}
+use Rattle.wb_types.proofs.Truth.{either_true, either_false}
 
 -- no place comes twice
 abbrev pub PlacesApart : List PlacedNode → Type 0
@@ -104,14 +105,6 @@ is_reached-append place (x ∷ xs) ys = go (x.place.0 == place) (is_reached plac
     go : (b r s t : Bool) → t ≡ cond r true s → cond b true t ≡ cond (cond b true r) true s
     go true r s t e = refl
     go false r s t e = e
-
-either_true : (a b : Bool) → cond a true b ≡ true → (a ≡ true) ⊎ (b ≡ true)
-either_true true b h = inl refl
-either_true false b h = inr h
-
-either_false : (a b : Bool) → cond a true b ≡ false → (a ≡ false) × (b ≡ false)
-either_false true b h = absurd cc
-either_false false b h = (refl, h)
 
 both_false : (a b : Bool) → a ≡ false → b ≡ false → cond a true b ≡ false
 both_false a b e f = rw (e, f) refl

@@ -10,7 +10,7 @@ use Rattle.wb_types.specs.declared.number.Place.{Place}
 use Rattle.wb_format.specs.declared.root.Root.{Root}
 use Rattle.wb_tree.specs.declared.placed.PlacedNode.{PlacedNode}
 use Rattle.wb_tree.specs.Reading.{Found, Reading, Nodes, node_read, ◌then◌, each_step, child_read, names_child, entry_read, may_map, is_reached}
-use Rattle.wb_tree.proofs.Truth.{and_true}
+use Rattle.wb_types.proofs.Truth.{and_true}
 
 -- the next of the steps that are left
 pub each_step-next : (step : ℕ → Found → Reading) (j : ℕ) (found : Found) → j < 32 → each_step step (32 - j) j found ≡ (step j found then each_step step (32 - (j + 1)) (j + 1))

@@ -13,6 +13,7 @@ use Rattle.wb_tree.specs.Images.{Stores, IsNodeOf, word_at}
 use Rattle.wb_tree.specs.Edits.{IsEdited}
 use Rattle.wb_tree.proofs.Reading.Grown.{up_block, word_same, no_place}
 use Rattle.wb_tree.proofs.Reading.PlacedLists.{option_cases, some_of}
+use Rattle.wb_tree.proofs.Nodes.Knowing.{none_or_some}
 
 -- ---- entries
 
@@ -45,15 +46,12 @@ exists-set entries block entry level index off =
 
 -- ---- words
 
-none_and_some : (o : Option Place) (place : Place) → o ≡ None → o ≡ Some place → ⊥
-none_and_some o place a b = absurd cc
-
 -- a node that is still known is not above the block
 off_path : (old new : Mapping) (block level index : ℕ) (place : Place) → Forgets old new block → 1 ≤ level → place_of new level index ≡ Some place → IsOnPath block level index → ⊥
-off_path old new block level index place forgets from known on = none_and_some (place_of new level index) place (forgets.path level index from on) known
+off_path old new block level index place forgets from known on = none_or_some (place_of new level index) place (forgets.path level index from on) known
 
 missing_exist : (o : Option Place) → o ≡ None → IsSome o → ⊥
-missing_exist o none some = let w = some_of o some in none_and_some o w.0 none w.1
+missing_exist o none some = let w = some_of o some in none_or_some o w.0 none w.1
 
 yes_and_no : (b : Bool) → b ≡ true → b ≡ false → ⊥
 yes_and_no b p q = absurd cc
@@ -99,9 +97,6 @@ edited-once old new block entry sound sound' is forgets = record {
 -- none
 pub edited-none : (m : Mapping) → IsEdited m m
 edited-none m = record { stays = λ level index place known. known; words = λ level index j place known less. refl }
-
-pub edited-nothing : (old new : Mapping) → new ≡ old → IsEdited old new
-edited-nothing old new same = subst (λ (m : Mapping). IsEdited old m) (sym same) (edited-none old)
 
 -- some, and some more
 pub edited-more : (a b c : Mapping) → IsEdited a b → IsEdited b c → IsEdited a c

@@ -11,7 +11,7 @@ use Rattle.wb_types.specs.declared.number.Place.{Place}
 use Rattle.wb_types.specs.declared.number.OBlock.{OBlock}
 use Rattle.wb_format.specs.declared.node.Node.{Node}
 use Rattle.wb_format.specs.declared.root.Root.{Root}
-use Rattle.wb_format.specs.Words.{entry_word}
+use Rattle.wb_format.specs.NodeWords.{entry_word}
 use Rattle.wb_tree.specs.declared.placed.PlacedNode.{PlacedNode}
 use Rattle.wb_tree.specs.Mapping.{Mapping, NodeName, IsSound, IsMapping, AreInside, entry_at, place_of, exists, each_from, nodes_below, changed_of, changed}
 use Rattle.wb_tree.specs.Reading.{Found, Reading, Nodes, ◌then◌, each_step, child_read, names_child, entry_read, entry_in, may_map, is_reached, is_node_of, reached_at, node_read, nothing_found, top_read, tree_read}
@@ -21,6 +21,7 @@ use Rattle.wb_tree.proofs.Nodes.Fronts.{shown, shown-none, shown-all, shown-set,
 use Rattle.wb_tree.proofs.Images.WordSpelling.{entry_in-word}
 use Rattle.wb_tree.proofs.Reading.LoaderSteps.{found_same}
 use Rattle.wb_tree.proofs.Reading.Steps.{child_read-named, entry_read-some}
+use Rattle.wb_tree.proofs.Reading.NodeSteps.{read_above_leaves}
 
 -- a tree of which every node that is known is read as it is
 pub record IsReadable (m : Mapping) (root : Root) (nodes : Nodes) : Type 0 where
@@ -155,12 +156,6 @@ read_leaf : (root : Root) (nodes : Nodes) (index : ℕ) (here : Place) (node : N
     → node_read root nodes 1 index here found ≡ each_step (λ j. entry_read root here (32 * index + j) (entry_in (slice_index node.words j))) 32 0 (reached_at 1 index here found)
 unfolding node_read
 read_leaf root nodes index here node found e right = rw (e, right) refl
-
-read_inner : (root : Root) (nodes : Nodes) (level index : ℕ) (here : Place) (node : Node) (found : Found) → nodes here.0 ≡ Some node → is_node_of root (suc (suc level)) index node ≡ true
-    → node_read root nodes (suc (suc level)) index here found
-    ≡ each_step (λ j. child_read root here (suc level) (32 * index + j) (node_read root nodes (suc level)) (slice_index node.words j)) 32 0 (reached_at (suc (suc level)) index here found)
-unfolding node_read
-read_inner root nodes level index here node found e right = rw (e, right) refl
 
 -- ---- the nodes that were reached
 
@@ -384,7 +379,7 @@ inner_whole m root nodes w level index here reached found known before h below =
     let end : (32 * index + (0 + 32)) * 32 ^ suc level ≡ (index + 1) * 32 ^ suc (suc level) = ap (λ n. n * 32 ^ suc level) (let z : 32 * index + (0 + 32) ≡ 32 * (index + 1) = omega arith in z) ∙ sym (starts (index + 1) (suc level)) in
     Comes-same (IsAt root m ((index + 1) * 32 ^ suc (suc level)) (reached ++ reached_below m (suc (suc level)) index)) (node_read root nodes (suc (suc level)) index here found)
     (each_step (λ j. child_read root here (suc level) (32 * index + j) (node_read root nodes (suc level)) (slice_index r.node.words j)) 32 0 (reached_at (suc (suc level)) index here found))
-    (read_inner root nodes level index here r.node found r.reads (is_right root m (suc (suc level)) index r.node r.right))
+    (read_above_leaves root nodes level index here r.node found r.reads (is_right root m (suc (suc level)) index r.node r.right))
     (Comes-weaker (IsAt root m ((32 * index + (0 + 32)) * 32 ^ suc level) (so_far m (suc level) index here reached (0 + 32))) (IsAt root m ((index + 1) * 32 ^ suc (suc level)) (reached ++ reached_below m (suc (suc level)) index)) _
     (λ g at. subst (λ n. IsAt root m n (reached ++ reached_below m (suc (suc level)) index) g) end
     (subst (λ (rs : List PlacedNode). IsAt root m ((32 * index + (0 + 32)) * 32 ^ suc level) rs g) (so_far-all m (suc level) index here reached known) at))

@@ -8,7 +8,7 @@ use Rattle.wb_format.specs.declared.root.Root.{Root}
 use Rattle.wb_tree.specs.Mapping.{IsMapping, AreInside}
 use Rattle.wb_tree.specs.Reading.{tree_read}
 use Rattle.wb_tree.specs.Loaded.{IsLoaded}
-use Rattle.wb_meta.specs.Reads.{AreApart}
+use Rattle.wb_meta.specs.Reads.{AreApartPlaces}
 use Rattle.wb_meta.proofs.Reading.{read_stores}
 use Rattle.wb_meta.proofs.read_steps.go_on.Goals as goal
 
@@ -21,7 +21,7 @@ returns-clause-on g c sectors on =
       sound = loaded.sound;
       inside = subst (λ n. AreInside n c.in_ok-tree.tree) on.size loaded.inside;
       known_used = λ place is. subst (λ (places : List Place). Contains places place) (sym c.in_ok-tree.ensures.places) (reached-listed c.args.loader.found.reached place (loaded.reached place is));
-      used_are = subst (λ (places : List Place). AreApart sectors places) (sym c.in_ok-tree.ensures.places) on.used;
+      used_are = subst (λ (places : List Place). AreApartPlaces sectors places) (sym c.in_ok-tree.ensures.places) on.used;
       used_few = omega (arith, loaded.few, length-map c.args.loader.found.reached (λ (node : PlacedNode). node.place), ap (λ (places : List Place). length places) c.in_ok-tree.ensures.places);
     }
 
