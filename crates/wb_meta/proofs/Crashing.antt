@@ -1,4 +1,4 @@
--- What the sectors hold after a crash within a commit.
+-- What the sectors represent after a crash within a commit.
 use Rattle.std.proofs.Common.{◌≡◌, ◌<◌, ◌%◌, ◌⊎◌, ℕ, true, false, List, Some, None, length, refl, sym, ◌∙◌, ap, arith, subst, inl, inr}
 use Rattle.std.specs.Prelude.{Contains}
 use Rattle.std.specs.List.{slice_get}

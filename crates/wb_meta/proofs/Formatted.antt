@@ -50,9 +50,9 @@ sectors_left geometry root sectors new size first second = elim (slice_get_cases
   | inr w ↦ absurd (omega (arith, size, w.0))
 ]
 
-formatted_holds : (geometry : Geometry) (root : Root) (d0 d1 d2 d3 d4 d5 : List History) → IsFirstRoot geometry root → 2 ≤ length d0
+formatted_represents : (geometry : Geometry) (root : Root) (d0 d1 d2 d3 d4 d5 : List History) → IsFirstRoot geometry root → 2 ≤ length d0
     → d1 ≡ written d0 0 zero_sector → d2 ≡ written d1 1 zero_sector → d3 ≡ synced d2 → Puts (λ content. SpellsRoot content root) 0 d3 d4 → d5 ≡ synced d4 → AfterEveryCrash (λ sectors. Represents sectors root (nothing_found root)) d5
-formatted_holds geometry root d0 d1 d2 d3 d4 d5 new size w1 w2 s3 puts s5 sectors left =
+formatted_represents geometry root d0 d1 d2 d3 d4 d5 new size w1 w2 s3 puts s5 sectors left =
     let NewestZeros : List History → Type 0 = Newest HasZeros in
     let EveryZeros : List History → Type 0 = Every HasZeros in
     let EveryRoot : List History → Type 0 = Every (HasRoot root) in
@@ -74,7 +74,7 @@ pub formatted_left : (geometry : Geometry) (root : Root) (d0 d1 d2 d3 d4 d5 : Li
 formatted_left geometry root d0 d1 d2 d3 d4 d5 new size w1 w2 s3 puts s5 = record {
   root = root;
   first = new;
-  represents = formatted_holds geometry root d0 d1 d2 d3 d4 d5 new size w1 w2 s3 puts s5;
+  represents = formatted_represents geometry root d0 d1 d2 d3 d4 d5 new size w1 w2 s3 puts s5;
 }
 
 -- no sector behind the slots was written

@@ -1,4 +1,4 @@
--- What a tree knows that was read of sectors is what they keep.
+-- What a tree knows that was read of sectors is what they store.
 use Rattle.std.proofs.Common.{ℕ, List, Option, subst}
 use Rattle.wb_types.specs.declared.number.Place.{Place}
 use Rattle.wb_disk.specs.Device.{Content}

@@ -1,4 +1,4 @@
--- Sectors that keep a tree of which every node is known, by their newest root, hold it.
+-- Sectors that store a tree of which every node is known, by their newest root, represent it.
 use Rattle.std.proofs.Common.{◌≡◌, ◌≢◌, ◌&&◌, ◌==◌, ◌∙◌, sym, ap, subst, refl, ℕ, Bool, true, false, cond, List, [], ◌∷◌, Option, Some, None, is_some, slice_get, inl, inr, ◌⊎◌}
 use Rattle.std.proofs.lemmas.Bool.{false≢true, cases_eq, and_parts, eqb-true}
 use Rattle.wb_types.specs.Limits.{depth_of}
@@ -121,7 +121,7 @@ module _ (sectors : List Content) (m : Mapping) (generation : ℕ) (sound : IsSo
             reads = subst (λ (o : Option Node). ReadsAs stored.sector o) (sym (ap (node_here place) e)) stored.spelled;
           }
 
--- sectors that keep a tree by their newest root hold it
+-- sectors that store a tree by their newest root represent it
 pub Represents-stored : (sectors : List Content) (root : Root) (m : Mapping) → IsMapping root.geometry.cache_blocks root.geometry.origin_blocks m.entries → IsSound m → AreInside root.geometry.meta_sectors m
     → changed m (depth_of root.geometry.cache_blocks) ≡ [] → root.top ≡ place_of m (depth_of root.geometry.cache_blocks) 0 → IsNewestRoot sectors root → Stores sectors m root.generation → Represents sectors root (found_of root m)
 Represents-stored sectors root m mapping sound inside none_changed top newest stores = record {

@@ -17,7 +17,7 @@ pub record IsFirstRoot (geometry : Geometry) (root : Root) : Type 0 where
   pub geometry_is : root.geometry ≡ geometry
   pub top : root.top ≡ None
 
--- a device holds the empty mapping, clean, in generation 0, whatever a crash leaves of it
+-- a device represents the empty mapping, clean, in generation 0, whatever a crash leaves of it
 pub record IsFormatted (geometry : Geometry) (device : List History) : Type 0 where
   pub root : Root
   pub first : IsFirstRoot geometry root

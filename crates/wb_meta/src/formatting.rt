@@ -11,7 +11,7 @@ use wb_disk::Disk;
 use wb_format::{Root, Version};
 use wb_types::{Geometry, Refusal};
 
-/// Makes a metadata device hold the empty mapping, clean. It writes the two slots and no other sector.
+/// Makes a metadata device represent the empty mapping, clean. It writes the two slots and no other sector.
 ///
 /// `Geometry` where the device has another size than the geometry says, and nothing was done; `Io` where it
 /// fails, and formatting has to be repeated.

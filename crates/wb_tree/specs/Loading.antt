@@ -96,7 +96,7 @@ FailsAt l node refusal = (wanted : PlacedNode) (nodes : Nodes) → l.wanted ≡ 
 abbrev pub AgreeAt : List PlacedNode → Nodes → Nodes → Type 0
 AgreeAt reached nodes others = (place : ℕ) → is_reached place reached ≡ true → nodes place ≡ others place
 
--- What a reading keeps: it has ended where no node is wanted, what was found has the sizes of the root, a node that
+-- What holds of every reading: it has ended where no node is wanted, what was found has the sizes of the root, a node that
 -- is wanted has a level of the tree, and what was told so far is what the tree is read from.
 pub record IsLoading (l : Loading) : Type 0 where
   pub ended : l.wanted ≡ None → l.frames ≡ []
