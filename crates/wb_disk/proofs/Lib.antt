@@ -1,3 +1,4 @@
 pub mod Devices
 pub mod Sectors
 pub mod Crashes
+pub mod Leaving

@@ -2,3 +2,4 @@ pub mod Device
 pub mod Memory
 pub mod Crash
 pub mod Stored
+pub mod Crashes

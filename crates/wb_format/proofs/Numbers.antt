@@ -1,4 +1,4 @@
--- Numbers in the bytes of a sector: which bytes one depends on, and which it settles.
+-- Numbers in the bytes of a sector: which bytes one depends on, and which it fixes.
 use Rattle.std.proofs.Common.{◌≡◌, ◌≤◌, ◌<◌, ◌+◌, ◌-◌, ◌/◌, ◌^◌, ◌++◌, ℕ, zero, suc, List, length, get_or, drop, take, slice_index, replicate, append_assoc, refl, sym, ap, ◌∙◌, inl, inr, arith, length-append}
 use Rattle.std.proofs.lemmas.Bool.{cases_lt}
 use Rattle.std.proofs.lemmas.List.{drop_at, get_or-drop, get_or-take, get_or_append_left, get_or-append_right, get_or_past, length-take, length-drop, ext_get_or}
@@ -19,16 +19,16 @@ little_from-same i (suc w) s t h =
     let rest = little_from-same (suc i) w s t (λ k from to. h k (omega arith) (omega arith)) in
     rw (here, rest) refl
 
--- a number settles its own bytes
-little_from-settles : (i w : ℕ) (s t : List ℕ) → ((k : ℕ) → slice_index s k < 256) → ((k : ℕ) → slice_index t k < 256) → little_from i w s ≡ little_from i w t → (k : ℕ) → i ≤ k → k < i + w → slice_index s k ≡ slice_index t k
-little_from-settles i zero s t hs ht e k from to = absurd (omega arith)
-little_from-settles i (suc w) s t hs ht e k from to =
+-- a number fixes its own bytes
+little_from-fixes : (i w : ℕ) (s t : List ℕ) → ((k : ℕ) → slice_index s k < 256) → ((k : ℕ) → slice_index t k < 256) → little_from i w s ≡ little_from i w t → (k : ℕ) → i ≤ k → k < i + w → slice_index s k ≡ slice_index t k
+little_from-fixes i zero s t hs ht e k from to = absurd (omega arith)
+little_from-fixes i (suc w) s t hs ht e k from to =
     let a = hs i in
     let b = ht i in
     let here : slice_index s i ≡ slice_index t i = omega arith in
     let rest : little_from (suc i) w s ≡ little_from (suc i) w t = omega arith in
     elim (cases_lt i k) [
-      | inl more ↦ little_from-settles (suc i) w s t hs ht rest k (omega arith) (omega arith)
+      | inl more ↦ little_from-fixes (suc i) w s t hs ht rest k (omega arith) (omega arith)
       | inr same ↦ let eq : k ≡ i = omega arith in rw eq here
     ]
 
@@ -40,12 +40,12 @@ number_at-same s t offset width h =
 get_or_at : (s : List ℕ) (k offset : ℕ) → offset + (k - offset) ≡ k → get_or (drop offset s) (k - offset) 0 ≡ get_or s k 0
 get_or_at s k offset there = get_or-drop offset s (k - offset) 0 ∙ ap (λ i. get_or s i 0) there
 
-pub number_at-settles : (s t : List ℕ) (offset width : ℕ) → IsSector s → IsSector t → number_at s offset width ≡ number_at t offset width → SameBytes s t offset (offset + width)
+pub number_at-fixes : (s t : List ℕ) (offset width : ℕ) → IsSector s → IsSector t → number_at s offset width ≡ number_at t offset width → SameBytes s t offset (offset + width)
 unfolding number_at
-number_at-settles s t offset width hs ht e k from to =
+number_at-fixes s t offset width hs ht e k from to =
     let there : offset + (k - offset) ≡ k = omega arith in
     let same : get_or (drop offset s) (k - offset) 0 ≡ get_or (drop offset t) (k - offset) 0 =
-    little_from-settles 0 width (drop offset s) (drop offset t) (λ i. rw (get_or-drop offset s i 0) (hs.bytes (offset + i))) (λ i. rw (get_or-drop offset t i 0) (ht.bytes (offset + i))) e (k - offset) (omega arith) (omega arith) in
+    little_from-fixes 0 width (drop offset s) (drop offset t) (λ i. rw (get_or-drop offset s i 0) (hs.bytes (offset + i))) (λ i. rw (get_or-drop offset t i 0) (ht.bytes (offset + i))) e (k - offset) (omega arith) (omega arith) in
     rw (sym (get_or_at s k offset there), sym (get_or_at t k offset there)) same
 
 -- what was written is read

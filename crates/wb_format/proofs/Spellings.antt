@@ -4,11 +4,11 @@ use Rattle.wb_format.specs.Bytes.{IsSector, number_at, SameBytes, HasWords}
 use Rattle.wb_format.specs.Layout.{SpellsRoot, SpellsNode}
 use Rattle.wb_format.specs.declared.root.Root.{Root}
 use Rattle.wb_format.specs.declared.node.Node.{Node}
-use Rattle.wb_format.proofs.Numbers.{number_at-settles, same-beside, same_sectors, zero-same}
+use Rattle.wb_format.proofs.Numbers.{number_at-fixes, same-beside, same_sectors, zero-same}
 
 -- two sectors with the same number in a field
 field : (s t : List ℕ) (offset width number : ℕ) → IsSector s → IsSector t → number_at s offset width ≡ number → number_at t offset width ≡ number → SameBytes s t offset (offset + width)
-field s t offset width number hs ht p q = number_at-settles s t offset width hs ht (p ∙ sym q)
+field s t offset width number hs ht p q = number_at-fixes s t offset width hs ht (p ∙ sym q)
 
 pub one_root_spelling : (s t : List ℕ) (root : Root) → SpellsRoot s root → SpellsRoot t root → s ≡ t
 one_root_spelling s t root p q =

@@ -8,7 +8,7 @@ use Rattle.wb_types.specs.declared.geometry.Geometry.{Geometry}
 use Rattle.wb_types.specs.declared.number.Place.{Place}
 use Rattle.wb_format.specs.Bytes.{HasWords}
 use Rattle.wb_format.specs.Sizes.{IsTop, SpellsGeometry, top_number}
-use Rattle.wb_format.specs.Words.{IsWord}
+use Rattle.wb_format.specs.NodeWords.{IsWord}
 use Rattle.wb_format.specs.Layout.{version_number, SpellsRoot, SpellsNode}
 use Rattle.wb_format.specs.declared.root.Root.{Root}
 use Rattle.wb_format.specs.declared.node.Node.{Node}

@@ -2,7 +2,7 @@
 use Rattle.std.proofs.Common.{◌≡◌, ◌<◌, ◌+◌, ℕ, List, length, set, slice_index, refl, sym, subst, arith, inl, inr}
 use Rattle.std.proofs.lemmas.Bool.{cases_lt}
 use Rattle.std.proofs.lemmas.List.{get_or-set_other, get_or-set_same, get_or_past}
-use Rattle.wb_format.specs.Words.{IsWord}
+use Rattle.wb_format.specs.NodeWords.{IsWord}
 
 -- one word more
 pub set_more : (P : ℕ → ℕ → Type 0) (words : List ℕ) (i word : ℕ) → i < length words → ((k : ℕ) → k < i → P k (slice_index words k)) → P i word

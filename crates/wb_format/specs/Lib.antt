@@ -1,4 +1,4 @@
 pub mod Bytes
-pub mod Words
+pub mod NodeWords
 pub mod Sizes
 pub mod Layout

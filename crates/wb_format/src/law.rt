@@ -4,7 +4,7 @@ ghost use Rattle.std.specs.Prelude.{◌≡◌, ◌≢◌, ℕ, List, Option};
 ghost use Rattle.wb_types.specs.declared.entry.Entry.{Entry};
 ghost use Rattle.wb_format.specs.declared.root.Root.{Root};
 ghost use Rattle.wb_format.specs.declared.node.Node.{Node};
-ghost use Rattle.wb_format.specs.Words.{SpellsEntry};
+ghost use Rattle.wb_format.specs.NodeWords.{SpellsEntry};
 ghost use Rattle.wb_format.specs.Layout.{SpellsRoot, SpellsNode, IsValidIn};
 
 /// A sector spells one root, which is so what is read after it was written; a root has one spelling; and two
@@ -12,7 +12,8 @@ ghost use Rattle.wb_format.specs.Layout.{SpellsRoot, SpellsNode, IsValidIn};
 pub fn root_law()
     ensures one_value { (sector : List ℕ) (a b : Root) → SpellsRoot sector a → SpellsRoot sector b → a ≡ b }
     ensures one_spelling { (s t : List ℕ) (root : Root) → SpellsRoot s root → SpellsRoot t root → s ≡ t }
-    ensures one_generation { (s t : List ℕ) (a b : Root) → IsValidIn 0 s a → IsValidIn 1 t b → a.generation ≢ b.generation }
+    ensures one_generation { (s t : List ℕ) (a b : Root) → IsValidIn 0 s a → IsValidIn 1 t b
+        → a.generation ≢ b.generation }
 {}
 
 /// A sector spells one node, which is so what is read after it was written, and a node has one spelling.

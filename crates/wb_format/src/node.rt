@@ -2,7 +2,7 @@
 
 ghost use Rattle.std.specs.Prelude.{◌≡◌, ◌≤◌, ◌<◌, ◌↔◌, ℕ, List, IfSome, IfNone, IsTrue, slice_index};
 ghost use Rattle.wb_format.specs.Bytes.{HasWords, SameBytes, IsSector};
-ghost use Rattle.wb_format.specs.Words.{IsWord};
+ghost use Rattle.wb_format.specs.NodeWords.{IsWord};
 
 use crate::bytes::{is_zero, put_u32, put_u64, u32_at, u64_at};
 use crate::word::entry_of;
@@ -81,7 +81,8 @@ fn is_word(level: u32, word: u64) -> bool
 fn words_at(content: &Content, level: u32) -> Option<[u64; 32]>
     ensures found { IfSome result (HasWords content.now) }
     ensures spelled { IfSome result (λ words. (j : ℕ) → IsWord level (slice_index words j)) }
-    ensures none { IfNone result ((words : List ℕ) → HasWords content.now words → ((j : ℕ) → IsWord level (slice_index words j)) → ⊥) }
+    ensures none { IfNone result ((words : List ℕ) → HasWords content.now words
+        → ((j : ℕ) → IsWord level (slice_index words j)) → ⊥) }
 {
     let mut words = [0; 32];
     for j in 0..32 {

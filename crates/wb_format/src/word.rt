@@ -2,7 +2,7 @@
 
 ghost use Rattle.std.specs.Prelude.{◌≡◌, ◌↔◌, Option, IfSome, IsSome};
 ghost use Rattle.wb_types.specs.declared.entry.Entry.{Entry as EntryValue};
-ghost use Rattle.wb_format.specs.Words.{IsEntry, SpellsEntry, IsLeafWord};
+ghost use Rattle.wb_format.specs.NodeWords.{IsEntry, SpellsEntry, IsLeafWord};
 
 use wb_types::{Entry, OBlock};
 

@@ -1,5 +1,6 @@
 -- Places of which none stands twice, when one more is reached.
-use Rattle.std.proofs.Common.{◌≡◌, ◌≤◌, ◌<◌, ◌+◌, ◌-◌, ◌==◌, ◌||◌, ℕ, Bool, true, false, cond, nat_eq, List, [], ◌∷◌, ◌++◌, length, map, refl, sym, ◌∙◌, ap, subst, arith}
+use Rattle.std.proofs.Common.{◌≡◌, ◌≤◌, ◌<◌, ◌+◌, ◌-◌, ◌==◌, ◌||◌, ℕ, zero, suc, get_or, Bool, true, false, cond, nat_eq, List, [], ◌∷◌, ◌++◌, length, map, refl, sym, ◌∙◌, ap, subst, arith}
+use Rattle.std.specs.Prelude.{Contains}
 use Rattle.std.specs.List.{AllByRecursion, IsDistinct, list_any}
 use Rattle.std.proofs.lemmas.Bool.Decides.{nat_tests}
 use Rattle.std.proofs.lemmas.List.{map-append, length-map, length-append}
@@ -10,7 +11,16 @@ use Rattle.wb_tree.specs.declared.placed.PlacedNode.{PlacedNode}
 use Rattle.wb_tree.specs.Reading.{is_reached}
 use Rattle.wb_tree.specs.Loading.{Loading, IsFresh}
 use Rattle.wb_meta.specs.States.{places_of}
-use Rattle.wb_meta.specs.Reads.{AreApart, IsTreeOn}
+use Rattle.wb_meta.specs.Reads.{AreApartPlaces, IsTreeOn}
+
+-- what holds of all holds of one of them
+all_at : {X : Type 0} (P : X → Type 0) (xs : List X) (k : ℕ) (x : X) → AllByRecursion P xs → k < length xs → get_or xs k x ≡ x → P x
+all_at P [] k x all inside e = absurd (omega (arith, inside))
+all_at P (y ∷ xs) zero x all inside e = subst P e all.0
+all_at P (y ∷ xs) (suc k) x all inside e = all_at P xs k x all.1 (omega (arith, inside)) e
+
+pub all_contained : {X : Type 0} (P : X → Type 0) (xs : List X) (x : X) → AllByRecursion P xs → Contains xs x → P x
+all_contained P xs x all has = all_at P xs has.0 x all has.1 has.2
 
 all_pushed : {X : Type 0} (P : X → Type 0) (xs : List X) (x : X) → AllByRecursion P xs → P x → AllByRecursion P (xs ++ x ∷ [])
 all_pushed P [] x all p = (p, tt)
@@ -37,10 +47,10 @@ pub places_pushed : (nodes : List PlacedNode) (node : PlacedNode) → places_of 
 places_pushed nodes node = map-append (λ (n : PlacedNode). n.place) nodes (node ∷ [])
 
 -- one place more that was not reached
-pub apart_pushed : (sectors : ℕ) (nodes : List PlacedNode) (node : PlacedNode) → AreApart sectors (places_of nodes) → 2 ≤ node.place.0 → node.place.0 < sectors → is_reached node.place.0 nodes ≡ false
-    → AreApart sectors (places_of (nodes ++ node ∷ []))
+pub apart_pushed : (sectors : ℕ) (nodes : List PlacedNode) (node : PlacedNode) → AreApartPlaces sectors (places_of nodes) → 2 ≤ node.place.0 → node.place.0 < sectors → is_reached node.place.0 nodes ≡ false
+    → AreApartPlaces sectors (places_of (nodes ++ node ∷ []))
 apart_pushed sectors nodes node was from to unread =
-    let P : List Place → Type 0 = λ places. AreApart sectors places in
+    let P : List Place → Type 0 = λ places. AreApartPlaces sectors places in
     subst P (sym (places_pushed nodes node)) (record {
       from = all_pushed _ (places_of nodes) node.place was.from from;
       to = all_pushed _ (places_of nodes) node.place was.to to;
@@ -67,7 +77,7 @@ numbers_below sectors [] all q e = absurd cc
 numbers_below sectors (p ∷ places) all q e = is_here q p.0 (list_any (nat_eq q) (numbers places)) sectors all.0 (numbers_below sectors places all.1 q) e
 
 -- a device has no more places than sectors
-pub length-apart : (sectors : ℕ) (places : List Place) → AreApart sectors places → length places ≤ sectors
+pub length-apart : (sectors : ℕ) (places : List Place) → AreApartPlaces sectors places → length places ≤ sectors
 length-apart sectors places apart =
     let count = length-le_from_distinct_below (numbers places) sectors (distinct_numbers places apart.apart) (numbers_below sectors places apart.to) in
     let same : length (numbers places) ≡ length places = length-map places (λ (p : Place). p.0) in
@@ -77,7 +87,7 @@ pub length_pushed : (nodes : List PlacedNode) (node : PlacedNode) → length (no
 length_pushed nodes node = length-append nodes (node ∷ [])
 
 -- where a node is still to be read, not all sectors were read
-pub room_left : (sectors : ℕ) (nodes : List PlacedNode) (node : PlacedNode) → AreApart sectors (places_of (nodes ++ node ∷ [])) → length nodes < sectors
+pub room_left : (sectors : ℕ) (nodes : List PlacedNode) (node : PlacedNode) → AreApartPlaces sectors (places_of (nodes ++ node ∷ [])) → length nodes < sectors
 room_left sectors nodes node apart =
     let count = length-apart sectors (places_of (nodes ++ node ∷ [])) apart in
     let same : length (places_of (nodes ++ node ∷ [])) ≡ length (nodes ++ node ∷ []) = length-map (nodes ++ node ∷ []) (λ (n : PlacedNode). n.place) in
@@ -88,7 +98,7 @@ room_left sectors nodes node apart =
 pub tree_pushed : (sectors : ℕ) (root : Root) (l more : Loading) (node : PlacedNode) → IsTreeOn sectors root l → IsFresh l.root l.found.reached node.place → more.root ≡ l.root
     → more.found.reached ≡ l.found.reached ++ node ∷ [] → IsTreeOn sectors root more
 tree_pushed sectors root l more node on fresh same reached =
-    let P : List PlacedNode → Type 0 = λ nodes. AreApart sectors (places_of nodes) in
+    let P : List PlacedNode → Type 0 = λ nodes. AreApartPlaces sectors (places_of nodes) in
     let size : l.root.geometry.meta_sectors ≡ sectors = ap (λ (r : Root). r.geometry.meta_sectors) on.root_is ∙ on.size in
     let Q : ℕ → Type 0 = λ n. node.place.0 < n in
     record {
@@ -102,7 +112,7 @@ pub fewer_left : (sectors : ℕ) (root : Root) (l more : Loading) (node : Placed
     → more.found.reached ≡ l.found.reached ++ node ∷ [] → sectors - length more.found.reached < sectors - length l.found.reached
 fewer_left sectors root l more node on fresh same reached =
     let made = tree_pushed sectors root l more node on fresh same reached in
-    let P : List PlacedNode → Type 0 = λ nodes. AreApart sectors (places_of nodes) in
+    let P : List PlacedNode → Type 0 = λ nodes. AreApartPlaces sectors (places_of nodes) in
     let room = room_left sectors l.found.reached node (subst P reached made.used) in
     let count : length more.found.reached ≡ length l.found.reached + 1 = ap (λ (nodes : List PlacedNode). length nodes) reached ∙ length_pushed l.found.reached node in
     omega (arith, room, count)
@@ -111,5 +121,5 @@ fewer_left sectors root l more node on fresh same reached =
 pub tree_begun : (sectors : ℕ) (root : Root) (l : Loading) → root.geometry.meta_sectors ≡ sectors → l.root ≡ root → l.found.reached ≡ [] → IsTreeOn sectors root l
 unfolding IsDistinct
 tree_begun sectors root l size same nothing =
-    let P : List PlacedNode → Type 0 = λ nodes. AreApart sectors (places_of nodes) in
+    let P : List PlacedNode → Type 0 = λ nodes. AreApartPlaces sectors (places_of nodes) in
     record { size = size; root_is = same; used = subst P (sym nothing) (record { from = tt; to = tt; apart = tt }) }

@@ -9,9 +9,9 @@ use Rattle.wb_format.specs.declared.root.Root.{Root}
 use Rattle.wb_format.specs.Bytes.{number_at}
 use Rattle.wb_format.specs.Layout.{SpellsRoot}
 use Rattle.wb_tree.specs.Reading.{top_read, nothing_found}
-use Rattle.wb_meta.specs.Crashes.{AfterEveryCrash}
+use Rattle.wb_disk.specs.Crashes.{AfterEveryCrash}
 use Rattle.wb_meta.specs.Commits.{Every, Newest}
-use Rattle.wb_meta.specs.Holding.{Holds}
+use Rattle.wb_meta.specs.Representing.{Represents}
 use Rattle.wb_meta.specs.Formats.{IsFirstRoot, IsFormatted, SlotsAlone}
 use Rattle.wb_meta.specs.Steps.{Puts, zero_sector}
 use Rattle.wb_meta.proofs.Histories.{Every-written, Newest-written, Newest-every, Every-synced, Every-left, length-written}
@@ -29,7 +29,7 @@ HasRoot root at content = at ≡ 0 → SpellsRoot content root
 
 -- sectors with this root in the first slot and zeros in the second
 sectors_left : (geometry : Geometry) (root : Root) (sectors : List Content) → IsFirstRoot geometry root → 2 ≤ length sectors
-    → ((at : ℕ) (c : Content) → slice_get sectors at ≡ Some c → HasRoot root at c) → ((at : ℕ) (c : Content) → slice_get sectors at ≡ Some c → HasZeros at c) → Holds sectors root (nothing_found root)
+    → ((at : ℕ) (c : Content) → slice_get sectors at ≡ Some c → HasRoot root at c) → ((at : ℕ) (c : Content) → slice_get sectors at ≡ Some c → HasZeros at c) → Represents sectors root (nothing_found root)
 sectors_left geometry root sectors new size first second = elim (slice_get_cases sectors 0).1 [
   | inl w ↦ record {
     newest = record {
@@ -50,9 +50,9 @@ sectors_left geometry root sectors new size first second = elim (slice_get_cases
   | inr w ↦ absurd (omega (arith, size, w.0))
 ]
 
-formatted_holds : (geometry : Geometry) (root : Root) (d0 d1 d2 d3 d4 d5 : List History) → IsFirstRoot geometry root → 2 ≤ length d0
-    → d1 ≡ written d0 0 zero_sector → d2 ≡ written d1 1 zero_sector → d3 ≡ synced d2 → Puts (λ content. SpellsRoot content root) 0 d3 d4 → d5 ≡ synced d4 → AfterEveryCrash (λ sectors. Holds sectors root (nothing_found root)) d5
-formatted_holds geometry root d0 d1 d2 d3 d4 d5 new size w1 w2 s3 puts s5 sectors left =
+formatted_represents : (geometry : Geometry) (root : Root) (d0 d1 d2 d3 d4 d5 : List History) → IsFirstRoot geometry root → 2 ≤ length d0
+    → d1 ≡ written d0 0 zero_sector → d2 ≡ written d1 1 zero_sector → d3 ≡ synced d2 → Puts (λ content. SpellsRoot content root) 0 d3 d4 → d5 ≡ synced d4 → AfterEveryCrash (λ sectors. Represents sectors root (nothing_found root)) d5
+formatted_represents geometry root d0 d1 d2 d3 d4 d5 new size w1 w2 s3 puts s5 sectors left =
     let NewestZeros : List History → Type 0 = Newest HasZeros in
     let EveryZeros : List History → Type 0 = Every HasZeros in
     let EveryRoot : List History → Type 0 = Every (HasRoot root) in
@@ -74,7 +74,7 @@ pub formatted_left : (geometry : Geometry) (root : Root) (d0 d1 d2 d3 d4 d5 : Li
 formatted_left geometry root d0 d1 d2 d3 d4 d5 new size w1 w2 s3 puts s5 = record {
   root = root;
   first = new;
-  holds = formatted_holds geometry root d0 d1 d2 d3 d4 d5 new size w1 w2 s3 puts s5;
+  represents = formatted_represents geometry root d0 d1 d2 d3 d4 d5 new size w1 w2 s3 puts s5;
 }
 
 -- no sector behind the slots was written

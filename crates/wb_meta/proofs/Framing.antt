@@ -10,11 +10,12 @@ use Rattle.wb_format.specs.declared.root.Root.{Root}
 use Rattle.wb_tree.specs.declared.placed.PlacedNode.{PlacedNode}
 use Rattle.wb_tree.specs.Reading.{Found, Reading, Nodes, ReadsAs, AreNodes, ◌then◌, each_step, entry_in, entry_read, may_map, child_read, names_child, is_node_of, reached_at, words_read, node_read, is_reached, nothing_found, top_read, tree_read}
 use Rattle.wb_format.proofs.Values.{one_node}
-use Rattle.wb_tree.proofs.ReachedLemmas.{is_reached-push}
-use Rattle.wb_tree.proofs.Steps.{then_ok, test_ok}
-use Rattle.wb_tree.proofs.Truth.{yes}
+use Rattle.wb_tree.proofs.Reading.ReachedLemmas.{is_reached-push}
+use Rattle.wb_tree.proofs.Reading.Steps.{then_ok, test_ok}
+use Rattle.wb_types.proofs.Truth.{yes}
 use Rattle.wb_tree.specs.Loading.{AgreeAt}
-use Rattle.wb_meta.specs.Holding.{Holds}
+use Rattle.wb_meta.specs.Representing.{Represents}
+use Rattle.wb_types.proofs.Truth.{or_true}
 
 -- what was reached is still reached, and where the same is read there, another reading gives the same
 record Follows (a b : Nodes) (other : Reading) (found next : Found) : Type 0 where
@@ -29,8 +30,8 @@ abbrev Gives : Reading → Found → Type 0
 Gives reading found = reading ≡ Ok found
 
 -- nothing was read
-kept : (a b : Nodes) (found next : Found) → Gives (Ok found) next → Follows a b (Ok found) found next
-kept a b found next e =
+stored : (a b : Nodes) (found next : Found) → Gives (Ok found) next → Follows a b (Ok found) found next
+stored a b found next e =
     let same : found ≡ next = cc in
     record {
       more = λ place r. subst (λ (f : Found). is_reached place f.reached ≡ true) same r;
@@ -39,7 +40,7 @@ kept a b found next e =
 
 each_following : (a b : Nodes) (step other : ℕ → Found → Reading) → ((j : ℕ) → Following a b (step j) (other j)) → (count first : ℕ) → Following a b (each_step step count first) (each_step other count first)
 unfolding each_step
-each_following a b step other h zero first found next e = kept a b found next e
+each_following a b step other h zero first found next e = stored a b found next e
 each_following a b step other h (suc count) first found next e =
     let w = then_ok (step first found) (each_step step count (suc first)) next e in
     let one = h first found w.0 w.1 in
@@ -60,12 +61,12 @@ entry_by a b true here found made next same e =
 entry_by a b false here found made next same e = absurd (cc)
 
 entry_following : (a b : Nodes) (root : Root) (here : Place) (block : ℕ) (entry : Option Entry) → Following a b (entry_read root here block entry) (entry_read root here block entry)
-entry_following a b root here block None found next e = kept a b found next e
+entry_following a b root here block None found next e = stored a b found next e
 entry_following a b root here block (Some entry) found next e = entry_by a b (may_map root found.mapped block entry) here found _ next refl e
 
 child_by : (a b : Nodes) (none names : Bool) (here : Place) (read other : Found → Reading) → Following a b read other → (found next : Found)
     → (if none then Ok found else (if names then read found else Err here)) ≡ Ok next → Follows a b (if none then Ok found else (if names then other found else Err here)) found next
-child_by a b true names here read other h found next e = kept a b found next e
+child_by a b true names here read other h found next e = stored a b found next e
 child_by a b false true here read other h found next e = h found next e
 child_by a b false false here read other h found next e = absurd (cc)
 
@@ -74,12 +75,8 @@ child_following : (a b : Nodes) (root : Root) (here : Place) (level index : ℕ)
 child_following a b root here level index read other h word found next e =
     child_by a b (word == 0) (names_child root found.reached level index word) here (read index (record { 0 = word })) (other index (record { 0 = word })) (h index (record { 0 = word })) found next e
 
-both_true : (t r : Bool) → r ≡ true → cond t true r ≡ true
-both_true true r e = refl
-both_true false r e = e
-
 pub reached_before : (place : ℕ) (xs : List PlacedNode) (node : PlacedNode) → is_reached place xs ≡ true → is_reached place (xs ++ node ∷ []) ≡ true
-reached_before place xs node r = is_reached-push place xs node ∙ both_true (nat_eq node.place.0 place) (is_reached place xs) r
+reached_before place xs node r = is_reached-push place xs node ∙ or_true (nat_eq node.place.0 place) (is_reached place xs) r
 
 pub reached_last : (node : PlacedNode) (xs : List PlacedNode) → is_reached node.place.0 (xs ++ node ∷ []) ≡ true
 reached_last node xs = is_reached-push node.place.0 xs node ∙ ap (λ t. cond t true (is_reached node.place.0 xs)) (yes node.place.0)
@@ -121,10 +118,3 @@ reads_one sector None None x y = refl
 reads_one sector None (Some node) x y = absurd (x node y)
 reads_one sector (Some node) None x y = absurd (y node x)
 reads_one sector (Some node) (Some other) x y = ap (λ n. Some n) (one_node sector node other x y)
-
--- what sectors hold is what is read of them
-pub Holds-read : (sectors : List Content) (root : Root) (found : Found) (nodes : Nodes) → Holds sectors root found → AreNodes sectors nodes → tree_read root nodes ≡ Ok found
-Holds-read sectors root found nodes held are =
-    top_following held.nodes nodes root root.top found held.reads (λ place r.
-    let there = held.reached place r in
-    reads_one there.sector (held.nodes place) (nodes place) there.reads (are place there.sector there.there))

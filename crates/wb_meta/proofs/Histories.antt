@@ -7,17 +7,10 @@ use Rattle.std.proofs.lemmas.List.Elements.{Contains-append_cases}
 use Rattle.std.proofs.lemmas.Option.{slice_get_cases}
 use Rattle.std.proofs.lemmas.Grind.{common_steps}
 use Rattle.wb_disk.specs.Device.{Content, History, entries, newest, last_of, added, only, written, grown, synced, PartlySynced, Crashed}
-use Rattle.wb_meta.specs.Crashes.{MayLeave}
+use Rattle.wb_disk.specs.Crashes.{MayLeave}
+use Rattle.wb_disk.proofs.Leaving.{newest_there}
 use Rattle.wb_meta.specs.Commits.{Every, Newest, WasThere, Grew}
-use Rattle.wb_meta.proofs.Lists.{element_beside, set_cases, map_there, Contains-one, Contains-first, Contains-behind}
-
-last_there : (c : Content) (ds : List Content) → Contains (c ∷ ds) (last_of c ds)
-last_there c [] = Contains-first c []
-last_there c (d ∷ ds) = Contains-behind c (d ∷ ds) (last_of d ds) (last_there d ds)
-
--- what a read gives is one of the contents
-pub newest_there : (h : History) → Contains (entries h) (newest h)
-newest_there h = last_there h.first h.later
+use Rattle.wb_types.proofs.Lists.{element_beside, set_cases, map_there, Contains-one, Contains-first, Contains-behind}
 
 last_pushed : (c : Content) (ds : List Content) (d : Content) → last_of c (ds ++ d ∷ []) ≡ d
 last_pushed c [] d = refl
@@ -163,16 +156,4 @@ pub Grew-partly : (by : ℕ → Content → Type 0) (before now new : List Histo
 Grew-partly by before now new grew partly = record {
   size = partly.size ∙ grew.size;
   each = Every-partly (λ i c. WasThere before i c ⊎ by i c) now new grew.each partly;
-}
-
--- a device after a crash, as a read gives its sectors
-pub MayLeave-crashed : (device crashed : List History) → Crashed device crashed → MayLeave device (map newest crashed)
-MayLeave-crashed device crashed left = record {
-  size = length-map crashed newest ∙ left.size;
-  each = λ at h c e f.
-      let w = map_there newest crashed at c f in
-      let k = left.each at h w.0 e w.1 in
-      let same : c ≡ k.0 = w.2 ∙ ap (λ x. newest x) k.2 in
-      let P : Content → Type 0 = λ x. Contains (entries h) x in
-      subst P (sym same) k.1;
 }

@@ -1,4 +1,4 @@
--- The next image of a tree may be committed, and with it in place the sectors hold the new tree.
+-- The next image of a tree may be committed, and with it in place the sectors represent the new tree.
 use Rattle.std.proofs.Common.{◌≡◌, ◌≢◌, ◌≤◌, ◌<◌, ◌+◌, ◌*◌, ◌/◌, ◌%◌, ◌&&◌, ◌==◌, ◌∙◌, sym, ap, subst, refl, ℕ, zero, suc, Bool, true, false, cond, List, [], ◌∷◌, Option, Some, None, length, map, take, get_or, is_some, slice_get, arith, inl, inr}
 use Rattle.std.specs.Prelude.{All, option_map}
 use Rattle.std.proofs.lemmas.Bool.{false≢true, cases_eq}
@@ -11,22 +11,22 @@ use Rattle.wb_disk.specs.Device.{Content, History}
 use Rattle.wb_format.specs.declared.node.Node.{Node}
 use Rattle.wb_format.specs.declared.root.Root.{Root}
 use Rattle.wb_format.specs.Layout.{SpellsRoot, IsValidIn}
-use Rattle.wb_format.specs.Words.{entry_word}
+use Rattle.wb_format.specs.NodeWords.{entry_word}
 use Rattle.wb_format.proofs.Values.{one_root}
 use Rattle.wb_tree.specs.declared.image.Image.{Image}
 use Rattle.wb_tree.specs.Mapping.{Mapping, NodeName, IsMapping, IsSound, AreInside, place_of, exists, changed}
 use Rattle.wb_tree.specs.Reading.{Found, IsNewestRoot}
-use Rattle.wb_tree.specs.Images.{AreFree, KeepsNode, Keeps, HasWordsOf, name_of, place_word, word_at}
-use Rattle.wb_tree.proofs.Names.{has, same_name}
-use Rattle.wb_tree.proofs.Listed.{unknown_changed}
+use Rattle.wb_tree.specs.Images.{AreFree, ImagePlan, IsImage, StoresNode, Stores, HasWordsOf, name_of, place_word, word_at}
+use Rattle.wb_tree.proofs.Nodes.Names.{has, same_name}
+use Rattle.wb_tree.proofs.Nodes.Listed.{unknown_changed}
 use Rattle.wb_meta.specs.declared.commit_steps.CommitSteps.{CommitSteps}
 use Rattle.wb_meta.specs.Commits.{SyncedRoot, HasCome, HasFailed}
-use Rattle.wb_meta.specs.Crashes.{MayLeave, AfterEveryCrash}
-use Rattle.wb_meta.specs.Holding.{Stands, HoldsOr}
+use Rattle.wb_disk.specs.Crashes.{MayLeave, AfterEveryCrash}
+use Rattle.wb_meta.specs.Representing.{RepresentsTree, RepresentsOldOrTree, Stored}
 use Rattle.wb_meta.specs.Placing.{HavePlaces, IsPlaced, MayCommit}
 use Rattle.wb_meta.specs.Imaging.{IsNextImage}
 use Rattle.wb_meta.proofs.Crashing.{come_crash, failed_crash, done_crash}
-use Rattle.wb_meta.proofs.Keeping.{same_place, Holds-kept}
+use Rattle.wb_meta.proofs.Storing.{same_place, Represents-stored}
 
 -- ---- lists
 
@@ -67,9 +67,9 @@ named (node ∷ nodes) level index h = by_name ((node.1.level == level) && (node
 
 child_word : (m n : Mapping) → IsSound m → IsSound n → n.entries ≡ m.entries → ((level index : ℕ) (place : Place) → place_of m level index ≡ Some place → place_of n level index ≡ Some place)
     → (level index child : ℕ) (here : Place) → 1 ≤ level → place_of m (suc level) index ≡ Some here → child / 32 ≡ index → (o p : Option Place) → place_of m level child ≡ o → place_of n level child ≡ p → o ≡ p
-child_word m n old new same kept level index child here some known above (Some a) p e f = sym (kept level child a e) ∙ f
-child_word m n old new same kept level index child here some known above None None e f = refl
-child_word m n old new same kept level index child here some known above None (Some b) e f =
+child_word m n old new same stored level index child here some known above (Some a) p e f = sym (stored level child a e) ∙ f
+child_word m n old new same stored level index child here some known above None None e f = refl
+child_word m n old new same stored level index child here some known above None (Some b) e f =
     let there : exists m.entries level child ≡ true = subst (λ entries. exists entries level child ≡ true) same (new.known_exist level child b f) in
     let up : suc level ≡ level + 1 = omega arith in
     let is : is_some (place_of m level child) ≡ true = old.known_below level index child here some (subst (λ l. place_of m l index ≡ Some here) up known) above there in
@@ -78,10 +78,10 @@ child_word m n old new same kept level index child here some known above None (S
 -- the words of a node that stays are the same
 same_words : (m n : Mapping) → IsSound m → IsSound n → n.entries ≡ m.entries → ((level index : ℕ) (place : Place) → place_of m level index ≡ Some place → place_of n level index ≡ Some place)
     → (level index j : ℕ) (here : Place) → j < 32 → place_of m level index ≡ Some here → word_at m level index j ≡ word_at n level index j
-same_words m n old new same kept zero index j here below known = refl
-same_words m n old new same kept (suc zero) index j here below known = ap (λ (entries : List (Option Entry)). entry_word (get_or entries (32 * index + j) None)) (sym same)
-same_words m n old new same kept (suc (suc level)) index j here below known =
-    ap place_word (child_word m n old new same kept (suc level) index (32 * index + j) here (omega arith) known (omega arith) (place_of m (suc level) (32 * index + j)) (place_of n (suc level) (32 * index + j)) refl refl)
+same_words m n old new same stored zero index j here below known = refl
+same_words m n old new same stored (suc zero) index j here below known = ap (λ (entries : List (Option Entry)). entry_word (get_or entries (32 * index + j) None)) (sym same)
+same_words m n old new same stored (suc (suc level)) index j here below known =
+    ap place_word (child_word m n old new same stored (suc level) index (32 * index + j) here (omega arith) known (omega arith) (place_of m (suc level) (32 * index + j)) (place_of n (suc level) (32 * index + j)) refl refl)
 
 -- ---- places
 
@@ -91,21 +91,23 @@ from_free free nodes are i node h =
     taken free (length nodes) i node.0 (ap (λ (places : List Place). slice_get places i) (sym are) ∙ mapped_at (λ (n : Place × Node). n.0) nodes i node h)
 
 -- the nodes of an image have places of the device
-pub have_places : (m : Mapping) (geometry : Geometry) (free : List Place) (nodes : List (Place × Node)) → AreFree m geometry free → map (λ node. node.0) nodes ≡ take (length nodes) free → HavePlaces nodes geometry.meta_sectors
-have_places m geometry free nodes frees are = record {
-  slots = let from = geometry.within.meta_from in omega arith;
-  from = λ i node h. frees.behind i node.0 (from_free free nodes are i node h);
-  to = λ i node h. frees.inside i node.0 (from_free free nodes are i node h);
-  apart = λ i j node other h k e. frees.apart i j node.0 (from_free free nodes are i node h) (from_free free nodes are j other k ∙ ap Some (same_place other.0 node.0 (sym e)));
-}
+pub have_places : (m n : Mapping) (plan : ImagePlan) (image : Image) → AreFree m plan.geometry plan.free → IsImage m n plan image → HavePlaces image.nodes.items plan.geometry.meta_sectors
+have_places m n plan image frees is =
+    let free_at = from_free plan.free image.nodes.items is.places_are in
+    record {
+      slots = let from = plan.geometry.within.meta_from in omega arith;
+      from = λ i node h. frees.behind i node.0 (free_at i node h);
+      to = λ i node h. frees.inside i node.0 (free_at i node h);
+      apart = λ i j node other h k e. frees.apart i j node.0 (free_at i node h) (free_at j other k ∙ ap Some (same_place other.0 node.0 (sym e)));
+    }
 
-module _ (m n : Mapping) (geometry : Geometry) (generation : ℕ) (clean : Bool) (free : List Place) (image : Image) (device : List History) (root : Root) (found : Found) (next : IsNextImage m n geometry generation clean free image device root found) where
+module _ (m n : Mapping) (plan : ImagePlan) (image : Image) (device : List History) (old : Stored) (next : IsNextImage m n plan image device old) where
   -- a node's place is one of the free ones
-  free_place : (i : ℕ) (node : Place × Node) → slice_get image.nodes.items i ≡ Some node → slice_get free i ≡ Some node.0
-  free_place i node h = from_free free image.nodes.items next.image_is.places_are i node h
+  free_place : (i : ℕ) (node : Place × Node) → slice_get image.nodes.items i ≡ Some node → slice_get plan.free i ≡ Some node.0
+  free_place i node h = from_free plan.free image.nodes.items next.image_is.places_are i node h
 
   pub places : HavePlaces image.nodes.items (length device)
-  places = subst (HavePlaces image.nodes.items) (sym next.size) (have_places m geometry free image.nodes.items next.free_are next.image_is.places_are)
+  places = subst (HavePlaces image.nodes.items) (sym next.size) (have_places m n plan image next.free_are next.image_is)
 
   -- a node of the new tree that the old one does not know is one of the image's
   written_node : (level index : ℕ) (place : Place) → place_of n level index ≡ Some place → place_of m level index ≡ None → Named image.nodes.items level index
@@ -113,18 +115,18 @@ module _ (m n : Mapping) (geometry : Geometry) (generation : ℕ) (clean : Bool)
       let range = next.new_sound.known_level level index place known in
       let same = next.image_is.same_entries in
       let size = next.mapping.size in
-      let depth : depth_of (length n.entries) ≡ depth_of geometry.cache_blocks = ap (λ (entries : List (Option Entry)). depth_of (length entries)) same ∙ ap depth_of size in
+      let depth : depth_of (length n.entries) ≡ depth_of plan.geometry.cache_blocks = ap (λ (entries : List (Option Entry)). depth_of (length entries)) same ∙ ap depth_of size in
       let there : exists m.entries level index ≡ true = subst (λ entries. exists entries level index ≡ true) same (next.new_sound.known_exist level index place known) in
-      let to : level ≤ depth_of geometry.cache_blocks = subst (λ d. level ≤ d) depth range.1 in
-      let limit = geometry.within.cache_to in
-      let listed = unknown_changed m geometry.cache_blocks level index size (omega arith) range.0 to there none in
+      let to : level ≤ depth_of plan.geometry.cache_blocks = subst (λ d. level ≤ d) depth range.1 in
+      let limit = plan.geometry.within.cache_to in
+      let listed = unknown_changed m plan.geometry.cache_blocks level index size (omega arith) range.0 to there none in
       named image.nodes.items level index (subst (λ names. has names level index ≡ true) (sym next.image_is.nodes_are) listed)
 
   module _ (before after : List Content) (left : MayLeave device before) (placed : IsPlaced image before after) where
     -- a sector of the device is there
-    sector_at : (at : ℕ) → at < geometry.meta_sectors → (content : Content) × (slice_get after at ≡ Some content)
+    sector_at : (at : ℕ) → at < plan.geometry.meta_sectors → (content : Content) × (slice_get after at ≡ Some content)
     sector_at at inside =
-        let long : length after ≡ geometry.meta_sectors = placed.size ∙ (left.size ∙ next.size) in
+        let long : length after ≡ plan.geometry.meta_sectors = placed.size ∙ (left.size ∙ next.size) in
         elim (slice_get_cases after at).1 [
           | inl there ↦ (there.0, there.2)
           | inr past ↦ let none = past.0 in absurd (omega arith)
@@ -141,14 +143,14 @@ module _ (m n : Mapping) (geometry : Geometry) (generation : ℕ) (clean : Bool)
       ]
     ]
 
-    new_generation : image.root.generation ≡ root.generation + 1
+    new_generation : image.root.generation ≡ old.root.generation + 1
     new_generation = next.image_is.root_generation ∙ next.next
 
-    -- a node that was known is kept
-    old_kept : (level index : ℕ) (place : Place) → place_of m level index ≡ Some place → KeepsNode after n image.root.generation level index place.0
-    old_kept level index place known =
-        let inside = next.inside place (record { level = level; index = index; known = next.image_is.kept level index place known }) in
-        let was = next.keeps before left level index place known in
+    -- a node that was known is stored
+    old_stored : (level index : ℕ) (place : Place) → place_of m level index ≡ Some place → StoresNode after n image.root.generation level index place.0
+    old_stored level index place known =
+        let inside = next.inside place (record { level = level; index = index; known = next.image_is.stays level index place known }) in
+        let was = next.stores before left level index place known in
         let is = sector_at place.0 inside.1 in
         let same : is.0 ≡ was.sector = same_some (slice_get before place.0) is.0 was.sector (old_sector level index place is.0 known inside.0 is.1) was.there in
         let newer = new_generation in
@@ -165,22 +167,22 @@ module _ (m n : Mapping) (geometry : Geometry) (generation : ℕ) (clean : Bool)
             name = right.name;
             not_newer = omega arith;
             words = λ j below. right.words j below
-                ∙ same_words m n next.old_sound next.new_sound next.image_is.same_entries next.image_is.kept was.node.level was.node.index j place below
+                ∙ same_words m n next.old_sound next.new_sound next.image_is.same_entries next.image_is.stays was.node.level was.node.index j place below
                 (ap (λ l. place_of m l was.node.index) level_is ∙ (ap (λ i. place_of m level i) index_is ∙ known));
           };
         }
 
-    -- a node that was written is kept
-    new_kept : (level index : ℕ) (place : Place) → place_of n level index ≡ Some place → Named image.nodes.items level index → KeepsNode after n image.root.generation level index place.0
-    new_kept level index place known one =
+    -- a node that was written is stored
+    new_stored : (level index : ℕ) (place : Place) → place_of n level index ≡ Some place → Named image.nodes.items level index → StoresNode after n image.root.generation level index place.0
+    new_stored level index place known one =
         let inside = next.inside place (record { level = level; index = index; known = known }) in
         let is = sector_at place.0 inside.1 in
-        let settled = each_at (λ node. place_of n node.1.level node.1.index ≡ Some node.0) image.nodes.items one.number one.node next.image_is.settled one.listed in
-        let generation_is = each_at (λ node. node.1.generation ≡ generation) image.nodes.items one.number one.node next.image_is.generations one.listed in
+        let stands = each_at (λ node. place_of n node.1.level node.1.index ≡ Some node.0) image.nodes.items one.number one.node next.image_is.stands one.listed in
+        let generation_is = each_at (λ node. node.1.generation ≡ plan.generation) image.nodes.items one.number one.node next.image_is.generations one.listed in
         let words = each_at (λ node. HasWordsOf n node.1) image.nodes.items one.number one.node next.image_is.words one.listed in
         let root_is = next.image_is.root_generation in
         let there : place_of n one.node.1.level one.node.1.index ≡ Some place = ap (λ (name : NodeName). place_of n name.level name.index) one.name ∙ known in
-        let same : one.node.0 ≡ place = same_some (place_of n one.node.1.level one.node.1.index) one.node.0 place settled there in
+        let same : one.node.0 ≡ place = same_some (place_of n one.node.1.level one.node.1.index) one.node.0 place stands there in
         record {
           sector = is.0;
           there = is.1;
@@ -189,24 +191,24 @@ module _ (m n : Mapping) (geometry : Geometry) (generation : ℕ) (clean : Bool)
           right = record { name = one.name; not_newer = omega arith; words = words };
         }
 
-    keeps_by : (level index : ℕ) (place : Place) → place_of n level index ≡ Some place → (o : Option Place) → place_of m level index ≡ o → KeepsNode after n image.root.generation level index place.0
-    keeps_by level index place known None e = new_kept level index place known (written_node level index place known e)
-    keeps_by level index place known (Some old) e =
-        let same : old ≡ place = same_some (place_of n level index) old place (next.image_is.kept level index old e) known in
-        old_kept level index place (e ∙ ap Some same)
+    stores_by : (level index : ℕ) (place : Place) → place_of n level index ≡ Some place → (o : Option Place) → place_of m level index ≡ o → StoresNode after n image.root.generation level index place.0
+    stores_by level index place known None e = new_stored level index place known (written_node level index place known e)
+    stores_by level index place known (Some old) e =
+        let same : old ≡ place = same_some (place_of n level index) old place (next.image_is.stays level index old e) known in
+        old_stored level index place (e ∙ ap Some same)
 
-    -- the sectors keep the new tree
-    keeps_new : Keeps after n image.root.generation
-    keeps_new level index place known = keeps_by level index place known (place_of m level index) refl
+    -- the sectors store the new tree
+    stores_new : Stores after n image.root.generation
+    stores_new level index place known = stores_by level index place known (place_of m level index) refl
 
     -- a valid root in the other slot is older
     older_root : (other : ℕ) (another : Content) (older : Root) → other ≢ image.root.generation % 2 → slice_get after other ≡ Some another → IsValidIn other another older → older.generation < image.root.generation
     older_root other another older off there valid =
         let newer = new_generation in
-        let held = next.holds before left in
+        let held = next.represents before left in
         let parity = valid.parity in
         let was : slice_get before other ≡ Some another = elim (placed.others other another there) [
-          | inl old ↦ old
+          | inl was ↦ was
           | inr new ↦ elim new [
             | inl node ↦ absurd (let behind = next.free_are.behind node.number node.node.0 (free_place node.number node.node node.listed) in let here = node.here in omega arith)
             | inr slot ↦ absurd (off slot.here)
@@ -215,8 +217,8 @@ module _ (m n : Mapping) (geometry : Geometry) (generation : ℕ) (clean : Bool)
         elim (cases_eq other held.newest.slot) [
           | inl same ↦
               let sector : another ≡ held.newest.sector = same_some (slice_get before other) another held.newest.sector was (ap (λ at. slice_get before at) same ∙ held.newest.there) in
-              let one : older ≡ root = one_root another older root valid.spelled (subst (λ c. SpellsRoot c root) (sym sector) held.newest.valid.spelled) in
-              let generations : older.generation ≡ root.generation = ap (λ (r : Root). r.generation) one in
+              let one : older ≡ old.root = one_root another older old.root valid.spelled (subst (λ c. SpellsRoot c old.root) (sym sector) held.newest.valid.spelled) in
+              let generations : older.generation ≡ old.root.generation = ap (λ (r : Root). r.generation) one in
               omega arith
           | inr different ↦ let less = held.newest.newest other another older different was valid in omega arith
         ]
@@ -224,8 +226,8 @@ module _ (m n : Mapping) (geometry : Geometry) (generation : ℕ) (clean : Bool)
     -- the image's root is the newest
     newest_root : IsNewestRoot after image.root
     newest_root =
-        let from = geometry.within.meta_from in
-        let low : image.root.generation % 2 < geometry.meta_sectors = omega arith in
+        let from = plan.geometry.within.meta_from in
+        let low : image.root.generation % 2 < plan.geometry.meta_sectors = omega arith in
         let is = sector_at (image.root.generation % 2) low in
         record {
           slot = image.root.generation % 2;
@@ -235,39 +237,39 @@ module _ (m n : Mapping) (geometry : Geometry) (generation : ℕ) (clean : Bool)
           newest = older_root;
         }
 
-    -- the sectors hold the new tree
-    stands_new : Stands after image.root n
-    stands_new =
+    -- the sectors represent the new tree
+    tree_new : RepresentsTree after image.root n
+    tree_new =
         let geometry_is = sym next.image_is.root_geometry in
-        let mapping : IsMapping geometry.cache_blocks geometry.origin_blocks n.entries = subst (λ entries. IsMapping geometry.cache_blocks geometry.origin_blocks entries) (sym next.image_is.same_entries) next.mapping in
+        let mapping : IsMapping plan.geometry.cache_blocks plan.geometry.origin_blocks n.entries = subst (λ entries. IsMapping plan.geometry.cache_blocks plan.geometry.origin_blocks entries) (sym next.image_is.same_entries) next.mapping in
         record {
-          holds = Holds-kept after image.root n
+          represents = Represents-stored after image.root n
               (subst (λ (g : Geometry). IsMapping g.cache_blocks g.origin_blocks n.entries) geometry_is mapping)
               next.new_sound
               (subst (λ (g : Geometry). AreInside g.meta_sectors n) geometry_is next.inside)
               (subst (λ (g : Geometry). changed n (depth_of g.cache_blocks) ≡ []) geometry_is next.image_is.none_changed)
               (subst (λ (g : Geometry). image.root.top ≡ place_of n (depth_of g.cache_blocks) 0) geometry_is next.image_is.root_top)
               newest_root
-              keeps_new;
-          keeps = keeps_new;
+              stores_new;
+          stores = stores_new;
         }
 
   -- the image may be committed
-  pub may_commit : MayCommit image device root found (λ sectors. Stands sectors image.root n)
+  pub may_commit : MayCommit image device old (λ sectors. RepresentsTree sectors image.root n)
   may_commit = record {
-    old = next.holds;
+    represents = next.represents;
     outside = λ i node listed. next.outside i node.0 (free_place i node listed);
-    new = λ before after left placed. stands_new before after left placed;
+    new = λ before after left placed. tree_new before after left placed;
   }
 
   -- however far its commit has come
-  pub come_next : (now : List History) (steps : CommitSteps) → HasCome image device steps now → AfterEveryCrash (HoldsOr root found (λ sectors. Stands sectors image.root n)) now
-  come_next now steps come = come_crash image (length device) device now steps root found (λ sectors. Stands sectors image.root n) places may_commit come
+  pub come_next : (now : List History) (steps : CommitSteps) → HasCome image device steps now → AfterEveryCrash (RepresentsOldOrTree old image.root n) now
+  come_next now steps come = come_crash image (length device) device now steps old (λ sectors. RepresentsTree sectors image.root n) places may_commit come
 
   -- after a failure
-  pub failed_next : (now : List History) → HasFailed image device now → AfterEveryCrash (HoldsOr root found (λ sectors. Stands sectors image.root n)) now
-  failed_next now failed = failed_crash image (length device) device now root found (λ sectors. Stands sectors image.root n) places may_commit failed
+  pub failed_next : (now : List History) (steps : CommitSteps) → HasFailed image device steps now → AfterEveryCrash (RepresentsOldOrTree old image.root n) now
+  failed_next now steps failed = failed_crash image (length device) device now steps old (λ sectors. RepresentsTree sectors image.root n) places may_commit failed
 
   -- when the root is safe
-  pub done_next : (now : List History) → SyncedRoot image device now → AfterEveryCrash (λ sectors. Stands sectors image.root n) now
-  done_next now done = done_crash image device now root found (λ sectors. Stands sectors image.root n) may_commit done
+  pub done_next : (now : List History) → SyncedRoot image device now → AfterEveryCrash (λ sectors. RepresentsTree sectors image.root n) now
+  done_next now done = done_crash image device now old (λ sectors. RepresentsTree sectors image.root n) may_commit done

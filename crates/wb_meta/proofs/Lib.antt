@@ -6,10 +6,11 @@ pub mod Crashing
 pub mod Formatted
 pub mod Framing
 pub mod Imaging
-pub mod Keeping
+pub mod Storing
 pub mod Sectors
 pub mod Counting
 pub mod Loaded
 pub mod OneReading
-pub mod Settled
+pub mod Round
 pub mod Reading
+pub mod Reopening

@@ -10,12 +10,12 @@ use Rattle.wb_format.specs.declared.node.Node.{Node}
 use Rattle.wb_format.specs.declared.root.Root.{Root}
 use Rattle.wb_tree.specs.declared.placed.PlacedNode.{PlacedNode}
 use Rattle.wb_tree.specs.Reading.{Reading, Nodes, ReadsAs, IsNewestRoot, is_reached, tree_read}
-use Rattle.wb_tree.specs.Loading.{Loading, outcome, wanted_place, Fails}
+use Rattle.wb_tree.specs.Loading.{Loading, outcome, wanted_place, FailsBy}
 use Rattle.std.specs.Prelude.{Result, IfErr}
 use Rattle.std.specs.Result.{IsErrAnd}
-use Rattle.wb_tree.proofs.ReachedLemmas.{is_reached-push}
-use Rattle.wb_meta.specs.Holding.{ReadsThere}
-use Rattle.wb_meta.specs.States.{ReadThere, IsDamagedAt, IsRefusedBy, IsOfReading, CountsFault}
+use Rattle.wb_tree.proofs.Reading.ReachedLemmas.{is_reached-push}
+use Rattle.wb_meta.specs.Representing.{ReadsThere, ReadThere}
+use Rattle.wb_meta.specs.States.{IsDamagedAt, IsRefusedBy, IsOfReading, CountsFault}
 use Rattle.wb_meta.specs.Reads.{HasLoaded}
 use Rattle.wb_meta.proofs.Framing.{reads_one, reached_before, reached_last}
 
@@ -26,7 +26,7 @@ pub record NamesFault (refusal : Refusal) (reading : Reading) : Type 0 where
   pub fault : reading ≡ Err place
 
 -- the refusals that a tree gives
-pub fails_by : (refusal : Refusal) (reading : Reading) → Fails refusal reading → (refusal ≡ Memory) ⊎ NamesFault refusal reading
+pub fails_by : (refusal : Refusal) (reading : Reading) → FailsBy refusal reading → (refusal ≡ Memory) ⊎ NamesFault refusal reading
 fails_by Range reading fails = absurd fails
 fails_by Crosses reading fails = absurd fails
 fails_by Busy reading fails = absurd fails
@@ -57,8 +57,8 @@ wanted_node (Some node) place e = record { node = node; some = refl; there = cc 
 
 -- what holds of the refusal that a `?` hands on
 pub IfErr-handed : {T E : Type 0} (r : Result T E) (refusal : E) (P : E → Type 0) → IsErrAnd r (λ e. e ≡ refusal) → P refusal → IfErr r P
-IfErr-handed (Ok x) refusal P handed holds = tt
-IfErr-handed (Err e) refusal P handed holds = subst P (sym handed) holds
+IfErr-handed (Ok x) refusal P handed represents = tt
+IfErr-handed (Err e) refusal P handed represents = subst P (sym handed) represents
 
 -- a sector reads alike in all ways to read it
 pub there_one : (sectors : List Content) (a b : Nodes) (place : ℕ) → ReadsThere sectors a place → ReadsThere sectors b place → a place ≡ b place
@@ -134,12 +134,12 @@ memory_refused sectors root refusal newest size memory =
 
 -- it was refused
 pub loaded_refused : (sectors : List Content) (root : Root) (l : Loading) (wanted : PlacedNode) (node : Option Node) (refusal : Refusal) → root.geometry.meta_sectors ≡ length sectors → HasLoaded sectors root l
-    → ReadsThere sectors (λ _. node) wanted.place.0 → ((nodes : Nodes) → nodes wanted.place.0 ≡ node → Fails refusal (outcome l nodes)) → IsRefusedBy sectors refusal
+    → ReadsThere sectors (λ _. node) wanted.place.0 → ((nodes : Nodes) → nodes wanted.place.0 ≡ node → FailsBy refusal (outcome l nodes)) → IsRefusedBy sectors refusal
 loaded_refused sectors root l wanted node refusal size loaded here fails = elim (fails_by refusal (outcome l (λ _. node)) (fails (λ _. node) refl)) [
   | inl memory ↦ memory_refused sectors root refusal loaded.newest size memory
   | inr named ↦
       let P : Refusal → Type 0 = λ r. IsRefusedBy sectors r in
-      let Q : Refusal → Nodes → Type 0 = λ r others. Fails r (outcome l others) in
+      let Q : Refusal → Nodes → Type 0 = λ r others. FailsBy r (outcome l others) in
       let made : IsDamagedAt sectors named.place = record {
         root = root;
         newest = loaded.newest;
@@ -155,13 +155,13 @@ loaded_refused sectors root l wanted node refusal size loaded here fails = elim 
 ]
 
 -- a refusal of a tree is one of reading, and of no failure of the device
-pub fails_kind : (refusal : Refusal) (reading : Reading) → Fails refusal reading → IsOfReading refusal
+pub fails_kind : (refusal : Refusal) (reading : Reading) → FailsBy refusal reading → IsOfReading refusal
 fails_kind refusal reading fails = elim (fails_by refusal reading fails) [
   | inl memory ↦ let P : Refusal → Type 0 = λ r. IsOfReading r in subst P (sym memory) tt
   | inr named ↦ let P : Refusal → Type 0 = λ r. IsOfReading r in subst P (sym named.damaged) tt
 ]
 
-pub fails_cause : (refusal : Refusal) (reading : Reading) (old new : ℕ) → Fails refusal reading → new ≡ old → CountsFault refusal old new
+pub fails_cause : (refusal : Refusal) (reading : Reading) (old new : ℕ) → FailsBy refusal reading → new ≡ old → CountsFault refusal old new
 fails_cause refusal reading old new fails same = elim (fails_by refusal reading fails) [
   | inl memory ↦ let P : Refusal → Type 0 = λ r. CountsFault r old new in subst P (sym memory) same
   | inr named ↦ let P : Refusal → Type 0 = λ r. CountsFault r old new in subst P (sym named.damaged) same

@@ -11,10 +11,11 @@ use Rattle.wb_format.specs.Layout.{SpellsRoot}
 use Rattle.wb_format.proofs.Values.{one_root}
 use Rattle.wb_tree.specs.declared.placed.PlacedNode.{PlacedNode}
 use Rattle.wb_tree.specs.Mapping.{Mapping}
-use Rattle.wb_tree.specs.Reading.{Found, Reading, Nodes, ReadsAs, AreNodes, IsNewestRoot, Represents, is_reached, tree_read}
-use Rattle.wb_meta.specs.Holding.{Holds, ReadsThere}
-use Rattle.wb_meta.specs.States.{ReadThere, IsStateOf, HasNoRoot, HasOtherSize, HasFittingRoot, IsDamagedAt, IsRefusedBy, SpeaksOfSectors}
-use Rattle.wb_meta.proofs.Framing.{Holds-read, top_following}
+use Rattle.wb_tree.specs.Reading.{Found, Reading, Nodes, ReadsAs, AreNodes, IsNewestRoot, is_reached, tree_read}
+use Rattle.wb_tree.specs.Whole.{found_of}
+use Rattle.wb_meta.specs.Representing.{Represents, RepresentsOldOrTree, RepresentsReading, Stored, ReadsThere, ReadThere}
+use Rattle.wb_meta.specs.States.{places_of, RepresentsState, HasNoRoot, HasOtherSize, HasFittingRoot, IsDamagedAt, IsRefusedBy, SpeaksOfSectors}
+use Rattle.wb_meta.proofs.Framing.{top_following}
 use Rattle.wb_meta.proofs.Loaded.{there_one}
 
 newest_by : (sectors : List Content) (a b : Root) (test : Bool) (x : IsNewestRoot sectors a) (y : IsNewestRoot sectors b) → nat_eq x.slot y.slot ≡ test → a ≡ b
@@ -63,7 +64,7 @@ there_second : (sectors : List Content) (a b : Nodes) (reached other : List Plac
 there_second sectors a b reached other first second place r = joined_by sectors a b reached place (is_reached place reached) refl first (second place r)
 
 -- what is held is read of whatever reads alike at its nodes
-held_read : (sectors : List Content) (root : Root) (found : Found) (others : Nodes) → Holds sectors root found → ReadThere sectors others found.reached → tree_read root others ≡ Ok found
+held_read : (sectors : List Content) (root : Root) (found : Found) (others : Nodes) → Represents sectors root found → ReadThere sectors others found.reached → tree_read root others ≡ Ok found
 held_read sectors root found others held there =
     top_following held.nodes others root root.top found held.reads (λ place r. there_one sectors held.nodes others place (held.reached place r) (there place r))
 
@@ -78,7 +79,7 @@ one_fault sectors a b x y =
     let both : ◌≡◌ {A = Reading} (Err a) (Err b) = sym first ∙ (ap (λ (r : Root). tree_read r nodes) root ∙ second) in
     cc
 
-no_fault : (sectors : List Content) (root : Root) (found : Found) (place : Place) → Holds sectors root found → IsDamagedAt sectors place → ⊥
+no_fault : (sectors : List Content) (root : Root) (found : Found) (place : Place) → Represents sectors root found → IsDamagedAt sectors place → ⊥
 no_fault sectors root found place held damage =
     let nodes = joined held.nodes damage.nodes found.reached in
     let same = one_newest sectors root damage.root held.newest damage.newest in
@@ -144,22 +145,75 @@ one_refusal sectors a b speaks_a speaks_b by_a by_b = elim (spoken sectors a spe
   ]
 ]
 
-pub state_only : (sectors : List Content) (root : Root) (tree : Mapping) (used : List Place) (refusal : Refusal) → IsStateOf sectors root tree used → SpeaksOfSectors refusal → IsRefusedBy sectors refusal → ⊥
+pub state_only : (sectors : List Content) (root : Root) (tree : Mapping) (used : List Place) (refusal : Refusal) → RepresentsState sectors root tree used → SpeaksOfSectors refusal → IsRefusedBy sectors refusal → ⊥
 state_only sectors root tree used refusal state speaks by = elim (spoken sectors refusal speaks by) [
-  | inl x ↦ no_root sectors root state.holds.newest x.1
-  | inr (inl x) ↦ other_size sectors root state.holds.newest state.size x.1
-  | inr (inr x) ↦ no_fault sectors root state.found x.place state.holds x.damage
+  | inl x ↦ no_root sectors root state.represents.newest x.1
+  | inr (inl x) ↦ other_size sectors root state.represents.newest state.size x.1
+  | inr (inr x) ↦ no_fault sectors root state.found x.place state.represents x.damage
 ]
 
--- ---- what all sectors represent
+pub one_tree : (sectors : List Content) (a b : Root) (f g : Found) → Represents sectors a f → Represents sectors b g → (a ≡ b) × (f ≡ g)
+one_tree sectors a b f g x y =
+    let nodes = joined x.nodes y.nodes f.reached in
+    let same = one_newest sectors a b x.newest y.newest in
+    let first : tree_read a nodes ≡ Ok f = held_read sectors a f nodes x (there_first sectors x.nodes y.nodes f.reached x.reached) in
+    let second : tree_read b nodes ≡ Ok g = held_read sectors b g nodes y (there_second sectors x.nodes y.nodes f.reached g.reached x.reached y.reached) in
+    let both : ◌≡◌ {A = Reading} (Ok f) (Ok g) = sym first ∙ (ap (λ (t : Root). tree_read t nodes) same ∙ second) in
+    (same, cc)
 
-pub state_represents : (sectors : List Content) (nodes : Nodes) (root : Root) (tree : Mapping) (used : List Place) (state : IsStateOf sectors root tree used) → AreNodes sectors nodes → Represents sectors root (Ok state.found)
-state_represents sectors nodes root tree used state are = record { newest = state.holds.newest; nodes = nodes; are = are; reads = Holds-read sectors root state.found nodes state.holds are }
+pub one_state : (sectors : List Content) (a b : Root) (t u : Mapping) (used also : List Place) → RepresentsState sectors a t used → RepresentsState sectors b u also → (a ≡ b) × (t.entries ≡ u.entries) × (used ≡ also)
+one_state sectors a b t u used also x y =
+    let one = one_tree sectors a b x.found y.found x.represents y.represents in
+    (one.0, x.entries ∙ (ap (λ (f : Found). f.entries) one.1 ∙ sym y.entries), x.used_are ∙ (ap (λ (f : Found). places_of f.reached) one.1 ∙ sym y.used_are))
 
-pub damage_represents : (sectors : List Content) (nodes : Nodes) (place : Place) (damage : IsDamagedAt sectors place) → AreNodes sectors nodes → Represents sectors damage.root (Err place)
-damage_represents sectors nodes place damage are = record {
-  newest = damage.newest;
-  nodes = nodes;
-  are = are;
-  reads = damage.reads nodes (λ here r. let w = damage.there here r in record { sector = w.sector; there = w.there; reads = are here w.sector w.there });
+pub not_refused : (sectors : List Content) (root : Root) (found : Found) (refusal : Refusal) → Represents sectors root found → root.geometry.meta_sectors ≡ length sectors → SpeaksOfSectors refusal → IsRefusedBy sectors refusal → ⊥
+not_refused sectors root found refusal held size speaks by = elim (spoken sectors refusal speaks by) [
+  | inl x ↦ no_root sectors root held.newest x.1
+  | inr (inl x) ↦ other_size sectors root held.newest size x.1
+  | inr (inr x) ↦ no_fault sectors root found x.place held x.damage
+]
+
+-- ---- after a commit that failed
+
+pub old_or_tree : (sectors : List Content) (old : Stored) (root : Root) (m : Mapping) (r : Root) (tree : Mapping) (used : List Place) → RepresentsOldOrTree old root m sectors → (state : RepresentsState sectors r tree used)
+    → ((r ≡ old.root) × (state.found ≡ old.found)) ⊎ ((r ≡ root) × (state.found ≡ found_of root m))
+old_or_tree sectors old root m r tree used either state = elim either [
+  | inl was ↦ inl (one_tree sectors r old.root state.found old.found state.represents was)
+  | inr new ↦ inr (one_tree sectors r root state.found (found_of root m) state.represents new.represents)
+]
+
+pub old_or_tree-read : (sectors : List Content) (old : Stored) (root : Root) (m : Mapping) (refusal : Refusal) → RepresentsOldOrTree old root m sectors → old.root.geometry.meta_sectors ≡ length sectors → root.geometry.meta_sectors ≡ length sectors
+    → SpeaksOfSectors refusal → IsRefusedBy sectors refusal → ⊥
+old_or_tree-read sectors old root m refusal either size next speaks by = elim either [
+  | inl was ↦ not_refused sectors old.root old.found refusal was size speaks by
+  | inr new ↦ not_refused sectors root (found_of root m) refusal new.represents next speaks by
+]
+
+-- ---- what sectors represent
+
+pub tree_reading : (sectors : List Content) (root : Root) (found : Found) → Represents sectors root found → RepresentsReading sectors root (Ok found)
+tree_reading sectors root found held = record {
+  newest = held.newest;
+  nodes = held.nodes;
+  reached = found.reached;
+  there = held.reached;
+  reads = λ others there. held_read sectors root found others held there;
 }
+
+pub state_reading : (sectors : List Content) (root : Root) (tree : Mapping) (used : List Place) (state : RepresentsState sectors root tree used) → RepresentsReading sectors root (Ok state.found)
+state_reading sectors root tree used state = tree_reading sectors root state.found state.represents
+
+pub damage_reading : (sectors : List Content) (place : Place) (damage : IsDamagedAt sectors place) → RepresentsReading sectors damage.root (Err place)
+damage_reading sectors place damage = record { newest = damage.newest; nodes = damage.nodes; reached = damage.reached; there = damage.there; reads = damage.reads }
+
+pub one_reading : (sectors : List Content) (a b : Root) (r t : Reading) → RepresentsReading sectors a r → RepresentsReading sectors b t → (a ≡ b) × (r ≡ t)
+one_reading sectors a b r t x y =
+    let nodes = joined x.nodes y.nodes x.reached in
+    let same = one_newest sectors a b x.newest y.newest in (
+      same,
+      sym (x.reads nodes (there_first sectors x.nodes y.nodes x.reached x.there))
+          ∙ (ap (λ (q : Root). tree_read q nodes) same ∙ y.reads nodes (there_second sectors x.nodes y.nodes x.reached y.reached x.there y.there)),
+    )
+
+pub whole_read : (sectors : List Content) (nodes : Nodes) (root : Root) (reading : Reading) → RepresentsReading sectors root reading → AreNodes sectors nodes → tree_read root nodes ≡ reading
+whole_read sectors nodes root reading held are = held.reads nodes (λ here r. let w = held.there here r in record { sector = w.sector; there = w.there; reads = are here w.sector w.there })

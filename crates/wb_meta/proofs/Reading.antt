@@ -1,15 +1,15 @@
--- What a tree knows that was read of sectors is what they keep.
+-- What a tree knows that was read of sectors is what they store.
 use Rattle.std.proofs.Common.{ℕ, List, Option, subst}
 use Rattle.wb_types.specs.declared.number.Place.{Place}
 use Rattle.wb_disk.specs.Device.{Content}
 use Rattle.wb_format.specs.declared.node.Node.{Node}
 use Rattle.wb_tree.specs.Mapping.{Mapping, IsPlaceOf}
 use Rattle.wb_tree.specs.Reading.{Nodes, ReadsAs}
-use Rattle.wb_tree.specs.Images.{AreRead, Keeps}
-use Rattle.wb_meta.specs.Holding.{ReadsThere}
+use Rattle.wb_tree.specs.Images.{AreRead, Stores}
+use Rattle.wb_meta.specs.Representing.{ReadsThere}
 
-pub read_keeps : (sectors : List Content) (nodes : Nodes) (m : Mapping) (generation : ℕ) → AreRead nodes m generation → ((place : Place) → IsPlaceOf m place → ReadsThere sectors nodes place.0) → Keeps sectors m generation
-read_keeps sectors nodes m generation read there level index place known =
+pub read_stores : (sectors : List Content) (nodes : Nodes) (m : Mapping) (generation : ℕ) → AreRead nodes m generation → ((place : Place) → IsPlaceOf m place → ReadsThere sectors nodes place.0) → Stores sectors m generation
+read_stores sectors nodes m generation read there level index place known =
     let node = read level index place known in
     let here = there place (record { level = level; index = index; known = known }) in
     let P : Option Node → Type 0 = λ o. ReadsAs here.sector o in

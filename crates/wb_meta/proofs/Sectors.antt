@@ -7,7 +7,7 @@ use Rattle.wb_disk.specs.Device.{Content, History, Gives, newest}
 use Rattle.wb_format.specs.declared.node.Node.{Node}
 use Rattle.wb_format.specs.Layout.{SpellsNode}
 use Rattle.wb_tree.specs.Reading.{ReadsAs}
-use Rattle.wb_meta.specs.Holding.{ReadsThere}
+use Rattle.wb_meta.specs.Representing.{ReadsThere}
 
 -- what holds where a call did not fail
 pub on_ok : {T E P : Type 0} (r : Result T E) → is_err r ≡ false → OnOk r P → P

@@ -55,9 +55,19 @@ HasCome image before NodesSynced now = SyncedNodes image before now
 HasCome image before RootWritten now = WroteRoot image before now
 HasCome image before Done now = SyncedRoot image before now
 
--- a commit that began over this device has failed at some step
-abbrev pub HasFailed : Image → List History → List History → Type 0
-HasFailed image before now = Grew (IsNodeHere image.nodes.items) before now ⊎ MayHaveRoot image before now
+-- the root was not written yet
+abbrev pub IsBeforeRoot : CommitSteps → Type 0
+IsBeforeRoot (NodesWritten count) = Unit {0}
+IsBeforeRoot NodesSynced = Unit {0}
+IsBeforeRoot RootWritten = ⊥
+IsBeforeRoot Done = ⊥
+
+-- a commit that began over this device and had come so far has failed at its next step
+abbrev pub HasFailed : Image → List History → CommitSteps → List History → Type 0
+HasFailed image before (NodesWritten count) now = Grew (IsNodeHere image.nodes.items) before now
+HasFailed image before NodesSynced now = MayHaveRoot image before now
+HasFailed image before RootWritten now = MayHaveRoot image before now
+HasFailed image before Done now = ⊥
 
 -- how many steps are left of a commit of so many nodes
 abbrev pub steps_left : ℕ → CommitSteps → ℕ
@@ -65,3 +75,17 @@ steps_left nodes (NodesWritten count) = (nodes - count) + 3
 steps_left nodes NodesSynced = 2
 steps_left nodes RootWritten = 1
 steps_left nodes Done = 0
+
+-- ---- one step
+
+-- one step less is left
+abbrev pub IsOneStepLess : Image → CommitSteps → CommitSteps → Type 0
+IsOneStepLess image old new = steps_left (length image.nodes.items) new ≡ steps_left (length image.nodes.items) old - 1
+
+-- whatever device the commit began over, it came from where it had come to where it has come now
+abbrev pub Comes : Image → CommitSteps → List History → CommitSteps → List History → Type 0
+Comes image old was new now = (before : List History) → HasCome image before old was → HasCome image before new now
+
+-- or it failed there
+abbrev pub FailsWhere : Image → CommitSteps → List History → List History → Type 0
+FailsWhere image old was now = (before : List History) → HasCome image before old was → HasFailed image before old now

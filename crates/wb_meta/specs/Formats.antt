@@ -5,9 +5,9 @@ use Rattle.wb_disk.specs.Device.{History, Gives}
 use Rattle.wb_format.specs.declared.root.Root.{Root}
 use Rattle.wb_format.specs.declared.version.Version.TheVariants.{One}
 use Rattle.wb_tree.specs.Reading.{nothing_found}
-use Rattle.wb_meta.specs.Crashes.{AfterEveryCrash}
+use Rattle.wb_disk.specs.Crashes.{AfterEveryCrash}
 use Rattle.wb_meta.specs.Commits.{Newest}
-use Rattle.wb_meta.specs.Holding.{Holds}
+use Rattle.wb_meta.specs.Representing.{Represents}
 
 -- the root of the empty mapping, clean, in generation 0
 pub record IsFirstRoot (geometry : Geometry) (root : Root) : Type 0 where
@@ -17,11 +17,11 @@ pub record IsFirstRoot (geometry : Geometry) (root : Root) : Type 0 where
   pub geometry_is : root.geometry ≡ geometry
   pub top : root.top ≡ None
 
--- a device holds the empty mapping, clean, in generation 0, whatever a crash leaves of it
+-- a device represents the empty mapping, clean, in generation 0, whatever a crash leaves of it
 pub record IsFormatted (geometry : Geometry) (device : List History) : Type 0 where
   pub root : Root
   pub first : IsFirstRoot geometry root
-  pub holds : AfterEveryCrash (λ sectors. Holds sectors root (nothing_found root)) device
+  pub represents : AfterEveryCrash (λ sectors. Represents sectors root (nothing_found root)) device
 
 -- behind the slots a read gives what it gave before
 abbrev pub SlotsAlone : List History → List History → Type 0

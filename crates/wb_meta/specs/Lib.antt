@@ -1,5 +1,4 @@
-pub mod Crashes
-pub mod Holding
+pub mod Representing
 pub mod Steps
 pub mod Placing
 pub mod Commits
@@ -8,3 +7,5 @@ pub mod Imaging
 pub mod States
 pub mod Slots
 pub mod Reads
+pub mod Openings
+pub mod Laws

@@ -5,10 +5,10 @@ use Rattle.wb_disk.specs.Device.{Content, History}
 use Rattle.wb_format.specs.declared.root.Root.{Root}
 use Rattle.wb_format.specs.declared.node.Node.{Node}
 use Rattle.wb_format.specs.Layout.{SpellsRoot, SpellsNode}
-use Rattle.wb_tree.specs.Reading.{Found, is_reached}
+use Rattle.wb_tree.specs.Reading.{is_reached}
 use Rattle.wb_tree.specs.declared.image.Image.{Image}
-use Rattle.wb_meta.specs.Crashes.{MayLeave, AfterEveryCrash}
-use Rattle.wb_meta.specs.Holding.{Holds}
+use Rattle.wb_disk.specs.Crashes.{MayLeave, AfterEveryCrash}
+use Rattle.wb_meta.specs.Representing.{Represents, Stored}
 
 -- nodes, each with its place
 abbrev pub PlacedNodes : Type 0
@@ -54,9 +54,9 @@ pub record IsPlaced (image : Image) (before after : List Content) : Type 0 where
   pub root : (at : ℕ) (content : Content) → slice_get after at ≡ Some content → FitsRoot image.root at content
   pub others : (at : ℕ) (content : Content) → slice_get after at ≡ Some content → (slice_get before at ≡ Some content) ⊎ IsOfImage image at content
 
--- An image may be committed over a device: whatever a crash leaves of it, it holds this root and tree, and none of
--- the image's places is a place of that tree; and with the image in place it is as is wanted.
-pub record MayCommit (image : Image) (device : List History) (root : Root) (found : Found) (New : List Content → Type 0) : Type 0 where
-  pub old : AfterEveryCrash (λ sectors. Holds sectors root found) device
-  pub outside : (i : ℕ) (node : Place × Node) → slice_get image.nodes.items i ≡ Some node → is_reached node.0.0 found.reached ≡ false
+-- An image may be committed over a device: whatever a crash leaves of it, it represents what was stored before, and none
+-- of the image's places is a place of that tree; and with the image in place it is as is wanted.
+pub record MayCommit (image : Image) (device : List History) (old : Stored) (New : List Content → Type 0) : Type 0 where
+  pub represents : AfterEveryCrash (λ sectors. Represents sectors old.root old.found) device
+  pub outside : (i : ℕ) (node : Place × Node) → slice_get image.nodes.items i ≡ Some node → is_reached node.0.0 old.found.reached ≡ false
   pub new : (before after : List Content) → MayLeave device before → IsPlaced image before after → New after

@@ -1,19 +1,22 @@
 -- How far a reading has come, as the sectors show it.
-use Rattle.std.specs.Prelude.{◌≡◌, ◌≤◌, ◌<◌, ◌+◌, ◌-◌, ◌==◌, ℕ, IsSome, List, length}
+use Rattle.std.specs.Prelude.{◌≡◌, ◌⊎◌, ◌≤◌, ◌<◌, ◌+◌, ◌-◌, ◌==◌, ℕ, Option, Some, None, IsSome, List, length, map, slice_get, Contains}
 use Rattle.std.specs.List.{AllByRecursion, IsDistinct}
 use Rattle.wb_types.specs.declared.number.Place.{Place}
-use Rattle.wb_disk.specs.Device.{Content}
+use Rattle.wb_types.specs.declared.refusal.Refusal.{Refusal}
+use Rattle.wb_disk.specs.Device.{Content, History, newest}
 use Rattle.wb_format.specs.declared.root.Root.{Root}
-use Rattle.wb_tree.specs.Mapping.{Mapping, IsMapping, IsSound, AreInside}
+use Rattle.wb_types.specs.Limits.{node_count}
+use Rattle.wb_tree.specs.Mapping.{Mapping, IsMapping, IsSound, IsPlaceOf, AreInside}
 use Rattle.wb_tree.specs.Reading.{Nodes, IsNewestRoot, tree_read}
-use Rattle.wb_tree.specs.Loading.{Loading, outcome}
+use Rattle.wb_tree.specs.Loading.{Loading, outcome, wanted_place}
 use Rattle.wb_meta.specs.declared.read_steps.ReadSteps.{ReadSteps}
 use Rattle.wb_meta.specs.declared.read_steps.ReadSteps.TheVariants.{Begun, FirstSlotRead, RootFound, Done}
 use Rattle.wb_meta.specs.Slots.{IsInSlot}
-use Rattle.wb_meta.specs.States.{ReadThere, IsStateOf, places_of}
+use Rattle.wb_meta.specs.Representing.{ReadThere}
+use Rattle.wb_meta.specs.States.{RepresentsState, IsRefusedBy, places_of}
 
 -- places of a device of so many sectors: behind the slots, and none twice
-pub record AreApart (sectors : ℕ) (used : List Place) : Type 0 where
+pub record AreApartPlaces (sectors : ℕ) (used : List Place) : Type 0 where
   pub from : AllByRecursion (λ place. 2 ≤ place.0) used
   pub to : AllByRecursion (λ place. place.0 < sectors) used
   pub apart : IsDistinct (λ (a b : Place). a.0 == b.0) used
@@ -22,7 +25,7 @@ pub record AreApart (sectors : ℕ) (used : List Place) : Type 0 where
 pub record IsTreeOn (sectors : ℕ) (root : Root) (l : Loading) : Type 0 where
   pub size : root.geometry.meta_sectors ≡ sectors
   pub root_is : l.root ≡ root
-  pub used : AreApart sectors (places_of l.found.reached)
+  pub used : AreApartPlaces sectors (places_of l.found.reached)
 
 -- a sound tree of a mapping on a device of so many sectors, with the places of its nodes
 pub record FitsDevice (sectors : ℕ) (root : Root) (tree : Mapping) (used : List Place) : Type 0 where
@@ -30,7 +33,11 @@ pub record FitsDevice (sectors : ℕ) (root : Root) (tree : Mapping) (used : Lis
   pub mapping : IsMapping root.geometry.cache_blocks root.geometry.origin_blocks tree.entries
   pub sound : IsSound tree
   pub inside : AreInside sectors tree
-  pub used_are : AreApart sectors used
+  -- every place at which a node of the tree is known to stand is used
+  pub known_used : (place : Place) → IsPlaceOf tree place → Contains used place
+  pub used_are : AreApartPlaces sectors used
+  -- as many places at most as a tree of this size can have nodes
+  pub used_few : length used ≤ node_count root.geometry.cache_blocks
 
 -- the steps are those of a device of so many sectors
 abbrev pub AreStepsOn : {A : Type 0} → ℕ → ReadSteps A → Type 0
@@ -59,7 +66,7 @@ abbrev pub HasRead : {A : Type 0} → List Content → ReadSteps A → Type 0
 HasRead sectors (Begun alloc global) = Unit {0}
 HasRead sectors (FirstSlotRead alloc global first) = IsInSlot sectors 0 first
 HasRead sectors (RootFound global root loader) = HasLoaded sectors root loader
-HasRead sectors (Done state) = IsStateOf sectors state.root state.tree state.used.items
+HasRead sectors (Done state) = RepresentsState sectors state.root state.tree state.used.items
 
 -- no step is left
 abbrev pub IsDone : {A : Type 0} → ReadSteps A → Type 0
@@ -67,3 +74,54 @@ IsDone (Begun alloc global) = ⊥
 IsDone (FirstSlotRead alloc global first) = ⊥
 IsDone (RootFound global root loader) = ⊥
 IsDone (Done state) = Unit {0}
+
+-- ---- one sector a step
+
+abbrev pub place_number : Option Place → Option ℕ
+place_number (Some place) = Some place.0
+place_number None = None
+
+-- the sector that the next step reads; none where the reading is done
+abbrev pub coming_sector : {A : Type 0} → ReadSteps A → Option ℕ
+coming_sector (Begun alloc global) = Some 0
+coming_sector (FirstSlotRead alloc global first) = Some 1
+coming_sector (RootFound global root loader) = place_number (wanted_place loader.wanted)
+coming_sector (Done state) = None
+
+-- how many sectors were read, each by a step
+abbrev pub sectors_read : {A : Type 0} → ReadSteps A → ℕ
+sectors_read (Begun alloc global) = 0
+sectors_read (FirstSlotRead alloc global first) = 1
+sectors_read (RootFound global root loader) = 2 + length loader.found.reached
+sectors_read (Done state) = 2 + length state.used.items
+
+-- the newest root, once it is known
+abbrev pub known_root : {A : Type 0} → ReadSteps A → Option Root
+known_root (Begun alloc global) = None
+known_root (FirstSlotRead alloc global first) = None
+known_root (RootFound global root loader) = Some root
+known_root (Done state) = Some state.root
+
+-- As many sectors as the device has, and at this one, if any, what a read gives there. Of all others nothing is said.
+pub record AgreeThere (at : Option ℕ) (device : List History) (sectors : List Content) : Type 0 where
+  pub size : length sectors ≡ length device
+  pub here : (place : ℕ) → at ≡ Some place → slice_get sectors place ≡ slice_get (map newest device) place
+
+-- A step of a reading goes on so: of whatever sectors the reading had come so far, as far as they agree with the device in
+-- the one sector that the step reads, it has come one step further.
+abbrev pub ReadingGoesOn : {A : Type 0} → ReadSteps A → List History → ReadSteps A → Type 0
+ReadingGoesOn steps device next = (sectors : List Content) → AgreeThere (coming_sector steps) device sectors
+    → HasRead sectors steps → HasRead sectors next
+
+-- and so it is refused: of whatever such sectors, for what stands there
+abbrev pub StopsBy : {A : Type 0} → ReadSteps A → List History → Refusal → Type 0
+StopsBy steps device refusal = (sectors : List Content) → AgreeThere (coming_sector steps) device sectors
+    → HasRead sectors steps → IsRefusedBy sectors refusal
+
+-- after a step fewer steps are left, unless none was
+abbrev pub StepsFewer : {A : Type 0} → ℕ → ReadSteps A → ReadSteps A → Type 0
+StepsFewer sectors old new = IsDone old ⊎ (steps_left sectors new < steps_left sectors old)
+
+-- and one sector more was read
+abbrev pub ReadOneMore : {A : Type 0} → ReadSteps A → ReadSteps A → Type 0
+ReadOneMore old new = IsDone old ⊎ (sectors_read new ≡ sectors_read old + 1)

@@ -1,4 +1,4 @@
--- What sectors stand for, and why nothing is read of others.
+-- What is read of sectors, and why nothing is read of others.
 use Rattle.std.specs.Prelude.{◌≡◌, ◌≢◌, ℕ, true, Some, Err, List, length, map, slice_get}
 use Rattle.wb_types.specs.declared.number.Place.{Place}
 use Rattle.wb_types.specs.declared.refusal.Refusal.{Refusal}
@@ -10,28 +10,24 @@ use Rattle.wb_format.specs.Layout.{IsValidIn}
 use Rattle.wb_tree.specs.declared.placed.PlacedNode.{PlacedNode}
 use Rattle.wb_tree.specs.Mapping.{Mapping}
 use Rattle.wb_tree.specs.Reading.{Found, Nodes, IsNewestRoot, is_reached, tree_read}
-use Rattle.wb_tree.specs.Images.{Keeps}
+use Rattle.wb_tree.specs.Images.{Stores}
 use Rattle.wb_tree.specs.Loaded.{IsLoaded}
-use Rattle.wb_meta.specs.Holding.{Holds, ReadsThere}
-
--- the places of these nodes read so
-abbrev pub ReadThere : List Content → Nodes → List PlacedNode → Type 0
-ReadThere sectors nodes reached = (place : ℕ) → is_reached place reached ≡ true → ReadsThere sectors nodes place
+use Rattle.wb_meta.specs.Representing.{Represents, ReadThere}
 
 -- the places of nodes, in the same order
 abbrev pub places_of : List PlacedNode → List Place
 places_of nodes = map (λ node. node.place) nodes
 
--- What the sectors stand for: a root of a device of their number, and a tree of these entries, whose nodes have
--- these places in the order in which they are read. The sectors keep what the tree knows of them.
-pub record IsStateOf (sectors : List Content) (root : Root) (tree : Mapping) (used : List Place) : Type 0 where
+-- What is read of the sectors: a root of a device of their number, and a tree of these entries, whose nodes have
+-- these places in the order in which they are read. The sectors store what the tree knows of them.
+pub record RepresentsState (sectors : List Content) (root : Root) (tree : Mapping) (used : List Place) : Type 0 where
   pub found : Found
-  pub holds : Holds sectors root found
+  pub represents : Represents sectors root found
   pub size : root.geometry.meta_sectors ≡ length sectors
   pub entries : tree.entries ≡ found.entries
   pub used_are : used ≡ places_of found.reached
   pub loaded : IsLoaded root found tree
-  pub keeps : Keeps sectors tree root.generation
+  pub stores : Stores sectors tree root.generation
 
 -- no sector is a valid root of its slot
 abbrev pub HasNoRoot : List Content → Type 0

@@ -10,17 +10,19 @@
 mod commit_steps;
 mod formatting;
 mod law;
+mod opening;
 mod read_steps;
 mod sector;
 mod slot;
 #[cfg(test)]
 mod tests;
 
-pub use commit_steps::{CommitSteps, commit};
+pub use commit_steps::{CommitStep, CommitSteps, commit};
 pub use formatting::format;
 pub use law::{
-    commit_law, crash_law, cycle_law, formatted_law, holding_law, image_law, reading_law,
-    represents_law, settled_law,
+    commit_law, crash_law, cycle_law, formatted_law, image_law, opening_law, reading_law,
+    represents_law, sync_law,
 };
+pub use opening::opening_image;
 pub use read_steps::{ReadSteps, State, read_state};
 pub use wb_tree::Image;

@@ -3,8 +3,8 @@
 ghost use Rattle.std.specs.Prelude.{◌≡◌, ◌≤◌, ◌<◌, ◌↔◌, ◌⊎◌, ◌+◌, ◌-◌, ℕ, List, map, length, IsTrue, IsFalse, IsSome, OnOk, IfOk, IfErr};
 ghost use Rattle.wb_types.specs.declared.refusal.Refusal.TheVariants.{Memory as OutOfMemory};
 ghost use Rattle.wb_disk.specs.Device.{Content, newest};
-ghost use Rattle.wb_meta.specs.States.{IsStateOf, IsRefusedBy, IsOfReading, CountsFault};
-ghost use Rattle.wb_meta.specs.Reads.{IsTreeOn, FitsDevice, AreStepsOn, HasLoaded, HasRead, IsDone, steps_left};
+ghost use Rattle.wb_meta.specs.States.{RepresentsState, IsRefusedBy, IsOfReading, CountsFault};
+ghost use Rattle.wb_meta.specs.Reads.{IsTreeOn, FitsDevice, AreStepsOn, HasLoaded, HasRead, ReadingGoesOn, StopsBy, IsDone, StepsFewer, ReadOneMore, coming_sector, known_root, sectors_read, steps_left};
 
 use crate::sector::get_node;
 use crate::slot::{newest_root, read_slot};
@@ -67,8 +67,34 @@ impl<A: Allocator> ReadSteps<A> {
         matches!(self, ReadSteps::Done(_))
     }
 
-    /// Does the next step; where none is left, nothing. A step reads one sector; a slot that the device is too small
-    /// for has no root.
+    /// The sector that the next step reads; none where no step is left.
+    pub fn coming(&self) -> Option<u64>
+        ensures { result ≡ coming_sector self.now }
+    {
+        match self {
+            ReadSteps::Begun { .. } => Some(0),
+            ReadSteps::FirstSlotRead { .. } => Some(1),
+            ReadSteps::RootFound { loader, .. } => match loader.wanted() {
+                Some(Place(place)) => Some(u64::from(place)),
+                None => None,
+            },
+            ReadSteps::Done(_) => None,
+        }
+    }
+
+    /// The newest root, once both slots were read: before any node of its tree is.
+    pub fn root(&self) -> Option<Root>
+        ensures { result ≡ known_root self.now }
+    {
+        match self {
+            ReadSteps::RootFound { root, .. } => Some(*root),
+            ReadSteps::Done(state) => Some(state.root),
+            _ => None,
+        }
+    }
+
+    /// Does the next step; where none is left, nothing. A step reads the one sector that comes next, and depends on no
+    /// other; a slot that the device is too small for has no root and is not read.
     ///
     /// `Io` where the device fails, `NotFormatted` where neither slot has a valid root, `Mismatch` where the newest
     /// root is one of a device of another size, `Damaged` with the place of the first fault of its tree, `Memory`
@@ -76,14 +102,17 @@ impl<A: Allocator> ReadSteps<A> {
     pub fn next<D: Disk>(self, disk: &mut D) -> Result<ReadSteps<A>, Refusal>
         requires { AreStepsOn (D.size disk.old) self }
         ensures size { D.size disk.new ≡ D.size disk.old }
-        ensures kept { D.tells → D.contents disk.new ≡ D.contents disk.old }
+        ensures same { D.tells → D.contents disk.new ≡ D.contents disk.old }
         ensures on { IfOk result (AreStepsOn (D.size disk.old)) }
-        ensures left { IfOk result (λ steps. IsDone self ⊎ (steps_left (D.size disk.old) steps < steps_left (D.size disk.old) self)) }
-        ensures read { D.tells → HasRead (map newest (D.contents disk.old)) self → IfOk result (HasRead (map newest (D.contents disk.old))) }
-        ensures refused { D.tells → HasRead (map newest (D.contents disk.old)) self → IfErr result (IsRefusedBy (map newest (D.contents disk.old))) }
+        ensures left { IfOk result (StepsFewer (D.size disk.old) self) }
+        ensures one_more { IfOk result (ReadOneMore self) }
+        ensures idle { IfOk result (λ steps. IsDone self → steps ≡ self) }
+        ensures read { D.tells → IfOk result (ReadingGoesOn self (D.contents disk.old)) }
+        ensures refused { D.tells → IfErr result (StopsBy self (D.contents disk.old)) }
         ensures kinds { IfErr result IsOfReading }
         ensures no_fault { D.tells → OnOk result (D.faults disk.new ≡ D.faults disk.old) }
-        ensures cause { D.tells → IfErr result (λ refusal. CountsFault refusal (D.faults disk.old) (D.faults disk.new)) }
+        ensures cause { D.tells → IfErr result (λ refusal. CountsFault refusal (D.faults disk.old)
+            (D.faults disk.new)) }
     {
         match self {
             ReadSteps::Begun { alloc, global } => {
@@ -127,8 +156,11 @@ fn go_on<A: Allocator>(
     loader: Loader<A>,
 ) -> Result<ReadSteps<A>, Refusal>
     ensures on { (sectors : ℕ) → IsTreeOn sectors root loader → IfOk result (AreStepsOn sectors) }
-    ensures left { (sectors : ℕ) → IfOk result (λ steps. steps_left sectors steps ≤ sectors - length loader.found.reached) }
-    ensures read { (sectors : List Content) → IsTreeOn (length sectors) root loader → HasLoaded sectors root loader → IfOk result (HasRead sectors) }
+    ensures left { (sectors : ℕ) → IfOk result (λ steps. steps_left sectors steps
+        ≤ sectors - length loader.found.reached) }
+    ensures count { IfOk result (λ steps. sectors_read steps ≡ 2 + length loader.found.reached) }
+    ensures read { (sectors : List Content) → IsTreeOn (length sectors) root loader
+        → HasLoaded sectors root loader → IfOk result (HasRead sectors) }
     ensures refused { IfErr result (λ refusal. refusal ≡ OutOfMemory) }
 {
     if loader.wanted().is_some() {
@@ -150,9 +182,10 @@ pub fn read_state<A: Allocator, D: Disk>(
     disk: &mut D,
 ) -> Result<State<A>, Refusal>
     ensures size { D.size disk.new ≡ D.size disk.old }
-    ensures kept { D.tells → D.contents disk.new ≡ D.contents disk.old }
+    ensures same { D.tells → D.contents disk.new ≡ D.contents disk.old }
     ensures fits { IfOk result (λ state. FitsDevice (D.size disk.old) state.root state.tree state.used.items) }
-    ensures read { D.tells → IfOk result (λ state. IsStateOf (map newest (D.contents disk.old)) state.root state.tree state.used.items) }
+    ensures read { D.tells → IfOk result (λ state. RepresentsState (map newest (D.contents disk.old))
+        state.root state.tree state.used.items) }
     ensures refused { D.tells → IfErr result (IsRefusedBy (map newest (D.contents disk.old))) }
     ensures kinds { IfErr result IsOfReading }
     ensures no_fault { D.tells → OnOk result (D.faults disk.new ≡ D.faults disk.old) }

@@ -5,7 +5,7 @@ ghost use Rattle.wb_types.specs.declared.refusal.Refusal.TheVariants.{Io};
 ghost use Rattle.wb_types.specs.declared.mode.Dev.TheVariants.{Metadata};
 ghost use Rattle.wb_format.specs.Layout.{SpellsNode, SpellsRoot};
 ghost use Rattle.wb_disk.specs.Device.{written, synced, PartlySynced, OneMore, newest};
-ghost use Rattle.wb_meta.specs.Holding.{ReadsThere};
+ghost use Rattle.wb_meta.specs.Representing.{ReadsThere};
 ghost use Rattle.wb_meta.specs.Steps.{Puts, MayPut, zero_sector};
 
 use wb_disk::Disk;
@@ -16,8 +16,10 @@ use wb_types::{Content, Dev, Refusal, SECTOR_BYTES};
 pub(crate) fn put_node<D: Disk>(disk: &mut D, at: u64, node: &Node) -> Result<(), Refusal>
     requires { at < D.size disk.old }
     ensures size { D.size disk.new ≡ D.size disk.old }
-    ensures ok { D.tells → OnOk result (Puts (λ content. SpellsNode content node.now) at (D.contents disk.old) (D.contents disk.new)) }
-    ensures err { D.tells → OnErr result (MayPut (λ content. SpellsNode content node.now) at (D.contents disk.old) (D.contents disk.new)) }
+    ensures ok { D.tells → OnOk result (Puts (λ content. SpellsNode content node.now) at
+        (D.contents disk.old) (D.contents disk.new)) }
+    ensures err { D.tells → OnErr result (MayPut (λ content. SpellsNode content node.now) at
+        (D.contents disk.old) (D.contents disk.new)) }
     ensures no_fault { D.tells → OnOk result (D.faults disk.new ≡ D.faults disk.old) }
     ensures cause { D.tells → OnErr result (OneMore (D.faults disk.old) (D.faults disk.new)) }
     ensures refused { IfErr result (λ refusal. refusal ≡ Io Metadata) }
@@ -32,8 +34,10 @@ pub(crate) fn put_node<D: Disk>(disk: &mut D, at: u64, node: &Node) -> Result<()
 pub(crate) fn put_root<D: Disk>(disk: &mut D, at: u64, root: &Root) -> Result<(), Refusal>
     requires { at < D.size disk.old }
     ensures size { D.size disk.new ≡ D.size disk.old }
-    ensures ok { D.tells → OnOk result (Puts (λ content. SpellsRoot content root.now) at (D.contents disk.old) (D.contents disk.new)) }
-    ensures err { D.tells → OnErr result (MayPut (λ content. SpellsRoot content root.now) at (D.contents disk.old) (D.contents disk.new)) }
+    ensures ok { D.tells → OnOk result (Puts (λ content. SpellsRoot content root.now) at
+        (D.contents disk.old) (D.contents disk.new)) }
+    ensures err { D.tells → OnErr result (MayPut (λ content. SpellsRoot content root.now) at
+        (D.contents disk.old) (D.contents disk.new)) }
     ensures no_fault { D.tells → OnOk result (D.faults disk.new ≡ D.faults disk.old) }
     ensures cause { D.tells → OnErr result (OneMore (D.faults disk.old) (D.faults disk.new)) }
     ensures refused { IfErr result (λ refusal. refusal ≡ Io Metadata) }
@@ -58,7 +62,7 @@ pub(crate) fn put_zeros<D: Disk>(disk: &mut D, at: u64) -> Result<(), Refusal>
 }
 
 /// Makes all that was written safe. `Io` where the device fails; each sector is then safe or not.
-pub(crate) fn settle<D: Disk>(disk: &mut D) -> Result<(), Refusal>
+pub(crate) fn sync<D: Disk>(disk: &mut D) -> Result<(), Refusal>
     ensures size { D.size disk.new ≡ D.size disk.old }
     ensures ok { D.tells → OnOk result (D.contents disk.new ≡ synced (D.contents disk.old)) }
     ensures err { D.tells → OnErr result (PartlySynced (D.contents disk.old) (D.contents disk.new)) }
@@ -73,7 +77,7 @@ pub(crate) fn settle<D: Disk>(disk: &mut D) -> Result<(), Refusal>
 pub(crate) fn get_node<D: Disk>(disk: &mut D, at: u64) -> Result<Option<Node>, Refusal>
     requires { at < D.size disk.old }
     ensures size { D.size disk.new ≡ D.size disk.old }
-    ensures kept { D.tells → D.contents disk.new ≡ D.contents disk.old }
+    ensures same { D.tells → D.contents disk.new ≡ D.contents disk.old }
     ensures found { D.tells → IfOk result (λ node. ReadsThere (map newest (D.contents disk.old)) (λ _. node) at) }
     ensures refused { IfErr result (λ refusal. refusal ≡ Io Metadata) }
     ensures no_fault { D.tells → OnOk result (D.faults disk.new ≡ D.faults disk.old) }

@@ -15,7 +15,7 @@ use wb_types::{Dev, Refusal, SECTOR_BYTES};
 /// The valid root of a slot, where there is one. `Io` where the device fails.
 pub(crate) fn read_slot<D: Disk>(disk: &mut D, slot: u32) -> Result<Option<Root>, Refusal>
     ensures size { D.size disk.new ≡ D.size disk.old }
-    ensures kept { D.tells → D.contents disk.new ≡ D.contents disk.old }
+    ensures same { D.tells → D.contents disk.new ≡ D.contents disk.old }
     ensures found { D.tells → IfOk result (IsInSlot (map newest (D.contents disk.old)) slot) }
     ensures refused { IfErr result (λ refusal. refusal ≡ Io Metadata) }
     ensures no_fault { D.tells → OnOk result (D.faults disk.new ≡ D.faults disk.old) }
@@ -46,9 +46,11 @@ pub(crate) fn newest_root(
     second: Option<Root>,
     sectors: u64,
 ) -> Result<Root, Refusal>
-    ensures newest { IfOk result (λ root. (contents : List Content) → IsInSlot contents 0 first → IsInSlot contents 1 second → IsNewestRoot contents root) }
+    ensures newest { IfOk result (λ root. (contents : List Content) → IsInSlot contents 0 first
+        → IsInSlot contents 1 second → IsNewestRoot contents root) }
     ensures size { IfOk result (λ root. root.geometry.meta_sectors ≡ sectors) }
-    ensures refused { IfErr result (λ refusal. (contents : List Content) → length contents ≡ sectors → IsInSlot contents 0 first → IsInSlot contents 1 second → IsRefusedBy contents refusal) }
+    ensures refused { IfErr result (λ refusal. (contents : List Content) → length contents ≡ sectors
+        → IsInSlot contents 0 first → IsInSlot contents 1 second → IsRefusedBy contents refusal) }
     ensures causes { IfErr result (λ refusal. (refusal ≡ NotFormatted) ⊎ (refusal ≡ Mismatch)) }
 {
     let Some(root) = newer(first, second) else {
@@ -62,7 +64,8 @@ pub(crate) fn newest_root(
 
 /// The root of higher generation of the two slots' roots.
 fn newer(first: Option<Root>, second: Option<Root>) -> Option<Root>
-    ensures { (contents : List Content) → IsInSlot contents 0 first → IsInSlot contents 1 second → IsNewest contents result }
+    ensures { (contents : List Content) → IsInSlot contents 0 first → IsInSlot contents 1 second
+        → IsNewest contents result }
 {
     let Some(a) = first else {
         return second;

@@ -1,4 +1,4 @@
-//! The bytes of formatting and of a first commit, crashes within that commit, and what is read of sectors.
+//! The bytes of formatting and of a first commit, and what is read of sectors.
 
 ghost use Rattle.std.specs.Prelude.{◌≡◌, ◌≤◌, IsTrue, length};
 ghost use Rattle.wb_meta.specs.Placing.{HavePlaces};
@@ -8,11 +8,12 @@ mod damage;
 mod failing;
 mod noise;
 mod reading;
+mod rounds;
 
 use super::*;
 use std::process::Abort;
 use std::test::Fail;
-use wb_disk::{Base, CrashChoice, Disk, MemDisk};
+use wb_disk::{Disk, MemDisk};
 use wb_format::{Node, Root, Version};
 use wb_types::{Content, Dev, Geometry, Place, Refusal};
 
@@ -93,52 +94,32 @@ fn formatted(rt: &(impl Abort + AllocGlobal)) -> Result<(MemDisk, Image), Fail> 
     Ok((disk, Image { root, nodes, used }))
 }
 
-/// The generation that a device is left with by a crash after so many steps of the first commit.
-fn generation_after(rt: &(impl Abort + AllocGlobal), count: u64, base: Base) -> Result<u64, Fail> {
-    let (mut disk, image) = formatted(rt)?;
-    let mut steps = CommitSteps::new();
-    for _ in 0..count {
-        assert!(rt; one_node_fits(&disk, &image));
-        steps.next(&mut disk, &image)?;
-    }
-    assert!(rt; disk.stop(&CrashChoice::new(base, Vec::new(rt.alloc()))));
-    assert_eq!(rt; sector_at(&mut disk, 0), Some(sector_of(&FORMATTED)));
-    if sector_at(&mut disk, 1) == Some([0; 512]) {
-        return Ok(0);
-    }
-    assert_eq!(rt; sector_at(&mut disk, 1), Some(sector_of(&COMMITTED)));
-    assert_eq!(rt; sector_at(&mut disk, 2), Some(sector_of(&LEAF)));
-    Ok(1)
-}
-
 #[test]
 fn formatting_and_a_first_commit_write_these_sectors(rt: HostRuntime) -> Result<(), Fail> {
     let (mut disk, image) = formatted(&rt)?;
+    let mut larger = MemDisk::new(rt.alloc(), 5)?;
+    assert_eq!(rt;
+        format(&mut larger, &image.root.geometry),
+        Err(Refusal::Geometry)
+    );
+    assert_eq!(rt; sector_at(&mut larger, 0), Some([0; 512]));
     assert_eq!(rt; sector_at(&mut disk, 0), Some(sector_of(&FORMATTED)));
     assert_eq!(rt; sector_at(&mut disk, 1), Some([0; 512]));
-    assert!(rt; one_node_fits(&disk, &image));
-    commit(&mut disk, &image)?;
+    let mut steps = CommitSteps::new();
+    for step in [
+        CommitStep::WriteNode(Place(2)),
+        CommitStep::Sync,
+        CommitStep::WriteRoot(Place(1)),
+        CommitStep::Sync,
+    ] {
+        assert_eq!(rt; steps.coming(&image), Some(step));
+        assert!(rt; one_node_fits(&disk, &image));
+        steps.next(&mut disk, &image)?;
+    }
+    assert_eq!(rt; steps.coming(&image), None);
     assert_eq!(rt; sector_at(&mut disk, 0), Some(sector_of(&FORMATTED)));
     assert_eq!(rt; sector_at(&mut disk, 1), Some(sector_of(&COMMITTED)));
     assert_eq!(rt; sector_at(&mut disk, 2), Some(sector_of(&LEAF)));
     assert_eq!(rt; sector_at(&mut disk, 3), Some([0; 512]));
-    Ok(())
-}
-
-#[test]
-fn a_device_of_another_size_is_not_formatted(rt: HostRuntime) -> Result<(), Fail> {
-    let geometry = Geometry::new(64, 4, 10, 4)?;
-    let mut disk = MemDisk::new(rt.alloc(), 5)?;
-    assert_eq!(rt; format(&mut disk, &geometry), Err(Refusal::Geometry));
-    assert_eq!(rt; sector_at(&mut disk, 0), Some([0; 512]));
-    Ok(())
-}
-
-#[test]
-fn a_crash_leaves_the_empty_mapping_or_the_new_one(rt: HostRuntime) -> Result<(), Fail> {
-    for (count, oldest, newest) in [(0, 0, 0), (1, 0, 0), (2, 0, 0), (3, 0, 1), (4, 1, 1)] {
-        assert_eq!(rt; generation_after(&rt, count, Base::Durable)?, oldest);
-        assert_eq!(rt; generation_after(&rt, count, Base::Newest)?, newest);
-    }
     Ok(())
 }

@@ -17,7 +17,7 @@ use Rattle.wb_tree.specs.Images.{AreFree}
 abbrev pub AreOwn : List (Option Entry) → Type 0
 AreOwn entries = (block : ℕ) (entry : Entry) → slice_index_or entries block None ≡ Some entry → (entry.origin.0 ≡ block) × (entry.hint ≤ 16)
 
-some_inside : (entries : List (Option Entry)) (block : ℕ) (entry : Entry) → slice_index_or entries block None ≡ Some entry → block < length entries
+pub some_inside : (entries : List (Option Entry)) (block : ℕ) (entry : Entry) → slice_index_or entries block None ≡ Some entry → block < length entries
 some_inside entries block entry e = elim (cases_lt block (length entries)) [
   | inl inside ↦ inside
   | inr past ↦ let none = get_or_past entries block None past in absurd cc
@@ -40,7 +40,7 @@ own-mapping cache_blocks origin_blocks entries size few own = record {
 numbered : ℕ → Place
 numbered number = record { 0 = number }
 
-places-numbers : (first count i : ℕ) (place : Place) → slice_get (map (λ number. record { 0 = number }) (range_with_len first count)) i ≡ Some place → (place.0 ≡ first + i) × (i < count)
+pub places-numbers : (first count i : ℕ) (place : Place) → slice_get (map (λ number. record { 0 = number }) (range_with_len first count)) i ≡ Some place → (place.0 ≡ first + i) × (i < count)
 unfolding numbered
 places-numbers first zero i place h = absurd cc
 places-numbers first (suc count) zero place h =

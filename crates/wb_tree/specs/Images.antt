@@ -1,13 +1,13 @@
--- What an image of a tree is, and what the sectors of a device keep of a tree.
+-- What an image of a tree is, and how sectors of a device store what is known of a tree.
 use Rattle.std.specs.Prelude.{◌≡◌, ◌↔◌, ◌≤◌, ◌<◌, ◌+◌, ◌*◌, ℕ, zero, suc, Bool, Option, Some, None, All, List, [], length, map, take, slice_get, slice_index, Contains}
 use Rattle.wb_types.specs.declared.number.Place.{Place}
 use Rattle.wb_types.specs.declared.geometry.Geometry.{Geometry}
 use Rattle.wb_types.specs.Limits.{depth_of, node_count}
 use Rattle.wb_format.specs.declared.node.Node.{Node}
-use Rattle.wb_format.specs.declared.root.Root.{Root}
 use Rattle.wb_format.specs.declared.version.Version.TheVariants.{One}
 use Rattle.wb_format.specs.Layout.{SpellsNode}
-use Rattle.wb_format.specs.Words.{entry_word}
+use Rattle.wb_format.specs.NodeWords.{entry_word}
+use Rattle.wb_tree.specs.declared.image.Image.{Image}
 use Rattle.wb_tree.specs.Mapping.{Mapping, NodeName, IsPlaceOf, entry_at, place_of, changed}
 use Rattle.wb_tree.specs.Reading.{Nodes}
 
@@ -38,24 +38,39 @@ pub record AreFree (m : Mapping) (geometry : Geometry) (free : List Place) : Typ
   pub apart : (i j : ℕ) (place : Place) → slice_get free i ≡ Some place → slice_get free j ≡ Some place → i ≡ j
   pub unused : (i : ℕ) (place : Place) → slice_get free i ≡ Some place → IsPlaceOf m place → ⊥
 
--- A root and nodes with their places are the image that leads from the tree m to the tree n: it writes the changed
--- nodes, and no others, to the first of the free places, and afterwards none counts as changed.
-pub record IsImage (m n : Mapping) (geometry : Geometry) (generation : ℕ) (clean : Bool) (free : List Place) (root : Root) (nodes : List (Place × Node)) (used : List Place) : Type 0 where
+-- What an image is asked for with: the sizes, the generation and the clean flag of its root, and the free places.
+pub record ImagePlan : Type 0 where
+  pub geometry : Geometry
+  pub generation : ℕ
+  pub clean : Bool
+  pub free : List Place
+
+-- the levels of the tree
+abbrev pub levels_of : ImagePlan → ℕ
+levels_of plan = depth_of plan.geometry.cache_blocks
+
+-- The image leads from the tree m to the tree n: it writes the changed nodes, and no others, to the first of the free
+-- places, and afterwards none counts as changed.
+pub record IsImage (m n : Mapping) (plan : ImagePlan) (image : Image) : Type 0 where
   pub same_entries : n.entries ≡ m.entries
-  pub kept : (level index : ℕ) (place : Place) → place_of m level index ≡ Some place → place_of n level index ≡ Some place
-  pub none_changed : changed n (depth_of geometry.cache_blocks) ≡ []
-  pub nodes_are : map (λ node. name_of node.1) nodes ≡ changed m (depth_of geometry.cache_blocks)
-  pub places_are : map (λ node. node.0) nodes ≡ take (length nodes) free
-  pub settled : All (λ node. place_of n node.1.level node.1.index ≡ Some node.0) nodes
-  pub generations : All (λ node. node.1.generation ≡ generation) nodes
-  pub words : All (λ node. HasWordsOf n node.1) nodes
-  pub used_are : (place : Place) → Contains used place ↔ IsPlaceOf n place
-  pub used_once : (i j : ℕ) (place : Place) → slice_get used i ≡ Some place → slice_get used j ≡ Some place → i ≡ j
-  pub root_generation : root.generation ≡ generation
-  pub root_version : root.version ≡ One
-  pub root_clean : root.clean ≡ clean
-  pub root_geometry : root.geometry ≡ geometry
-  pub root_top : root.top ≡ place_of n (depth_of geometry.cache_blocks) 0
+  -- what was known stands where it stood
+  pub stays : (level index : ℕ) (place : Place) → place_of m level index ≡ Some place → place_of n level index ≡ Some place
+  pub none_changed : changed n (levels_of plan) ≡ []
+  pub nodes_are : map (λ node. name_of node.1) image.nodes.items ≡ changed m (levels_of plan)
+  pub places_are : map (λ node. node.0) image.nodes.items ≡ take (length image.nodes.items) plan.free
+  -- each node that is written stands at its place
+  pub stands : All (λ node. place_of n node.1.level node.1.index ≡ Some node.0) image.nodes.items
+  pub generations : All (λ node. node.1.generation ≡ plan.generation) image.nodes.items
+  pub words : All (λ node. HasWordsOf n node.1) image.nodes.items
+  -- the used places are those of all nodes, each once, and as many at most as a tree of this size can have nodes
+  pub used_are : (place : Place) → Contains image.used.items place ↔ IsPlaceOf n place
+  pub used_few : length image.used.items ≤ node_count plan.geometry.cache_blocks
+  pub used_once : (i j : ℕ) (place : Place) → slice_get image.used.items i ≡ Some place → slice_get image.used.items j ≡ Some place → i ≡ j
+  pub root_generation : image.root.generation ≡ plan.generation
+  pub root_version : image.root.version ≡ One
+  pub root_clean : image.root.clean ≡ plan.clean
+  pub root_geometry : image.root.geometry ≡ plan.geometry
+  pub root_top : image.root.top ≡ place_of n (levels_of plan) 0
 
 -- A node is the one that the tree has at this level and index: it has that name, the words of the tree, and a
 -- generation that is not above this one.
@@ -75,13 +90,13 @@ abbrev pub AreRead : Nodes → Mapping → ℕ → Type 0
 AreRead nodes m generation = (level index : ℕ) (place : Place) → place_of m level index ≡ Some place → ReadsNode nodes m generation level index place.0
 
 -- a node of the tree is spelled at this place
-pub record KeepsNode (sectors : List (List ℕ)) (m : Mapping) (generation level index place : ℕ) : Type 0 where
+pub record StoresNode (sectors : List (List ℕ)) (m : Mapping) (generation level index place : ℕ) : Type 0 where
   pub sector : List ℕ
   pub there : slice_get sectors place ≡ Some sector
   pub node : Node
   pub spelled : SpellsNode sector node
   pub right : IsNodeOf m generation level index node
 
--- The sectors keep what is known of a tree: wherever a node is known to stand it is spelled.
-abbrev pub Keeps : List (List ℕ) → Mapping → ℕ → Type 0
-Keeps sectors m generation = (level index : ℕ) (place : Place) → place_of m level index ≡ Some place → KeepsNode sectors m generation level index place.0
+-- The sectors store what is known of a tree: wherever a node is known to stand it is spelled.
+abbrev pub Stores : List (List ℕ) → Mapping → ℕ → Type 0
+Stores sectors m generation = (level index : ℕ) (place : Place) → place_of m level index ≡ Some place → StoresNode sectors m generation level index place.0

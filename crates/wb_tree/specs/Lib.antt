@@ -1,8 +1,9 @@
 pub mod Mapping
 pub mod Reading
 pub mod Images
+pub mod Edits
 pub mod Whole
 pub mod Loading
-pub mod Stored
+pub mod Fields
 pub mod Loaded
 pub mod Planning

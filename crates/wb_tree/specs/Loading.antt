@@ -1,10 +1,11 @@
 -- A reading that has come to some node, and what is left of it.
-use Rattle.std.specs.Prelude.{◌≡◌, ◌≤◌, ◌<◌, ◌+◌, ◌-◌, ◌*◌, ℕ, Bool, true, false, Option, Some, None, Ok, Err, List, [], ◌∷◌, length, slice_index, reverse}
+use Rattle.std.specs.Prelude.{◌≡◌, ◌≤◌, ◌<◌, ◌+◌, ◌-◌, ◌*◌, ℕ, Bool, true, false, Option, Some, None, Ok, Err, List, [], ◌∷◌, ◌++◌, length, slice_index, reverse}
 use Rattle.wb_types.specs.Limits.{depth_of}
 use Rattle.wb_types.specs.declared.entry.Entry.{Entry}
 use Rattle.wb_types.specs.declared.number.Place.{Place}
 use Rattle.wb_types.specs.declared.refusal.Refusal.{Refusal}
 use Rattle.wb_types.specs.declared.refusal.Refusal.TheVariants.{Memory, Damaged}
+use Rattle.wb_format.specs.declared.node.Node.{Node}
 use Rattle.wb_format.specs.declared.root.Root.{Root}
 use Rattle.wb_tree.specs.declared.placed.PlacedNode.{PlacedNode}
 use Rattle.wb_tree.specs.declared.frame.Frame.{Frame}
@@ -72,16 +73,30 @@ pub record IsFresh (root : Root) (reached : List PlacedNode) (place : Place) : T
   pub unread : is_reached place.0 reached ≡ false
 
 -- a refusal of want of memory says nothing of a reading, one of damage names its first fault, and no other comes
-abbrev pub Fails : Refusal → Reading → Type 0
-Fails Memory reading = Unit {0}
-Fails (Damaged place) reading = reading ≡ Err place
-Fails _ reading = ⊥
+abbrev pub FailsBy : Refusal → Reading → Type 0
+FailsBy Memory reading = Unit {0}
+FailsBy (Damaged place) reading = reading ≡ Err place
+FailsBy _ reading = ⊥
+
+-- told what the sector of the wanted node reads as, a reading goes on so: what is left gives what it gave before
+abbrev pub LoadingGoesOn : Loading → Option Node → Loading → Type 0
+LoadingGoesOn l node next = (wanted : PlacedNode) (nodes : Nodes) → l.wanted ≡ Some wanted → nodes wanted.place.0 ≡ node
+    → outcome next nodes ≡ outcome l nodes
+
+-- and the node was reached
+abbrev pub HasReached : Loading → Loading → Type 0
+HasReached l next = (wanted : PlacedNode) → l.wanted ≡ Some wanted → next.found.reached ≡ l.found.reached ++ wanted ∷ []
+
+-- or it fails so
+abbrev pub FailsAt : Loading → Option Node → Refusal → Type 0
+FailsAt l node refusal = (wanted : PlacedNode) (nodes : Nodes) → l.wanted ≡ Some wanted → nodes wanted.place.0 ≡ node
+    → FailsBy refusal (outcome l nodes)
 
 -- the same is read at the places that were reached
 abbrev pub AgreeAt : List PlacedNode → Nodes → Nodes → Type 0
 AgreeAt reached nodes others = (place : ℕ) → is_reached place reached ≡ true → nodes place ≡ others place
 
--- What a reading keeps: it has ended where no node is wanted, what was found has the sizes of the root, a node that
+-- What holds of every reading: it has ended where no node is wanted, what was found has the sizes of the root, a node that
 -- is wanted has a level of the tree, and what was told so far is what the tree is read from.
 pub record IsLoading (l : Loading) : Type 0 where
   pub ended : l.wanted ≡ None → l.frames ≡ []

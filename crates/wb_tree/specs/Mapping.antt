@@ -45,7 +45,7 @@ pub record IsPlaceOf (m : Mapping) (place : Place) : Type 0 where
 abbrev pub AreInside : ℕ → Mapping → Type 0
 AreInside meta_sectors m = (place : Place) → IsPlaceOf m place → (2 ≤ place.0) × (place.0 < meta_sectors)
 
--- what every tree keeps
+-- what holds of every tree
 pub record IsSound (m : Mapping) : Type 0 where
   -- a node that is known is of a level of the tree
   pub known_level : (level index : ℕ) (place : Place) → place_of m level index ≡ Some place → (1 ≤ level) × (level ≤ depth_of (length m.entries))
@@ -61,7 +61,7 @@ pub record IsSound (m : Mapping) : Type 0 where
 -- what a change of the entry of a cache block may do to what is known
 pub record Forgets (old new : Mapping) (block : ℕ) : Type 0 where
   -- what is known was known before
-  pub kept : (level index : ℕ) (place : Place) → place_of new level index ≡ Some place → place_of old level index ≡ Some place
+  pub stays : (level index : ℕ) (place : Place) → place_of new level index ≡ Some place → place_of old level index ≡ Some place
   -- no node above the cache block is known
   pub path : (level index : ℕ) → 1 ≤ level → IsOnPath block level index → place_of new level index ≡ None
 

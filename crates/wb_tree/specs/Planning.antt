@@ -3,7 +3,7 @@ use Rattle.std.specs.Prelude.{◌≡◌, ◌≤◌, ℕ, Option, Some, None, All
 use Rattle.wb_types.specs.declared.entry.Entry.{Entry}
 use Rattle.wb_types.specs.declared.number.Place.{Place}
 use Rattle.wb_format.specs.declared.node.Node.{Node}
-use Rattle.wb_format.specs.Words.{IsEntry}
+use Rattle.wb_format.specs.NodeWords.{IsEntry}
 use Rattle.wb_tree.specs.declared.placed.PlacedNode.{PlacedNode}
 use Rattle.wb_tree.specs.declared.planning.Planning.{Planning}
 use Rattle.wb_tree.specs.Mapping.{Mapping, NodeName, place_of, nodes_of}
@@ -37,7 +37,7 @@ pub record MayPlan (entries : List (Option Entry)) (depth : ℕ) (free : List Pl
 
 -- a node as an image of a tree has it: at its place, of the image's generation, and with the words of the tree
 pub record IsWritten (m : Mapping) (generation : ℕ) (node : Place × Node) : Type 0 where
-  pub settled : place_of m node.1.level node.1.index ≡ Some node.0
+  pub stands : place_of m node.1.level node.1.index ≡ Some node.0
   pub written_in : node.1.generation ≡ generation
   pub words : HasWordsOf m node.1
 

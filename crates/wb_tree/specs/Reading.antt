@@ -1,4 +1,4 @@
--- What metadata sectors represent, in reading order, with the first fault.
+-- What is read of metadata sectors, in reading order, with the first fault.
 --
 -- A tree is read from the top: of a node its text, level, index and generation first, then its words in rising
 -- order, with the whole child of a word before the next word.
@@ -125,11 +125,3 @@ pub record IsNewestRoot (sectors : List (List ℕ)) (root : Root) : Type 0 where
   pub valid : IsValidIn slot sector root
   pub newest : (other : ℕ) (another : List ℕ) (older : Root) → other ≢ slot → slice_get sectors other ≡ Some another → IsValidIn other another older
       → older.generation < root.generation
-
--- What sectors represent: the newest root, and what is read of its tree or where the first fault is. No other root
--- counts.
-pub record Represents (sectors : List (List ℕ)) (root : Root) (reading : Reading) : Type 0 where
-  pub newest : IsNewestRoot sectors root
-  pub nodes : Nodes
-  pub are : AreNodes sectors nodes
-  pub reads : tree_read root nodes ≡ reading

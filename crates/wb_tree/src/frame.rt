@@ -33,13 +33,16 @@ impl Frame {
         root: &Root,
         reached: &Reached,
     ) -> Result<Option<PlacedNode>, Refusal>
-        ensures child { IfOk result (λ child. (nodes : Nodes) (found : Found) → found.reached ≡ reached.now → MatchOption child
+        ensures child { IfOk result (λ child. (nodes : Nodes) (found : Found) → found.reached ≡ reached.now
+            → MatchOption child
             (frame_rest root.now nodes self.old found ≡ Ok found)
-            (λ node. frame_rest root.now nodes self.old found ≡ (node_read root.now nodes node.level node.index node.place found then frame_rest root.now nodes self.new))) }
+            (λ node. frame_rest root.now nodes self.old found
+            ≡ (node_read root.now nodes node.level node.index node.place found then frame_rest root.now nodes self.new))) }
         ensures fresh { IfOk result (λ child. IfSome child (λ node. IsFresh root.now reached.now node.place)) }
         ensures level { IfOk result (λ child. IfSome child (λ node. node.level + 1 ≡ self.old.node.level)) }
         ensures err { IfErr result (λ refusal. refusal ≡ Damaged self.old.node.place) }
-        ensures fault { IfErr result (λ _. (nodes : Nodes) (found : Found) → found.reached ≡ reached.now → frame_rest root.now nodes self.old found ≡ Err self.old.node.place) }
+        ensures fault { IfErr result (λ _. (nodes : Nodes) (found : Found) → found.reached ≡ reached.now
+            → frame_rest root.now nodes self.old found ≡ Err self.old.node.place) }
     {
         for j in self.next..32 {
             let word = self.words[j];
@@ -70,8 +73,10 @@ fn child_of(
     ensures level { IfSome result (λ node. node.level ≡ parent.level - 1) }
     ensures index { IfSome result (λ node. node.index ≡ 32 * parent.index + j) }
     ensures place { IfSome result (λ node. node.place.0 ≡ word) }
-    ensures named { IfSome result (λ _. names_child root.now reached.now (parent.level - 1) (32 * parent.index + j) word ≡ true) }
-    ensures none { IfNone result (names_child root.now reached.now (parent.level - 1) (32 * parent.index + j) word ≡ false) }
+    ensures named { IfSome result (λ _. names_child root.now reached.now (parent.level - 1) (32 * parent.index + j) word
+        ≡ true) }
+    ensures none { IfNone result (names_child root.now reached.now (parent.level - 1) (32 * parent.index + j) word
+        ≡ false) }
 {
     let level = parent.level - 1;
     let index = 32 * u64::from(parent.index) + j as u64;

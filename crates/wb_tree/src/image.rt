@@ -40,7 +40,8 @@ impl Image {
         ensures version { IfOk result (λ image. image.root.version ≡ VersionOne) }
         ensures clean { IfOk result (λ image. image.root.clean ≡ clean) }
         ensures geometry { IfOk result (λ image. image.root.geometry ≡ geometry.now) }
-        ensures top { IfOk result (λ image. image.root.top ≡ place_in known.now (depth_of geometry.now.cache_blocks) 0) }
+        ensures top { IfOk result (λ image. image.root.top
+            ≡ place_in known.now (depth_of geometry.now.cache_blocks) 0) }
         ensures refused { IfErr result (λ refusal. refusal ≡ OutOfMemory) }
     {
         let used = places_of(global, known)?;
@@ -57,7 +58,8 @@ impl Image {
 
 /// Where nodes stand that are written. `Memory` where there is no room to say so.
 pub(crate) fn known_of(global: Global, nodes: &[(Place, Node)]) -> Result<Vec<PlacedNode>, Refusal>
-    ensures known { IfOk result (λ known. known.items ≡ map (λ node. record { level = node.1.level; index = node.1.index; place = node.0 }) nodes.now) }
+    ensures known { IfOk result (λ known. known.items
+        ≡ map (λ node. record { level = node.1.level; index = node.1.index; place = node.0 }) nodes.now) }
     ensures refused { IfErr result (λ refusal. refusal ≡ OutOfMemory) }
 {
     let known = nodes

@@ -2,7 +2,7 @@
 
 ghost use Rattle.std.specs.Prelude.{◌≡◌, ◌+◌, ◌*◌, ℕ, List, Ok, Err, OnOk, OnErr, IfErr, length, slice_index};
 ghost use Rattle.wb_types.specs.declared.refusal.Refusal.TheVariants.{Damaged};
-ghost use Rattle.wb_format.specs.Words.{IsLeafWord};
+ghost use Rattle.wb_format.specs.NodeWords.{IsLeafWord};
 ghost use Rattle.wb_tree.specs.declared.placed.PlacedNode.{PlacedNode as Node};
 ghost use Rattle.wb_tree.specs.Reading.{Found, entry_in, may_map as is_mappable};
 ghost use Rattle.wb_tree.specs.Loading.{leaf_read};
@@ -23,10 +23,13 @@ pub(crate) fn read_entries(
     requires entries { length entries.old ≡ root.now.geometry.cache_blocks }
     requires mapped { length mapped.old ≡ root.now.geometry.origin_blocks }
     requires words { (j : ℕ) → IsLeafWord (slice_index words.now j) }
-    ensures ok { OnOk result ((reached : List Node) → leaf_read root.now leaf words.now (record { reached = reached; entries = entries.old; mapped = mapped.old })
+    ensures ok { OnOk result ((reached : List Node) → leaf_read root.now leaf words.now
+        (record { reached = reached; entries = entries.old; mapped = mapped.old })
         ≡ Ok (record { reached = reached; entries = entries.new; mapped = mapped.new })) }
     ensures refused { IfErr result (λ refusal. refusal ≡ Damaged leaf.place) }
-    ensures fault { OnErr result ((reached : List Node) → leaf_read root.now leaf words.now (record { reached = reached; entries = entries.old; mapped = mapped.old }) ≡ Err leaf.place) }
+    ensures fault { OnErr result ((reached : List Node) → leaf_read root.now leaf words.now
+        (record { reached = reached; entries = entries.old; mapped = mapped.old })
+        ≡ Err leaf.place) }
 {
     for j in 0..32 {
         if let Some(entry) = entry_in_word(words[j]) {

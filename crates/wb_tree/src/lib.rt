@@ -6,13 +6,12 @@
 #![tactic(auto)]
 
 mod below;
-mod entering;
 mod frame;
+mod frames;
 mod image;
 mod law;
 mod leaf;
 mod loader;
-mod next;
 mod placed;
 mod planning;
 mod reached;
@@ -21,7 +20,7 @@ mod tests;
 mod tree;
 
 pub use image::Image;
-pub use law::edit_law;
+pub use law::{edit_law, mapping_law};
 pub use loader::Loader;
 pub use placed::PlacedNode;
 pub use tree::Tree;

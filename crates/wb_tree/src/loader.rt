@@ -2,15 +2,12 @@
 
 ghost use Rattle.std.specs.Prelude.{◌≡◌, ◌≤◌, [], ◌∷◌, ◌++◌, true, Some, None, Ok, IfOk, IfErr, IfSome, IfNone, IsSome, map};
 ghost use Rattle.wb_types.specs.declared.refusal.Refusal.TheVariants.{Memory as OutOfMemory};
-ghost use Rattle.wb_tree.specs.declared.placed.PlacedNode.{PlacedNode as NodeAt};
 ghost use Rattle.wb_tree.specs.Reading.{Nodes, tree_read, is_node_of as is_right_node};
-ghost use Rattle.wb_tree.specs.Mapping.{IsMapping};
-ghost use Rattle.wb_tree.specs.Loading.{outcome, wanted_place, top_node, IsFresh, Fails};
-ghost use Rattle.wb_tree.specs.Loaded.{IsLoaded};
+ghost use Rattle.wb_tree.specs.Loading.{outcome, wanted_place, top_node, IsFresh, FailsBy, LoadingGoesOn, HasReached, FailsAt};
+ghost use Rattle.wb_tree.specs.Loaded.{IsLoaded, IsMappingOf};
 
-use crate::entering::take_in;
 use crate::frame::Frame;
-use crate::next::next_wanted;
+use crate::frames::{next_wanted, take_in};
 use crate::placed::{all_exist, places_of};
 use crate::reached::Reached;
 use crate::{PlacedNode, Tree};
@@ -84,12 +81,12 @@ impl<A: Allocator> Loader<A> {
     /// wanted. `Damaged` with the place that the first fault of the tree names, `Memory` where there is no room for
     /// what the node is remembered by.
     pub fn tell(self, node: Option<Node>) -> Result<Loader<A>, Refusal>
-        ensures goes_on { IfOk result (λ l. (wanted : NodeAt) (nodes : Nodes) → self.wanted ≡ Some wanted → nodes wanted.place.0 ≡ node → outcome l nodes ≡ outcome self nodes) }
-        ensures reached { IfOk result (λ l. (wanted : NodeAt) → self.wanted ≡ Some wanted → l.found.reached ≡ self.found.reached ++ wanted ∷ []) }
+        ensures goes_on { IfOk result (λ l. LoadingGoesOn self node l) }
+        ensures reached { IfOk result (λ l. HasReached self l) }
         ensures root { IfOk result (λ l. l.root ≡ self.root) }
         ensures idle { IfOk result (λ l. self.wanted ≡ None → l ≡ self) }
         ensures cause { IfErr result (λ _. IsSome self.wanted) }
-        ensures err { IfErr result (λ refusal. (wanted : NodeAt) (nodes : Nodes) → self.wanted ≡ Some wanted → nodes wanted.place.0 ≡ node → Fails refusal (outcome self nodes)) }
+        ensures err { IfErr result (λ refusal. FailsAt self node refusal) }
     {
         let Some(wanted) = self.wanted else {
             return Ok(self);
@@ -110,7 +107,7 @@ impl<A: Allocator> Loader<A> {
         requires { self.wanted ≡ None }
         ensures read { (nodes : Nodes) → outcome self nodes ≡ Ok self.found }
         ensures entries { IfOk result (λ loaded. loaded.0.entries ≡ self.found.entries) }
-        ensures mapping { IfOk result (λ loaded. IsMapping self.root.geometry.cache_blocks self.root.geometry.origin_blocks loaded.0.entries) }
+        ensures mapping { IfOk result (λ loaded. IsMappingOf self.root loaded.0) }
         ensures places { IfOk result (λ loaded. loaded.1.items ≡ map (λ node. node.place) self.found.reached) }
         ensures known { IfOk result (λ loaded. IsLoaded self.root self.found loaded.0) }
         ensures refused { IfErr result (λ refusal. refusal ≡ OutOfMemory) }
@@ -136,10 +133,12 @@ impl<A: Allocator> Loader<A> {
     fn enter(self, wanted: PlacedNode, node: &Node) -> Result<Loader<A>, Refusal>
         requires wanted { self.wanted ≡ Some wanted }
         requires right { is_right_node self.root wanted.level wanted.index node.now ≡ true }
-        ensures goes_on { IfOk result (λ l. (nodes : Nodes) → nodes wanted.place.0 ≡ Some node.now → outcome l nodes ≡ outcome self nodes) }
+        ensures goes_on { IfOk result (λ l. (nodes : Nodes) → nodes wanted.place.0 ≡ Some node.now
+            → outcome l nodes ≡ outcome self nodes) }
         ensures reached { IfOk result (λ l. l.found.reached ≡ self.found.reached ++ wanted ∷ []) }
         ensures root { IfOk result (λ l. l.root ≡ self.root) }
-        ensures err { IfErr result (λ refusal. (nodes : Nodes) → nodes wanted.place.0 ≡ Some node.now → Fails refusal (outcome self nodes)) }
+        ensures err { IfErr result (λ refusal. (nodes : Nodes) → nodes wanted.place.0 ≡ Some node.now
+            → FailsBy refusal (outcome self nodes)) }
     {
         let Loader {
             root,

@@ -3,7 +3,7 @@
 ghost use Rattle.std.specs.Prelude.{◌≡◌, ◌≤◌, ◌<◌, ◌+◌, ◌-◌, ◌*◌, ◌^◌, ◌++◌, ℕ, Some, IfOk, OnOk, IfErr, take, drop, length, slice_index, slice_index_or};
 ghost use Rattle.wb_types.specs.declared.entry.Entry.{Entry as EntryValue};
 ghost use Rattle.wb_types.specs.declared.refusal.Refusal.TheVariants.{Memory as OutOfMemory};
-ghost use Rattle.wb_format.specs.Words.{IsEntry, IsLeafWord, IsWord, entry_word};
+ghost use Rattle.wb_format.specs.NodeWords.{IsEntry, IsLeafWord, IsWord, entry_word};
 ghost use Rattle.wb_tree.specs.Mapping.{exists as does_exist, nodes_below, nodes_of, each_from, place_of};
 ghost use Rattle.wb_tree.specs.Images.{word_at, place_word};
 ghost use Rattle.wb_tree.specs.Planning.{names, tree_of, ArePlanned, CanPlan, ComeNext};
@@ -55,7 +55,8 @@ fn plan_node(
     requires index { index < 2 ^ 25 }
     requires next { ComeNext plan.now nodes.old.items (nodes_below plan.now.entries.now level index) }
     requires planned { ArePlanned plan.now nodes.old.items }
-    ensures names { OnOk result (names nodes.new.items ≡ names nodes.old.items ++ nodes_below plan.now.entries.now level index) }
+    ensures names { OnOk result (names nodes.new.items
+        ≡ names nodes.old.items ++ nodes_below plan.now.entries.now level index) }
     ensures planned { OnOk result (ArePlanned plan.now nodes.new.items) }
     ensures place { IfOk result (λ place. place ≡ place_of (tree_of plan.now) level index) }
     ensures refused { IfErr result (λ refusal. refusal ≡ OutOfMemory) }
@@ -91,11 +92,14 @@ fn plan_words(
     requires level_from { 1 ≤ level }
     requires level_to { level ≤ 4 }
     requires index { index < 2 ^ 20 }
-    requires next { ComeNext plan.now nodes.old.items (each_from (nodes_below plan.now.entries.now (level - 1)) 32 (32 * index)) }
+    requires next { ComeNext plan.now nodes.old.items
+        (each_from (nodes_below plan.now.entries.now (level - 1)) 32 (32 * index)) }
     requires planned { ArePlanned plan.now nodes.old.items }
-    ensures names { OnOk result (names nodes.new.items ≡ names nodes.old.items ++ each_from (nodes_below plan.now.entries.now (level - 1)) 32 (32 * index)) }
+    ensures names { OnOk result (names nodes.new.items
+        ≡ names nodes.old.items ++ each_from (nodes_below plan.now.entries.now (level - 1)) 32 (32 * index)) }
     ensures planned { OnOk result (ArePlanned plan.now nodes.new.items) }
-    ensures words { IfOk result (λ words. (j : ℕ) → j < 32 → slice_index words j ≡ word_at (tree_of plan.now) level index j) }
+    ensures words { IfOk result (λ words. (j : ℕ) → j < 32 → slice_index words j
+        ≡ word_at (tree_of plan.now) level index j) }
     ensures spelled { IfOk result (λ words. (j : ℕ) → IsWord level (slice_index words j)) }
     ensures refused { IfErr result (λ refusal. refusal ≡ OutOfMemory) }
 {
@@ -113,8 +117,10 @@ fn plan_words(
 /// The words of a leaf.
 fn leaf_words(entries: &[Option<Entry>], index: u32) -> [u64; 32]
     requires index { index < 2 ^ 20 }
-    requires entries { (block : ℕ) (entry : EntryValue) → slice_index_or entries.now block None ≡ Some entry → IsEntry entry }
-    ensures words { (j : ℕ) → j < 32 → slice_index result j ≡ entry_word (slice_index_or entries.now (32 * index + j) None) }
+    requires entries { (block : ℕ) (entry : EntryValue)
+        → slice_index_or entries.now block None ≡ Some entry → IsEntry entry }
+    ensures words { (j : ℕ) → j < 32 → slice_index result j
+        ≡ entry_word (slice_index_or entries.now (32 * index + j) None) }
     ensures spelled { (j : ℕ) → IsLeafWord (slice_index result j) }
 {
     let mut words = [0; 32];

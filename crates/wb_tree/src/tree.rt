@@ -3,8 +3,9 @@
 ghost use Rattle.std.specs.Prelude.{◌≡◌, ◌≢◌, ◌<◌, ◌≤◌, [], Some, None, IsSome, IfOk, IfErr, OnOk, OnErr, length, replicate, slice_set};
 ghost use Rattle.wb_types.specs.declared.refusal.Refusal.TheVariants.{Memory as OutOfMemory};
 ghost use Rattle.wb_tree.specs.Mapping.{entry_at, AreInside, Forgets, IsMapping, IsSound};
+ghost use Rattle.wb_tree.specs.Edits.{IsEdited};
 ghost use Rattle.wb_tree.specs.Images.{AreFree, IsImage};
-ghost use Rattle.wb_tree.specs.Stored.{known_nodes, IsStored};
+ghost use Rattle.wb_tree.specs.Fields.{known_nodes, AreFields};
 
 use crate::image::known_of;
 use crate::planning::{Planning, plan_nodes};
@@ -27,18 +28,19 @@ pub struct Tree<A: Allocator> {
 
 impl<A: Allocator> Model for Tree<A> {
     ghost use Rattle.wb_tree.specs.Mapping.{Mapping};
-    ghost use Rattle.wb_tree.specs.Stored.{mapping_of, IsStored};
+    ghost use Rattle.wb_tree.specs.Fields.{mapping_of, AreFields};
 
     ghost Value = { Mapping };
 
     ghost view = { λ t. mapping_of t.cache_blocks t.entries.items t.known };
 
-    ghost invariant = { λ t. IsStored t.cache_blocks t.entries.items t.known };
+    ghost invariant = { λ t. AreFields t.cache_blocks t.entries.items t.known };
 }
 
 impl<A: Allocator> Tree<A> {
-    /// A tree of so many cache blocks, none of which is mapped. It takes no memory.
+    /// A tree of so many cache blocks, 1,048,576 at most, none of which is mapped. It takes no memory.
     pub fn new(alloc: A, cache_blocks: u32) -> Tree<A>
+        requires { cache_blocks ≤ 1048576 }
         ensures entries { result.entries ≡ replicate cache_blocks None }
         ensures known { result.known ≡ [] }
         ensures sound { IsSound result }
@@ -72,6 +74,7 @@ impl<A: Allocator> Tree<A> {
         ensures entries { OnOk result (self.new.entries ≡ slice_set self.old.entries c.0 (Some entry)) }
         ensures same { entry_at self.old c.0 ≡ Some entry → self.new ≡ self.old }
         ensures forgets { OnOk result (entry_at self.old c.0 ≢ Some entry → Forgets self.old self.new c.0) }
+        ensures edited { IsEdited self.old self.new }
         ensures err { OnErr result (self.new ≡ self.old) }
         ensures refused { IfErr result (λ refusal. refusal ≡ OutOfMemory) }
         ensures sound { IsSound self.new }
@@ -96,6 +99,7 @@ impl<A: Allocator> Tree<A> {
         ensures entries { self.new.entries ≡ slice_set self.old.entries c.0 None }
         ensures same { entry_at self.old c.0 ≡ None → self.new ≡ self.old }
         ensures forgets { IsSome (entry_at self.old c.0) → Forgets self.old self.new c.0 }
+        ensures edited { IsEdited self.old self.new }
         ensures sound { IsSound self.new }
     {
         let CBlock(block) = c;
@@ -122,7 +126,8 @@ impl<A: Allocator> Tree<A> {
         requires mapping { IsMapping geometry.now.cache_blocks geometry.now.origin_blocks self.old.entries }
         requires inside { AreInside geometry.now.meta_sectors self.old }
         requires free { AreFree self.old geometry.now free.now }
-        ensures image { IfOk result (λ image. IsImage self.old self.new geometry.now generation clean free.now image.root image.nodes.items image.used.items) }
+        ensures image { IfOk result (IsImage self.old self.new
+            (record { geometry = geometry.now; generation = generation; clean = clean; free = free.now })) }
         ensures err { OnErr result (self.new ≡ self.old) }
         ensures refused { IfErr result (λ refusal. refusal ≡ OutOfMemory) }
         ensures sound { IsSound self.new }
@@ -152,7 +157,7 @@ impl<A: Allocator> Tree<A> {
         known: Option<Vec<PlacedNode>>,
     ) -> Tree<A>
         requires size { length entries.items ≡ cache_blocks }
-        requires stored { IsStored cache_blocks entries.items known }
+        requires fields { AreFields cache_blocks entries.items known }
         ensures entries { result.entries ≡ entries.items }
         ensures known { result.known ≡ known_nodes known }
         ensures sound { IsSound result }

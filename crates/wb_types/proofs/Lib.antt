@@ -1,2 +1,4 @@
 pub mod Counting
 pub mod Levels
+pub mod Lists
+pub mod Truth

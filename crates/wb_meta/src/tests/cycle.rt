@@ -1,18 +1,18 @@
 //! Round and round: formatting, reading, a change, an image and its commit, with a stop after any step.
 
-ghost use Rattle.std.specs.Prelude.{◌≡◌, ◌≤◌, ◌<◌, ◌+◌, ℕ, All, Contains, IfOk, IsTrue, OnOk, length, map};
-ghost use Rattle.std.specs.List.{range_with_len};
+ghost use Rattle.std.specs.Prelude.{◌≡◌, Contains, IfOk, OnOk, length};
 ghost use Rattle.wb_types.specs.declared.number.Place.{Place as PlaceValue};
-ghost use Rattle.wb_tree.specs.Mapping.{AreInside, IsMapping, IsPlaceOf};
+ghost use Rattle.wb_tree.specs.Mapping.{AreInside, IsPlaceOf};
 ghost use Rattle.wb_meta.specs.Placing.{HavePlaces};
 
+use super::rounds::{change, entry_of, plan_at};
 use crate::{CommitSteps, Image, State, commit, format, read_state};
 use std::alloc::Global;
 use std::process::Abort;
 use std::test::Fail;
 use wb_disk::{Base, CrashChoice, MemDisk};
 use wb_tree::Tree;
-use wb_types::{CBlock, Entry, Geometry, OBlock, Place, Refusal};
+use wb_types::{CBlock, Geometry, Place, Refusal};
 
 /// A formatted device: blocks of 64 sectors, 40 of them on the cache and on the origin, and room for two images.
 fn formatted(alloc: Global) -> Result<MemDisk, Refusal> {
@@ -20,48 +20,6 @@ fn formatted(alloc: Global) -> Result<MemDisk, Refusal> {
     let mut disk = MemDisk::new(alloc, 8)?;
     format(&mut disk, &geometry)?;
     Ok(disk)
-}
-
-/// So many places, from one on.
-fn places_from(alloc: Global, first: u32, count: u32) -> Result<Vec<Place>, Refusal>
-    requires { first + count < 1000 }
-    ensures { IfOk result (λ places. places.items ≡ map (λ number. record { 0 = number }) (range_with_len first count)) }
-{
-    let places = (first..first + count)
-        .map(|number| Place(number))
-        .collect(alloc)?;
-    Ok(places)
-}
-
-/// Whether all places are outside of these.
-fn are_outside(places: &[Place], first: u32, end: u32) -> bool
-    ensures { IsTrue result → All (λ place. first ≤ place.0 → end ≤ place.0) places.now }
-{
-    places.iter().all(|place| place.0 < first || place.0 >= end)
-}
-
-/// The entry of a cache block for the origin block of its own number.
-fn entry_of(block: u32, hint: u8) -> Entry {
-    Entry {
-        origin: OBlock(block),
-        dirty: false,
-        hint,
-    }
-}
-
-/// Whether each entry is for the origin block of its own number, with a hint of 16 at most.
-fn is_own(tree: &Tree<Global>, blocks: u32) -> bool
-    requires { length tree.now.entries ≡ blocks }
-    ensures { IsTrue result → (origin_blocks : ℕ) → blocks ≤ origin_blocks → IsMapping blocks origin_blocks tree.now.entries }
-{
-    for block in 0..blocks {
-        if let Some(entry) = tree.get(CBlock(block)) {
-            if entry.origin.0 != block || entry.hint > 16 {
-                return false;
-            }
-        }
-    }
-    true
 }
 
 /// Whether a tree has these entries, each for the origin block of its own number, and no others.
@@ -82,52 +40,6 @@ fn has_entries(tree: &Tree<Global>, blocks: u32, entries: &[(u32, u8)]) -> bool
     true
 }
 
-/// Gives a cache block an entry for the origin block of its own number. `Range` where there is no such block.
-fn change(tree: &mut Tree<Global>, geometry: &Geometry, block: u32, hint: u8) -> Result<(), Refusal>
-    requires { length tree.old.entries ≡ geometry.now.cache_blocks }
-    ensures size { OnOk result (length tree.new.entries ≡ geometry.now.cache_blocks) }
-    ensures kept { OnOk result ((place : PlaceValue) → IsPlaceOf tree.new place → IsPlaceOf tree.old place) }
-{
-    if block >= geometry.cache_blocks {
-        return Err(Refusal::Range);
-    }
-    tree.set(CBlock(block), entry_of(block, hint))
-}
-
-/// The image of a generation with so many free places from one on. `Busy` where they are too few, or one of them is
-/// used, `BadTable` where an entry is for another origin block.
-fn plan_at(
-    alloc: Global,
-    tree: &mut Tree<Global>,
-    geometry: &Geometry,
-    generation: u64,
-    used: &[Place],
-    free: (u8, u8),
-) -> Result<Image, Refusal>
-    requires size { length tree.old.entries ≡ geometry.now.cache_blocks }
-    requires used { (place : PlaceValue) → IsPlaceOf tree.old place → Contains used.now place }
-    requires inside { AreInside geometry.now.meta_sectors tree.old }
-    ensures geometry { IfOk result (λ image. image.root.geometry ≡ geometry.now) }
-    ensures size { OnOk result (length tree.new.entries ≡ geometry.now.cache_blocks) }
-    ensures used { IfOk result (λ image. (place : PlaceValue) → IsPlaceOf tree.new place → Contains image.used.items place) }
-    ensures inside { AreInside geometry.now.meta_sectors tree.new }
-    ensures fits { IfOk result (λ image. HavePlaces image.nodes.items geometry.now.meta_sectors) }
-{
-    let first = u32::from(free.0);
-    let count = u32::from(free.1);
-    if first < 2 || count < geometry.node_count() || geometry.meta_sectors < first + count {
-        return Err(Refusal::Busy);
-    }
-    if !are_outside(used, first, first + count) {
-        return Err(Refusal::Busy);
-    }
-    if geometry.cache_blocks > geometry.origin_blocks || !is_own(tree, geometry.cache_blocks) {
-        return Err(Refusal::BadTable);
-    }
-    let places = places_from(alloc, first, count)?;
-    tree.plan(alloc, geometry, generation, true, &places)
-}
-
 /// Reads what a device stands for, and changes it: the tree and its next image, with so many free places from one on.
 /// What `read_state`, `change` and `plan_at` refuse, and `GenerationEnd` where there is no next generation.
 fn change_and_plan(
@@ -140,7 +52,8 @@ fn change_and_plan(
     ensures fits { IfOk result (λ planned. HavePlaces planned.1.nodes.items (length disk.old.contents)) }
     ensures sectors { IfOk result (λ planned. planned.1.root.geometry.meta_sectors ≡ length disk.old.contents) }
     ensures tree { IfOk result (λ planned. length planned.0.entries ≡ planned.1.root.geometry.cache_blocks) }
-    ensures used { IfOk result (λ planned. (place : PlaceValue) → IsPlaceOf planned.0 place → Contains planned.1.used.items place) }
+    ensures used { IfOk result (λ planned. (place : PlaceValue) → IsPlaceOf planned.0 place
+        → Contains planned.1.used.items place) }
     ensures inside { IfOk result (λ planned. AreInside planned.1.root.geometry.meta_sectors planned.0) }
 {
     let State {
@@ -159,7 +72,11 @@ fn change_and_plan(
 }
 
 /// The generation of what a device stands for, and whether it has these entries and no others.
-fn is_read(alloc: Global, disk: &mut MemDisk, entries: &[(u32, u8)]) -> Result<(u64, bool), Refusal>
+pub(super) fn is_read(
+    alloc: Global,
+    disk: &mut MemDisk,
+    entries: &[(u32, u8)],
+) -> Result<(u64, bool), Refusal>
     ensures { length disk.new.contents ≡ length disk.old.contents }
 {
     let state = read_state(alloc, alloc, disk)?;

@@ -67,123 +67,96 @@ fn read(alloc: Global, place: u64, bytes: &[(usize, u8)]) -> Result<usize, Refus
     Ok(state.used.len())
 }
 
-#[test]
-fn a_root_out_of_its_ranges_is_none(rt: HostRuntime) {
-    let table: [&[(usize, u8)]; 26] = [
-        &[(0, 0x77)],
-        &[(7, 0x32)],
-        &[(8, 2)],
-        &[(16, 0)],
-        &[(16, 2)],
-        &[(19, 1)],
-        &[(20, 2)],
-        &[(23, 1)],
-        &[(24, 0)],
-        &[(24, 65)],
-        &[(24, 32)],
-        &[(27, 1)],
-        &[(28, 0)],
-        &[(30, 16)],
-        &[(28, 97)],
-        &[(32, 0)],
-        &[(32, 1), (34, 16)],
-        &[(36, 7)],
-        &[(36, 0)],
-        &[(40, 1)],
-        &[(40, 8)],
-        &[(43, 1)],
-        &[(44, 1)],
-        &[(200, 1)],
-        &[(511, 0x80)],
-        &[(0, 0), (1, 0)],
-    ];
-    for bytes in table {
-        assert_eq!(rt; read(rt.alloc(), 1, bytes), Err(Refusal::NotFormatted));
-    }
-}
+/// A sector, which of its bytes are others, and what is then read: a root out of its ranges is none, one in them is read;
+/// a node out of its ranges is the first fault, one in them is read.
+const ROWS: [(u64, &[(usize, u8)], Result<usize, Refusal>); 82] = [
+    (1, &[(0, 0x77)], Err(Refusal::NotFormatted)),
+    (1, &[(7, 0x32)], Err(Refusal::NotFormatted)),
+    (1, &[(8, 2)], Err(Refusal::NotFormatted)),
+    (1, &[(16, 0)], Err(Refusal::NotFormatted)),
+    (1, &[(16, 2)], Err(Refusal::NotFormatted)),
+    (1, &[(19, 1)], Err(Refusal::NotFormatted)),
+    (1, &[(20, 2)], Err(Refusal::NotFormatted)),
+    (1, &[(23, 1)], Err(Refusal::NotFormatted)),
+    (1, &[(24, 0)], Err(Refusal::NotFormatted)),
+    (1, &[(24, 65)], Err(Refusal::NotFormatted)),
+    (1, &[(24, 32)], Err(Refusal::NotFormatted)),
+    (1, &[(27, 1)], Err(Refusal::NotFormatted)),
+    (1, &[(28, 0)], Err(Refusal::NotFormatted)),
+    (1, &[(30, 16)], Err(Refusal::NotFormatted)),
+    (1, &[(28, 97)], Err(Refusal::NotFormatted)),
+    (1, &[(32, 0)], Err(Refusal::NotFormatted)),
+    (1, &[(32, 1), (34, 16)], Err(Refusal::NotFormatted)),
+    (1, &[(36, 7)], Err(Refusal::NotFormatted)),
+    (1, &[(36, 0)], Err(Refusal::NotFormatted)),
+    (1, &[(40, 1)], Err(Refusal::NotFormatted)),
+    (1, &[(40, 8)], Err(Refusal::NotFormatted)),
+    (1, &[(43, 1)], Err(Refusal::NotFormatted)),
+    (1, &[(44, 1)], Err(Refusal::NotFormatted)),
+    (1, &[(200, 1)], Err(Refusal::NotFormatted)),
+    (1, &[(511, 0x80)], Err(Refusal::NotFormatted)),
+    (1, &[(0, 0), (1, 0)], Err(Refusal::NotFormatted)),
+    (1, &[], Ok(3)),
+    (1, &[(20, 0)], Ok(3)),
+    (1, &[(8, 3)], Ok(3)),
+    (1, &[(15, 0x80)], Ok(3)),
+    (1, &[(24, 128)], Ok(3)),
+    (1, &[(34, 16), (32, 0)], Ok(3)),
+    (1, &[(40, 0)], Ok(0)),
+    (1, &[(36, 9)], Err(Refusal::Mismatch)),
+    (1, &[(39, 0xff)], Err(Refusal::Mismatch)),
+    (1, &[(40, 7)], Err(Refusal::Damaged(Place(7)))),
+    (4, &[(0, 0x52)], Err(Refusal::Damaged(Place(4)))),
+    (4, &[(7, 0x30)], Err(Refusal::Damaged(Place(4)))),
+    (4, &[(8, 2)], Err(Refusal::Damaged(Place(4)))),
+    (4, &[(15, 1)], Err(Refusal::Damaged(Place(4)))),
+    (4, &[(16, 0)], Err(Refusal::Damaged(Place(4)))),
+    (4, &[(16, 1)], Err(Refusal::Damaged(Place(4)))),
+    (4, &[(16, 3)], Err(Refusal::Damaged(Place(4)))),
+    (4, &[(16, 5)], Err(Refusal::Damaged(Place(4)))),
+    (4, &[(19, 1)], Err(Refusal::Damaged(Place(4)))),
+    (4, &[(20, 1)], Err(Refusal::Damaged(Place(4)))),
+    (4, &[(24, 1)], Err(Refusal::Damaged(Place(4)))),
+    (4, &[(31, 1)], Err(Refusal::Damaged(Place(4)))),
+    (4, &[(288, 1)], Err(Refusal::Damaged(Place(4)))),
+    (4, &[(511, 1)], Err(Refusal::Damaged(Place(4)))),
+    (4, &[(32, 1)], Err(Refusal::Damaged(Place(4)))),
+    (4, &[(36, 1)], Err(Refusal::Damaged(Place(4)))),
+    (4, &[(40, 2)], Err(Refusal::Damaged(Place(4)))),
+    (4, &[(40, 4)], Err(Refusal::Damaged(Place(4)))),
+    (4, &[(40, 8)], Err(Refusal::Damaged(Place(4)))),
+    (4, &[(43, 1)], Err(Refusal::Damaged(Place(4)))),
+    (4, &[(48, 5)], Err(Refusal::Damaged(Place(4)))),
+    (4, &[(40, 5)], Err(Refusal::Damaged(Place(5)))),
+    (4, &[(32, 3)], Err(Refusal::Damaged(Place(3)))),
+    (4, &[(32, 1), (40, 2)], Err(Refusal::Damaged(Place(4)))),
+    (3, &[(8, 2)], Err(Refusal::Damaged(Place(3)))),
+    (3, &[(16, 2)], Err(Refusal::Damaged(Place(3)))),
+    (3, &[(20, 0)], Err(Refusal::Damaged(Place(3)))),
+    (3, &[(96, 1)], Err(Refusal::Damaged(Place(3)))),
+    (3, &[(40, 5)], Err(Refusal::Damaged(Place(3)))),
+    (3, &[(40, 9)], Err(Refusal::Damaged(Place(3)))),
+    (3, &[(41, 2)], Err(Refusal::Damaged(Place(3)))),
+    (3, &[(45, 1)], Err(Refusal::Damaged(Place(3)))),
+    (3, &[(40, 0x11), (41, 1)], Err(Refusal::Damaged(Place(3)))),
+    (3, &[(42, 40)], Err(Refusal::Damaged(Place(3)))),
+    (3, &[(42, 0)], Err(Refusal::Damaged(Place(3)))),
+    (3, &[(48, 1), (50, 7)], Err(Refusal::Damaged(Place(3)))),
+    (2, &[(0, 0)], Err(Refusal::Damaged(Place(2)))),
+    (2, &[(32, 2)], Err(Refusal::Damaged(Place(2)))),
+    (4, &[(8, 0)], Ok(3)),
+    (4, &[(40, 0)], Ok(2)),
+    (4, &[(32, 0), (40, 0)], Ok(1)),
+    (3, &[(40, 0), (42, 0)], Ok(3)),
+    (3, &[(40, 3)], Ok(3)),
+    (3, &[(40, 1), (41, 1)], Ok(3)),
+    (3, &[(42, 39)], Ok(3)),
+    (0, &[(0, 1)], Ok(3)),
+];
 
 #[test]
-fn a_root_in_its_ranges_is_read(rt: HostRuntime) {
-    let table: [(&[(usize, u8)], Result<usize, Refusal>); 10] = [
-        (&[], Ok(3)),
-        (&[(20, 0)], Ok(3)),
-        (&[(8, 3)], Ok(3)),
-        (&[(15, 0x80)], Ok(3)),
-        (&[(24, 128)], Ok(3)),
-        (&[(34, 16), (32, 0)], Ok(3)),
-        (&[(40, 0)], Ok(0)),
-        (&[(36, 9)], Err(Refusal::Mismatch)),
-        (&[(39, 0xff)], Err(Refusal::Mismatch)),
-        (&[(40, 7)], Err(Refusal::Damaged(Place(7)))),
-    ];
-    for (bytes, answer) in table {
-        assert_eq!(rt; read(rt.alloc(), 1, bytes), answer);
-    }
-}
-
-#[test]
-fn a_node_out_of_its_ranges_is_the_first_fault(rt: HostRuntime) {
-    let table: [(u64, &[(usize, u8)], u32); 38] = [
-        (4, &[(0, 0x52)], 4),
-        (4, &[(7, 0x30)], 4),
-        (4, &[(8, 2)], 4),
-        (4, &[(15, 1)], 4),
-        (4, &[(16, 0)], 4),
-        (4, &[(16, 1)], 4),
-        (4, &[(16, 3)], 4),
-        (4, &[(16, 5)], 4),
-        (4, &[(19, 1)], 4),
-        (4, &[(20, 1)], 4),
-        (4, &[(24, 1)], 4),
-        (4, &[(31, 1)], 4),
-        (4, &[(288, 1)], 4),
-        (4, &[(511, 1)], 4),
-        (4, &[(32, 1)], 4),
-        (4, &[(36, 1)], 4),
-        (4, &[(40, 2)], 4),
-        (4, &[(40, 4)], 4),
-        (4, &[(40, 8)], 4),
-        (4, &[(43, 1)], 4),
-        (4, &[(48, 5)], 4),
-        (4, &[(40, 5)], 5),
-        (4, &[(32, 3)], 3),
-        (4, &[(32, 1), (40, 2)], 4),
-        (3, &[(8, 2)], 3),
-        (3, &[(16, 2)], 3),
-        (3, &[(20, 0)], 3),
-        (3, &[(96, 1)], 3),
-        (3, &[(40, 5)], 3),
-        (3, &[(40, 9)], 3),
-        (3, &[(41, 2)], 3),
-        (3, &[(45, 1)], 3),
-        (3, &[(40, 0x11), (41, 1)], 3),
-        (3, &[(42, 40)], 3),
-        (3, &[(42, 0)], 3),
-        (3, &[(48, 1), (50, 7)], 3),
-        (2, &[(0, 0)], 2),
-        (2, &[(32, 2)], 2),
-    ];
-    for (place, bytes, fault) in table {
-        assert_eq!(rt;
-            read(rt.alloc(), place, bytes),
-            Err(Refusal::Damaged(Place(fault)))
-        );
-    }
-}
-
-#[test]
-fn a_node_in_its_ranges_is_read(rt: HostRuntime) {
-    let table: [(u64, &[(usize, u8)], usize); 8] = [
-        (4, &[(8, 0)], 3),
-        (4, &[(40, 0)], 2),
-        (4, &[(32, 0), (40, 0)], 1),
-        (3, &[(40, 0), (42, 0)], 3),
-        (3, &[(40, 3)], 3),
-        (3, &[(40, 1), (41, 1)], 3),
-        (3, &[(42, 39)], 3),
-        (0, &[(0, 1)], 3),
-    ];
-    for (place, bytes, nodes) in table {
-        assert_eq!(rt; read(rt.alloc(), place, bytes), Ok(nodes));
+fn bytes_out_of_their_ranges_are_refused_and_others_read(rt: HostRuntime) {
+    for (place, bytes, answer) in ROWS {
+        assert_eq!(rt; read(rt.alloc(), place, bytes), answer, "{place} {bytes:?}");
     }
 }

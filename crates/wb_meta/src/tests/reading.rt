@@ -1,27 +1,17 @@
 //! What is read of good sectors, and of roots that do not count.
 
 use super::{LEAF, formatted, one_node_fits, put, sector_of};
-use crate::{ReadSteps, commit, format, read_state};
+use crate::{ReadSteps, commit, read_state};
 use std::alloc::Global;
 use std::process::Abort;
 use std::test::Fail;
 use wb_disk::MemDisk;
-use wb_format::{Root, Version};
-use wb_types::{CBlock, Content, Entry, Geometry, OBlock, Place, Refusal};
+use wb_types::{Content, Place, Refusal};
 
 /// The generation of what a device stands for, and the number of its nodes.
 fn read(alloc: Global, disk: &mut MemDisk) -> Result<(u64, usize), Refusal> {
     let state = read_state(alloc, alloc, disk)?;
     Ok((state.root.generation, state.used.len()))
-}
-
-/// The entry of a cache block in what a device stands for.
-fn entry_read(alloc: Global, disk: &mut MemDisk, block: u32) -> Result<Option<Entry>, Refusal> {
-    let state = read_state(alloc, alloc, disk)?;
-    if block >= state.root.geometry.cache_blocks {
-        return Ok(None);
-    }
-    Ok(state.tree.get(CBlock(block)))
 }
 
 /// A root of a device of 4 sectors, with the place of its top node, 0 for none.
@@ -46,59 +36,19 @@ fn leaf_sector(generation: u8) -> Content {
 }
 
 #[test]
-fn a_formatted_device_reads_as_the_empty_mapping(rt: HostRuntime) -> Result<(), Fail> {
-    let alloc = rt.alloc();
-    let geometry = Geometry::new(64, 4, 10, 4)?;
-    let mut disk = MemDisk::new(alloc, 4)?;
-    format(&mut disk, &geometry)?;
-    let state = read_state(alloc, alloc, &mut disk)?;
-    let root = Root {
-        generation: 0,
-        version: Version::One,
-        clean: true,
-        geometry,
-        top: None,
-    };
-    assert_eq!(rt; state.root, root);
-    assert_eq!(rt; state.used.len(), 0);
-    for block in 0..4 {
-        assert_eq!(rt; entry_read(alloc, &mut disk, block)?, None);
-    }
-    Ok(())
-}
-
-#[test]
-fn the_first_commit_is_read(rt: HostRuntime) -> Result<(), Fail> {
-    let alloc = rt.alloc();
-    let (mut disk, image) = formatted(&rt)?;
-    assert!(rt; one_node_fits(&disk, &image));
-    commit(&mut disk, &image)?;
-    let state = read_state(alloc, alloc, &mut disk)?;
-    assert_eq!(rt; state.root, image.root);
-    assert_eq!(rt; state.used.as_slice(), [Place(2)].as_slice());
-    let entry = Entry {
-        origin: OBlock(0),
-        dirty: false,
-        hint: 0,
-    };
-    assert_eq!(rt; entry_read(alloc, &mut disk, 0)?, Some(entry));
-    assert_eq!(rt; entry_read(alloc, &mut disk, 1)?, None);
-    Ok(())
-}
-
-#[test]
 fn a_device_of_one_node_is_read_in_three_steps(rt: HostRuntime) -> Result<(), Fail> {
     let alloc = rt.alloc();
     let (mut disk, image) = formatted(&rt)?;
     assert!(rt; one_node_fits(&disk, &image));
     commit(&mut disk, &image)?;
-    let steps = ReadSteps::new(alloc, alloc);
-    assert!(rt; !steps.is_done());
-    let steps = steps.next(&mut disk)?;
-    assert!(rt; !steps.is_done());
-    let steps = steps.next(&mut disk)?;
-    assert!(rt; !steps.is_done());
-    let steps = steps.next(&mut disk)?;
+    let mut steps = ReadSteps::new(alloc, alloc);
+    for (sector, is_known) in [(0u64, false), (1, false), (2, true)] {
+        assert_eq!(rt; steps.coming(), Some(sector));
+        assert_eq!(rt; steps.root().is_some(), is_known);
+        assert!(rt; !steps.is_done());
+        steps = steps.next(&mut disk)?;
+    }
+    assert_eq!(rt; steps.coming(), None);
     assert!(rt; steps.is_done());
     match steps.next(&mut disk)? {
         ReadSteps::Done(state) => assert_eq!(rt; state.root, image.root),
@@ -125,28 +75,20 @@ fn read_roots(
 }
 
 #[test]
-fn the_newest_root_in_its_slot_counts(rt: HostRuntime) {
-    for (first, second, newest) in [
-        (Some(0), None, Ok((0, 0))),
-        (None, Some(1), Ok((1, 0))),
-        (Some(0), Some(1), Ok((1, 0))),
-        (Some(2), Some(1), Ok((2, 0))),
-        (Some(2), Some(3), Ok((3, 0))),
-        (Some(8), Some(3), Ok((8, 0))),
-        (Some(9), Some(3), Ok((3, 0))),
-        (Some(2), Some(8), Ok((2, 0))),
-        (Some(1), Some(2), Err(Refusal::NotFormatted)),
-        (Some(1), None, Err(Refusal::NotFormatted)),
-        (None, Some(0), Err(Refusal::NotFormatted)),
-        (None, None, Err(Refusal::NotFormatted)),
-    ] {
-        assert_eq!(rt; read_roots(rt.alloc(), 4, first, second), newest);
-    }
-}
-
-#[test]
-fn a_root_is_of_a_device_of_its_size(rt: HostRuntime) {
-    for (sectors, first, second, answer) in [
+fn the_newest_root_in_its_slot_counts_where_it_has_the_size(rt: HostRuntime) {
+    for (sectors, first, second, newest) in [
+        (4, Some(0), None, Ok((0, 0))),
+        (4, None, Some(1), Ok((1, 0))),
+        (4, Some(0), Some(1), Ok((1, 0))),
+        (4, Some(2), Some(1), Ok((2, 0))),
+        (4, Some(2), Some(3), Ok((3, 0))),
+        (4, Some(8), Some(3), Ok((8, 0))),
+        (4, Some(9), Some(3), Ok((3, 0))),
+        (4, Some(2), Some(8), Ok((2, 0))),
+        (4, Some(1), Some(2), Err(Refusal::NotFormatted)),
+        (4, Some(1), None, Err(Refusal::NotFormatted)),
+        (4, None, Some(0), Err(Refusal::NotFormatted)),
+        (4, None, None, Err(Refusal::NotFormatted)),
         (5, Some(0), Some(1), Err(Refusal::Mismatch)),
         (3, Some(0), Some(1), Err(Refusal::Mismatch)),
         (2, None, Some(1), Err(Refusal::Mismatch)),
@@ -155,7 +97,7 @@ fn a_root_is_of_a_device_of_its_size(rt: HostRuntime) {
         (5, None, None, Err(Refusal::NotFormatted)),
         (0, None, None, Err(Refusal::NotFormatted)),
     ] {
-        assert_eq!(rt; read_roots(rt.alloc(), sectors, first, second), answer);
+        assert_eq!(rt; read_roots(rt.alloc(), sectors, first, second), newest);
     }
 }
 

@@ -12,7 +12,8 @@ use super::*;
 /// So many places, from one on.
 fn places_from(global: Global, first: u32, count: u32) -> Result<Vec<Place>, Refusal>
     requires { first + count < 1000 }
-    ensures { IfOk result (λ places. places.items ≡ map (λ number. record { 0 = number }) (range_with_len first count)) }
+    ensures { IfOk result (λ places. places.items
+        ≡ map (λ number. record { 0 = number }) (range_with_len first count)) }
 {
     let places = (first..first + count)
         .map(|number| Place(number))
@@ -31,10 +32,12 @@ fn are_outside(places: &[Place], first: u32, end: u32) -> bool
 /// entry away.
 fn change(tree: &mut Tree<Global>, block: u32, hint: Option<u8>) -> Result<(), Refusal>
     requires block { block < length tree.old.entries }
-    requires own { (block : ℕ) (entry : EntryValue) → entry_at tree.old block ≡ Some entry → (entry.origin.0 ≡ block) × (entry.hint ≤ 16) }
+    requires own { (block : ℕ) (entry : EntryValue) → entry_at tree.old block ≡ Some entry
+        → (entry.origin.0 ≡ block) × (entry.hint ≤ 16) }
     ensures size { OnOk result (length tree.new.entries ≡ length tree.old.entries) }
-    ensures own { OnOk result ((block : ℕ) (entry : EntryValue) → entry_at tree.new block ≡ Some entry → (entry.origin.0 ≡ block) × (entry.hint ≤ 16)) }
-    ensures kept { OnOk result ((place : PlaceValue) → IsPlaceOf tree.new place → IsPlaceOf tree.old place) }
+    ensures own { OnOk result ((block : ℕ) (entry : EntryValue) → entry_at tree.new block ≡ Some entry
+        → (entry.origin.0 ≡ block) × (entry.hint ≤ 16)) }
+    ensures stays { OnOk result ((place : PlaceValue) → IsPlaceOf tree.new place → IsPlaceOf tree.old place) }
 {
     let Some(hint) = hint else {
         tree.clear(CBlock(block));
@@ -59,7 +62,8 @@ fn plan_at(
 ) -> Result<Image, Refusal>
     requires size { length tree.old.entries ≡ geometry.now.cache_blocks }
     requires origin { geometry.now.cache_blocks ≤ geometry.now.origin_blocks }
-    requires own { (block : ℕ) (entry : EntryValue) → entry_at tree.old block ≡ Some entry → (entry.origin.0 ≡ block) × (entry.hint ≤ 16) }
+    requires own { (block : ℕ) (entry : EntryValue) → entry_at tree.old block ≡ Some entry
+        → (entry.origin.0 ≡ block) × (entry.hint ≤ 16) }
     requires used { (place : PlaceValue) → IsPlaceOf tree.old place → Contains used.now place }
     requires inside { AreInside geometry.now.meta_sectors tree.old }
     ensures entries { OnOk result (tree.new.entries ≡ tree.old.entries) }

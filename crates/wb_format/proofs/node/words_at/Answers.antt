@@ -1,7 +1,7 @@
 use Rattle.std.proofs.Common.{◌≡◌, ◌<◌, ◌+◌, ◌*◌, length, sym, ◌∙◌, arith}
 use Rattle.std.proofs.lemmas.List.{length-set}
 use Rattle.wb_format.specs.Bytes.{number_at}
-use Rattle.wb_format.specs.Words.{IsWord}
+use Rattle.wb_format.specs.NodeWords.{IsWord}
 use Rattle.wb_format.proofs.WordLemmas.{set_more, IsWord-everywhere}
 use Rattle.wb_format.proofs.node.words_at.Goals as goal
 

@@ -1,6 +1,6 @@
 use Rattle.std.proofs.Common.{◌≡◌, ◌<◌, ◌+◌, ◌*◌, ℕ, length, slice_index}
 use Rattle.wb_format.specs.Bytes.{number_at}
-use Rattle.wb_format.specs.Words.{IsWord}
+use Rattle.wb_format.specs.NodeWords.{IsWord}
 use Rattle.wb_format.proofs.node.words_at.Given as goal
 
 abbrev pub invariant-loop-j : goal.invariant-loop-j

@@ -1,5 +1,5 @@
 use Rattle.std.proofs.Common.{◌+◌, ◌%◌, ◌^◌, ◌≤◌, ℕ, length, refl, sym, ◌∙◌, ap, arith, subst}
-use Rattle.wb_meta.specs.Holding.{HoldsAndKeeps}
+use Rattle.wb_meta.specs.Laws.{Wanted}
 use Rattle.wb_meta.specs.Placing.{HavePlaces}
 use Rattle.wb_meta.specs.Commits.{HasCome, steps_left}
 use Rattle.wb_meta.specs.declared.commit_steps.CommitSteps.{CommitSteps}
@@ -32,39 +32,39 @@ pub returns-in_err-next-clause-size : goal.returns-in_err-next-clause-size
 returns-in_err-next-clause-size g c = c.in_err-next.ensures.size ∙ c.loop-steps.invariant.0
 
 pub returns-in_err-next-clause-err : goal.returns-in_err-next-clause-err
-returns-in_err-next-clause-err g c tells root found wanted kept may =
+returns-in_err-next-clause-err g c tells =
     let before = g.D.Disk.contents c.args.disk.now in
     let failed = c.in_err-next.ensures.failed tells before (c.loop-steps.invariant.1 tells) in
-    OnErr-always c.from_residual.result (failed_crash c.args.image.now (g.D.Disk.size c.args.disk.now) before (g.D.Disk.contents c.next.new.disk) root found (λ sectors. HoldsAndKeeps sectors c.args.image.now.root wanted kept) c.requires may failed)
+    OnErr-always c.from_residual.result (λ old found m may. failed_crash c.args.image.now (g.D.Disk.size c.args.disk.now) before (g.D.Disk.contents c.next.new.disk) c.loop-steps.steps old (Wanted c.args.image.now found m) c.requires may failed)
 
 pub returns-in_err-next-clause-cause : goal.returns-in_err-next-clause-cause
 returns-in_err-next-clause-cause g c tells =
     OnErr-always c.from_residual.result (c.in_err-next.ensures.cause tells ∙ ap (λ n. (n + 1) % 2 ^ 64) (c.loop-steps.invariant.2 tells))
 
-pub returns-in_err-next-clause-stands_or_old : goal.returns-in_err-next-clause-stands_or_old
-returns-in_err-next-clause-stands_or_old g c tells m n geometry generation clean free root found next =
+pub returns-in_err-next-clause-tree_or_old : goal.returns-in_err-next-clause-tree_or_old
+returns-in_err-next-clause-tree_or_old g c tells =
     let before = g.D.Disk.contents c.args.disk.now in
     let failed = c.in_err-next.ensures.failed tells before (c.loop-steps.invariant.1 tells) in
-    OnErr-always c.from_residual.result (failed_next m n geometry generation clean free c.args.image.now before root found next (g.D.Disk.contents c.next.new.disk) failed)
+    OnErr-always c.from_residual.result (λ m n plan old next. failed_next m n plan c.args.image.now before old next (g.D.Disk.contents c.next.new.disk) c.loop-steps.steps failed)
 
 pub returns-clause-size : goal.returns-clause-size
 returns-clause-size g c = c.loop-steps.invariant.0
 
 pub returns-clause-ok : goal.returns-clause-ok
-returns-clause-ok g c tells root found wanted kept may sectors left =
+returns-clause-ok g c tells old found m may sectors left =
     let before = g.D.Disk.contents c.args.disk.now in
     let now = g.D.Disk.contents c.loop-steps.disk in
     let P : CommitSteps → Type 0 = λ s. HasCome c.args.image.now before s now in
     let done = subst P (c.is_done.ensures.done.0 c.loop-steps-test.false) (c.loop-steps.invariant.1 tells) in
-    done_crash c.args.image.now before now root found (λ sectors. HoldsAndKeeps sectors c.args.image.now.root wanted kept) may done sectors left
+    done_crash c.args.image.now before now old (Wanted c.args.image.now found m) may done sectors left
 
-pub returns-clause-stands : goal.returns-clause-stands
-returns-clause-stands g c tells m n geometry generation clean free root found next sectors left =
+pub returns-clause-tree : goal.returns-clause-tree
+returns-clause-tree g c tells m n plan old next sectors left =
     let before = g.D.Disk.contents c.args.disk.now in
     let now = g.D.Disk.contents c.loop-steps.disk in
     let P : CommitSteps → Type 0 = λ s. HasCome c.args.image.now before s now in
     let done = subst P (c.is_done.ensures.done.0 c.loop-steps-test.false) (c.loop-steps.invariant.1 tells) in
-    done_next m n geometry generation clean free c.args.image.now before root found next now done sectors left
+    done_next m n plan c.args.image.now before old next now done sectors left
 
 pub returns-clause-no_fault : goal.returns-clause-no_fault
 returns-clause-no_fault g c tells = c.loop-steps.invariant.2 tells

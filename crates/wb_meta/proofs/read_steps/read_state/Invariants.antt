@@ -8,7 +8,7 @@ invariant-loop-steps g l =
     let contents = g.D.Disk.contents in
     record {
       size : g.D.Disk.size l.disk ≡ g.D.Disk.size l.fn.disk;
-      kept : g.D.Disk.tells → contents l.disk ≡ contents l.fn.disk;
+      stored : g.D.Disk.tells → contents l.disk ≡ contents l.fn.disk;
       on : AreStepsOn (g.D.Disk.size l.fn.disk) l.steps;
       read : g.D.Disk.tells → HasRead (map newest (contents l.fn.disk)) l.steps;
       no_fault : g.D.Disk.tells → g.D.Disk.faults l.disk ≡ g.D.Disk.faults l.fn.disk;

@@ -1,5 +1,5 @@
 use Rattle.std.proofs.Common.{◌+◌, ◌-◌, ◌∙◌, ap, ℕ, min, length, take, drop}
-use Rattle.wb_tree.proofs.Parts.{part-is}
+use Rattle.wb_tree.proofs.Nodes.Parts.{part-is}
 use Rattle.wb_tree.proofs.below.part_of.Goals as goal
 
 pub returns : goal.returns

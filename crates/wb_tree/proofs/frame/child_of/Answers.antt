@@ -1,5 +1,5 @@
 use Rattle.std.proofs.Common.{◌-◌, sym, ◌∙◌, arith}
-use Rattle.wb_tree.proofs.Steps.{names_child-is, index_below}
+use Rattle.wb_tree.proofs.Reading.Steps.{names_child-is, index_below}
 use Rattle.wb_tree.proofs.frame.child_of.Goals as goal
 
 pub overflow_cast-result : goal.overflow_cast-result

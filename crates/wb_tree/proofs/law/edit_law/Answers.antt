@@ -1,11 +1,14 @@
-use Rattle.wb_tree.proofs.Edited.{keeps-edited, inside-edited, places-edited}
+use Rattle.wb_tree.proofs.Stored.Edited.{edited-once, edited-none, edited-more, stored-edited, places-edited}
 use Rattle.wb_tree.proofs.law.edit_law.Goals as goal
 
-pub returns-clause-keeps : goal.returns-clause-keeps
-returns-clause-keeps c = keeps-edited
+pub returns-clause-once : goal.returns-clause-once
+returns-clause-once c = edited-once
 
-pub returns-clause-inside : goal.returns-clause-inside
-returns-clause-inside c = inside-edited
+pub returns-clause-follow : goal.returns-clause-follow
+returns-clause-follow c = (edited-none, edited-more)
+
+pub returns-clause-stored : goal.returns-clause-stored
+returns-clause-stored c = stored-edited
 
 pub returns-clause-places : goal.returns-clause-places
 returns-clause-places c = places-edited

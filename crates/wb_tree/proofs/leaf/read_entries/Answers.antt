@@ -1,5 +1,5 @@
 use Rattle.std.proofs.Common.{sym, ◌∙◌, refl}
-use Rattle.wb_tree.proofs.LeafSteps.{passed-some, passed-none, passed-fault, passed-all}
+use Rattle.wb_tree.proofs.Reading.LeafSteps.{passed-some, passed-none, passed-fault, passed-all}
 use Rattle.wb_tree.proofs.leaf.read_entries.Goals.{in-Some+else-not-may_map, in_default}
 use Rattle.wb_tree.proofs.leaf.read_entries.Goals as goal
 

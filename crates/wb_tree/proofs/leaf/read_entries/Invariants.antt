@@ -1,4 +1,4 @@
-use Rattle.wb_tree.proofs.LeafSteps.{IsPassed}
+use Rattle.wb_tree.proofs.Reading.LeafSteps.{IsPassed}
 use Rattle.wb_tree.proofs.leaf.read_entries.Given as goal
 
 abbrev pub invariant-loop-j : goal.invariant-loop-j

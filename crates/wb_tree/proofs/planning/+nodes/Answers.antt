@@ -1,12 +1,13 @@
 use Rattle.std.proofs.Common.{◌≡◌, ◌<◌, ◌+◌, ◌-◌, ◌*◌, ◌++◌, ◌∙◌, sym, ap, refl, true, List, length, arith}
 use Rattle.std.proofs.lemmas.List.{length-set, append-nil}
-use Rattle.wb_format.specs.Words.{IsInnerWord}
+use Rattle.wb_format.specs.NodeWords.{IsInnerWord}
 use Rattle.wb_tree.specs.Mapping.{NodeName, exists, nodes_below, place_of}
 use Rattle.wb_tree.specs.Images.{place_word}
 use Rattle.wb_tree.specs.Planning.{planned, names}
-use Rattle.wb_tree.proofs.Listing.{nodes_below-shut, each_from-none, exists-before, leaf-children}
-use Rattle.wb_tree.proofs.PlanWords.{word_more, words_everywhere, IsInnerWord-zero}
-use Rattle.wb_tree.proofs.PlanSteps.{planned-none, begins-children, next-child, child-more, leaf-word, inner-word, next-is, next-there, next-written, names-pushed}
+use Rattle.wb_tree.proofs.Nodes.Listing.{nodes_below-shut, each_from-none, exists-before, leaf-children}
+use Rattle.wb_tree.proofs.Images.PlanWords.{words_everywhere, IsInnerWord-zero}
+use Rattle.wb_format.proofs.WordLemmas.{set_more}
+use Rattle.wb_tree.proofs.Images.PlanSteps.{planned-none, begins-children, next-child, child-more, leaf-word, inner-word, next-is, next-there, next-written, names-pushed}
 use Rattle.wb_tree.proofs.planning.+nodes.Goals as goal
 
 pub plan_node-returns-then-not-exists-clause-names : goal.plan_node-returns-then-not-exists-clause-names
@@ -64,7 +65,7 @@ plan_node-returns-clause-planned t c =
     next-written es c.args.plan.now.depth free (names c.args.nodes.now.items) c.args.plan.now.generation c.args.level c.args.index c.plan_words.new.nodes.items c.reserve.new.self.items c.push_reserved.new.self.items _
     next c.in_ok-words.ensures.planned c.in_ok-reserve.ensures.items c.push_reserved.ensures.items refl refl
     (record {
-      settled = next-there es c.args.plan.now.depth free (names c.args.nodes.now.items) c.args.level c.args.index c.plan_words.new.nodes.items c.len.result (record { 0 = 0 }) next long;
+      stands = next-there es c.args.plan.now.depth free (names c.args.nodes.now.items) c.args.level c.args.index c.plan_words.new.nodes.items c.len.result (record { 0 = 0 }) next long;
       written_in = refl;
       words = c.in_ok-words.ensures.words;
     })
@@ -129,9 +130,9 @@ plan_words-loop-j-preserved t c =
       size = length-set c.loop-j.words j c.number_of.result ∙ inv.size;
       listed = told.names ∙ child-more (names c.args.nodes.now.items) (nodes_below es (c.args.level - 1)) j (32 * c.args.index) (names c.loop-j.nodes.items) inv.listed;
       written = told.planned;
-      words = word_more (λ k word. word ≡ place_word (place_of (planned es c.args.plan.now.depth c.args.plan.now.free.now) (c.args.level - 1) (32 * c.args.index + k))) c.loop-j.words j c.number_of.result inside inv.words
+      words = set_more (λ k word. word ≡ place_word (place_of (planned es c.args.plan.now.depth c.args.plan.now.free.now) (c.args.level - 1) (32 * c.args.index + k))) c.loop-j.words j c.number_of.result inside inv.words
           (number.number ∙ ap place_word told.place);
-      spelled = word_more (λ k word. IsInnerWord word) c.loop-j.words j c.number_of.result inside inv.spelled
+      spelled = set_more (λ k word. IsInnerWord word) c.loop-j.words j c.number_of.result inside inv.spelled
           (inner-word es c.args.plan.now.depth c.args.plan.now.free.now (c.args.level - 1) (32 * c.args.index + j) c.in_ok-child.child c.number_of.result c.requires.can told.place number.number number.at_most);
     }
 

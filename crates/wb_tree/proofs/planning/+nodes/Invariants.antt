@@ -1,5 +1,5 @@
 use Rattle.std.proofs.Common.{◌≡◌, ◌<◌, ◌+◌, ◌-◌, ◌*◌, ◌++◌, ℕ, length, slice_index}
-use Rattle.wb_format.specs.Words.{IsInnerWord}
+use Rattle.wb_format.specs.NodeWords.{IsInnerWord}
 use Rattle.wb_tree.specs.Mapping.{nodes_below, each_from, place_of}
 use Rattle.wb_tree.specs.Images.{place_word}
 use Rattle.wb_tree.specs.Planning.{planned, names, AreWritten}

@@ -1,7 +1,8 @@
 use Rattle.std.proofs.Common.{◌≡◌, ◌<◌, ◌+◌, ◌*◌, None, length, slice_index_or, sym, ap, ◌∙◌, arith}
 use Rattle.std.proofs.lemmas.List.{length-set}
-use Rattle.wb_format.specs.Words.{IsLeafWord, entry_word}
-use Rattle.wb_tree.proofs.PlanWords.{word_more, words_everywhere, IsLeafWord-zero, spelled-entry_word, may_spell}
+use Rattle.wb_format.specs.NodeWords.{IsLeafWord, entry_word}
+use Rattle.wb_tree.proofs.Images.PlanWords.{words_everywhere, IsLeafWord-zero, spelled-entry_word, may_spell}
+use Rattle.wb_format.proofs.WordLemmas.{set_more}
 use Rattle.wb_tree.proofs.planning.leaf_words.Goals as goal
 
 pub word_of-requires : goal.word_of-requires
@@ -13,9 +14,9 @@ loop-j-preserved c =
     let inside : c.loop-j.j < length c.loop-j.words = omega arith in
     record {
       size = length-set c.loop-j.words c.loop-j.j c.word_of.result ∙ inv.size;
-      words = word_more (λ k word. word ≡ entry_word (slice_index_or c.args.entries.now (32 * c.args.index + k) None)) c.loop-j.words c.loop-j.j c.word_of.result inside inv.words
+      words = set_more (λ k word. word ≡ entry_word (slice_index_or c.args.entries.now (32 * c.args.index + k) None)) c.loop-j.words c.loop-j.j c.word_of.result inside inv.words
           (spelled-entry_word c.word_of.result c.entry_at.result c.word_of.ensures.spelled ∙ ap entry_word c.entry_at.ensures);
-      spelled = word_more (λ k word. IsLeafWord word) c.loop-j.words c.loop-j.j c.word_of.result inside inv.spelled c.word_of.ensures.readable;
+      spelled = set_more (λ k word. IsLeafWord word) c.loop-j.words c.loop-j.j c.word_of.result inside inv.spelled c.word_of.ensures.readable;
     }
 
 pub returns-clause-spelled : goal.returns-clause-spelled

@@ -1,5 +1,5 @@
 use Rattle.std.proofs.Common.{◌≡◌, ◌<◌, ◌+◌, ◌*◌, ℕ, None, length, slice_index, slice_index_or}
-use Rattle.wb_format.specs.Words.{IsLeafWord, entry_word}
+use Rattle.wb_format.specs.NodeWords.{IsLeafWord, entry_word}
 use Rattle.wb_tree.proofs.planning.leaf_words.Given as goal
 
 abbrev pub invariant-loop-j : goal.invariant-loop-j

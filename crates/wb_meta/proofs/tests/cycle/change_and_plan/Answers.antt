@@ -3,7 +3,7 @@ use Rattle.std.specs.Prelude.{Contains}
 use Rattle.wb_types.specs.declared.geometry.Geometry.{Geometry}
 use Rattle.wb_types.specs.declared.number.Place.{Place}
 use Rattle.wb_tree.specs.Mapping.{AreInside}
-use Rattle.wb_meta.proofs.TestTrees.{state-used}
+use Rattle.wb_tree.proofs.Stored.Edited.{places-edited}
 use Rattle.wb_meta.proofs.tests.cycle.change_and_plan.Goals as goal
 
 pub loop-block-init : goal.loop-block-init
@@ -12,15 +12,15 @@ loop-block-init c =
     let fits = c.in_ok-root.ensures.fits in
     record {
       size = fits.mapping.size;
-      used = state-used _ state.root state.tree state.used.items (c.in_ok-root.ensures.read tt);
+      used = fits.known_used;
       inside = subst (λ n. AreInside n state.tree) (sym fits.size) fits.inside;
     }
 
 pub loop-block-preserved : goal.loop-block-preserved
 loop-block-preserved c = record {
   size = c.in_ok-change.ensures.size;
-  used = λ place is. c.loop-block.invariant.used place (c.in_ok-change.ensures.kept place is);
-  inside = λ place is. c.loop-block.invariant.inside place (c.in_ok-change.ensures.kept place is);
+  used = λ place is. c.loop-block.invariant.used place (places-edited _ _ place c.change.ensures.edited is);
+  inside = λ place is. c.loop-block.invariant.inside place (places-edited _ _ place c.change.ensures.edited is);
 }
 
 pub plan_at-requires-clause-used : goal.plan_at-requires-clause-used

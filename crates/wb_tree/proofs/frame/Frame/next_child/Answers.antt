@@ -3,7 +3,7 @@ use Rattle.wb_tree.specs.declared.placed.PlacedNode.{PlacedNode}
 use Rattle.wb_tree.specs.declared.frame.Frame.{Frame}
 use Rattle.wb_tree.specs.Reading.{names_child, Reading, ◌then◌, each_step, node_read}
 use Rattle.wb_tree.specs.Loading.{frame_step}
-use Rattle.wb_tree.proofs.Steps.{each_step-next, each_step-none, child_read-zero, child_read-named, child_read-unnamed, same_node_read}
+use Rattle.wb_tree.proofs.Reading.Steps.{each_step-next, each_step-none, child_read-zero, child_read-named, child_read-unnamed, same_node_read}
 use Rattle.wb_tree.proofs.frame.Frame.next_child.Goals as goal
 
 pub returns-in-Some-clause-child : goal.returns-in-Some-clause-child

@@ -2,7 +2,7 @@ use Rattle.std.proofs.Common.{◌≡◌, ◌≤◌, ◌∙◌, sym, ap, subst, r
 use Rattle.wb_tree.specs.declared.placed.PlacedNode.{PlacedNode}
 use Rattle.wb_tree.specs.Reading.{is_reached}
 use Rattle.wb_tree.specs.Loading.{Loading, IsFresh, AgreeAt, loading_of, found_with, frames_rest}
-use Rattle.wb_tree.proofs.LoaderSteps.{told_also, told_before, outcome-wanted, if_some}
+use Rattle.wb_tree.proofs.Reading.LoaderSteps.{told_also, told_before, outcome-wanted, if_some}
 use Rattle.wb_tree.proofs.loader.Loader.enter.Goals as goal
 
 pub invariant_of-result : goal.invariant_of-result

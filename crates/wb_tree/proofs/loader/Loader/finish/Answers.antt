@@ -6,10 +6,10 @@ use Rattle.wb_tree.specs.Mapping.{IsMapping}
 use Rattle.wb_tree.specs.Reading.{tree_read}
 use Rattle.wb_tree.specs.Loading.{Loading, loading_of}
 use Rattle.wb_tree.specs.Loaded.{IsLoaded}
-use Rattle.wb_tree.specs.Stored.{IsStored, known_nodes}
-use Rattle.wb_tree.proofs.LoaderSteps.{told-read}
-use Rattle.wb_tree.proofs.Loaded.{reached_levels, stored_none, stored_all, loaded_none, loaded_all, same_exist}
-use Rattle.wb_tree.proofs.MappingRead.{mapping_read}
+use Rattle.wb_tree.specs.Fields.{AreFields, known_nodes}
+use Rattle.wb_tree.proofs.Reading.LoaderSteps.{told-read}
+use Rattle.wb_tree.proofs.Reading.Loaded.{reached_levels, fields_none, fields_all, loaded_none, loaded_all, same_exist}
+use Rattle.wb_tree.proofs.Reading.MappingRead.{mapping_read}
 use Rattle.wb_tree.proofs.loader.Loader.finish.Goals.{then-all_exist, else-all_exist}
 use Rattle.wb_tree.proofs.loader.Loader.finish.Goals as goal
 
@@ -20,15 +20,15 @@ all_exist-requires g c =
     let reads : tree_read l.root c.self.invariant.told ≡ Ok l.found = told-read l c.self.invariant none in
     subst (λ nodes. All (λ (node : PlacedNode). node.level ≤ 4) nodes) (sym (c.deref-3.ensures.value ∙ c.into_nodes-nodes.ensures)) (reached_levels l.root c.self.invariant.told l.found reads)
 
-pub of_entries-tree-requires-clause-stored : goal.of_entries-tree-requires-clause-stored
-of_entries-tree-requires-clause-stored g c =
+pub of_entries-tree-requires-clause-fields : goal.of_entries-tree-requires-clause-fields
+of_entries-tree-requires-clause-fields g c =
     let l : Loading = loading_of c.self.inside.root c.self.inside.reached c.self.inside.entries.items c.self.inside.mapped.items c.self.inside.frames.items c.self.inside.wanted in
     let none : l.wanted ≡ None = ap (λ (m : Loading). m.wanted) c.self.view_is ∙ c.requires in
     let reads : tree_read l.root c.self.invariant.told ≡ Ok l.found = told-read l c.self.invariant none in
     elim c.if-all_exist.branch [
-      | then-all_exist w ↦ subst (λ (known : Option (Vec PlacedNode)). IsStored l.root.geometry.cache_blocks l.found.entries known) (sym w.known-is) (stored_all l.root c.self.invariant.told l.found c.into_nodes-nodes.result reads c.into_nodes-nodes.ensures
+      | then-all_exist w ↦ subst (λ (known : Option (Vec PlacedNode)). AreFields l.root.geometry.cache_blocks l.found.entries known) (sym w.known-is) (fields_all l.root c.self.invariant.told l.found c.into_nodes-nodes.result reads c.into_nodes-nodes.ensures
           (same_exist c.deref-2.result.now c.self.inside.entries.items c.deref-3.result.now c.self.inside.reached c.deref-2.ensures.value (c.deref-3.ensures.value ∙ c.into_nodes-nodes.ensures) (c.all_exist.ensures.0 w.if-all_exist.true)))
-      | else-all_exist w ↦ subst (λ (known : Option (Vec PlacedNode)). IsStored l.root.geometry.cache_blocks l.found.entries known) (sym w.known-is) (stored_none l.root.geometry.cache_blocks l.found.entries c.self.invariant.entries)
+      | else-all_exist w ↦ subst (λ (known : Option (Vec PlacedNode)). AreFields l.root.geometry.cache_blocks l.found.entries known) (sym w.known-is) (fields_none l.root.geometry.cache_blocks l.found.entries c.self.invariant.entries)
     ]
 
 pub returns-clause-mapping : goal.returns-clause-mapping
@@ -48,7 +48,7 @@ returns-clause-known g c =
     elim c.if-all_exist.branch [
       | then-all_exist w ↦ loaded_all l.root c.self.invariant.told l.found c.of_entries-tree.result reads c.of_entries-tree.ensures.entries (c.of_entries-tree.ensures.known ∙ (ap known_nodes w.known-is ∙ c.into_nodes-nodes.ensures))
           (same_exist c.deref-2.result.now c.self.inside.entries.items c.deref-3.result.now c.self.inside.reached c.deref-2.ensures.value (c.deref-3.ensures.value ∙ c.into_nodes-nodes.ensures) (c.all_exist.ensures.0 w.if-all_exist.true))
-      | else-all_exist w ↦ loaded_none l.root l.found c.of_entries-tree.result c.of_entries-tree.ensures.entries (c.of_entries-tree.ensures.known ∙ ap known_nodes w.known-is) (λ whole.
+      | else-all_exist w ↦ loaded_none l.root c.self.invariant.told l.found c.of_entries-tree.result reads c.of_entries-tree.ensures.entries (c.of_entries-tree.ensures.known ∙ ap known_nodes w.known-is) (λ whole.
           let all = c.all_exist.ensures.1 (same_exist c.self.inside.entries.items c.deref-2.result.now c.self.inside.reached c.deref-3.result.now (sym c.deref-2.ensures.value) (sym (c.deref-3.ensures.value ∙ c.into_nodes-nodes.ensures)) whole) in
           let both : true ≡ false = sym all ∙ w.if-all_exist.false in
           cc)

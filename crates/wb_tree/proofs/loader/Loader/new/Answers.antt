@@ -1,7 +1,7 @@
 use Rattle.std.proofs.Common.{◌∙◌, sym, subst, List, None, [], false}
 use Rattle.wb_tree.specs.declared.placed.PlacedNode.{PlacedNode}
 use Rattle.wb_tree.specs.Loading.{IsFresh}
-use Rattle.wb_tree.proofs.LoaderSteps.{top_node-is, outcome-new, found_same, grown_empty}
+use Rattle.wb_tree.proofs.Reading.LoaderSteps.{top_node-is, outcome-new, found_same, grown_empty}
 use Rattle.wb_tree.proofs.loader.Loader.new.Goals as goal
 
 pub invariant_of-result : goal.invariant_of-result

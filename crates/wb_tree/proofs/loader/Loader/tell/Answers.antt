@@ -2,7 +2,7 @@ use Rattle.std.proofs.Common.{◌≡◌, ◌∙◌, sym, ap, Some, false}
 use Rattle.wb_tree.specs.declared.placed.PlacedNode.{PlacedNode}
 use Rattle.wb_tree.specs.Loading.{Loading}
 use Rattle.wb_tree.specs.Reading.{is_node_of}
-use Rattle.wb_tree.proofs.LoaderSteps.{outcome-none, outcome-other, same_wanted}
+use Rattle.wb_tree.proofs.Reading.LoaderSteps.{outcome-none, outcome-other, same_wanted}
 use Rattle.wb_tree.proofs.loader.Loader.tell.Goals as goal
 
 pub returns-in_default-node-clause-err : goal.returns-in_default-node-clause-err

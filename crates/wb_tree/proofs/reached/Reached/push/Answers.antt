@@ -1,6 +1,6 @@
 use Rattle.std.proofs.Common.{◌∙◌, sym, ap, cond, true, nat_eq, ◌++◌, ◌∷◌, []}
 use Rattle.wb_tree.specs.Reading.{is_reached}
-use Rattle.wb_tree.proofs.ReachedLemmas.{is_reached-push, ok_of}
+use Rattle.wb_tree.proofs.Reading.ReachedLemmas.{is_reached-push, ok_of}
 use Rattle.wb_tree.proofs.reached.Reached.push.Goals as goal
 
 pub invariant_of-self-2 : goal.invariant_of-self-2

@@ -16,10 +16,10 @@ loop-generation-init g c = record {
 
 pub plan_at-requires-clause-used : goal.plan_at-requires-clause-used
 plan_at-requires-clause-used g c place is =
-    subst (λ (places : List Place). Contains places place) (sym c.deref.ensures.value) (c.loop-generation.invariant.used place (c.in_ok-change.ensures.kept place (c.in_ok-change-2.ensures.kept place is)))
+    subst (λ (places : List Place). Contains places place) (sym c.deref.ensures.value) (c.loop-generation.invariant.used place (c.in_ok-change.ensures.stays place (c.in_ok-change-2.ensures.stays place is)))
 
 pub plan_at-requires-clause-inside : goal.plan_at-requires-clause-inside
-plan_at-requires-clause-inside g c place is = c.loop-generation.invariant.inside place (c.in_ok-change.ensures.kept place (c.in_ok-change-2.ensures.kept place is))
+plan_at-requires-clause-inside g c place is = c.loop-generation.invariant.inside place (c.in_ok-change.ensures.stays place (c.in_ok-change-2.ensures.stays place is))
 
 pub loop-generation-preserved : goal.loop-generation-preserved
 loop-generation-preserved g c = record {

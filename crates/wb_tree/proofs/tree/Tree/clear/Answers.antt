@@ -1,7 +1,7 @@
 use Rattle.std.proofs.Common.{◌≡◌, ◌<◌, false, Option, Some, None, is_some, length, ap, sym, ◌∙◌, refl, slice_set, arith}
 use Rattle.std.specs.Prelude.{is_some}
 use Rattle.wb_types.specs.declared.entry.Entry.{Entry}
-use Rattle.wb_tree.proofs.Padding.{padded-set, padded-past, padded-here, set_same}
+use Rattle.wb_tree.proofs.Images.Padding.{padded-set, padded-past, padded-here, set_same}
 use Rattle.wb_tree.proofs.tree.Tree.clear.Goals.{else-at-len-via-then-at-len+else-is_some, else-at-len-via-else-at-len}
 use Rattle.wb_tree.proofs.tree.Tree.clear.Goals as goal
 

@@ -5,10 +5,10 @@ use Rattle.wb_types.specs.declared.number.Place.{Place}
 use Rattle.wb_format.specs.declared.node.Node.{Node}
 use Rattle.wb_tree.specs.Mapping.{Mapping, nodes_of}
 use Rattle.wb_tree.specs.Planning.{planned, AreWritten, MayPlan}
-use Rattle.wb_tree.specs.Stored.{known_nodes}
-use Rattle.wb_tree.proofs.Imaging.{image-is, none-written_is}
-use Rattle.wb_tree.proofs.Planned.{known_node}
-use Rattle.wb_tree.proofs.WholePlan.{all-known, may-plan, plan-is, top-inside}
+use Rattle.wb_tree.specs.Fields.{known_nodes}
+use Rattle.wb_tree.proofs.Images.Imaging.{image-is, none-written_is}
+use Rattle.wb_tree.proofs.Images.Planned.{known_node}
+use Rattle.wb_tree.proofs.Images.WholePlan.{all-known, may-plan, plan-is, top-inside}
 use Rattle.wb_tree.proofs.tree.Tree.plan.Goals as goal
 
 -- ---- where the nodes are known

@@ -1,7 +1,7 @@
 use Rattle.std.proofs.Common.{◌≡◌, ◌<◌, ◌≤◌, Some, None, ap, subst, ◌∙◌, sym, slice_set, length, arith}
 use Rattle.wb_tree.specs.Mapping.{Mapping}
-use Rattle.wb_tree.specs.Stored.{padded}
-use Rattle.wb_tree.proofs.Padding.{padded-set, padded-after_resize, set_same}
+use Rattle.wb_tree.specs.Fields.{padded}
+use Rattle.wb_tree.proofs.Images.Padding.{padded-set, padded-after_resize, set_same}
 use Rattle.wb_tree.proofs.Equality.{same_option}
 use Rattle.wb_tree.proofs.tree.Tree.set.Goals.{then-at-len+in_ok-resize, else-at-len}
 use Rattle.wb_tree.proofs.tree.Tree.set.Goals as goal
@@ -21,10 +21,10 @@ returns-clause-entries g c =
       | then-at-len+in_ok-resize w ↦
           let grown = w.in_ok-resize.ensures in
           let long_now = w.resize.new.self.ok.0 in
-          let kept : old.entries.len ≤ c.args.c.0 = omega arith in (
+          let stays : old.entries.len ≤ c.args.c.0 = omega arith in (
             rw w.self-inside-is (omega (arith, long_now, grown.len)),
             ap (λ x. padded x.cache_blocks x.entries.items) w.self-inside-is
-                ∙ (padded-after_resize old.cache_blocks old.entries.items w.resize.new.self.items old.entries.len c.args.c.0 long kept requires c.self.invariant.size grown.items
+                ∙ (padded-after_resize old.cache_blocks old.entries.items w.resize.new.self.items old.entries.len c.args.c.0 long stays requires c.self.invariant.size grown.items
                 ∙ ap (λ m. m.entries) c.self.view_is),
           )
       | else-at-len w ↦ (

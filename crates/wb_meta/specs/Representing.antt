@@ -1,0 +1,58 @@
+-- Sectors that represent a mapping.
+use Rattle.std.specs.Prelude.{◌≡◌, ◌⊎◌, ℕ, true, Some, Ok, List, slice_get}
+use Rattle.wb_disk.specs.Device.{Content}
+use Rattle.wb_format.specs.declared.root.Root.{Root}
+use Rattle.wb_tree.specs.declared.placed.PlacedNode.{PlacedNode}
+use Rattle.wb_tree.specs.Mapping.{Mapping}
+use Rattle.wb_tree.specs.Images.{Stores}
+use Rattle.wb_tree.specs.Whole.{found_of}
+use Rattle.wb_tree.specs.Reading.{Found, Reading, Nodes, ReadsAs, IsNewestRoot, is_reached, tree_read}
+
+-- a sector that reads as this place is said to read
+pub record ReadsThere (sectors : List Content) (nodes : Nodes) (place : ℕ) : Type 0 where
+  pub sector : Content
+  pub there : slice_get sectors place ≡ Some sector
+  pub reads : ReadsAs sector (nodes place)
+
+-- the places of these nodes read so
+abbrev pub ReadThere : List Content → Nodes → List PlacedNode → Type 0
+ReadThere sectors nodes reached = (place : ℕ) → is_reached place reached ≡ true → ReadsThere sectors nodes place
+
+-- What sectors represent: the valid root of higher generation, and what is read of its tree or the place that its first
+-- fault names, whatever other sectors than those of the nodes that are reached read as. No other root counts.
+pub record RepresentsReading (sectors : List Content) (root : Root) (reading : Reading) : Type 0 where
+  pub newest : IsNewestRoot sectors root
+  pub nodes : Nodes
+  pub reached : List PlacedNode
+  pub there : ReadThere sectors nodes reached
+  pub reads : (others : Nodes) → ReadThere sectors others reached → tree_read root others ≡ reading
+
+-- The sectors represent a root and its tree: it is the valid root of higher generation, and the tree is read from it
+-- without a fault. Of the other sectors, those that the tree does not reach, nothing is said.
+pub record Represents (sectors : List Content) (root : Root) (found : Found) : Type 0 where
+  pub newest : IsNewestRoot sectors root
+  pub nodes : Nodes
+  pub reached : ReadThere sectors nodes found.reached
+  pub reads : tree_read root nodes ≡ Ok found
+
+-- They represent a root and its tree, and store what is known of a mapping.
+pub record RepresentsAndStores (sectors : List Content) (root : Root) (found : Found) (m : Mapping) : Type 0 where
+  pub represents : Represents sectors root found
+  pub stores : Stores sectors m root.generation
+
+-- they represent this mapping by this root, and store it
+abbrev pub RepresentsTree : List Content → Root → Mapping → Type 0
+RepresentsTree sectors root m = RepresentsAndStores sectors root (found_of root m) m
+
+-- a root, and what is read of its tree
+pub record Stored : Type 0 where
+  pub root : Root
+  pub found : Found
+
+-- they represent what was stored before, or are as is wanted
+abbrev pub RepresentsOr : Stored → (List Content → Type 0) → List Content → Type 0
+RepresentsOr old New sectors = Represents sectors old.root old.found ⊎ New sectors
+
+-- they represent what was stored before, or this mapping by this root
+abbrev pub RepresentsOldOrTree : Stored → Root → Mapping → List Content → Type 0
+RepresentsOldOrTree old root m = RepresentsOr old (λ sectors. RepresentsTree sectors root m)

@@ -1,0 +1,105 @@
+-- Steps of a reading, one after the other.
+use Rattle.std.proofs.Common.{◌≡◌, ◌≢◌, ◌≤◌, ◌<◌, ◌+◌, ◌-◌, ◌*◌, ◌^◌, ◌∙◌, ◌&&◌, ap, refl, ℕ, zero, suc, get_or, replicate, Bool, true, false, not, nat_eq, ltb, leb, List, Option, Some, None, Ok, Err, arith, add-one}
+use Rattle.std.proofs.lemmas.Bool.{ne_eqb, not-true}
+use Rattle.std.proofs.lemmas.Grind.{common_steps}
+use borrow.Author.Tests.{ltb-true}
+use Rattle.std.proofs.Math.Nat.{one-le-pow, mul-le-mul_left}
+use Rattle.std.specs.Prelude.{slice_set, if◌then◌else◌}
+use Rattle.wb_types.specs.declared.entry.Entry.{Entry}
+use Rattle.wb_types.specs.declared.number.Place.{Place}
+use Rattle.wb_format.specs.declared.root.Root.{Root}
+use Rattle.wb_tree.specs.declared.placed.PlacedNode.{PlacedNode}
+use Rattle.wb_tree.specs.Reading.{Found, Reading, Nodes, node_read, ◌then◌, each_step, child_read, names_child, entry_read, may_map, is_reached}
+use Rattle.wb_types.proofs.Truth.{and_true}
+
+-- the next of the steps that are left
+pub each_step-next : (step : ℕ → Found → Reading) (j : ℕ) (found : Found) → j < 32 → each_step step (32 - j) j found ≡ (step j found then each_step step (32 - (j + 1)) (j + 1))
+unfolding each_step
+each_step-next step j found h =
+    let e : 32 - j ≡ suc (32 - (j + 1)) = omega arith in
+    rw (e, add-one j) refl
+
+-- none is left
+pub each_step-none : (step : ℕ → Found → Reading) (j : ℕ) (found : Found) → 32 ≤ j → each_step step (32 - j) j found ≡ Ok found
+unfolding each_step
+each_step-none step j found h = let e : 32 - j ≡ 0 = omega arith in rw e refl
+
+-- ---- children
+
+pub child_read-zero : (root : Root) (here : Place) (level index : ℕ) (read : ℕ → Place → Found → Reading) (word : ℕ) (found : Found) → word ≡ 0 → child_read root here level index read word found ≡ Ok found
+child_read-zero root here level index read word found e = rw e refl
+
+not_zero : (word : ℕ) → word ≢ 0 → nat_eq word 0 ≡ false
+not_zero word h = ne_eqb word 0 h
+
+pub child_read-named : (root : Root) (here : Place) (level index : ℕ) (read : ℕ → Place → Found → Reading) (word : ℕ) (found : Found) → word ≢ 0 → names_child root found.reached level index word ≡ true
+    → child_read root here level index read word found ≡ read index (record { 0 = word }) found
+child_read-named root here level index read word found some named = rw (not_zero word some, named) refl
+
+pub child_read-unnamed : (root : Root) (here : Place) (level index : ℕ) (read : ℕ → Place → Found → Reading) (word : ℕ) (found : Found) → word ≢ 0 → names_child root found.reached level index word ≡ false
+    → child_read root here level index read word found ≡ Err here
+child_read-unnamed root here level index read word found some unnamed = rw (not_zero word some, unnamed) refl
+
+-- what the test of a child means
+pub record IsChild (root : Root) (reached : List PlacedNode) (level index word : ℕ) : Type 0 where
+  pub behind : 2 ≤ word
+  pub inside : word < root.geometry.meta_sectors
+  pub unread : is_reached word reached ≡ false
+  pub below : index * 32 ^ level < root.geometry.cache_blocks
+
+pub names_child-is : (root : Root) (reached : List PlacedNode) (level index word : ℕ) → names_child root reached level index word ≡ true → IsChild root reached level index word
+names_child-is root reached level index word h =
+    let a = and_true (leb 2 word && ltb word root.geometry.meta_sectors && not (is_reached word reached)) (ltb (index * 32 ^ level) root.geometry.cache_blocks) h in
+    let b = and_true (leb 2 word && ltb word root.geometry.meta_sectors) (not (is_reached word reached)) a.0 in
+    let d = and_true (leb 2 word) (ltb word root.geometry.meta_sectors) b.0 in
+    record {
+      behind = grind (arith, common_steps);
+      inside = ltb-true _ _ d.1;
+      unread = not-true (is_reached word reached) b.1;
+      below = ltb-true _ _ a.1;
+    }
+
+-- a node has no more nodes before it than cache blocks
+pub index_below : (index level blocks : ℕ) → index * 32 ^ level < blocks → index < blocks
+index_below index level blocks h =
+    let some : 1 ≤ 32 ^ level = one-le-pow level 32 (omega arith) in
+    let more : index * 1 ≤ index * 32 ^ level = mul-le-mul_left index some in
+    omega arith
+
+pub same_node_read : (root : Root) (nodes : Nodes) (level level' index index' : ℕ) (place place' : Place) (found : Found) → level ≡ level' → index ≡ index' → place.0 ≡ place'.0
+    → node_read root nodes level index place found ≡ node_read root nodes level' index' place' found
+same_node_read root nodes level level' index index' place place' found a b c =
+    let made : ℕ → Place = λ n. record { 0 = n } in
+    let d : place ≡ place' = ap made c in
+    ap (λ l. node_read root nodes l index place found) a ∙ (ap (λ i. node_read root nodes level' i place found) b ∙ ap (λ p. node_read root nodes level' index' p found) d)
+
+-- ---- entries
+
+pub entry_read-some : (root : Root) (here : Place) (block : ℕ) (o : Option Entry) (entry : Entry) (found : Found) → o ≡ Some entry → may_map root found.mapped block entry ≡ true
+    → entry_read root here block o found ≡ Ok (record { reached = found.reached; entries = slice_set found.entries block (Some entry); mapped = slice_set found.mapped entry.origin.0 true })
+entry_read-some root here block o entry found e may = rw (e, may) refl
+
+pub entry_read-fault : (root : Root) (here : Place) (block : ℕ) (o : Option Entry) (entry : Entry) (found : Found) → o ≡ Some entry → may_map root found.mapped block entry ≡ false
+    → entry_read root here block o found ≡ Err here
+entry_read-fault root here block o entry found e may = rw (e, may) refl
+
+pub entry_read-none : (root : Root) (here : Place) (block : ℕ) (o : Option Entry) (found : Found) → ((entry : Entry) → o ≡ Some entry → ⊥) → entry_read root here block o found ≡ Ok found
+entry_read-none root here block None found none = refl
+entry_read-none root here block (Some entry) found none = absurd (none entry refl)
+
+-- ---- what was read without a fault
+
+pub then_ok : (reading : Reading) (go_on : Found → Reading) (next : Found) → (reading then go_on) ≡ Ok next → (found : Found) × (reading ≡ Ok found) × (go_on found ≡ Ok next)
+then_ok (Ok found) go_on next e = (found, refl, e)
+then_ok (Err place) go_on next e = absurd (cc)
+
+-- where a test has to come out true
+pub test_ok : (test : Bool) (here : Place) (reading : Reading) (next : Found) → (if test then reading else Err here) ≡ Ok next → (test ≡ true) × (reading ≡ Ok next)
+test_ok true here reading next e = (refl, e)
+test_ok false here reading next e = absurd (cc)
+
+-- nothing stands where nothing was found yet
+pub nothing_there : {X : Type 0} (n i : ℕ) (x : X) → get_or (replicate n x) i x ≡ x
+nothing_there {X} zero i x = refl
+nothing_there {X} (suc n) zero x = refl
+nothing_there {X} (suc n) (suc i) x = nothing_there n i x

@@ -1,0 +1,51 @@
+-- What edits of a tree leave of it.
+use Rattle.std.specs.Prelude.{◌≡◌, ◌≤◌, ◌<◌, ℕ, Option, Some, None, List, slice_index_or, slice_set}
+use Rattle.wb_types.specs.declared.entry.Entry.{Entry}
+use Rattle.wb_types.specs.declared.number.Place.{Place}
+use Rattle.wb_tree.specs.Mapping.{Mapping, IsMapping, IsSound, IsPlaceOf, Forgets, place_of}
+use Rattle.wb_tree.specs.Images.{Stores, word_at}
+
+-- Edits of one entry each, one after the other and any number of them, lead from the one tree to the other: a node that
+-- is known after them was known before, where it stands, and has the words that it had.
+pub record IsEdited (old new : Mapping) : Type 0 where
+  pub stays : (level index : ℕ) (place : Place) → place_of new level index ≡ Some place → place_of old level index ≡ Some place
+  pub words : (level index j : ℕ) (place : Place) → place_of new level index ≡ Some place → j < 32
+      → word_at old level index j ≡ word_at new level index j
+
+-- An entry may come into a mapping at a cache block: its origin block is there, its hint is 16 at most, and no other
+-- cache block has that origin block.
+pub record MayEnter (origin_blocks : ℕ) (entries : List (Option Entry)) (block : ℕ) (entry : Entry) : Type 0 where
+  pub origin : entry.origin.0 < origin_blocks
+  pub hint : entry.hint ≤ 16
+  pub alone : (other : ℕ) (same : Entry) → slice_index_or entries other None ≡ Some same → same.origin ≡ entry.origin → other ≡ block
+
+-- ---- laws
+
+-- one edit, after which no node above its cache block is known, and what is known is as before
+abbrev pub OneEdit : Type 0
+OneEdit = (old new : Mapping) (block : ℕ) (entry : Option Entry) → IsSound old → IsSound new
+    → new.entries ≡ slice_set old.entries block entry → Forgets old new block → IsEdited old new
+
+-- no edit, and edits after edits, are edits
+abbrev pub EditsFollow : Type 0
+EditsFollow = ((m : Mapping) → IsEdited m m) × ((a b c : Mapping) → IsEdited a b → IsEdited b c → IsEdited a c)
+
+-- sectors that stored the tree before edits store it after them
+abbrev pub EditsAreStored : Type 0
+EditsAreStored = (old new : Mapping) (sectors : List (List ℕ)) (generation : ℕ) → IsEdited old new
+    → Stores sectors old generation → Stores sectors new generation
+
+-- after edits nodes stand at no place at which none stood
+abbrev pub EditsTakeNoPlace : Type 0
+EditsTakeNoPlace = (old new : Mapping) (place : Place) → IsEdited old new → IsPlaceOf new place → IsPlaceOf old place
+
+-- a mapping with one entry more, which may come in there, is one
+abbrev pub SetIsMapping : Type 0
+SetIsMapping = (cache_blocks origin_blocks block : ℕ) (entries : List (Option Entry)) (entry : Entry)
+    → IsMapping cache_blocks origin_blocks entries → MayEnter origin_blocks entries block entry
+    → IsMapping cache_blocks origin_blocks (slice_set entries block (Some entry))
+
+-- and so is one with an entry less
+abbrev pub ClearIsMapping : Type 0
+ClearIsMapping = (cache_blocks origin_blocks block : ℕ) (entries : List (Option Entry))
+    → IsMapping cache_blocks origin_blocks entries → IsMapping cache_blocks origin_blocks (slice_set entries block None)
