@@ -1,0 +1,15 @@
+//! Which blocks are worth caching, and which are written back.
+//!
+//! A policy is told of each access and of each entry that comes or goes, and answers with orders. What it may order
+//! is a law that every policy keeps; what it does order is a definition for each.
+#![tactic(auto)]
+
+mod order;
+mod policy;
+mod quiet;
+mod situation;
+
+pub use order::Order;
+pub use policy::Policy;
+pub use quiet::Quiet;
+pub use situation::{Settled, Tick};
