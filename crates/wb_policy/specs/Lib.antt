@@ -1,2 +1,5 @@
 pub mod Law
 pub mod Situations
+pub mod Recency
+pub mod Placing
+pub mod TinyLfu

@@ -7,9 +7,12 @@
 mod order;
 mod policy;
 mod quiet;
+mod recency;
 mod situation;
+mod tiny_lfu;
 
 pub use order::Order;
 pub use policy::Policy;
 pub use quiet::Quiet;
 pub use situation::{Settled, Tick};
+pub use tiny_lfu::TinyLfu;

@@ -68,15 +68,18 @@ pub trait Policy: Drop {
         ensures law { (m : Mapping) → knows self.old m → AreMapped m tick.now.dirty.now → IfSome result (IsLawful tick.now.mode m None tick.now.busy.now) }
         ensures knows { (m : Mapping) → knows self.old m → knows self.new m };
 
-    /// Tells that an unmapped block has an entry now; `Memory` where there is none, and then nothing changed.
+    /// Tells that a block has an entry now; `Memory` where there is none, and then nothing changed. `unmapped` undoes it.
     fn mapped(&mut self, b: OBlock, c: CBlock) -> Result<(), Refusal>
         ensures ok { OnOk result (self.new ≡ with_entry self.old b.0 c.0) }
+        ensures knows { (m : Mapping) → knows self.old m → IsUnmapped m b.0 → slice_get m c.0 ≡ Some None → OnOk result (knows self.new (slice_set m c.0 (Some b.0))) }
+        ensures undone { (m : Mapping) → knows self.old m → IsUnmapped m b.0 → OnOk result (without_entry self.new b.0 ≡ self.old) }
         ensures err { OnErr result (self.new ≡ self.old) }
         ensures refused { IfErr result (λ e. e ≡ Refusal.Memory) };
 
     /// Tells that a block has no entry any more.
     fn unmapped(&mut self, b: OBlock)
-        ensures { self.new ≡ without_entry self.old b.0 };
+        ensures state { self.new ≡ without_entry self.old b.0 }
+        ensures knows { (m : Mapping) (c : ℕ) → knows self.old m → IsMappedAt m b.0 c → knows self.new (slice_set m c None) };
 
     /// What is to be stored of a block for the next opening, 0 to 16.
     fn hint(&self, b: OBlock) -> u8
@@ -96,13 +99,4 @@ pub trait Policy: Drop {
     fn shown(&self) -> (&'static str, Option<u64>)
         ensures name { result.0.now ≡ name }
         ensures value { result.1 ≡ promote_min self.now };
-
-    ghost learns: { (p : Self) (m : Mapping) (b c : ℕ) → knows p m → IsUnmapped m b → slice_get m c ≡ Some None →
-        knows (with_entry p b c) (slice_set m c (Some b)) };
-
-    ghost forgets: { (p : Self) (m : Mapping) (b c : ℕ) → knows p m → IsMapping m → IsMappedAt m b c →
-        knows (without_entry p b) (slice_set m c None) };
-
-    ghost undoes: { (p : Self) (m : Mapping) (b c : ℕ) → knows p m → IsUnmapped m b →
-        without_entry (with_entry p b c) b ≡ p };
 }

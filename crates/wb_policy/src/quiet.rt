@@ -68,10 +68,4 @@ impl Policy for Quiet {
     fn shown(&self) -> (&'static str, Option<u64>) {
         ("quiet", None)
     }
-
-    ghost learns = { λ p m b c k u f. tt };
-
-    ghost forgets = { λ p m b c k i a. tt };
-
-    ghost undoes = { λ p m b c k u. refl };
 }

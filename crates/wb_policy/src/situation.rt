@@ -1,6 +1,9 @@
 //! What the desk lends a policy when it asks.
 
+ghost use Rattle.std.specs.Prelude.{◌≡◌};
 ghost use Rattle.std.specs.List.Sorted.{IsNonDecreasingBy};
+ghost use Rattle.wb_policy.specs.Situations.{is_busy as has_live_order};
+ghost use Rattle.wb_policy.specs.Recency.{is_dirty as is_seen_dirty};
 
 use wb_types::{CBlock, Mode, OBlock};
 
@@ -29,4 +32,28 @@ pub struct Tick<'a> {
     /// The mapped blocks that were seen dirty, by cache block.
     pub dirty: &'a [(CBlock, OBlock)],
     pub ghost rising: { IsNonDecreasingBy (λ e. e.0.0) dirty.now },
+}
+
+/// Whether an origin block has a live order.
+pub(crate) fn is_busy(busy: &[bool], block: OBlock) -> bool
+    ensures { result ≡ has_live_order busy.now block.0 }
+{
+    let OBlock(at) = block;
+    match busy.get(at as usize) {
+        Some(has) => *has,
+        None => false,
+    }
+}
+
+/// Whether a cache block was seen dirty. `log2` steps.
+pub(crate) fn is_dirty(tick: &Tick<'_>, c: CBlock) -> bool
+    ensures { result ≡ is_seen_dirty tick.now.dirty.now c.0 }
+{
+    let CBlock(wanted) = c;
+    let at = tick.dirty.partition_point(|(at, _)| at.0 < wanted);
+    if at >= tick.dirty.len() {
+        return false;
+    }
+    let (found, _) = tick.dirty[at];
+    found.0 == wanted
 }

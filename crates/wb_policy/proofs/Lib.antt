@@ -1,0 +1,5 @@
+pub mod Searching
+pub mod Uses
+pub mod Laws
+pub mod Lawful
+pub mod Placed
