@@ -3,3 +3,4 @@ pub mod Uses
 pub mod Laws
 pub mod Lawful
 pub mod Placed
+pub mod Turns

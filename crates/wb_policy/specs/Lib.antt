@@ -3,3 +3,4 @@ pub mod Situations
 pub mod Recency
 pub mod Placing
 pub mod TinyLfu
+pub mod Cleaner

@@ -4,6 +4,7 @@
 //! is a law that every policy keeps; what it does order is a definition for each.
 #![tactic(auto)]
 
+mod cleaner;
 mod order;
 mod policy;
 mod quiet;
@@ -11,6 +12,7 @@ mod recency;
 mod situation;
 mod tiny_lfu;
 
+pub use cleaner::Cleaner;
 pub use order::Order;
 pub use policy::Policy;
 pub use quiet::Quiet;
