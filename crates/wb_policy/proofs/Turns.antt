@@ -27,7 +27,7 @@ pub found_at : {X : Type 0} (p : X → Bool) (xs : List X) (i : ℕ) (d : X) →
     → Some (get_or xs i d) ≡ find p xs
 found_at p xs i d none within passes =
     let e : find p (take (i + 1) xs) ≡ Some (get_or xs i d) =
-      ap (find p) (take_more xs i d within) ∙ (find-append p (take i xs) (get_or xs i d ∷ []) ∙ rw (none, passes) refl) in
+    ap (find p) (take_more xs i d within) ∙ (find-append p (take i xs) (get_or xs i d ∷ []) ∙ rw (none, passes) refl) in
     sym (ap (find p) (sym (take-append-drop (i + 1) xs)) ∙ (find-append p (take (i + 1) xs) (drop (i + 1) xs) ∙ rw e refl))
 
 pub none_yet : {X : Type 0} (p : X → Bool) (xs : List X) (i : ℕ) (d : X) → find p (take i xs) ≡ None → i < length xs → p (get_or xs i d) ≡ false
@@ -59,16 +59,16 @@ pub turn-is : (last : ℕ) (xs : Dirty) (i : ℕ) → i ≤ length xs
 turn-is last xs i within split =
     let later : CBlock × OBlock → Bool = λ e. nat_lt last e.0.0 in
     let first : All (λ e. nat_lt last e.0.0 ≡ false) (take i xs) =
-      λ k d h. (let n : k < i = omega (arith, length-take i xs) in rw (get_or-take i xs k d n) (up_to last _ (split.0 k d (omega arith) n))) in
+    λ k d h. (let n : k < i = omega (arith, length-take i xs) in rw (get_or-take i xs k d n) (up_to last _ (split.0 k d (omega arith) n))) in
     let rest : All (λ e. nat_lt last e.0.0 ≡ true) (drop i xs) =
-      λ k d h. (let n : i + k < length xs = omega (arith, length-drop i xs) in rw (get_or-drop i xs k d) (past last _ (split.1 (i + k) d (omega arith) n))) in
+    λ k d h. (let n : i + k < length xs = omega (arith, length-drop i xs) in rw (get_or-drop i xs k d) (past last _ (split.1 (i + k) d (omega arith) n))) in
     let whole = take-append-drop i xs in
     let behind : filter (λ e. nat_lt last e.0.0) xs ≡ drop i xs =
-      ap (filter (λ e. nat_lt last e.0.0)) (sym whole) ∙ (filter-append (λ e. nat_lt last e.0.0) (take i xs) (drop i xs)
-        ∙ rw (filter_none (λ e. nat_lt last e.0.0) (take i xs) first, filter_all (λ e. nat_lt last e.0.0) (drop i xs) rest) refl) in
+    ap (filter (λ e. nat_lt last e.0.0)) (sym whole) ∙ (filter-append (λ e. nat_lt last e.0.0) (take i xs) (drop i xs)
+    ∙ rw (filter_none (λ e. nat_lt last e.0.0) (take i xs) first, filter_all (λ e. nat_lt last e.0.0) (drop i xs) rest) refl) in
     let others : filter (λ e. not (nat_lt last e.0.0)) xs ≡ take i xs =
-      ap (filter (λ e. not (nat_lt last e.0.0))) (sym whole) ∙ (filter-append (λ e. not (nat_lt last e.0.0)) (take i xs) (drop i xs)
-        ∙ rw (filter_all (λ e. not (nat_lt last e.0.0)) (take i xs) (λ k d h. ap not (first k d h)), filter_none (λ e. not (nat_lt last e.0.0)) (drop i xs) (λ k d h. ap not (rest k d h))) (append-nil (take i xs))) in
+    ap (filter (λ e. not (nat_lt last e.0.0))) (sym whole) ∙ (filter-append (λ e. not (nat_lt last e.0.0)) (take i xs) (drop i xs)
+    ∙ rw (filter_all (λ e. not (nat_lt last e.0.0)) (take i xs) (λ k d h. ap not (first k d h)), filter_none (λ e. not (nat_lt last e.0.0)) (drop i xs) (λ k d h. ap not (rest k d h))) (append-nil (take i xs))) in
     rw (behind, others) refl
 
 pub found_behind : (busy : List Bool) (last : ℕ) (xs : Dirty) (i : ℕ) (e : CBlock × OBlock) → in_turn (Some last) xs ≡ drop i xs ++ take i xs
