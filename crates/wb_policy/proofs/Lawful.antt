@@ -8,10 +8,10 @@ use Rattle.wb_policy.specs.declared.order.Order.{Order}
 use Rattle.wb_policy.specs.declared.order.Order.TheVariants.{Promote, Replace, Clean}
 use Rattle.wb_policy.specs.declared.situation.Settled.{Settled}
 use Rattle.wb_policy.specs.declared.situation.Tick.{Tick}
-use Rattle.wb_policy.specs.Law.{Mapping, IsMappedAt, IsUnmapped, IsLawful}
+use Rattle.wb_policy.specs.Law.{Holdings, IsMappedAt, IsUnmapped, IsLawful}
 use Rattle.wb_policy.specs.Situations.{is_busy, is_passthrough}
 use Rattle.wb_policy.specs.Recency.{least_recent, is_idle, is_dirty, is_dirty_and_idle}
-use Rattle.wb_policy.specs.TinyLfu.{Knowledge, Knows, after_access, is_mapped, estimate, may_come_in, promotion, replacement, way_in, decided, ordered, write_back, cleaned}
+use Rattle.wb_policy.specs.TinyLfu.{Knowledge, WasTold, after_access, is_mapped, estimate, may_come_in, promotion, replacement, way_in, decided, ordered, write_back, cleaned}
 use Rattle.wb_policy.proofs.Laws.{uses, unmapped_from_absent, least_recent-mapped}
 
 pub both : (a b : Bool) → (a && b) ≡ true → (a ≡ true) × (b ≡ true)
@@ -27,23 +27,23 @@ not_passthrough Writeback h e = cc
 not_passthrough Writethrough h e = cc
 not_passthrough Passthrough h e = cc
 
-if_true : (m : Mapping) (a : Settled) (b : Bool) (o : Order) → (b ≡ true → IsLawful a.mode m a.least_free a.busy.now o) → IfSome (cond b (Some o) None) (IsLawful a.mode m a.least_free a.busy.now)
+if_true : (m : Holdings) (a : Settled) (b : Bool) (o : Order) → (b ≡ true → IsLawful a.mode m a.least_free a.busy.now o) → IfSome (cond b (Some o) None) (IsLawful a.mode m a.least_free a.busy.now)
 if_true m a true o h = h refl
 if_true m a false o h = tt
 
-lawful-replacement : (m : Mapping) (k : Knowledge) (a : Settled) → Knows k m → IsUnmapped m a.block.0 → a.mode ≢ Passthrough → is_busy a.busy.now a.block.0 ≡ false
+lawful-replacement : (m : Holdings) (k : Knowledge) (a : Settled) → WasTold k m → IsUnmapped m a.block.0 → a.mode ≢ Passthrough → is_busy a.busy.now a.block.0 ≡ false
     → (o : Option (ℕ × ℕ)) → least_recent (is_idle a.busy.now) k.recency ≡ o → IfSome (replacement k a o) (IsLawful a.mode m a.least_free a.busy.now)
 lawful-replacement m k a knows new allowed idle None found = tt
 lawful-replacement m k a knows new allowed idle (Some victim) found =
     let at = least_recent-mapped m k.recency (is_idle a.busy.now) victim knows found in
     if_true m a _ _ (λ _. record { allowed = allowed; names = (new, at.0); idle = (not_so _ at.1, idle) })
 
-lawful-way_in : (m : Mapping) (k : Knowledge) (a : Settled) → Knows k m → IsUnmapped m a.block.0 → a.mode ≢ Passthrough → is_busy a.busy.now a.block.0 ≡ false
+lawful-way_in : (m : Holdings) (k : Knowledge) (a : Settled) → WasTold k m → IsUnmapped m a.block.0 → a.mode ≢ Passthrough → is_busy a.busy.now a.block.0 ≡ false
     → (free : Option CBlock) → a.least_free ≡ free → IfSome (way_in k a free) (IsLawful a.mode m a.least_free a.busy.now)
 lawful-way_in m k a knows new allowed idle (Some c) is = if_true m a _ _ (λ _. record { allowed = allowed; names = (new, is); idle = idle })
 lawful-way_in m k a knows new allowed idle None is = lawful-replacement m k a knows new allowed idle _ refl
 
-pub lawful-decided : (m : Mapping) (k : Knowledge) (a : Settled) → Knows k m → IsUnmapped m a.block.0
+pub lawful-decided : (m : Holdings) (k : Knowledge) (a : Settled) → WasTold k m → IsUnmapped m a.block.0
     → IfSome (decided k a) (IsLawful a.mode m a.least_free a.busy.now)
 lawful-decided m k a knows new = by (may_come_in k a) refl
   where
@@ -54,7 +54,7 @@ lawful-decided m k a knows new = by (may_come_in k a) refl
         lawful-way_in m k a knows new (not_passthrough a.mode parts.0) (not_so _ others.0) a.least_free refl
     by false h = tt
 
-lawful-write_back : (m : Mapping) (k : Knowledge) (t : Tick) → Knows k m → t.mode ≢ Passthrough
+lawful-write_back : (m : Holdings) (k : Knowledge) (t : Tick) → WasTold k m → t.mode ≢ Passthrough
     → (o : Option (ℕ × ℕ)) → least_recent (is_dirty_and_idle t.busy.now t.dirty.now) k.recency ≡ o
     → IfSome (write_back k t o) (IsLawful t.mode m None t.busy.now)
 lawful-write_back m k t knows allowed None found = tt
@@ -67,7 +67,7 @@ lawful-write_back m k t knows allowed (Some e) found =
     by true h = h
     by false h = tt
 
-pub lawful-cleaned : (m : Mapping) (k : Knowledge) (t : Tick) (given : ℕ) → Knows k m → IfSome (cleaned k t given) (IsLawful t.mode m None t.busy.now)
+pub lawful-cleaned : (m : Holdings) (k : Knowledge) (t : Tick) (given : ℕ) → WasTold k m → IfSome (cleaned k t given) (IsLawful t.mode m None t.busy.now)
 lawful-cleaned m k t given knows = by (not (is_passthrough t.mode) && nat_eq given 0) refl
   where
     by : (b : Bool) → (not (is_passthrough t.mode) && nat_eq given 0) ≡ b

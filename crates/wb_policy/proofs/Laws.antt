@@ -13,7 +13,7 @@ use Rattle.std.proofs.lemmas.List.Sorted.{IsPermutation-reverse, IsPermutation-s
 use Rattle.std.proofs.lemmas.Map.Views.{lookup-from_Contains}
 use Rattle.lru.proofs.CallerLemmas.{Contains-lookup_entry}
 use Rattle.lru.proofs.Splits.{Contains-head, Contains-tail}
-use Rattle.wb_policy.specs.Law.{Mapping, IsMappedAt, IsUnmapped}
+use Rattle.wb_policy.specs.Law.{Holdings, IsMappedAt, IsUnmapped}
 use Rattle.wb_policy.specs.Recency.{Recency, AgreesWith, used, newly_mapped, no_longer_mapped, least_recent}
 use Rattle.wb_policy.proofs.Uses.{unremoved}
 
@@ -97,7 +97,7 @@ entry_same x y h = cc
 none_some : (x : ℕ) → None ≡ Some x → ⊥
 none_some x h = cc
 
-pub learns : (m : Mapping) (r : Recency) (b c : ℕ) → AgreesWith m r → IsUnmapped m b → slice_get m c ≡ Some None
+pub learns : (m : Holdings) (r : Recency) (b c : ℕ) → AgreesWith m r → IsUnmapped m b → slice_get m c ≡ Some None
     → AgreesWith (slice_set m c (Some b)) (newly_mapped b c r)
 learns m r b c agrees unmapped free = record {
   once = distinct-newly b c r agrees.once;
@@ -123,7 +123,7 @@ learns m r b c agrees unmapped free = record {
   ];
 }
 
-pub forgets : (m : Mapping) (r : Recency) (b c : ℕ) → AgreesWith m r → IsMappedAt m b c → AgreesWith (slice_set m c None) (no_longer_mapped b r)
+pub forgets : (m : Holdings) (r : Recency) (b c : ℕ) → AgreesWith m r → IsMappedAt m b c → AgreesWith (slice_set m c None) (no_longer_mapped b r)
 forgets m r b c agrees mapped = record {
   once = distinct-removed (nat_eq b) r agrees.once;
   has = λ q at here. elim (cases_eq at c) [
@@ -149,11 +149,11 @@ no_entry test (e ∷ es) h = by (test e.0) h (no_entry test es)
     by true h more = cc
     by false h more = more h
 
-absent : (m : Mapping) (r : Recency) (b : ℕ) → AgreesWith m r → IsUnmapped m b → (o : Option ℕ) → lookup (nat_eq b) r ≡ o → o ≡ None
+absent : (m : Holdings) (r : Recency) (b : ℕ) → AgreesWith m r → IsUnmapped m b → (o : Option ℕ) → lookup (nat_eq b) r ≡ o → o ≡ None
 absent m r b agrees unmapped None h = refl
 absent m r b agrees unmapped (Some at) h = absurd (unmapped at (agrees.stands b at h))
 
-pub undoes : (m : Mapping) (r : Recency) (b c : ℕ) → AgreesWith m r → IsUnmapped m b → no_longer_mapped b (newly_mapped b c r) ≡ r
+pub undoes : (m : Holdings) (r : Recency) (b c : ℕ) → AgreesWith m r → IsUnmapped m b → no_longer_mapped b (newly_mapped b c r) ≡ r
 undoes m r b c agrees unmapped =
     let none : lookup (nat_eq b) r ≡ None = absent m r b agrees unmapped _ refl in
     let same : remove_entry (nat_eq b) r ≡ r = unremoved (nat_eq b) r (no_entry (nat_eq b) r none) in
@@ -169,7 +169,7 @@ from_entry test (f ∷ es) e h = by (test f.0) h (from_entry test es e)
     by false h more = more h
 
 -- a block that is used stays where it is
-pub uses : (m : Mapping) (r : Recency) (b : ℕ) → AgreesWith m r → AgreesWith m (used b r)
+pub uses : (m : Holdings) (r : Recency) (b : ℕ) → AgreesWith m r → AgreesWith m (used b r)
 uses m r b agrees = by (lookup_entry (nat_eq b) r) refl
   where
     by : (o : Option (ℕ × ℕ)) → lookup_entry (nat_eq b) r ≡ o → AgreesWith m (option_map_or (λ e. e ∷ remove_entry (nat_eq b) r) o r)
@@ -196,15 +196,16 @@ uses m r b agrees = by (lookup_entry (nat_eq b) r) refl
         subst (λ p. AgreesWith m ((p, e.1) ∷ remove_entry (nat_eq b) r)) key moved
 
 -- what is not in the list is not mapped
-pub unmapped_from_absent : (m : Mapping) (r : Recency) (b : ℕ) → AgreesWith m r → is_some (lookup (nat_eq b) r) ≡ false → IsUnmapped m b
+pub unmapped_from_absent : (m : Holdings) (r : Recency) (b : ℕ) → AgreesWith m r → is_some (lookup (nat_eq b) r) ≡ false → IsUnmapped m b
 unmapped_from_absent m r b agrees none at here = let found = agrees.has b at here in absurd (no_some _ at found none)
   where
     no_some : (o : Option ℕ) (at : ℕ) → o ≡ Some at → is_some o ≡ false → ⊥
     no_some o at h n = let clash = rw h at n in cc
 
-find_passes : (test : ℕ × ℕ → Bool) (es : Recency) (e : ℕ × ℕ) → find test es ≡ Some e → Contains es e × (test e ≡ true)
+-- what is found is in the list, and passes
+pub find_passes : {X : Type 0} (test : X → Bool) (es : List X) (e : X) → find test es ≡ Some e → Contains es e × (test e ≡ true)
 find_passes test [] e h = cc
-find_passes test (f ∷ es) e h = by (test f) refl h (find_passes test es e)
+find_passes {X} test (f ∷ es) e h = by (test f) refl h (find_passes test es e)
   where
     by : (b : Bool) → test f ≡ b → cond b (Some f) (find test es) ≡ Some e → (find test es ≡ Some e → Contains es e × (test e ≡ true))
         → Contains (f ∷ es) e × (test e ≡ true)
@@ -212,7 +213,7 @@ find_passes test (f ∷ es) e h = by (test f) refl h (find_passes test es e)
     by false t h more = let on = more h in (Contains-tail f es e on.0, on.1)
 
 -- the least recent one that passes is mapped, and passes
-pub least_recent-mapped : (m : Mapping) (r : Recency) (test : ℕ × ℕ → Bool) (e : ℕ × ℕ) → AgreesWith m r → least_recent test r ≡ Some e
+pub least_recent-mapped : (m : Holdings) (r : Recency) (test : ℕ × ℕ → Bool) (e : ℕ × ℕ) → AgreesWith m r → least_recent test r ≡ Some e
     → IsMappedAt m e.0 e.1 × (test e ≡ true)
 least_recent-mapped m r test e agrees h =
     let found = find_passes test (reverse r) e h in

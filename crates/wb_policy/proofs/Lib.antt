@@ -4,3 +4,4 @@ pub mod Laws
 pub mod Lawful
 pub mod Placed
 pub mod Turns
+pub mod Accesses

@@ -9,9 +9,9 @@ use Rattle.std.proofs.lemmas.List.{take_more, append-nil, map-append, length-tak
 use Rattle.std.proofs.lemmas.List.Sorted.{IsPermutation-map, IsPermutation-sym, Contains-permutation}
 use Rattle.lru.proofs.Splits.{Contains-head, Contains-tail, Contains-cons, Contains-nil}
 use Rattle.wb_types.specs.declared.entry.Entry.{Entry}
-use Rattle.wb_policy.specs.Law.{Mapping, origins, IsMapping, IsMappedAt}
+use Rattle.wb_policy.specs.Law.{Holdings, origins, IsMapping, IsMappedAt}
 use Rattle.wb_policy.specs.Recency.{Recency, AgreesWith, newly_mapped, mapped_in_order}
-use Rattle.wb_policy.specs.Placing.{mapped_from, IsPlaced}
+use Rattle.wb_policy.specs.Placing.{mapped_from, IsPlacedByHint}
 use Rattle.wb_policy.proofs.Laws.{distinct-newly, lookup-newly_same, lookup-newly_other}
 
 abbrev Placed : Type 0
@@ -141,7 +141,7 @@ nothing_twice : IsDistinct nat_eq []
 unfolding IsDistinct
 nothing_twice = tt
 
-pub placed-agrees : (es : List (Option Entry)) (r : Recency) → IsMapping (origins es) → IsPlaced es r → AgreesWith (origins es) r
+pub placed-agrees : (es : List (Option Entry)) (r : Recency) → IsMapping (origins es) → IsPlacedByHint es r → AgreesWith (origins es) r
 placed-agrees es r once placed =
     let moved = IsPermutation-map pair _ _ placed.1 in
     let ps : List (ℕ × ℕ) = map pair placed.0 in

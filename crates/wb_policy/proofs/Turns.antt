@@ -14,9 +14,10 @@ use Rattle.wb_types.specs.declared.number.CBlock.{CBlock}
 use Rattle.wb_types.specs.declared.number.OBlock.{OBlock}
 use Rattle.wb_policy.specs.declared.order.Order.TheVariants.{Clean}
 use Rattle.wb_policy.specs.declared.situation.Tick.{Tick}
-use Rattle.wb_policy.specs.Law.{Mapping, AreMapped, IsLawful}
+use Rattle.wb_policy.specs.Law.{Holdings, AreMapped, IsLawful}
 use Rattle.wb_policy.specs.Situations.{is_passthrough}
 use Rattle.wb_policy.specs.Cleaner.{Progress, in_turn, is_waiting, next_in_turn, chosen}
+use Rattle.wb_policy.proofs.Laws.{find_passes}
 use Rattle.wb_policy.proofs.Lawful.{both, not_so, not_passthrough}
 
 abbrev Dirty : Type 0
@@ -81,15 +82,6 @@ pub found_before : (busy : List Bool) (last : ℕ) (xs : Dirty) (i : ℕ) → in
 found_before busy last xs i turn none =
     sym (ap (find (is_waiting busy)) turn ∙ (find-append (is_waiting busy) (drop i xs) (take i xs) ∙ rw none refl))
 
-found_passes : {X : Type 0} (p : X → Bool) (xs : List X) (e : X) → find p xs ≡ Some e → Contains xs e × (p e ≡ true)
-found_passes p [] e h = cc
-found_passes {X} p (f ∷ xs) e h = by (p f) refl h (found_passes p xs e)
-  where
-    by : (b : Bool) → p f ≡ b → cond b (Some f) (find p xs) ≡ Some e → (find p xs ≡ Some e → Contains xs e × (p e ≡ true))
-        → Contains (f ∷ xs) e × (p e ≡ true)
-    by true t h more = let same : f ≡ e = cc in (subst (Contains (f ∷ xs)) same (Contains-head f xs), subst (λ g. p g ≡ true) same t)
-    by false t h more = let on = more h in (Contains-tail f xs e on.0, on.1)
-
 filtered_from : {X : Type 0} (p : X → Bool) (xs : List X) (e : X) → Contains (filter p xs) e → Contains xs e
 filtered_from p [] e h = h
 filtered_from {X} p (f ∷ xs) e h = by (p f) h (filtered_from p xs e)
@@ -109,14 +101,14 @@ turn_from (Some last) xs e h = elim (Contains-append_cases (filter (λ e. nat_lt
 ]
 
 -- what the cleaner orders keeps the law
-pub lawful-chosen : (m : Mapping) (p : Progress) (t : Tick) (e : CBlock × OBlock) → AreMapped m t.dirty.now → chosen p t ≡ Some e
+pub lawful-chosen : (m : Holdings) (p : Progress) (t : Tick) (e : CBlock × OBlock) → AreMapped m t.dirty.now → chosen p t ≡ Some e
     → IsLawful t.mode m None t.busy.now (Clean e.1)
 lawful-chosen m p t e mapped h = by (not (is_passthrough t.mode) && nat_le p.block_sectors t.room) refl h
   where
     by : (b : Bool) → (not (is_passthrough t.mode) && nat_le p.block_sectors t.room) ≡ b → cond b (next_in_turn p t) None ≡ Some e
         → IsLawful t.mode m None t.busy.now (Clean e.1)
     by true may found =
-        let on = found_passes (is_waiting t.busy.now) (in_turn p.last t.dirty.now) e found in
+        let on = find_passes (is_waiting t.busy.now) (in_turn p.last t.dirty.now) e found in
         record {
           allowed = not_passthrough t.mode (both _ _ may).0;
           names = (e.0.0, mapped e.0 e.1 (turn_from p.last t.dirty.now e on.0));

@@ -16,7 +16,7 @@ abbrev pub by_hint : ℕ × (ℕ × ℕ) → ℕ × (ℕ × ℕ) → Ordering
 by_hint x y = ordering_then (nat_cmp x.0 y.0) (ordering_then (nat_cmp x.1.0 y.1.0) (nat_cmp x.1.1 y.1.1))
 
 -- the recency at an opening: the mapped blocks by hint, then by cache block, both rising; the last is the most recent
-abbrev pub IsPlaced : List (Option Entry) → Recency → Type 0
-IsPlaced entries recency =
+abbrev pub IsPlacedByHint : List (Option Entry) → Recency → Type 0
+IsPlacedByHint entries recency =
     (placed : List (ℕ × (ℕ × ℕ))) × IsPermutation (mapped_from 0 entries) placed × IsSorted by_hint placed
     × (recency ≡ mapped_in_order [] (map (λ p. (p.1.1, p.1.0)) placed))

@@ -4,7 +4,7 @@ use Rattle.std.specs.Map.{keys_of, lookup, remove_entry}
 use Rattle.lru.specs.LruCache.{promoted}
 use Rattle.wb_types.specs.declared.number.CBlock.{CBlock}
 use Rattle.wb_types.specs.declared.number.OBlock.{OBlock}
-use Rattle.wb_policy.specs.Law.{Mapping, IsMappedAt}
+use Rattle.wb_policy.specs.Law.{Holdings, IsMappedAt}
 use Rattle.wb_policy.specs.Situations.{is_busy}
 
 -- the mapped blocks with their cache blocks, the most recently used first
@@ -44,7 +44,7 @@ abbrev pub is_dirty_and_idle : List Bool → List (CBlock × OBlock) → ℕ × 
 is_dirty_and_idle busy dirty e = is_dirty dirty e.1 && is_idle busy e
 
 -- each mapped block stands in it once, with its cache block
-pub record AgreesWith (mapping : Mapping) (recency : Recency) : Type 0 where
+pub record AgreesWith (mapping : Holdings) (recency : Recency) : Type 0 where
   pub once : IsDistinct nat_eq (keys_of recency)
   pub has : (block at : ℕ) → IsMappedAt mapping block at → lookup (nat_eq block) recency ≡ Some at
   pub stands : (block at : ℕ) → lookup (nat_eq block) recency ≡ Some at → IsMappedAt mapping block at

@@ -1,4 +1,4 @@
-use Rattle.std.specs.Prelude.{◌≡◌, ℕ, ◌*◌, nat_eq, nat_le, nat_lt, Bool, true, false, ◌&&◌, not, if◌then◌else◌, List, Option, Some, None, is_some}
+use Rattle.std.specs.Prelude.{◌≡◌, ℕ, ◌*◌, nat_eq, nat_le, nat_lt, Bool, true, false, ◌&&◌, not, if◌then◌else◌, List, [], ◌∷◌, Option, Some, None, is_some}
 use Rattle.std.specs.Map.{lookup}
 use Rattle.wb_sketch.specs.Frequencies.{Frequencies, accessed, estimate_of}
 use Rattle.wb_types.specs.declared.message.Key.{Key}
@@ -8,7 +8,7 @@ use Rattle.wb_policy.specs.declared.order.Order.{Order}
 use Rattle.wb_policy.specs.declared.order.Order.TheVariants.{Promote, Replace, Clean}
 use Rattle.wb_policy.specs.declared.situation.Settled.{Settled}
 use Rattle.wb_policy.specs.declared.situation.Tick.{Tick}
-use Rattle.wb_policy.specs.Law.{Mapping}
+use Rattle.wb_policy.specs.Law.{Holdings}
 use Rattle.wb_policy.specs.Situations.{is_busy, is_passthrough}
 use Rattle.wb_policy.specs.Recency.{Recency, AgreesWith, used, least_recent, is_idle, is_dirty_and_idle}
 
@@ -23,6 +23,11 @@ pub record Knowledge : Type 0 where
 -- an access counts in the sketch, and a mapped block becomes the most recent
 abbrev pub after_access : Knowledge → ℕ → Knowledge
 after_access k block = record k { frequencies = accessed k.frequencies block; recency = used block k.recency }
+
+-- after these accesses, in their order
+abbrev pub after_all : Knowledge → List ℕ → Knowledge
+after_all k [] = k
+after_all k (block ∷ blocks) = after_all (after_access k block) blocks
 
 abbrev pub is_mapped : Knowledge → ℕ → Bool
 is_mapped k block = is_some (lookup (nat_eq block) k.recency)
@@ -76,5 +81,5 @@ with_setting k MigrationThreshold value = None
 with_setting k PromoteMin value = if nat_le 1 value && nat_le value 17 then Some (record k { promote_min = value }) else None
 
 -- it was told of this mapping
-abbrev pub Knows : Knowledge → Mapping → Type 0
-Knows k mapping = AgreesWith mapping k.recency
+abbrev pub WasTold : Knowledge → Holdings → Type 0
+WasTold k mapping = AgreesWith mapping k.recency

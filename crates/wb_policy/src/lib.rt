@@ -5,6 +5,7 @@
 #![tactic(auto)]
 
 mod cleaner;
+mod law;
 mod order;
 mod policy;
 mod quiet;
@@ -15,6 +16,7 @@ mod tests;
 mod tiny_lfu;
 
 pub use cleaner::Cleaner;
+pub use law::accesses_law;
 pub use order::Order;
 pub use policy::Policy;
 pub use quiet::Quiet;

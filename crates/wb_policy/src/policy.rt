@@ -5,7 +5,7 @@ ghost use Rattle.wb_types.specs.declared.message.Key.{Key as Setting};
 ghost use Rattle.wb_policy.specs.declared.order.Order.{Order as AnOrder};
 ghost use Rattle.wb_policy.specs.declared.situation.Settled.{Settled as Access};
 ghost use Rattle.wb_policy.specs.declared.situation.Tick.{Tick as Ticking};
-ghost use Rattle.wb_policy.specs.Law.{Mapping, origins, IsMapping, IsMappedAt, IsUnmapped, AreMapped, IsLawful};
+ghost use Rattle.wb_policy.specs.Law.{Holdings, origins, IsMapping, IsMappedAt, IsUnmapped, AreMapped, IsLawful};
 
 use crate::{Order, Settled, Tick};
 use std::alloc::Global;
@@ -17,7 +17,7 @@ use wb_types::{CBlock, Entry, Geometry, Key, OBlock, Refusal};
 /// policy. Only `new` and `mapped` take memory.
 pub trait Policy: Drop {
     /// Whether what it was told of the mapping is this.
-    ghost knows: { Self → Mapping → Type 0 };
+    ghost knows: { Self → Holdings → Type 0 };
 
     /// The order that it gives at an access.
     ghost ordered: { Self → Access → Option AnOrder };
@@ -58,28 +58,28 @@ pub trait Policy: Drop {
     fn settle(&mut self, access: &Settled<'_>) -> Option<Order>
         ensures order { result ≡ ordered self.old access.now }
         ensures state { self.new ≡ settled self.old access.now }
-        ensures law { (m : Mapping) → knows self.old m → IfSome result (IsLawful access.now.mode m access.now.least_free access.now.busy.now) }
-        ensures knows { (m : Mapping) → knows self.old m → knows self.new m };
+        ensures law { (m : Holdings) → knows self.old m → IfSome result (IsLawful access.now.mode m access.now.least_free access.now.busy.now) }
+        ensures knows { (m : Holdings) → knows self.old m → knows self.new m };
 
     /// Gives the next order of a tick that has given so many, if any.
     fn tick(&mut self, tick: &Tick<'_>, given: u32) -> Option<Order>
         ensures order { result ≡ cleaned self.old tick.now given }
         ensures state { self.new ≡ ticked self.old tick.now given }
-        ensures law { (m : Mapping) → knows self.old m → AreMapped m tick.now.dirty.now → IfSome result (IsLawful tick.now.mode m None tick.now.busy.now) }
-        ensures knows { (m : Mapping) → knows self.old m → knows self.new m };
+        ensures law { (m : Holdings) → knows self.old m → AreMapped m tick.now.dirty.now → IfSome result (IsLawful tick.now.mode m None tick.now.busy.now) }
+        ensures knows { (m : Holdings) → knows self.old m → knows self.new m };
 
     /// Tells that a block has an entry now; `Memory` where there is none, and then nothing changed. `unmapped` undoes it.
     fn mapped(&mut self, b: OBlock, c: CBlock) -> Result<(), Refusal>
         ensures ok { OnOk result (self.new ≡ with_entry self.old b.0 c.0) }
-        ensures knows { (m : Mapping) → knows self.old m → IsUnmapped m b.0 → slice_get m c.0 ≡ Some None → OnOk result (knows self.new (slice_set m c.0 (Some b.0))) }
-        ensures undone { (m : Mapping) → knows self.old m → IsUnmapped m b.0 → OnOk result (without_entry self.new b.0 ≡ self.old) }
+        ensures knows { (m : Holdings) → knows self.old m → IsUnmapped m b.0 → slice_get m c.0 ≡ Some None → OnOk result (knows self.new (slice_set m c.0 (Some b.0))) }
+        ensures undone { (m : Holdings) → knows self.old m → IsUnmapped m b.0 → OnOk result (without_entry self.new b.0 ≡ self.old) }
         ensures err { OnErr result (self.new ≡ self.old) }
         ensures refused { IfErr result (λ e. e ≡ Refusal.Memory) };
 
     /// Tells that a block has no entry any more.
     fn unmapped(&mut self, b: OBlock)
         ensures state { self.new ≡ without_entry self.old b.0 }
-        ensures knows { (m : Mapping) (c : ℕ) → knows self.old m → IsMappedAt m b.0 c → knows self.new (slice_set m c None) };
+        ensures knows { (m : Holdings) (c : ℕ) → knows self.old m → IsMappedAt m b.0 c → knows self.new (slice_set m c None) };
 
     /// What is to be stored of a block for the next opening, 0 to 16.
     fn hint(&self, b: OBlock) -> u8
@@ -93,7 +93,7 @@ pub trait Policy: Drop {
         ensures bad { OnErr result (with_setting self.old key value ≡ None) }
         ensures err { OnErr result (self.new ≡ self.old) }
         ensures refused { IfErr result (λ e. e ≡ Refusal.BadMessage) }
-        ensures knows { (m : Mapping) → knows self.old m → knows self.new m };
+        ensures knows { (m : Holdings) → knows self.old m → knows self.new m };
 
     /// The policy's name, and the value of `promote_min` where there is one.
     fn shown(&self) -> (&'static str, Option<u64>)

@@ -91,8 +91,8 @@ impl Recency {
         if tick.dirty.is_empty() {
             return None;
         }
-        for (block, at) in self.blocks.iter().rev() {
-            let (block, at) = (OBlock(*block), CBlock(*at));
+        for (number, place) in self.blocks.iter().rev() {
+            let (block, at) = (OBlock(*number), CBlock(*place));
             if is_to_clean(tick, block, at) {
                 return Some((block, at));
             }

@@ -3,7 +3,10 @@
 ghost use Rattle.std.specs.Prelude.{OnOk};
 ghost use Rattle.std.specs.List.Sorted.{IsNonDecreasingBy};
 
+mod compared;
+mod plain;
 mod rows;
+mod undone;
 
 use crate::{Order, Policy, Tick};
 use std::alloc::{AllocError, Global};

@@ -1,10 +1,10 @@
 //! The policy that caches what is accessed often.
 
 ghost use Rattle.std.specs.Prelude.{◌≡◌, ◌≤◌, ◌<◌, ◌^◌, ℕ, Option, Some, None, false, IfOk, IfErr, OnOk, OnErr, IfSome, length, codes};
-ghost use Rattle.wb_policy.specs.Law.{Mapping, origins, IsMapping, AreMapped, IsLawful};
+ghost use Rattle.wb_policy.specs.Law.{Holdings, origins, IsMapping, AreMapped, IsLawful};
 ghost use Rattle.wb_policy.specs.Recency.{AgreesWith, least_recent, is_idle};
-ghost use Rattle.wb_policy.specs.Placing.{IsPlaced, mapped_from};
-ghost use Rattle.wb_policy.specs.TinyLfu.{decided, may_come_in, replacement, cleaned, Knows};
+ghost use Rattle.wb_policy.specs.Placing.{IsPlacedByHint, mapped_from};
+ghost use Rattle.wb_policy.specs.TinyLfu.{decided, may_come_in, replacement, cleaned, WasTold};
 ghost use Rattle.wb_sketch.specs.Frequencies.{empty, estimate_of};
 
 use crate::recency::Recency;
@@ -108,11 +108,11 @@ impl TinyLfu {
 
 impl Policy for TinyLfu {
     ghost use Rattle.std.specs.Prelude.{Some, codes};
-    ghost use Rattle.wb_policy.specs.TinyLfu.{after_access, cleaned as cleans, ordered as orders, with_setting as sets, Knows};
+    ghost use Rattle.wb_policy.specs.TinyLfu.{after_access, cleaned as cleans, ordered as orders, with_setting as sets, WasTold};
     ghost use Rattle.wb_policy.specs.Recency.{newly_mapped, no_longer_mapped};
     ghost use Rattle.wb_sketch.specs.Frequencies.{estimate_of};
 
-    ghost knows = { Knows };
+    ghost knows = { WasTold };
 
     ghost ordered = { orders };
 
@@ -142,10 +142,10 @@ impl Policy for TinyLfu {
     ) -> Result<TinyLfu, Refusal>
         requires { length mapping.now ≡ geometry.now.cache_blocks }
         ensures frequencies { IfOk result (λ k. k.frequencies ≡ empty geometry.now.cache_blocks) }
-        ensures recency { IfOk result (λ k. IsPlaced mapping.now k.recency) }
+        ensures recency { IfOk result (λ k. IsPlacedByHint mapping.now k.recency) }
         ensures promote_min { IfOk result (λ k. k.promote_min ≡ 2) }
         ensures block_sectors { IfOk result (λ k. k.block_sectors ≡ geometry.now.block) }
-        ensures knows { IfOk result (λ k. IsMapping (origins mapping.now) → Knows k (origins mapping.now)) }
+        ensures knows { IfOk result (λ k. IsMapping (origins mapping.now) → WasTold k (origins mapping.now)) }
         ensures refused { IfErr result (λ e. e ≡ Refusal.Memory) }
     {
         let sketch = Sketch::new(alloc, geometry.cache_blocks)?;
@@ -200,7 +200,7 @@ impl Policy for TinyLfu {
 /// The mapped blocks as they are placed at an opening.
 fn placed(alloc: Global, mapping: &[Option<Entry>]) -> Result<Recency, Refusal>
     requires { length mapping.now < 2 ^ 32 }
-    ensures value { IfOk result (λ r. IsPlaced mapping.now r) }
+    ensures value { IfOk result (λ r. IsPlacedByHint mapping.now r) }
     ensures refused { IfErr result (λ e. e ≡ Refusal.Memory) }
 {
     let mut blocks = mapped_blocks(alloc, mapping)?;

@@ -9,14 +9,14 @@ returns-then-is_empty c = sym (none_dirty c.args.tick.now.busy.now _ c.args.self
 
 pub returns-then-is_to_clean : goal.returns-then-is_to_clean
 returns-then-is_to_clean c =
-    let i = c.loop-block.invariant in
-    sym (walk_finds (is_dirty_and_idle c.args.tick.now.busy.now c.args.tick.now.dirty.now) _ c.next.new.self.iter i.0 (c.in-Some.block.now, c.in-Some.at.now)
+    let i = c.loop-number.invariant in
+    sym (walk_finds (is_dirty_and_idle c.args.tick.now.busy.now c.args.tick.now.dirty.now) _ c.next.new.self.iter i.0 (c.in-Some.number.now, c.in-Some.place.now)
     (i.1 ∙ ap (λ xs. xs ++ i.0) c.in-Some.ensures.steps) i.2 (search rules))
 
-pub loop-block-preserved : goal.loop-block-preserved
-loop-block-preserved c =
-    let i = c.loop-block.invariant in
-    let e : ℕ × ℕ = (c.in-Some.block.now, c.in-Some.at.now) in (
+pub loop-number-preserved : goal.loop-number-preserved
+loop-number-preserved c =
+    let i = c.loop-number.invariant in
+    let e : ℕ × ℕ = (c.in-Some.number.now, c.in-Some.place.now) in (
       e ∷ i.0,
       i.1 ∙ (ap (λ xs. xs ++ i.0) c.in-Some.ensures.steps ∙ append_assoc c.next.new.self.iter (e ∷ []) i.0),
       walk_goes_on (is_dirty_and_idle c.args.tick.now.busy.now c.args.tick.now.dirty.now) i.0 e i.2 (search rules),
