@@ -1,18 +1,18 @@
 -- What TinyLfu orders keeps the law.
-use Rattle.std.proofs.Common.{◌≡◌, ◌≢◌, ℕ, ◌*◌, Bool, true, false, cond, not, ◌&&◌, List, nat_eq, nat_lt, Option, Some, None, IfSome, refl, ap}
+use Rattle.std.proofs.Common.{◌≡◌, ◌≢◌, ℕ, Bool, true, false, cond, not, ◌&&◌, nat_eq, Option, Some, None, IfSome, refl}
 use Rattle.std.specs.Prelude.{nat_le}
 use Rattle.wb_types.specs.declared.mode.Mode.{Mode}
 use Rattle.wb_types.specs.declared.mode.Mode.TheVariants.{Writeback, Writethrough, Passthrough}
 use Rattle.wb_types.specs.declared.number.CBlock.{CBlock}
 use Rattle.wb_policy.specs.declared.order.Order.{Order}
-use Rattle.wb_policy.specs.declared.order.Order.TheVariants.{Promote, Replace, Clean}
+use Rattle.wb_policy.specs.declared.order.Order.TheVariants.{Clean}
 use Rattle.wb_policy.specs.declared.situation.Settled.{Settled}
 use Rattle.wb_policy.specs.declared.situation.Tick.{Tick}
-use Rattle.wb_policy.specs.Law.{Holdings, IsMappedAt, IsUnmapped, IsLawful}
+use Rattle.wb_policy.specs.Law.{Holdings, IsUnmapped, IsLawful}
 use Rattle.wb_policy.specs.Situations.{is_busy, is_passthrough}
-use Rattle.wb_policy.specs.Recency.{least_recent, is_idle, is_dirty, is_dirty_and_idle}
-use Rattle.wb_policy.specs.TinyLfu.{Knowledge, WasTold, after_access, is_mapped, estimate, may_come_in, promotion, replacement, way_in, decided, ordered, write_back, cleaned}
-use Rattle.wb_policy.proofs.Laws.{uses, unmapped_from_absent, least_recent-mapped}
+use Rattle.wb_policy.specs.Recency.{least_recent, is_idle, is_dirty_and_idle}
+use Rattle.wb_policy.specs.TinyLfu.{Knowledge, WasTold, may_come_in, replacement, way_in, decided, write_back, cleaned}
+use Rattle.wb_policy.proofs.Laws.{least_recent-mapped}
 
 pub both : (a b : Bool) → (a && b) ≡ true → (a ≡ true) × (b ≡ true)
 both true b h = (refl, h)

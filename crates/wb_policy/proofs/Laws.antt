@@ -1,5 +1,5 @@
 -- What mapping and unmapping do to a recency list that agrees with a mapping.
-use Rattle.std.proofs.Common.{◌≡◌, ℕ, zero, suc, ◌<◌, ◌≤◌, ◌⊎◌, inl, inr, Bool, true, false, cond, List, [], ◌∷◌, length, nat_eq, ◌==◌, Option, Some, None, refl, sym, ap, subst, ◌∙◌, arith}
+use Rattle.std.proofs.Common.{◌≡◌, ℕ, zero, suc, inl, inr, Bool, true, false, cond, List, [], ◌∷◌, nat_eq, Option, Some, None, refl, sym, ap, subst, ◌∙◌, arith}
 use Rattle.std.specs.Prelude.{slice_get, slice_set, reverse, is_some}
 use Rattle.std.specs.List.{IsDistinct, AllByRecursion, Contains, find}
 use Rattle.std.specs.Option.{option_map_or}

@@ -2,14 +2,13 @@
 use Rattle.std.proofs.Common.{◌≡◌, ℕ, zero, suc, ◌+◌, ◌-◌, ◌<◌, ◌≤◌, ◌⊎◌, inl, inr, List, [], ◌∷◌, ◌++◌, length, take, map, get_or, nat_eq, Option, Some, None, refl, sym, ap, subst, ◌∙◌, arith}
 use Rattle.std.specs.Prelude.{slice_get}
 use Rattle.std.specs.List.{IsDistinct, Contains}
-use Rattle.std.specs.List.Sorted.{IsPermutation}
 use Rattle.std.specs.Map.{keys_of, lookup}
 use Rattle.std.proofs.lemmas.Bool.{cases_eq}
 use Rattle.std.proofs.lemmas.List.{take_more, append-nil, map-append, length-take}
 use Rattle.std.proofs.lemmas.List.Sorted.{IsPermutation-map, IsPermutation-sym, Contains-permutation}
 use Rattle.lru.proofs.Splits.{Contains-head, Contains-tail, Contains-cons, Contains-nil}
 use Rattle.wb_types.specs.declared.entry.Entry.{Entry}
-use Rattle.wb_policy.specs.Law.{Holdings, origins, IsMapping, IsMappedAt}
+use Rattle.wb_policy.specs.Law.{origins, IsMapping, IsMappedAt}
 use Rattle.wb_policy.specs.Recency.{Recency, AgreesWith, newly_mapped, mapped_in_order}
 use Rattle.wb_policy.specs.Placing.{mapped_from, IsPlacedByHint}
 use Rattle.wb_policy.proofs.Laws.{distinct-newly, lookup-newly_same, lookup-newly_other}

@@ -1,8 +1,6 @@
-use Rattle.std.specs.Prelude.{◌≡◌, ℕ, ◌<◌, Bool, true, false, List, Option, get_or, slice_index, length}
+use Rattle.std.specs.Prelude.{ℕ, Bool, true, false, List, get_or}
 use Rattle.wb_types.specs.declared.mode.Mode.{Mode}
 use Rattle.wb_types.specs.declared.mode.Mode.TheVariants.{Writeback, Writethrough, Passthrough}
-use Rattle.wb_types.specs.declared.number.CBlock.{CBlock}
-use Rattle.wb_types.specs.declared.number.OBlock.{OBlock}
 
 -- whether an origin block has a live order; a block past the list has none
 abbrev pub is_busy : List Bool → ℕ → Bool

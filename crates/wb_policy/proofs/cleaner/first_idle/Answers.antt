@@ -1,4 +1,4 @@
-use Rattle.std.proofs.Common.{◌≡◌, rules}
+use Rattle.std.proofs.Common.{rules}
 use Rattle.wb_policy.specs.Cleaner.{is_waiting}
 use Rattle.wb_policy.proofs.Turns.{found_at, none_yet}
 use Rattle.wb_policy.proofs.cleaner.first_idle.Goals as goal

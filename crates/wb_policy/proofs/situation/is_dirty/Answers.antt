@@ -1,4 +1,4 @@
-use Rattle.std.proofs.Common.{◌≡◌, ◌<◌, ltb, length, get_or, rules, arith}
+use Rattle.std.proofs.Common.{◌<◌, ltb, length, rules, arith}
 use Rattle.std.proofs.lemmas.List.{get_or_default}
 use Rattle.std.proofs.lemmas.List.Sorted.{IsPartitionPoint-from_clause, IsPartitionedBy-ltb}
 use Rattle.wb_policy.proofs.Searching.{found, past}

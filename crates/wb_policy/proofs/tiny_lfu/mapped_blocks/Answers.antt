@@ -1,4 +1,4 @@
-use Rattle.std.proofs.Common.{◌≡◌, ◌∙◌, None, ap, sym, rules}
+use Rattle.std.proofs.Common.{◌∙◌, None, ap, sym, rules}
 use Rattle.wb_policy.proofs.Placed.{mapped_more-some, mapped_more-none}
 use Rattle.wb_policy.proofs.tiny_lfu.mapped_blocks.Goals as goal
 use Rattle.wb_policy.proofs.tiny_lfu.mapped_blocks.Goals.{in-Some+in_ok-push-in-Some, in-None}

@@ -1,4 +1,4 @@
-use Rattle.std.proofs.Common.{◌≡◌, ◌≤◌, length, take}
+use Rattle.std.proofs.Common.{◌≡◌, take}
 use Rattle.wb_policy.specs.Placing.{mapped_from}
 use Rattle.wb_policy.proofs.tiny_lfu.mapped_blocks.Given as goal
 

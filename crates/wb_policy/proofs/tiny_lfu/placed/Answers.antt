@@ -1,4 +1,4 @@
-use Rattle.std.proofs.Common.{◌≡◌, ◌∙◌, ap, sym, arith, rules}
+use Rattle.std.proofs.Common.{arith}
 use Rattle.wb_policy.proofs.Placed.{order_more}
 use Rattle.wb_policy.proofs.tiny_lfu.placed.Goals as goal
 

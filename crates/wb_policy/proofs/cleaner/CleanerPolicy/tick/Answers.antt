@@ -1,5 +1,4 @@
-use Rattle.std.proofs.Common.{◌≡◌, Some, rules}
-use Rattle.wb_policy.specs.Cleaner.{chosen}
+use Rattle.std.proofs.Common.{rules}
 use Rattle.wb_policy.proofs.Turns.{lawful-chosen}
 use Rattle.wb_policy.proofs.cleaner.CleanerPolicy.tick.Goals as goal
 

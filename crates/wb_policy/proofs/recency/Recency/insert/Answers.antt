@@ -1,4 +1,4 @@
-use Rattle.std.proofs.Common.{◌≡◌, ap, ◌∙◌, arith, rules}
+use Rattle.std.proofs.Common.{arith, rules}
 use Rattle.wb_policy.proofs.Uses.{put-is}
 use Rattle.wb_policy.proofs.recency.Recency.insert.Goals as goal
 use Rattle.wb_policy.proofs.recency.Recency.insert.Goals.{in-Ok, in-Err}

@@ -1,4 +1,4 @@
-use Rattle.std.proofs.Common.{ℕ, ◌≡◌, ◌∙◌, sym, ap, ◌++◌, ◌∷◌, [], rules}
+use Rattle.std.proofs.Common.{ℕ, ◌∙◌, sym, ap, ◌++◌, ◌∷◌, [], rules}
 use Rattle.std.proofs.lemmas.List.{append_assoc}
 use Rattle.wb_policy.specs.Recency.{is_dirty_and_idle}
 use Rattle.wb_policy.proofs.Uses.{walk_finds, walk_goes_on, none_dirty}

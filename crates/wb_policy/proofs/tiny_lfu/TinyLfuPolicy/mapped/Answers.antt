@@ -1,7 +1,6 @@
-use Rattle.std.proofs.Common.{◌≡◌, ◌∙◌, ap, sym, subst, rules}
+use Rattle.std.proofs.Common.{◌∙◌, ap, sym, subst}
 use Rattle.std.proofs.lemmas.Result.{on_ok_weaker}
 use Rattle.wb_policy.specs.Recency.{AgreesWith, no_longer_mapped}
-use Rattle.wb_policy.specs.TinyLfu.{Knowledge}
 use Rattle.wb_policy.proofs.Laws.{learns, undoes}
 use Rattle.wb_policy.proofs.tiny_lfu.TinyLfuPolicy.mapped.Goals as goal
 

@@ -1,4 +1,4 @@
-use Rattle.std.proofs.Common.{◌≡◌, ◌∙◌, sym, subst, rules}
+use Rattle.std.proofs.Common.{sym, subst, rules}
 use Rattle.wb_policy.specs.Recency.{AgreesWith}
 use Rattle.wb_policy.proofs.Laws.{uses, unmapped_from_absent}
 use Rattle.wb_policy.proofs.Lawful.{lawful-decided}

@@ -1,4 +1,4 @@
-use Rattle.std.proofs.Common.{◌≡◌, sym, subst}
+use Rattle.std.proofs.Common.{sym, subst}
 use Rattle.wb_policy.specs.Recency.{AgreesWith}
 use Rattle.wb_policy.proofs.Laws.{forgets}
 use Rattle.wb_policy.proofs.tiny_lfu.TinyLfuPolicy.unmapped.Goals as goal
