@@ -58,6 +58,20 @@ plain=$(median "$work/sketch" 1048575 reset)
 proved=$(median "$top/bin/wb_bench" sketch 1048575 reset)
 printf '%-14s %9s %9s %9s  (nanoseconds)\n' 'one reset' "$plain" "$proved" "$(ratio "$proved" "$plain")"
 
+printf '\n%-14s %9s %9s %9s %9s %9s\n' 'policy' plain proved proved/plain 'M settles/s' 'hit ratio'
+cc -O2 -o "$work/policy" "$top/bench/policy.c"
+for blocks in 1024 262144; do
+  hits=$("$work/policy" "$blocks" 10000000)
+  test "$hits" = "$("$top/bin/wb_bench" settles "$blocks" 10000000)" || { echo 'the policies differ' >&2; exit 1; }
+  plain=$(seconds "$work/policy" "$blocks" 10000000)
+  proved=$(seconds "$top/bin/wb_bench" settles "$blocks" 10000000)
+  printf '%-14s %9s %9s %9s %9s %9s\n' "$blocks blocks" "$plain" "$proved" "$(ratio "$proved" "$plain")" \
+    "$(awk "BEGIN { printf \"%.1f\", 10 / $proved }")" "$(awk "BEGIN { printf \"%.4f\", $hits / 10000000 }")"
+done
+opening=$(seconds "$top/bin/wb_bench" ticks 262144 0)
+ticking=$(seconds "$top/bin/wb_bench" ticks 262144 100)
+printf 'ticks past 262143 clean blocks: %s ns a block\n' "$(awk "BEGIN { printf \"%.1f\", ($ticking - $opening) / 100 / 262144 * 1e9 }")"
+
 printf '\n%-30s %9s %9s %9s %9s\n' 'space, calls' plain proved proved/plain 'ns a call'
 cc -O2 -o "$work/space" "$top/bench/space.c"
 turnover() { # cache blocks, rounds, removed blocks in a round

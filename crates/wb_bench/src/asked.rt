@@ -30,6 +30,9 @@ pub enum Asked<'a> {
     Accesses { cache_blocks: u32, adds: u64 },
     /// The one access that resets a sketch for so many cache blocks.
     Reset { cache_blocks: u32 },
+    /// Settle so many accesses, or tick so often, over a cache of so many blocks.
+    Settles { cache_blocks: u32, accesses: u64 },
+    Ticks { cache_blocks: u32, ticks: u64 },
     Turnover(Turnover),
     Shares(Shares),
     /// Write a full mapping of so many cache blocks to a file.
@@ -50,6 +53,16 @@ pub fn read_asked(words: &[String]) -> Option<Asked<'_>> {
         [_, sketch, cache_blocks, adds] if sketch.as_str() == "sketch" => Some(Asked::Accesses {
             cache_blocks: cache_blocks.as_str().parse::<u32>().ok()?,
             adds: adds.as_str().parse::<u64>().ok()?,
+        }),
+        [_, settles, cache_blocks, accesses] if settles.as_str() == "settles" => {
+            Some(Asked::Settles {
+                cache_blocks: cache_blocks.as_str().parse::<u32>().ok()?,
+                accesses: accesses.as_str().parse::<u64>().ok()?,
+            })
+        }
+        [_, word, cache_blocks, ticks] if word.as_str() == "ticks" => Some(Asked::Ticks {
+            cache_blocks: cache_blocks.as_str().parse::<u32>().ok()?,
+            ticks: ticks.as_str().parse::<u64>().ok()?,
         }),
         [_, space, cache_blocks, rounds, removed] if space.as_str() == "space" => {
             Some(Asked::Turnover(Turnover {

@@ -7,6 +7,8 @@
 //! CACHE_BLOCKS ROUNDS REMOVED` removes so many blocks of a full cache in each round, commits, fills the cache again,
 //! and prints the sum of the blocks that were filled. `wb_bench shares same|apart 1|2|4 ROUNDS` shares a block and leaves
 //! it so many times on so many threads, all the same block or each its own, and prints how many shares there were.
+//! `wb_bench settles CACHE_BLOCKS ACCESSES` settles accesses by Zipf's law over a cache that TinyLfu fills, and prints
+//! how many were hits; `wb_bench ticks CACHE_BLOCKS TICKS` ticks over a full cache, and prints how often one was ordered.
 //! `wb_bench FILE mapping CACHE_BLOCKS` makes the file a metadata device that holds a full mapping of so many cache
 //! blocks, and `wb_bench FILE state` reads what it stands for; both print the number of nodes.
 #![tactic(auto)]
@@ -16,6 +18,7 @@ ghost use Rattle.std.specs.Prelude.{◌≡◌, ◌<◌, ◌≤◌};
 mod accesses;
 mod asked;
 mod mapping;
+mod settles;
 mod shares;
 mod turnover;
 mod unnoted;
@@ -23,6 +26,7 @@ mod unnoted;
 use crate::accesses::{add_all, time_reset};
 use crate::asked::{Asked, Direction, Requests, read_asked};
 use crate::mapping::{read_mapping, write_mapping};
+use crate::settles::{settle_all, tick_all};
 use crate::shares::share_all;
 use crate::turnover::turn_over;
 use crate::unnoted::Unnoted;
@@ -67,11 +71,15 @@ fn main(rt: HostRuntime) -> ExitCode {
             Some(nanoseconds) => print(&rt, nanoseconds),
             None => failed(&rt, "out of memory, or no clock"),
         },
-        Asked::Turnover(turnover) => match turn_over(alloc, &turnover) {
-            Ok(sum) => print(&rt, sum),
-            Err(Refusal::Geometry) => failed(&rt, "no cache has so many blocks"),
-            Err(_) => failed(&rt, "out of memory"),
-        },
+        Asked::Turnover(turnover) => tell_sum(&rt, turn_over(alloc, &turnover)),
+        Asked::Settles {
+            cache_blocks,
+            accesses,
+        } => tell_sum(&rt, settle_all(alloc, cache_blocks, accesses)),
+        Asked::Ticks {
+            cache_blocks,
+            ticks,
+        } => tell_sum(&rt, tick_all(alloc, cache_blocks, ticks)),
         Asked::Shares(shares) => match share_all(&rt, alloc, shares) {
             Ok(count) => print(&rt, count),
             Err(_) => failed(&rt, "out of memory"),
@@ -84,6 +92,15 @@ fn main(rt: HostRuntime) -> ExitCode {
             Ok(mut disk) => tell(&rt, read_mapping(alloc, &mut disk)),
             Err(_) => failed(&rt, "the file cannot be opened"),
         },
+    }
+}
+
+/// Prints what was counted over a cache, or why nothing was.
+fn tell_sum(rt: &HostRuntime, sum: Result<u64, Refusal>) -> ExitCode {
+    match sum {
+        Ok(sum) => print(rt, sum),
+        Err(Refusal::Geometry) => failed(rt, "no cache has so many blocks"),
+        Err(_) => failed(rt, "out of memory"),
     }
 }
 
@@ -149,7 +166,7 @@ fn drive_all(asked: &Requests<'_>, blocks: u64, owner: &mut Owner<FileDisk, Unno
 
 fn usage(rt: &HostRuntime) -> ExitCode {
     let _ = eprintln!(rt;
-        "usage: wb_bench FILE read|write SECTORS REQUESTS | sketch CACHE_BLOCKS ADDS|reset | space CACHE_BLOCKS ROUNDS REMOVED | shares same|apart 1|2|4 ROUNDS | FILE mapping CACHE_BLOCKS | FILE state"
+        "usage: wb_bench FILE read|write SECTORS REQUESTS | sketch CACHE_BLOCKS ADDS|reset | settles CACHE_BLOCKS ACCESSES | ticks CACHE_BLOCKS TICKS | space CACHE_BLOCKS ROUNDS REMOVED | shares same|apart 1|2|4 ROUNDS | FILE mapping CACHE_BLOCKS | FILE state"
     );
     ExitCode::from(2)
 }
