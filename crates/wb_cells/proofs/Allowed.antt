@@ -106,10 +106,10 @@ module _ (n slots id : ℕ) (me : Me ℕ View) (k : ℕ) (turn : k < length me.0
       )) (λ w x is. same_fail w.fail w.fail refl)
 
   pub allow_seal : (b : OBlock) (seal : ℕ) → b.0 < n → (card_at k me.0).hold ≡ Held Owned b
-      → Allows (Ruled n) slots id me (index_of (SealWord b)) (λ _. seal) (λ _. SeatMoves 0 k (λ c d. d ≡ sealing seal c) (λ was now. now ≡ put was (SealWord b) seal) me)
+      → Allows (Ruled n) slots id me (index_of (SealWord b)) (λ _. seal) (λ _. SeatMoves 0 k (λ c d. d ≡ sealing b seal c) (λ was now. now ≡ put was (SealWord b) seal) me)
   allow_seal b seal named own = let c : Card = card_at k me.0 in
-      steps n slots id (SealWord b) k me (λ _. seal) 0 (λ _ c d. d ≡ sealing seal c) (λ _ was now. now ≡ put was (SealWord b) seal) named turn
-      (λ w cs p x r at floor is _. (sealing seal c, seal_keeps n w cs p c r at b seal named own, refl, refl)) (λ w x is. same_fail w.fail w.fail refl)
+      steps n slots id (SealWord b) k me (λ _. seal) 0 (λ _ c d. d ≡ sealing b seal c) (λ _ was now. now ≡ put was (SealWord b) seal) named turn
+      (λ w cs p x r at floor is _. (sealing b seal c, seal_keeps n w cs p c r at b seal named own, refl, refl)) (λ w x is. same_fail w.fail w.fail refl)
 
   pub allow_finish : (b : OBlock) (y : ℕ) → b.0 < n → (card_at k me.0).hold ≡ Held Owned b → (card_at k me.0).number ≡ Some y → y ≢ 18446744073709551615
       → Allows (Ruled n) slots id me (index_of (Number b)) (λ x. (x + 1) % 2 ^ 64) (λ x. SeatMoves 0 k (λ c d. d ≡ finishing b c) (λ was now. now ≡ put was (Number b) (one_more (word_at was.numbers b))) me)

@@ -88,17 +88,19 @@ module _ (access : Access) (block : OBlock) (c d e : Card) (x : ℕ) where
   holds_at seal w was hold known is finds = let saw : d.saw ≡ (SealWord block, seal) ∷ ((LockWord block, w) ∷ ((Fail, 0) ∷ c.saw)) = ap (λ (z : Card). z.saw) was in
       let least : SawAtMost block x ((SealWord block, seal) ∷ ((LockWord block, w) ∷ ((Fail, 0) ∷ c.saw))) = subst (SawAtMost block x) saw (finds.grows block refl) in record {
         hold = ap (λ (z : Card). z.hold) is ∙ hold;
-        seal = (seal, ap (λ (z : Card). z.seal) is ∙ (ap (λ (h : Hold). cond (is_own_seal h (Number block)) (Some x) d.seal) hold ∙ known), refl, refl);
+        found = seal;
+        stored = ap (λ (z : Card). z.stored) is ∙ ap (λ (z : Card). z.stored) was;
+        seal = (ap (λ (z : Card). z.seal) is ∙ (ap (λ (h : Hold). cond (is_own_seal h (Number block)) (Some x) d.seal) hold ∙ known), refl, refl);
         number_is = ap (λ (z : Card). z.number) is ∙ (ap (λ (h : Hold). cond (is_own_number h (Number block)) (Some x) d.number) hold ∙ ap (λ (t : Bool). cond t (Some x) d.number) (eq-eqb block.0 block.0 refl));
         kept = ap (λ (z : Card). z.kept) is ∙ ap (λ (z : Card). z.kept) was;
         added = ap (λ (z : Card). z.added) is ∙ ap (λ (z : Card). z.added) was;
         lost = ap (λ (z : Card). z.lost) is ∙ ap (λ (z : Card). z.lost) was;
-        saw = (w, seal, ap (λ (z : Card). z.saw) is ∙ ap (λ (l : List (WordName × ℕ)). (Number block, x) ∷ l) saw);
+        saw = (w, ap (λ (z : Card). z.saw) is ∙ ap (λ (l : List (WordName × ℕ)). (Number block, x) ∷ l) saw);
         least = least.1.1.1;
       }
 
-  stays_so : (z : Card) → e ≡ z → z.hold ≡ c.hold → z.kept ≡ c.kept → z.added ≡ c.added → Stays c e
-  stays_so z is h k a = record { hold = ap (λ (y : Card). y.hold) is ∙ h; kept = ap (λ (y : Card). y.kept) is ∙ k; added = ap (λ (y : Card). y.added) is ∙ a }
+  stays_so : (z : Card) → e ≡ z → z.hold ≡ c.hold → z.kept ≡ c.kept → z.added ≡ c.added → z.stored ≡ c.stored → Stays c e
+  stays_so z is h k a s = record { hold = ap (λ (y : Card). y.hold) is ∙ h; kept = ap (λ (y : Card). y.kept) is ∙ k; added = ap (λ (y : Card). y.added) is ∙ a; stored = ap (λ (y : Card). y.stored) is ∙ s }
 
   ends_so : (stage : GripStage) → Reached access block stage c d → IsReadyAt access block stage d → e ≡ card_having_found access block stage x d → FindsAt block stage x d → (IsMore (told_at access block stage x) → ⊥)
       → EndsAs access block (told_at access block stage x) c e
@@ -107,18 +109,18 @@ module _ (access : Access) (block : OBlock) (c d e : Card) (x : ℕ) where
       by_test : (t : Bool) → eqb x 0 ≡ t → (IsMore (cond t (More x) (Refused Failed)) → ⊥) → EndsAs access block (cond t (More x) (Refused Failed)) c e
       by_test true z n = absurd (n tt)
       by_test false z n = let now : e ≡ looked Fail x c = is ∙ ap (looked Fail x) r in
-          (stays_so (looked Fail x c) now refl refl refl, inr (refl, (x, (λ h. true≢false (sym (eq-eqb x 0 h) ∙ z)), now)))
+          (stays_so (looked Fail x c) now refl refl refl refl, inr (refl, (x, (λ h. true≢false (sym (eq-eqb x 0 h) ∙ z)), now)))
   ends_so LookLock r fits is finds ends = by_test (can_take access x) refl ends
     where
       by_test : (t : Bool) → can_take access x ≡ t → (IsMore (cond t (More x) (Refused Busy)) → ⊥) → EndsAs access block (cond t (More x) (Refused Busy)) c e
       by_test true z n = absurd (n tt)
-      by_test false z n = let now : e ≡ tried block x c = is ∙ ap (looked (LockWord block) x) r in (stays_so (tried block x c) now refl refl refl, inl (refl, (x, inl (z, now))))
+      by_test false z n = let now : e ≡ tried block x c = is ∙ ap (looked (LockWord block) x) r in (stays_so (tried block x c) now refl refl refl refl, inl (refl, (x, inl (z, now))))
   ends_so (Exchange seen) r fits is finds ends = by_test (eqb x seen) refl is ends
     where
       by_test : (t : Bool) → eqb x seen ≡ t → e ≡ (if t then holding (Held access block) d else losing block x d) → (IsMore (cond t (More x) (Refused Busy)) → ⊥) → EndsAs access block (cond t (More x) (Refused Busy)) c e
       by_test true z i n = absurd (n tt)
       by_test false z i n = let now : e ≡ losing block x (tried block seen c) = i ∙ ap (losing block x) r in
-          (stays_so (losing block x (tried block seen c)) now refl refl refl, inl (refl, (seen, inr (fits.1, (x, (λ h. true≢false (sym (eq-eqb x seen h) ∙ z)), now)))))
+          (stays_so (losing block x (tried block seen c)) now refl refl refl refl, inl (refl, (seen, inr (fits.1, (x, (λ h. true≢false (sym (eq-eqb x seen h) ∙ z)), now)))))
   ends_so LookSeal r fits is finds ends = absurd (ends tt)
   ends_so (LookNumber seal) r fits is finds ends = told_of access (holds_at seal r.0 r.1 fits.0 fits.1 is finds)
     where

@@ -42,7 +42,7 @@ module _ {bits : ℕ} {how : Card → Card → Type 0} {change : Words → Words
 
 -- what a look finds where one card is all there is
 sum_of : (n : ℕ) (w : Words) (c : Card) (word : WordName) → IsWord n word → LockRule n w (c ∷ []) → IsSum word (value_of w word) c
-sum_of n w c (LockWord b) inside r = tt
+sum_of n w c (LockWord b) inside r = let l = r.cells b.0 inside in omega (arith, l.is)
 sum_of n w c (SealWord b) inside r = tt
 sum_of n w c (Number b) inside r = let e = r.numbers b.0 inside in e ∙ omega arith
 sum_of n w c (CountWord kind) inside r = r.counts kind ∙ ap (λ (z : ℕ). z % 2 ^ 64) (omega arith)

@@ -7,7 +7,7 @@ use Rattle.wb_words.specs.declared.word.Word.TheVariants.{Cell as LockWord, Seal
 use Rattle.wb_words.specs.declared.card.Card.{Card}
 use Rattle.wb_cells.specs.declared.view.Fraction.{Fraction}
 use Rattle.wb_cells.specs.declared.view.View.{View}
-use Rattle.wb_words.specs.Cards.{writes_on, counts_of}
+use Rattle.wb_words.specs.Cards.{writes_on, counts_of, sharers, owners}
 use Rattle.wb_cells.specs.Moves.{card_at}
 
 -- which words they are, and of how many blocks
@@ -32,9 +32,9 @@ pub record IsPass (words : ℕ) (me : Me ℕ View) : Type 0 where
   pub sized : words ≡ 3 * me.0.blocks + 5
   pub bare : me.1 ≡ []
 
--- A statistics word, or a number word, is what this one card has added to it.
+-- A lock word counts this one card alone; a statistics word, or a number word, is what it has added to it.
 abbrev pub IsSum : WordName → ℕ → Card → Type 0
-IsSum (LockWord b) x card = Unit {0}
+IsSum (LockWord b) x card = x ≡ 2 * sharers b.0 card + owners b.0 card
 IsSum (SealWord b) x card = Unit {0}
 IsSum (Number b) x card = x ≡ writes_on b.0 card
 IsSum (CountWord kind) x card = x ≡ counts_of kind card % 2 ^ 64

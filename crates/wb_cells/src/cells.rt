@@ -100,8 +100,9 @@ impl Cells {
         Pass { seat }
     }
 
-    /// One look at a word. Who has the whole finds at a statistics word what its card counted, and at a
-    /// number word the writes that it finished; who has failed finds at the fail word no less than its bit.
+    /// One look at a word. Who has the whole finds at a lock word what its card has of that block, at a statistics
+    /// word what it counted, and at a number word the writes that it finished; who has failed finds at the fail
+    /// word no less than its bit.
     pub fn look(&self, pass: &mut Pass, word: Word) -> u64
         requires at { pass.old.table ≡ self.now.table }
         requires word { IsWord self.now.blocks word }
@@ -153,7 +154,7 @@ impl Cells {
         requires block { own.old.block.0 < self.now.blocks }
         requires owns { pass.old.card.hold ≡ Held Owned own.old.block }
         ensures own { own.new ≡ record own.old { place = place; dirty = dirty } }
-        ensures pass { pass.new ≡ record pass.old { card = sealing (seal_of place dirty) pass.old.card } }
+        ensures pass { pass.new ≡ record pass.old { card = sealing own.old.block (seal_of place dirty) pass.old.card } }
     {
         let seal = seal_word(place, dirty);
         self.words.seal(&mut pass.seat, 0, own.block, seal);

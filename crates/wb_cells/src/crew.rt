@@ -132,7 +132,7 @@ impl Crew {
         requires owns { (slice_index_or self.old.cards actor blank_card).hold ≡ Held Owned block }
         ensures blocks { self.new.blocks ≡ self.old.blocks }
         ensures words { self.new.words ≡ record self.old.words { seals = slice_set self.old.words.seals block.0 (seal_of place dirty) } }
-        ensures cards { self.new.cards ≡ slice_set self.old.cards actor (sealing (seal_of place dirty) (slice_index_or self.old.cards actor blank_card)) }
+        ensures cards { self.new.cards ≡ slice_set self.old.cards actor (sealing block (seal_of place dirty) (slice_index_or self.old.cards actor blank_card)) }
     {
         self.words
             .seal(&mut self.seat, actor, block, seal_word(place, dirty));

@@ -149,7 +149,7 @@ impl WordTable {
         requires block { block.0 < self.now.blocks }
         requires owns { (card_at actor seat.old.me.0).hold ≡ Held Owned block }
         ensures at { (seat.new.table_id ≡ seat.old.table_id) × (seat.new.id ≡ seat.old.id) }
-        ensures step { SeatMoves 0 actor (λ c d. d ≡ sealing seal c) (λ was now. now ≡ put was (SealWord block) seal) seat.old.me seat.new.me }
+        ensures step { SeatMoves 0 actor (λ c d. d ≡ sealing block seal c) (λ was now. now ≡ put was (SealWord block) seal) seat.old.me seat.new.me }
     {
         self.store::<Brand>(seat, actor, block, seal);
     }

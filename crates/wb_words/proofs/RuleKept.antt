@@ -258,8 +258,8 @@ module _ (n : ℕ) (w : Words) (cs : List Card) (p : ℕ) (c : Card) (r : LockRu
       let two = total_two (owners b.0) cs q p e c other there at in
       let h : shares b.0 e.hold + owns b.0 e.hold ≡ 1 = ap (λ (h : Hold). shares b.0 h + owns b.0 h) held ∙ (ap (λ (z : ℕ). shares z (Held access a) + owns z (Held access a)) (sym same) ∙ holds_one access a) in omega (arith, lock.one)
 
-  pub seal_keeps : (b : OBlock) (x : ℕ) → b.0 < n → c.hold ≡ Held Owned b → LockRule n (put w (SealWord b) x) (set cs p (sealing x c))
-  seal_keeps b x inside own = let d : Card = sealing x c in let u : Words = put w (SealWord b) x in let wide = r.seals_are in record {
+  pub seal_keeps : (b : OBlock) (x : ℕ) → b.0 < n → c.hold ≡ Held Owned b → LockRule n (put w (SealWord b) x) (set cs p (sealing b x c))
+  seal_keeps b x inside own = let d : Card = sealing b x c in let u : Words = put w (SealWord b) x in let wide = r.seals_are in record {
     cells_are = r.cells_are;
     seals_are = length-set w.seals b.0 x ∙ r.seals_are;
     numbers_are = r.numbers_are;

@@ -12,7 +12,7 @@ use Rattle.wb_words.specs.SharedWords.{kind_number}
 
 -- who holds nothing, and has done nothing
 abbrev pub blank_card : Card
-blank_card = record { hold = Nothing; seal = None; number = None; kept = []; added = []; saw = []; lost = [] }
+blank_card = record { hold = Nothing; seal = None; number = None; kept = []; added = []; stored = []; saw = []; lost = [] }
 
 abbrev pub total : {A : Type 0} → (A → ℕ) → List A → ℕ
 total f [] = 0
@@ -86,8 +86,9 @@ losing b x card = record card { lost = (b, x) ∷ card.lost }
 abbrev pub holding : Hold → Card → Card
 holding hold card = record card { hold = hold; seal = None; number = None }
 
-abbrev pub sealing : ℕ → Card → Card
-sealing seal card = record card { seal = Some seal }
+-- a seal that it stored on a block, which it knows then
+abbrev pub sealing : OBlock → ℕ → Card → Card
+sealing b seal card = record card { seal = Some seal; stored = (b, seal) ∷ card.stored }
 
 abbrev pub finishing : OBlock → Card → Card
 finishing b card = record card { number = option_map (λ n. n + 1) card.number; added = Number b ∷ card.added }
@@ -106,4 +107,4 @@ failing card = failing_at card.hold card
 
 -- what two cards that hold nothing know together
 abbrev pub merged : Card → Card → Card
-merged c d = record { hold = Nothing; seal = None; number = None; kept = c.kept ++ d.kept; added = c.added ++ d.added; saw = c.saw ++ d.saw; lost = c.lost ++ d.lost }
+merged c d = record { hold = Nothing; seal = None; number = None; kept = c.kept ++ d.kept; added = c.added ++ d.added; stored = c.stored ++ d.stored; saw = c.saw ++ d.saw; lost = c.lost ++ d.lost }

@@ -31,7 +31,7 @@ abbrev pub card_after : Words → CellStep → Card → Card
 card_after words (Look word) card = looked word (value_of words word) card
 card_after words (Take access block seen) card = if word_at words.cells block == seen then holding (Held access block) card else losing block (word_at words.cells block) card
 card_after words (Release access block) card = holding Nothing card
-card_after words (Seal block place dirty) card = sealing (seal_word place dirty) card
+card_after words (Seal block place dirty) card = sealing block (seal_word place dirty) card
 card_after words (Finish block) card = finishing block card
 card_after words (Count kind) card = counting kind card
 card_after words SetFailed card = failing card

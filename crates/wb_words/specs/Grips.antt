@@ -105,12 +105,14 @@ tried block w card = looked (LockWord block) w (looked Fail 0 card)
 -- The block is held, what is told of it are its words, and the number is no less than any that was seen.
 pub record TellsHeld (access : Access) (block : OBlock) (place : Option CBlock) (dirty : Bool) (number : ℕ) (card after : Card) : Type 0 where
   pub hold : after.hold ≡ Held access block
-  pub seal : (seal : ℕ) × (after.seal ≡ Some seal) × (place ≡ place_in seal) × (dirty ≡ dirty_in seal)
+  pub found : ℕ
+  pub seal : (after.seal ≡ Some found) × (place ≡ place_in found) × (dirty ≡ dirty_in found)
   pub number_is : after.number ≡ Some number
   pub kept : after.kept ≡ card.kept
   pub added : after.added ≡ card.added
+  pub stored : after.stored ≡ card.stored
   pub lost : after.lost ≡ card.lost
-  pub saw : (w seal : ℕ) × (after.saw ≡ (Number block, number) ∷ ((SealWord block, seal) ∷ ((LockWord block, w) ∷ ((Fail, 0) ∷ card.saw))))
+  pub saw : (w : ℕ) × (after.saw ≡ (Number block, number) ∷ ((SealWord block, found) ∷ ((LockWord block, w) ∷ ((Fail, 0) ∷ card.saw))))
   pub least : SawAtMost block number card.saw
 
 -- the lock word that was looked at rules the grip out, or another came between the look and the exchange
@@ -126,6 +128,7 @@ pub record Stays (card after : Card) : Type 0 where
   pub hold : after.hold ≡ card.hold
   pub kept : after.kept ≡ card.kept
   pub added : after.added ≡ card.added
+  pub stored : after.stored ≡ card.stored
 
 -- A refusal, and its cause.
 abbrev pub IsRefusal : Access → OBlock → Refusal → Card → Card → Type 0

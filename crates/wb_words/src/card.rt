@@ -21,6 +21,8 @@ pub struct Card {
     pub kept: [OBlock; 0],
     /// The words to which it added one, a word for each time.
     pub added: [Word; 0],
+    /// Each seal that it stored, the newest first: the block, and the seal word.
+    pub stored: [(OBlock, u64); 0],
     /// Each look, the newest first: the word, and what was found.
     pub saw: [(Word, u64); 0],
     /// Each exchange that was lost, the newest first: the block, and the lock word that was found.
