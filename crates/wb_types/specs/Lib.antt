@@ -1,2 +1,3 @@
+pub mod Extents
 pub mod Limits
 pub mod Refusals

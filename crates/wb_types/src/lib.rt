@@ -4,7 +4,9 @@
 #![tactic(auto)]
 
 mod entry;
+mod extent;
 mod geometry;
+mod law;
 mod message;
 mod mode;
 mod number;
@@ -13,7 +15,9 @@ mod refusal;
 mod tests;
 
 pub use entry::Entry;
+pub use extent::Extent;
 pub use geometry::Geometry;
+pub use law::cutting_law;
 pub use message::{CBlockRange, CBlockRanges, Key, Message};
 pub use mode::{Dev, Mode};
 pub use number::{CBlock, OBlock, Place, Sector};
