@@ -5,3 +5,5 @@ pub mod Core
 pub mod Allowed
 pub mod Passing
 pub mod Gripping
+pub mod Alone
+pub mod Stepping

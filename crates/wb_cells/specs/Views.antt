@@ -1,9 +1,9 @@
 -- The words and all views: what holds between any two steps.
-use Rattle.std.specs.Prelude.{◌≡◌, ℕ, ◌+◌, ◌*◌, ◌≤◌, max, List, [], ◌∷◌, ◌++◌, length, replicate, Option, Some, None}
+use Rattle.std.specs.Prelude.{◌≡◌, ℕ, ◌+◌, ◌*◌, ◌≤◌, List, [], ◌∷◌, ◌++◌, length, replicate, Option, Some, None}
 use mathlib.Core.Option.{some}
 use lib.ListN.{get_elem?}
 use Rattle.atomic_table.specs.Table.{State}
-use Rattle.wb_words.specs.SharedWords.{Words}
+use Rattle.wb_words.specs.SharedWords.{Words, HasBits}
 use Rattle.wb_words.specs.declared.card.Card.{Card}
 use Rattle.wb_cells.specs.declared.view.View.{View}
 use Rattle.wb_cells.specs.Flat.{decode}
@@ -30,12 +30,12 @@ pub record Ruled (n : ℕ) (s : State ℕ View) : Type 0 where
   pub parts : MakeWhole s.views
   pub bare : (j : ℕ) (v : View) → get_elem? s.views j ≡ some v → v.fraction.pieces ≡ 0 → v.cards ≡ []
   pub sized : (j : ℕ) (v : View) → get_elem? s.views j ≡ some v → (v.fraction.pieces ≡ 0 → ⊥) → v.blocks ≡ n
-  pub floor : (j : ℕ) (v : View) → get_elem? s.views j ≡ some v → v.fail ≤ (decode s.words).fail
+  pub floor : (j : ℕ) (v : View) → get_elem? s.views j ≡ some v → HasBits (decode s.words).fail v.fail
   pub known : (j : ℕ) (v : View) (ws : List ℕ) → get_elem? s.views j ≡ some v → v.words ≡ Some ws → (ws ≡ s.words) × IsWhole v.fraction
 
 -- the first view, which has the whole and knows that all words are 0
 abbrev pub first_view : ℕ → ℕ → View
-first_view n actors = record { fraction = the_whole; blocks = n; cards = replicate actors blank_card; fail = 0; words = Some (replicate (3 * n + 5) 0) }
+first_view n actors = record { fraction = the_whole; blocks = n; cards = replicate actors blank_card; fail = []; words = Some (replicate (3 * n + 5) 0) }
 
 abbrev pub words_or : Option (List ℕ) → List ℕ
 words_or None = []
@@ -58,7 +58,7 @@ merged_cards [] ds = ds
 merged_cards (c ∷ cs) [] = c ∷ cs
 
 abbrev pub joined : View → View → View
-joined v w = record { fraction = together v.fraction w.fraction; blocks = v.blocks; cards = merged_cards v.cards w.cards; fail = max v.fail w.fail; words = None }
+joined v w = record { fraction = together v.fraction w.fraction; blocks = v.blocks; cards = merged_cards v.cards w.cards; fail = v.fail ++ w.fail; words = None }
 
 abbrev pub spent : View
-spent = record { fraction = no_fraction; blocks = 0; cards = []; fail = 0; words = None }
+spent = record { fraction = no_fraction; blocks = 0; cards = []; fail = []; words = None }
