@@ -26,7 +26,7 @@ use Rattle.wb_cells.specs.Flat.{index_of, decode}
 use Rattle.wb_words.specs.Cards.{blank_card, looked, losing, holding, sealing, finishing, counting, failing}
 use Rattle.wb_words.specs.Rule.{LockRule}
 use Rattle.wb_cells.specs.Fractions.{IsWhole}
-use Rattle.wb_cells.specs.Views.{Ruled, first_view}
+use Rattle.wb_cells.specs.Views.{Ruled, AllHaveParts, first_view}
 use Rattle.wb_cells.specs.Crews.{IsCrew}
 use Rattle.wb_words.specs.Looks.{Finds}
 use Rattle.wb_cells.specs.Moves.{card_at, SeatMoves}
@@ -168,6 +168,7 @@ starts n m = record {
   bare = λ j v e z. absurd (first_parts j v e z);
   sized = λ j v e more. first_blocks j v e;
   floor = λ j v e. first_floor j v e;
+  sides = λ j v e. first_sides j v e;
   known = λ j v ws e is. first_words j v ws e is;
 }
   where
@@ -178,6 +179,10 @@ starts n m = record {
     first_floor : (j : ℕ) (v : View) → get_elem? (first_view n m ∷ []) j ≡ some v → HasBits (decode (replicate (3 * n + 5) 0)).fail v.fail
     first_floor zero v e = subst (λ (u : View). HasBits (decode (replicate (3 * n + 5) 0)).fail u.fail) (some-injective (first_view n m) v e) tt
     first_floor (suc j) v e = absurd (some-ne-none v (sym e))
+
+    first_sides : (j : ℕ) (v : View) → get_elem? (first_view n m ∷ []) j ≡ some v → AllHaveParts v.sides
+    first_sides zero v e = subst (λ (u : View). AllHaveParts u.sides) (some-injective (first_view n m) v e) tt
+    first_sides (suc j) v e = absurd (some-ne-none v (sym e))
 
     first_parts : (j : ℕ) (v : View) → get_elem? (first_view n m ∷ []) j ≡ some v → v.fraction.pieces ≡ 0 → ⊥
     first_parts zero v e z = let w : 1 ≡ v.fraction.pieces = ap (λ (u : View). u.fraction.pieces) (some-injective (first_view n m) v e) in omega arith

@@ -18,14 +18,14 @@ use Rattle.wb_cells.specs.Flat.{index_of, decode}
 use Rattle.wb_words.specs.Cards.{blank_card}
 use Rattle.wb_words.specs.Rule.{LockRule}
 use Rattle.wb_cells.specs.Fractions.{IsWhole}
-use Rattle.wb_cells.specs.Views.{Ruled, all_cards, view_pieces, words_or}
+use Rattle.wb_cells.specs.Views.{Ruled, AllHaveParts, all_cards, view_pieces, words_or}
 use Rattle.wb_cells.specs.Moves.{card_at, Found, SeatMoves}
 use Rattle.wb_cells.proofs.Decoding.{decode_get, decode_set}
 use Rattle.wb_cells.proofs.Halves.{crowd, whole_sum, same_parts, some_pieces}
 use Rattle.wb_cells.proofs.Flatten.{flat, alone}
 
 abbrev fitted : View → List FailBit → List Card → Option (List ℕ) → View
-fitted v fail ds ws = record { fraction = v.fraction; blocks = v.blocks; cards = ds; fail = fail; words = ws }
+fitted v fail ds ws = record { fraction = v.fraction; blocks = v.blocks; cards = ds; fail = fail; words = ws; sides = v.sides }
 
 pub some_is : (a b : List ℕ) → Some a ≡ Some b → a ≡ b
 some_is a b e = cc
@@ -58,6 +58,7 @@ module _ (n id i x : ℕ) (s : State ℕ View) (r : Ruled n s) (v : View) (at : 
         (λ (t : (j ≢ id) × (get_elem? s.views j ≡ some u)). r.sized j u t.1 more) (at_set s.views id j w u e);
     floor = λ j u e. ⊎_elim (λ (t : (j ≡ id) × (w ≡ u)). subst (λ (y : View). HasBits (decode (set s.words i x)).fail y.fail) t.1 low)
         (λ (t : (j ≢ id) × (get_elem? s.views j ≡ some u)). grown u.fail (r.floor j u t.1)) (at_set s.views id j w u e);
+    sides = λ j u e. ⊎_elim (λ (t : (j ≡ id) × (w ≡ u)). subst (λ (y : View). AllHaveParts y.sides) t.1 (r.sides id v at)) (λ (t : (j ≢ id) × (get_elem? s.views j ≡ some u)). r.sides j u t.1) (at_set s.views id j w u e);
     known = λ j u xs e is. ⊎_elim
         (λ (t : (j ≡ id) × (w ≡ u)). let h = new xs (ap (λ (y : View). y.words) t.1 ∙ is) in (h.0, subst (λ (y : View). IsWhole y.fraction) t.1 h.1))
         (λ (t : (j ≢ id) × (get_elem? s.views j ≡ some u)). absurd (crowd s.views r.parts id v j u at some_part t.0 t.1 (r.known j u xs t.1 is).1)) (at_set s.views id j w u e);

@@ -1,10 +1,10 @@
 -- Steps of a seat of one card; seats cut in two and put together.
-use Rattle.std.proofs.Common.{◌≡◌, ◌≢◌, ℕ, zero, suc, ◌+◌, ◌-◌, ◌*◌, ◌%◌, ◌^◌, List, [], ◌∷◌, ◌++◌, get_or, set, sym, refl, ap, ◌∙◌, subst, ⊎_elim, inl, inr, arith}
+use Rattle.std.proofs.Common.{◌≡◌, ◌≢◌, ℕ, zero, suc, ◌+◌, ◌-◌, ◌*◌, ◌%◌, ◌^◌, List, [], ◌∷◌, ◌++◌, get_or, set, sym, refl, ap, ◌∙◌, subst, ⊎_elim, inl, inr, arith, None}
 use Rattle.std.proofs.lemmas.Option.{none-some}
 use mathlib.Core.Option.{some, some-injective, some-ne-none}
 use lib.ListN.{get_elem?}
 use Rattle.atomic_table.specs.Seated.{TableId}
-use Rattle.atomic_table.specs.Table.{Me, Splits, Joins}
+use Rattle.atomic_table.specs.Table.{State, Me, Splits, Joins}
 use Rattle.atomic_table.proofs.Lists.{at_set, at_snoc, set_else}
 use Rattle.wb_words.specs.declared.word.Kind.{Kind}
 use Rattle.wb_words.specs.declared.word.Word.{Word as WordName}
@@ -21,8 +21,9 @@ use Rattle.wb_words.specs.Moments.{Moment}
 use Rattle.wb_types.specs.declared.number.OBlock.{OBlock}
 use Rattle.wb_words.specs.declared.word.FailBit.{FailBit}
 use Rattle.wb_words.specs.declared.word.FailBit.TheVariants.{Failed, Suspended}
+use Rattle.wb_cells.specs.declared.view.Fraction.{Fraction}
 use Rattle.wb_cells.specs.Fractions.{IsWhole, together}
-use Rattle.wb_cells.specs.Views.{Ruled, all_cards, cut_left, cut_right, merged_cards, joined, spent}
+use Rattle.wb_cells.specs.Views.{Ruled, AllHaveParts, MakeWhole, all_cards, cut_left, cut_right, merged_cards, joined, spent}
 use Rattle.wb_words.specs.Looks.{Finds}
 use Rattle.wb_cells.specs.Moves.{card_at, SeatMoves}
 use Rattle.wb_cells.specs.Passes.{pass_state, IsPass, IsSum}
@@ -74,13 +75,13 @@ moment_of words n m after p sized s = let f = s.0.found in let z = p.sized in le
 )
 
 -- what all cards did, where the same was done
-record AllSame (cs ds : List Card) : Type 0 where
+pub record AllSame (cs ds : List Card) : Type 0 where
   pub shared : (b : ℕ) → total (shared_of b) ds ≡ total (shared_of b) cs
   pub owned : (b : ℕ) → total (owned_of b) ds ≡ total (owned_of b) cs
   pub stored : (b x : ℕ) → total (stores b x) ds ≡ total (stores b x) cs
   pub bits : (bit : FailBit) → total (times_set bit) ds ≡ total (times_set bit) cs
 
-no_less_same : (cs ds : List Card) → AllSame cs ds → ((kind : Kind) → total (counts_of kind) ds ≡ total (counts_of kind) cs) → AllNoLess cs ds
+pub no_less_same : (cs ds : List Card) → AllSame cs ds → ((kind : Kind) → total (counts_of kind) ds ≡ total (counts_of kind) cs) → AllNoLess cs ds
 no_less_same cs ds same counts = record {
   shared = λ b. let e = same.shared b in omega arith;
   owned = λ b. let e = same.owned b in omega arith;
@@ -90,7 +91,7 @@ no_less_same cs ds same counts = record {
 }
 
 -- the rule reads sums over the cards, and what each one knows and notes
-rule_from : (n : ℕ) (w : Words) (cs ds : List Card) → LockRule n w cs → ((b : ℕ) → total (sharers b) ds ≡ total (sharers b) cs) → ((b : ℕ) → total (owners b) ds ≡ total (owners b) cs)
+pub rule_from : (n : ℕ) (w : Words) (cs ds : List Card) → LockRule n w cs → ((b : ℕ) → total (sharers b) ds ≡ total (sharers b) cs) → ((b : ℕ) → total (owners b) ds ≡ total (owners b) cs)
     → ((b : ℕ) → total (writes_on b) ds ≡ total (writes_on b) cs) → ((kind : Kind) → total (counts_of kind) ds ≡ total (counts_of kind) cs) → AllSame cs ds → ((p : ℕ) (c : Card) → get_elem? ds p ≡ some c → Knows w c) → ((p : ℕ) (c : Card) → get_elem? ds p ≡ some c → Notes ds c) → LockRule n w ds
 rule_from n w cs ds r sh ow wr co same knows notes = record {
   cells_are = r.cells_are;
@@ -119,6 +120,32 @@ notes_blank cs (suc q) c e = absurd (some-ne-none c (sym e))
 first_has : (l : List Card) (c : Card) → l ≡ c ∷ [] → get_elem? l 0 ≡ some c
 first_has l c e = ap (λ (l : List Card). get_elem? l 0) e
 
+-- a seat's view is cut in two
+pub cut_ruled : (n id : ℕ) (v left right : View) (s : State ℕ View) (r : Ruled n s) → get_elem? s.views id ≡ some v → v.fraction.pieces ≢ 0 → left.fraction.pieces ≢ 0 → right.fraction.pieces ≢ 0 → MakeWhole (set s.views id left ++ right ∷ [])
+    → left.blocks ≡ v.blocks → right.blocks ≡ v.blocks → HasBits (decode s.words).fail left.fail → HasBits (decode s.words).fail right.fail → AllHaveParts left.sides → AllHaveParts right.sides → left.words ≡ None → right.words ≡ None
+    → LockRule n (decode s.words) (all_cards (set s.views id left ++ right ∷ [])) → Ruled n record { words = s.words; homes = s.homes; views = set s.views id left ++ right ∷ [] }
+cut_ruled n id v left right s r at some_part part_l part_r parts blocks_l blocks_r bits_l bits_r sides_l sides_r words_l words_r rule = let vs : List View = set s.views id left in record {
+  wide = r.wide;
+  rule = rule;
+  parts = parts;
+  bare = λ j u e z. ⊎_elim
+      (λ g. ⊎_elim (λ (t : (j ≡ id) × (left ≡ u)). absurd (part_l (ap (λ (y : View). y.fraction.pieces) t.1 ∙ z))) (λ (t : (j ≢ id) × (get_elem? s.views j ≡ some u)). r.bare j u t.1 z) (at_set s.views id j left u g))
+      (λ (t : right ≡ u). absurd (part_r (ap (λ (y : View). y.fraction.pieces) t ∙ z))) (at_snoc vs right u j e);
+  sized = λ j u e more. ⊎_elim
+      (λ g. ⊎_elim (λ (t : (j ≡ id) × (left ≡ u)). ap (λ (y : View). y.blocks) (sym t.1) ∙ (blocks_l ∙ r.sized id v at some_part)) (λ (t : (j ≢ id) × (get_elem? s.views j ≡ some u)). r.sized j u t.1 more) (at_set s.views id j left u g))
+      (λ (t : right ≡ u). ap (λ (y : View). y.blocks) (sym t) ∙ (blocks_r ∙ r.sized id v at some_part)) (at_snoc vs right u j e);
+  floor = λ j u e. ⊎_elim
+      (λ g. ⊎_elim (λ (t : (j ≡ id) × (left ≡ u)). subst (λ (y : View). HasBits (decode s.words).fail y.fail) t.1 bits_l) (λ (t : (j ≢ id) × (get_elem? s.views j ≡ some u)). r.floor j u t.1) (at_set s.views id j left u g))
+      (λ (t : right ≡ u). subst (λ (y : View). HasBits (decode s.words).fail y.fail) t bits_r) (at_snoc vs right u j e);
+  sides = λ j u e. ⊎_elim
+      (λ g. ⊎_elim (λ (t : (j ≡ id) × (left ≡ u)). subst (λ (y : View). AllHaveParts y.sides) t.1 sides_l) (λ (t : (j ≢ id) × (get_elem? s.views j ≡ some u)). r.sides j u t.1) (at_set s.views id j left u g))
+      (λ (t : right ≡ u). subst (λ (y : View). AllHaveParts y.sides) t sides_r) (at_snoc vs right u j e);
+  known = λ j u ws e is. ⊎_elim
+      (λ g. ⊎_elim (λ (t : (j ≡ id) × (left ≡ u)). absurd (none-some ws (sym words_l ∙ (ap (λ (y : View). y.words) t.1 ∙ is))))
+      (λ (t : (j ≢ id) × (get_elem? s.views j ≡ some u)). absurd (crowd s.views r.parts id v j u at some_part t.0 t.1 (r.known j u ws t.1 is).1)) (at_set s.views id j left u g))
+      (λ (t : right ≡ u). absurd (none-some ws (sym words_r ∙ (ap (λ (y : View). y.words) t ∙ is)))) (at_snoc vs right u j e);
+}
+
 pub splits : (n id : ℕ) (v : View) (c : Card) → v.cards ≡ c ∷ [] → Splits (Ruled n) id v (cut_left v) (cut_right v)
 splits n id v c one s r at =
     let left : View = cut_left v in let right : View = cut_right v in let vs : List View = set s.views id left in
@@ -126,29 +153,14 @@ splits n id v c one s r at =
     let same : (f : Card → ℕ) → f blank_card ≡ 0 → total f (all_cards (vs ++ right ∷ [])) ≡ total f (all_cards s.views) =
     λ f z. let a = cards_sum f s.views id v left at in let b = all-snoc f vs right in omega arith in
     let all : AllSame (all_cards s.views) (all_cards (vs ++ right ∷ [])) = record { shared = λ b. same (shared_of b) refl; owned = λ b. same (owned_of b) refl; stored = λ b x. same (stores b x) refl; bits = λ bit. same (times_set bit) refl } in
-    let up : AllNoLess (all_cards s.views) (all_cards (vs ++ right ∷ [])) = no_less_same (all_cards s.views) (all_cards (vs ++ right ∷ [])) all (λ kind. same (counts_of kind) refl) in record {
-      wide = r.wide;
-      rule = rule_from n (decode s.words) (all_cards s.views) (all_cards (vs ++ right ∷ [])) r.rule (λ b. same (sharers b) refl) (λ b. same (owners b) refl) (λ b. same (writes_on b) refl) (λ kind. same (counts_of kind) refl) all
-          (λ p c e. ⊎_elim (λ t. knows_blank (decode s.words) t.0 c t.1)
-          (λ t. ⊎_elim (λ u. let q = in_all s.views id v u.0 c at u.1 in r.rule.knows q.0 c q.1) (λ u. r.rule.knows u.0 c u.1) (card_of_set s.views id left t.0 c t.1)) (card_of_snoc vs right p c e))
-          (λ p c e. ⊎_elim (λ t. notes_blank (all_cards (vs ++ right ∷ [])) t.0 c t.1)
-          (λ t. notes_on (all_cards s.views) (all_cards (vs ++ right ∷ [])) up c (⊎_elim (λ u. let q = in_all s.views id v u.0 c at u.1 in r.rule.logs.notes q.0 c q.1) (λ u. r.rule.logs.notes u.0 c u.1) (card_of_set s.views id left t.0 c t.1)))
-          (card_of_snoc vs right p c e));
-      parts = split_parts s.views id v left right at refl refl r.parts;
-      bare = λ j u e z. ⊎_elim
-          (λ g. ⊎_elim (λ (t : (j ≡ id) × (left ≡ u)). absurd (some_part (ap (λ (y : View). y.fraction.pieces) t.1 ∙ z))) (λ (t : (j ≢ id) × (get_elem? s.views j ≡ some u)). r.bare j u t.1 z) (at_set s.views id j left u g))
-          (λ (t : right ≡ u). absurd (some_part (ap (λ (y : View). y.fraction.pieces) t ∙ z))) (at_snoc vs right u j e);
-      sized = λ j u e more. ⊎_elim
-          (λ g. ⊎_elim (λ (t : (j ≡ id) × (left ≡ u)). ap (λ (y : View). y.blocks) (sym t.1) ∙ r.sized id v at some_part) (λ (t : (j ≢ id) × (get_elem? s.views j ≡ some u)). r.sized j u t.1 more) (at_set s.views id j left u g))
-          (λ (t : right ≡ u). ap (λ (y : View). y.blocks) (sym t) ∙ r.sized id v at some_part) (at_snoc vs right u j e);
-      floor = λ j u e. ⊎_elim
-          (λ g. ⊎_elim (λ (t : (j ≡ id) × (left ≡ u)). subst (λ (y : View). HasBits (decode s.words).fail y.fail) t.1 (r.floor id v at)) (λ (t : (j ≢ id) × (get_elem? s.views j ≡ some u)). r.floor j u t.1) (at_set s.views id j left u g))
-          (λ (t : right ≡ u). subst (λ (y : View). HasBits (decode s.words).fail y.fail) t (r.floor id v at)) (at_snoc vs right u j e);
-      known = λ j u ws e is. ⊎_elim
-          (λ g. ⊎_elim (λ (t : (j ≡ id) × (left ≡ u)). absurd (none-some ws (ap (λ (y : View). y.words) t.1 ∙ is)))
-          (λ (t : (j ≢ id) × (get_elem? s.views j ≡ some u)). absurd (crowd s.views r.parts id v j u at some_part t.0 t.1 (r.known j u ws t.1 is).1)) (at_set s.views id j left u g))
-          (λ (t : right ≡ u). absurd (none-some ws (ap (λ (y : View). y.words) t ∙ is))) (at_snoc vs right u j e);
-    }
+    let up : AllNoLess (all_cards s.views) (all_cards (vs ++ right ∷ [])) = no_less_same (all_cards s.views) (all_cards (vs ++ right ∷ [])) all (λ kind. same (counts_of kind) refl) in
+    cut_ruled n id v left right s r at some_part some_part some_part (split_parts s.views id v left right at refl refl r.parts) refl refl (r.floor id v at) (r.floor id v at) (r.sides id v at) tt refl refl
+    (rule_from n (decode s.words) (all_cards s.views) (all_cards (vs ++ right ∷ [])) r.rule (λ b. same (sharers b) refl) (λ b. same (owners b) refl) (λ b. same (writes_on b) refl) (λ kind. same (counts_of kind) refl) all
+    (λ p c e. ⊎_elim (λ t. knows_blank (decode s.words) t.0 c t.1)
+    (λ t. ⊎_elim (λ u. let q = in_all s.views id v u.0 c at u.1 in r.rule.knows q.0 c q.1) (λ u. r.rule.knows u.0 c u.1) (card_of_set s.views id left t.0 c t.1)) (card_of_snoc vs right p c e))
+    (λ p c e. ⊎_elim (λ t. notes_blank (all_cards (vs ++ right ∷ [])) t.0 c t.1)
+    (λ t. notes_on (all_cards s.views) (all_cards (vs ++ right ∷ [])) up c (⊎_elim (λ u. let q = in_all s.views id v u.0 c at u.1 in r.rule.logs.notes q.0 c q.1) (λ u. r.rule.logs.notes u.0 c u.1) (card_of_set s.views id left t.0 c t.1)))
+    (card_of_snoc vs right p c e)))
 
 saw-append : (w : Words) (l m : List (WordName × ℕ)) → AllSawNoMore w l → AllSawNoMore w m → AllSawNoMore w (l ++ m)
 saw-append w [] m a b = b
@@ -183,6 +195,36 @@ module _ (c d : Card) where
   pub merged_counts : (kind : Kind) → counts_of kind (merged c d) ≡ counts_of kind c + counts_of kind d
   merged_counts kind = total-append (is_count kind) c.added d.added
 
+-- two seats' views are put together
+pub joined_ruled : (n id : ℕ) (v : View) (other : ℕ) (w both : View) (s : State ℕ View) (r : Ruled n s) → get_elem? s.views id ≡ some v → other ≢ id → get_elem? (set s.views id both) other ≡ some w → v.fraction.pieces ≢ 0
+    → both.fraction ≡ together v.fraction w.fraction → both.blocks ≡ v.blocks → both.fail ≡ v.fail ++ w.fail → AllHaveParts both.sides → both.words ≡ None
+    → LockRule n (decode s.words) (all_cards (set (set s.views id both) other spent)) → Ruled n record { words = s.words; homes = s.homes; views = set (set s.views id both) other spent }
+joined_ruled n id v other w both s r at apart there some_part fraction blocks fail sides words rule = let vs : List View = set s.views id both in
+    let stood : get_elem? s.views other ≡ some w = sym (set_else s.views id other both apart) ∙ there in record {
+      wide = r.wide;
+      rule = rule;
+      parts = join_parts s.views id v both other w spent at apart there fraction refl refl r.parts;
+      bare = λ j u e z. ⊎_elim (λ (t : (j ≡ other) × (spent ≡ u)). ap (λ (y : View). y.cards) (sym t.1))
+          (λ (t : (j ≢ other) × (get_elem? vs j ≡ some u)). ⊎_elim (λ (q : (j ≡ id) × (both ≡ u)). absurd (some_part (piece_of u (ap (λ (p : Fraction). p.pieces) (sym fraction) ∙ (ap (λ (y : View). y.fraction.pieces) q.1 ∙ z)))))
+          (λ (q : (j ≢ id) × (get_elem? s.views j ≡ some u)). r.bare j u q.1 z) (at_set s.views id j both u t.1)) (at_set vs other j spent u e);
+      sized = λ j u e more. ⊎_elim (λ (t : (j ≡ other) × (spent ≡ u)). absurd (more (ap (λ (y : View). y.fraction.pieces) (sym t.1))))
+          (λ (t : (j ≢ other) × (get_elem? vs j ≡ some u)). ⊎_elim (λ (q : (j ≡ id) × (both ≡ u)). ap (λ (y : View). y.blocks) (sym q.1) ∙ (blocks ∙ r.sized id v at some_part))
+          (λ (q : (j ≢ id) × (get_elem? s.views j ≡ some u)). r.sized j u q.1 more) (at_set s.views id j both u t.1)) (at_set vs other j spent u e);
+      floor = λ j u e. ⊎_elim (λ (t : (j ≡ other) × (spent ≡ u)). subst (λ (y : View). HasBits (decode s.words).fail y.fail) t.1 tt)
+          (λ (t : (j ≢ other) × (get_elem? vs j ≡ some u)). ⊎_elim (λ (q : (j ≡ id) × (both ≡ u)). subst (λ (y : View). HasBits (decode s.words).fail y.fail) q.1
+          (subst (HasBits (decode s.words).fail) (sym fail) (has_both _ v.fail w.fail (r.floor id v at) (r.floor other w stood))))
+          (λ (q : (j ≢ id) × (get_elem? s.views j ≡ some u)). r.floor j u q.1) (at_set s.views id j both u t.1)) (at_set vs other j spent u e);
+      sides = λ j u e. ⊎_elim (λ (t : (j ≡ other) × (spent ≡ u)). subst (λ (y : View). AllHaveParts y.sides) t.1 tt)
+          (λ (t : (j ≢ other) × (get_elem? vs j ≡ some u)). ⊎_elim (λ (q : (j ≡ id) × (both ≡ u)). subst (λ (y : View). AllHaveParts y.sides) q.1 sides)
+          (λ (q : (j ≢ id) × (get_elem? s.views j ≡ some u)). r.sides j u q.1) (at_set s.views id j both u t.1)) (at_set vs other j spent u e);
+      known = λ j u ws e is. ⊎_elim (λ (t : (j ≡ other) × (spent ≡ u)). absurd (none-some ws (ap (λ (y : View). y.words) t.1 ∙ is)))
+          (λ (t : (j ≢ other) × (get_elem? vs j ≡ some u)). ⊎_elim (λ (q : (j ≡ id) × (both ≡ u)). absurd (none-some ws (sym words ∙ (ap (λ (y : View). y.words) q.1 ∙ is))))
+          (λ (q : (j ≢ id) × (get_elem? s.views j ≡ some u)). absurd (crowd s.views r.parts id v j u at some_part q.0 q.1 (r.known j u ws q.1 is).1)) (at_set s.views id j both u t.1)) (at_set vs other j spent u e);
+    }
+  where
+    piece_of : (u : View) → (together v.fraction w.fraction).pieces ≡ 0 → v.fraction.pieces ≡ 0
+    piece_of u z = let l = doubled-le v.fraction.pieces (w.fraction.halvings - v.fraction.halvings) in omega arith
+
 pub joins : (n id : ℕ) (v : View) (other : ℕ) (w : View) (c d : Card) → v.cards ≡ c ∷ [] → w.cards ≡ d ∷ [] → c.hold ≡ Nothing → d.hold ≡ Nothing → Joins (Ruled n) id v other w (joined v w) spent
 joins n id v other w c d vc wc ch dh s r at apart there =
     let both : View = joined v w in let vs : List View = set s.views id both in let us : List View = set vs other spent in
@@ -202,34 +244,17 @@ joins n id v other w c d vc wc ch dh s r at apart there =
     } in
     let up : AllNoLess (all_cards s.views) (all_cards us) = no_less_same (all_cards s.views) (all_cards us) all (λ kind. same (counts_of kind) (merged_counts c d kind)) in
     let cn : Notes (all_cards us) c = notes_on (all_cards s.views) (all_cards us) up c (let q = in_all s.views id v 0 c at (first_has v.cards c vc) in r.rule.logs.notes q.0 c q.1) in
-    let dn : Notes (all_cards us) d = notes_on (all_cards s.views) (all_cards us) up d (let q = in_all s.views other w 0 d stood (first_has w.cards d wc) in r.rule.logs.notes q.0 d q.1) in record {
-      wide = r.wide;
-      rule = rule_from n (decode s.words) (all_cards s.views) (all_cards us) r.rule
-          (λ b. same (sharers b) (let x : shares b c.hold ≡ 0 = ap (shares b) ch in let y : shares b d.hold ≡ 0 = ap (shares b) dh in omega arith))
-          (λ b. same (owners b) (let x : owns b c.hold ≡ 0 = ap (owns b) ch in let y : owns b d.hold ≡ 0 = ap (owns b) dh in omega (arith, total-append (is_block b) c.kept d.kept)))
-          (λ b. same (writes_on b) (merged_writes c d b)) (λ kind. same (counts_of kind) (merged_counts c d kind)) all
-          (λ p e g. ⊎_elim (λ t. absurd (some-ne-none e (sym t.1)))
-          (λ t. ⊎_elim (λ u. merged_at u.0 e (sym (ap (λ (l : List Card). get_elem? l u.0) cards) ∙ u.1) ck dk) (λ u. r.rule.knows u.0 e u.1) (card_of_set s.views id both t.0 e t.1)) (card_of_set vs other spent p e g))
-          (λ p e g. ⊎_elim (λ t. absurd (some-ne-none e (sym t.1)))
-          (λ t. ⊎_elim (λ u. notes_at u.0 e (sym (ap (λ (l : List Card). get_elem? l u.0) cards) ∙ u.1) cn dn) (λ u. notes_on (all_cards s.views) (all_cards us) up e (r.rule.logs.notes u.0 e u.1)) (card_of_set s.views id both t.0 e t.1)) (card_of_set vs other spent p e g));
-      parts = join_parts s.views id v both other w spent at apart there refl refl refl r.parts;
-      bare = λ j u e z. ⊎_elim (λ (t : (j ≡ other) × (spent ≡ u)). ap (λ (y : View). y.cards) (sym t.1))
-          (λ (t : (j ≢ other) × (get_elem? vs j ≡ some u)). ⊎_elim (λ (q : (j ≡ id) × (both ≡ u)). absurd (some_part (piece_of u (ap (λ (y : View). y.fraction.pieces) q.1 ∙ z))))
-          (λ (q : (j ≢ id) × (get_elem? s.views j ≡ some u)). r.bare j u q.1 z) (at_set s.views id j both u t.1)) (at_set vs other j spent u e);
-      sized = λ j u e more. ⊎_elim (λ (t : (j ≡ other) × (spent ≡ u)). absurd (more (ap (λ (y : View). y.fraction.pieces) (sym t.1))))
-          (λ (t : (j ≢ other) × (get_elem? vs j ≡ some u)). ⊎_elim (λ (q : (j ≡ id) × (both ≡ u)). ap (λ (y : View). y.blocks) (sym q.1) ∙ r.sized id v at some_part)
-          (λ (q : (j ≢ id) × (get_elem? s.views j ≡ some u)). r.sized j u q.1 more) (at_set s.views id j both u t.1)) (at_set vs other j spent u e);
-      floor = λ j u e. ⊎_elim (λ (t : (j ≡ other) × (spent ≡ u)). subst (λ (y : View). HasBits (decode s.words).fail y.fail) t.1 tt)
-          (λ (t : (j ≢ other) × (get_elem? vs j ≡ some u)). ⊎_elim (λ (q : (j ≡ id) × (both ≡ u)). subst (λ (y : View). HasBits (decode s.words).fail y.fail) q.1 (has_both _ v.fail w.fail (r.floor id v at) (r.floor other w stood)))
-          (λ (q : (j ≢ id) × (get_elem? s.views j ≡ some u)). r.floor j u q.1) (at_set s.views id j both u t.1)) (at_set vs other j spent u e);
-      known = λ j u ws e is. ⊎_elim (λ (t : (j ≡ other) × (spent ≡ u)). absurd (none-some ws (ap (λ (y : View). y.words) t.1 ∙ is)))
-          (λ (t : (j ≢ other) × (get_elem? vs j ≡ some u)). ⊎_elim (λ (q : (j ≡ id) × (both ≡ u)). absurd (none-some ws (ap (λ (y : View). y.words) q.1 ∙ is)))
-          (λ (q : (j ≢ id) × (get_elem? s.views j ≡ some u)). absurd (crowd s.views r.parts id v j u at some_part q.0 q.1 (r.known j u ws q.1 is).1)) (at_set s.views id j both u t.1)) (at_set vs other j spent u e);
-    }
+    let dn : Notes (all_cards us) d = notes_on (all_cards s.views) (all_cards us) up d (let q = in_all s.views other w 0 d stood (first_has w.cards d wc) in r.rule.logs.notes q.0 d q.1) in
+    joined_ruled n id v other w both s r at apart there some_part refl refl refl tt refl
+    (rule_from n (decode s.words) (all_cards s.views) (all_cards us) r.rule
+    (λ b. same (sharers b) (let x : shares b c.hold ≡ 0 = ap (shares b) ch in let y : shares b d.hold ≡ 0 = ap (shares b) dh in omega arith))
+    (λ b. same (owners b) (let x : owns b c.hold ≡ 0 = ap (owns b) ch in let y : owns b d.hold ≡ 0 = ap (owns b) dh in omega (arith, total-append (is_block b) c.kept d.kept)))
+    (λ b. same (writes_on b) (merged_writes c d b)) (λ kind. same (counts_of kind) (merged_counts c d kind)) all
+    (λ p e g. ⊎_elim (λ t. absurd (some-ne-none e (sym t.1)))
+    (λ t. ⊎_elim (λ u. merged_at u.0 e (sym (ap (λ (l : List Card). get_elem? l u.0) cards) ∙ u.1) ck dk) (λ u. r.rule.knows u.0 e u.1) (card_of_set s.views id both t.0 e t.1)) (card_of_set vs other spent p e g))
+    (λ p e g. ⊎_elim (λ t. absurd (some-ne-none e (sym t.1)))
+    (λ t. ⊎_elim (λ u. notes_at u.0 e (sym (ap (λ (l : List Card). get_elem? l u.0) cards) ∙ u.1) cn dn) (λ u. notes_on (all_cards s.views) (all_cards us) up e (r.rule.logs.notes u.0 e u.1)) (card_of_set s.views id both t.0 e t.1)) (card_of_set vs other spent p e g)))
   where
-    piece_of : (u : View) → (together v.fraction w.fraction).pieces ≡ 0 → v.fraction.pieces ≡ 0
-    piece_of u z = let l = doubled-le v.fraction.pieces (w.fraction.halvings - v.fraction.halvings) in omega arith
-
     notes_at : (q : ℕ) (e : Card) → get_elem? (merged c d ∷ []) q ≡ some e → Notes (all_cards (set (set s.views id (joined v w)) other spent)) c → Notes (all_cards (set (set s.views id (joined v w)) other spent)) d → Notes (all_cards (set (set s.views id (joined v w)) other spent)) e
     notes_at zero e g k l = subst (Notes (all_cards (set (set s.views id (joined v w)) other spent))) (some-injective (merged c d) e g) (notes_merged (all_cards (set (set s.views id (joined v w)) other spent)) c d k l)
     notes_at (suc q) e g k l = absurd (some-ne-none e (sym g))

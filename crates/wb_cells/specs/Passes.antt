@@ -43,3 +43,7 @@ IsSum (SealWord b) x card = (x ≡ 0) ⊎ (0 < stores b.0 x card)
 IsSum (Number b) x card = x ≡ writes_on b.0 card
 IsSum (CountWord kind) x card = x ≡ counts_of kind card % 2 ^ 64
 IsSum Fail x card = x ≡ fail_word (times_set Failed card) (times_set Suspended card)
+
+-- What one card owns, or kept at a failure, another neither owns, nor kept, nor shares.
+abbrev pub Excludes : ℕ → Card → Card → Type 0
+Excludes blocks card other = (b : ℕ) → b < blocks → 0 < owners b card → (owners b other ≡ 0) × (sharers b other ≡ 0)

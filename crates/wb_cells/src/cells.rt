@@ -13,7 +13,7 @@ ghost use Rattle.wb_words.specs.SharedWords.{IsWord};
 ghost use Rattle.wb_words.specs.Cards.{blank_card, looked, losing, holding, sealing, finishing, counting, failing, merged, counts_of, writes_on};
 ghost use Rattle.wb_cells.specs.Fractions.{IsWhole, the_whole, half, together};
 ghost use Rattle.wb_words.specs.Looks.{Finds};
-ghost use Rattle.wb_cells.specs.Passes.{IsSum};
+ghost use Rattle.wb_cells.specs.Passes.{IsSum, Excludes};
 
 use crate::pass::Pass;
 use crate::table::WordTable;
@@ -44,6 +44,28 @@ impl Join<View> for Merging {
     ghost both = { joined };
 
     ghost spent = { spent };
+}
+
+/// How one seat sits for two.
+pub(crate) struct Seating;
+
+impl Join<View> for Seating {
+    ghost use Rattle.wb_cells.specs.Views.{seated, spent};
+
+    ghost both = { seated };
+
+    ghost spent = { spent };
+}
+
+/// How the two stand up again.
+pub(crate) struct Parting;
+
+impl Split<View> for Parting {
+    ghost use Rattle.wb_cells.specs.Views.{side_view};
+
+    ghost left = { side_view 0 };
+
+    ghost right = { side_view 1 };
 }
 
 /// The words that all threads share. Contracts see which words they are, and of how many blocks.
@@ -100,6 +122,24 @@ impl Cells {
             .shared
             .join_seat::<Merging>(&mut seat, other);
         Pass { seat }
+    }
+
+    /// Gives two passes back as they are, whatever they hold, and tells that they exclude each other: what one owns, or
+    /// kept at a failure, the other neither owns, nor kept, nor shares. So who has two passes of the same cells need
+    /// not fear that both own a block, or that one shares what the other owns.
+    pub fn apart(&self, pass: Pass, other: Pass) -> (Pass, Pass)
+        requires at { (pass.table ≡ self.now.table) × (other.table ≡ self.now.table) }
+        ensures first { result.0 ≡ pass }
+        ensures second { result.1 ≡ other }
+        ensures apart { Excludes self.now.blocks pass.card other.card × Excludes self.now.blocks other.card pass.card }
+    {
+        let Pass { mut seat } = pass;
+        let Pass { seat: other } = other;
+        let shared = &self.words.table.shared;
+        shared.join_seat::<Seating>(&mut seat, other);
+        self.words.tell_apart(&mut seat);
+        let second = shared.split_seat::<Parting>(&mut seat);
+        (Pass { seat }, Pass { seat: second })
     }
 
     /// One look at a word. Who has the whole finds at a lock word what its card has of that block, at a statistics

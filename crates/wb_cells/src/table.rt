@@ -14,6 +14,7 @@ ghost use Rattle.wb_words.specs.Cards.{looked, losing, holding, sealing, finishi
 ghost use Rattle.wb_cells.specs.Views.{Ruled, first_view};
 ghost use Rattle.wb_words.specs.Looks.{Finds};
 ghost use Rattle.wb_cells.specs.Moves.{SeatMoves, card_at};
+ghost use Rattle.wb_cells.specs.Passes.{Excludes};
 
 use crate::view::{Sizes, View};
 use atomic_table::{Play, Seat, Table, TableRule};
@@ -106,6 +107,17 @@ impl WordTable {
         ensures step { SeatMoves [] actor (λ c d. (d ≡ looked word result c) × Finds word result c × (word ≡ Fail → HasBits result seat.old.me.0.fail)) (λ was now. (result ≡ value_of was word) × (now ≡ was)) seat.old.me seat.new.me }
     {
         self.load::<Brand>(seat, actor, word)
+    }
+
+    /// A look by a seat that sits for two, which tells that their cards exclude each other.
+    pub(crate) fn tell_apart(&self, seat: &mut Seat<u64, View>)
+        requires at { seat.old.table_id ≡ self.now.table.shared.table_id }
+        requires two { seat.old.me.0.cards ≡ card_at 0 seat.old.me.0 ∷ card_at 1 seat.old.me.0 ∷ [] }
+        requires sized { seat.old.me.0.blocks ≡ self.now.blocks }
+        ensures at { (seat.new.table_id ≡ seat.old.table_id) × (seat.new.id ≡ seat.old.id) × (seat.new.me ≡ seat.old.me) }
+        ensures apart { Excludes self.now.blocks (card_at 0 seat.old.me.0) (card_at 1 seat.old.me.0) × Excludes self.now.blocks (card_at 1 seat.old.me.0) (card_at 0 seat.old.me.0) }
+    {
+        self.load::<Brand>(seat, 0, Word::Fail);
     }
 
     /// The exchange that takes a block, at the lock word that was seen, and what it found.

@@ -18,6 +18,14 @@ pub struct View {
     pub fail: [FailBit; 0],
     /// All words as they lie in the table, known to who has the whole.
     pub words: Option<[u64; 0]>,
+    /// Of a seat that sits for two passes, what each of them had; else nothing.
+    pub sides: [Side; 0],
+}
+
+/// What a pass had before a seat sat for it and another.
+pub struct Side {
+    pub fraction: Fraction,
+    pub fail: [FailBit; 0],
 }
 
 /// What the words are made for.
