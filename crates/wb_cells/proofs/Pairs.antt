@@ -8,7 +8,7 @@ use Rattle.atomic_table.proofs.Lists.{set_else}
 use Rattle.wb_words.specs.declared.word.FailBit.{FailBit}
 use Rattle.wb_words.specs.SharedWords.{HasBits}
 use Rattle.wb_words.specs.declared.card.Card.{Card}
-use Rattle.wb_words.specs.Cards.{blank_card, total, sharers, owners, writes_on, counts_of, shared_of, owned_of, stores, times_set}
+use Rattle.wb_words.specs.Cards.{blank_card, total, sharers, owners, writes_on, counts_of, shared_of, owned_of, stores, seals_on, ends, times_set}
 use Rattle.wb_words.specs.Rule.{LockRule}
 use Rattle.wb_words.proofs.Totals.{total-append}
 use Rattle.wb_words.proofs.LogsKept.{AllNoLess, notes_on}
@@ -25,7 +25,7 @@ use Rattle.wb_cells.proofs.Passing.{AllSame, no_less_same, rule_from, cut_ruled,
 rule_again : (n : ℕ) (s : State ℕ View) (ds : List Card) → Ruled n s → ((f : Card → ℕ) → total f ds ≡ total f (all_cards s.views))
     → ((p : ℕ) (c : Card) → get_elem? ds p ≡ some c → (q : ℕ) × (get_elem? (all_cards s.views) q ≡ some c)) → LockRule n (decode s.words) ds
 rule_again n s ds r same was = let cs : List Card = all_cards s.views in
-    let all : AllSame cs ds = record { shared = λ b. same (shared_of b); owned = λ b. same (owned_of b); stored = λ b x. same (stores b x); bits = λ bit. same (times_set bit) } in
+    let all : AllSame cs ds = record { shared = λ b. same (shared_of b); owned = λ b. same (owned_of b); stored = λ b x. same (stores b x); sealed = λ b. same (seals_on b); last = λ b x. same (ends b x); bits = λ bit. same (times_set bit) } in
     let up : AllNoLess cs ds = no_less_same cs ds all (λ kind. same (counts_of kind)) in
     rule_from n (decode s.words) cs ds r.rule (λ b. same (sharers b)) (λ b. same (owners b)) (λ b. same (writes_on b)) (λ kind. same (counts_of kind)) all
     (λ p c e. let q = was p c e in r.rule.knows q.0 c q.1) (λ p c e. let q = was p c e in notes_on cs ds up c (r.rule.logs.notes q.0 c q.1))

@@ -15,7 +15,7 @@ use Rattle.wb_words.specs.declared.card.Card.{Card}
 use Rattle.wb_cells.specs.declared.view.View.{View}
 use Rattle.wb_words.specs.SharedWords.{IsWord, HasBits, fail_word}
 use Rattle.wb_cells.specs.Flat.{decode}
-use Rattle.wb_words.specs.Cards.{blank_card, total, is_block, is_write, is_count, is_share, is_own, is_seal, is_bit, shares, owns, sharers, owners, writes_on, counts_of, shared_of, owned_of, stores, seals_on, times_set, looked, merged}
+use Rattle.wb_words.specs.Cards.{blank_card, total, is_block, is_write, is_count, is_share, is_own, seal_times, seal_count, is_newest, is_bit, shares, owns, sharers, owners, writes_on, counts_of, shared_of, owned_of, stores, seals_on, ends, times_set, looked, merged}
 use Rattle.wb_words.specs.Rule.{block, AllSawNoMore, Knows, LooksAllowed, LossesAllowed, Notes, LockRule, IsLock}
 use Rattle.wb_words.specs.Moments.{Moment}
 use Rattle.wb_types.specs.declared.number.OBlock.{OBlock}
@@ -32,7 +32,7 @@ use Rattle.wb_cells.proofs.Halves.{crowd, split_parts, join_parts, doubled-le}
 use Rattle.wb_cells.proofs.Flatten.{in_all, card_of_set, card_of_snoc, cards_sum, all-snoc}
 use Rattle.wb_cells.proofs.Core.{has_part, has_both}
 use Rattle.wb_words.proofs.RuleKept.{blank_knows}
-use Rattle.wb_words.proofs.LogsKept.{AllNoLess, seal_on, notes_on, blank_notes}
+use Rattle.wb_words.proofs.LogsKept.{AllNoLess, last_same, notes_on, blank_notes}
 use mathlib.Core.Logic.{dite}
 use native.Mathlib.Decide.{ℕ_discrete}
 
@@ -51,7 +51,7 @@ module _ {bits : List FailBit} {how : Card → Card → Type 0} {change : Words 
 -- what a look finds where one card is all there is
 sum_of : (n : ℕ) (w : Words) (c : Card) (word : WordName) → IsWord n word → LockRule n w (c ∷ []) → IsSum word (value_of w word) c
 sum_of n w c (LockWord b) inside r = let l = r.cells b.0 inside in omega (arith, l.is)
-sum_of n w c (SealWord b) inside r = ⊎_elim (λ z. inl z) (λ h. inr (omega arith)) (r.logs.seals b.0 inside)
+sum_of n w c (SealWord b) inside r = ⊎_elim (λ t. let e = t.1 in inl (t.0, omega arith)) (λ h. inr (omega arith)) (r.logs.seals b.0 inside)
 sum_of n w c (Number b) inside r = let e = r.numbers b.0 inside in e ∙ omega arith
 sum_of n w c (CountWord kind) inside r = r.counts kind ∙ ap (λ (z : ℕ). z % 2 ^ 64) (omega arith)
 sum_of n w c Fail inside r = r.logs.fail ∙ (λ j. fail_word (alone_sum (times_set Failed) j) (alone_sum (times_set Suspended) j))
@@ -79,6 +79,8 @@ pub record AllSame (cs ds : List Card) : Type 0 where
   pub shared : (b : ℕ) → total (shared_of b) ds ≡ total (shared_of b) cs
   pub owned : (b : ℕ) → total (owned_of b) ds ≡ total (owned_of b) cs
   pub stored : (b x : ℕ) → total (stores b x) ds ≡ total (stores b x) cs
+  pub sealed : (b : ℕ) → total (seals_on b) ds ≡ total (seals_on b) cs
+  pub last : (b x : ℕ) → total (ends b x) ds ≡ total (ends b x) cs
   pub bits : (bit : FailBit) → total (times_set bit) ds ≡ total (times_set bit) cs
 
 pub no_less_same : (cs ds : List Card) → AllSame cs ds → ((kind : Kind) → total (counts_of kind) ds ≡ total (counts_of kind) cs) → AllNoLess cs ds
@@ -103,7 +105,7 @@ rule_from n w cs ds r sh ow wr co same knows notes = record {
   counts = λ kind. r.counts kind ∙ ap (λ (z : ℕ). z % 2 ^ 64) (sym (co kind));
   knows = knows;
   logs = record {
-    seals = λ b l. seal_on cs ds (no_less_same cs ds same (λ kind. co kind)) b (word_at w.seals (block b)) (r.logs.seals b l);
+    seals = λ b l. last_same cs ds b (word_at w.seals (block b)) (same.sealed b) (same.last b (word_at w.seals (block b))) (r.logs.seals b l);
     fail = r.logs.fail ∙ (λ j. fail_word (sym (same.bits Failed) j) (sym (same.bits Suspended) j));
     notes = notes;
   };
@@ -152,7 +154,7 @@ splits n id v c one s r at =
     let some_part : v.fraction.pieces ≢ 0 = has_part n s r id 0 v c at (first_has v.cards c one) in
     let same : (f : Card → ℕ) → f blank_card ≡ 0 → total f (all_cards (vs ++ right ∷ [])) ≡ total f (all_cards s.views) =
     λ f z. let a = cards_sum f s.views id v left at in let b = all-snoc f vs right in omega arith in
-    let all : AllSame (all_cards s.views) (all_cards (vs ++ right ∷ [])) = record { shared = λ b. same (shared_of b) refl; owned = λ b. same (owned_of b) refl; stored = λ b x. same (stores b x) refl; bits = λ bit. same (times_set bit) refl } in
+    let all : AllSame (all_cards s.views) (all_cards (vs ++ right ∷ [])) = record { shared = λ b. same (shared_of b) refl; owned = λ b. same (owned_of b) refl; stored = λ b x. same (stores b x) refl; sealed = λ b. same (seals_on b) refl; last = λ b x. same (ends b x) refl; bits = λ bit. same (times_set bit) refl } in
     let up : AllNoLess (all_cards s.views) (all_cards (vs ++ right ∷ [])) = no_less_same (all_cards s.views) (all_cards (vs ++ right ∷ [])) all (λ kind. same (counts_of kind) refl) in
     cut_ruled n id v left right s r at some_part some_part some_part (split_parts s.views id v left right at refl refl r.parts) refl refl (r.floor id v at) (r.floor id v at) (r.sides id v at) tt refl refl
     (rule_from n (decode s.words) (all_cards s.views) (all_cards (vs ++ right ∷ [])) r.rule (λ b. same (sharers b) refl) (λ b. same (owners b) refl) (λ b. same (writes_on b) refl) (λ kind. same (counts_of kind) refl) all
@@ -183,7 +185,7 @@ notes_merged cs c d k l = record {
   losses = losses-append cs c.lost d.lost k.losses l.losses;
   shared = λ b. omega arith;
   owned = λ b. let x = k.owned b in let y = l.owned b in omega (arith, total-append (is_block b) c.kept d.kept, total-append (is_own b) c.took d.took);
-  sealed = λ b h. let o = total-append (is_own b) c.took d.took in let t = total-append (λ (stored : OBlock × ℕ). is_block b stored.0) c.stored d.stored in
+  sealed = λ b h. let o = total-append (is_own b) c.took d.took in let t = total-append (seal_count b) c.stored d.stored in
       dite (ℕ_discrete (seals_on b c) 0) (λ none. let y = l.sealed b (omega arith) in omega arith) (λ has. let x = k.sealed b (omega arith) in omega arith);
   kept = λ b. let x = k.kept b in let y = l.kept b in omega (arith, total-append (is_block b) c.kept d.kept, total-append (is_bit Failed) c.set d.set, total-append (is_bit Suspended) c.set d.set);
 }
@@ -239,7 +241,9 @@ joins n id v other w c d vc wc ch dh s r at apart there =
     let all : AllSame (all_cards s.views) (all_cards us) = record {
       shared = λ b. same (shared_of b) (total-append (is_share b) c.took d.took);
       owned = λ b. same (owned_of b) (total-append (is_own b) c.took d.took);
-      stored = λ b x. same (stores b x) (total-append (is_seal b x) c.stored d.stored);
+      stored = λ b x. same (stores b x) (total-append (seal_times b x) c.stored d.stored);
+      sealed = λ b. same (seals_on b) (total-append (seal_count b) c.stored d.stored);
+      last = λ b x. same (ends b x) (total-append (is_newest b x) c.stored d.stored);
       bits = λ bit. same (times_set bit) (total-append (is_bit bit) c.set d.set);
     } in
     let up : AllNoLess (all_cards s.views) (all_cards us) = no_less_same (all_cards s.views) (all_cards us) all (λ kind. same (counts_of kind) (merged_counts c d kind)) in
@@ -251,9 +255,9 @@ joins n id v other w c d vc wc ch dh s r at apart there =
     (λ b. same (owners b) (let x : owns b c.hold ≡ 0 = ap (owns b) ch in let y : owns b d.hold ≡ 0 = ap (owns b) dh in omega (arith, total-append (is_block b) c.kept d.kept)))
     (λ b. same (writes_on b) (merged_writes c d b)) (λ kind. same (counts_of kind) (merged_counts c d kind)) all
     (λ p e g. ⊎_elim (λ t. absurd (some-ne-none e (sym t.1)))
-    (λ t. ⊎_elim (λ u. merged_at u.0 e (sym (ap (λ (l : List Card). get_elem? l u.0) cards) ∙ u.1) ck dk) (λ u. r.rule.knows u.0 e u.1) (card_of_set s.views id both t.0 e t.1)) (card_of_set vs other spent p e g))
+    (λ t. ⊎_elim (λ u. merged_at u.0 e (subst (λ (l : List Card). get_elem? l u.0 ≡ some e) cards u.1) ck dk) (λ u. r.rule.knows u.0 e u.1) (card_of_set s.views id both t.0 e t.1)) (card_of_set vs other spent p e g))
     (λ p e g. ⊎_elim (λ t. absurd (some-ne-none e (sym t.1)))
-    (λ t. ⊎_elim (λ u. notes_at u.0 e (sym (ap (λ (l : List Card). get_elem? l u.0) cards) ∙ u.1) cn dn) (λ u. notes_on (all_cards s.views) (all_cards us) up e (r.rule.logs.notes u.0 e u.1)) (card_of_set s.views id both t.0 e t.1)) (card_of_set vs other spent p e g)))
+    (λ t. ⊎_elim (λ u. notes_at u.0 e (subst (λ (l : List Card). get_elem? l u.0 ≡ some e) cards u.1) cn dn) (λ u. notes_on (all_cards s.views) (all_cards us) up e (r.rule.logs.notes u.0 e u.1)) (card_of_set s.views id both t.0 e t.1)) (card_of_set vs other spent p e g)))
   where
     notes_at : (q : ℕ) (e : Card) → get_elem? (merged c d ∷ []) q ≡ some e → Notes (all_cards (set (set s.views id (joined v w)) other spent)) c → Notes (all_cards (set (set s.views id (joined v w)) other spent)) d → Notes (all_cards (set (set s.views id (joined v w)) other spent)) e
     notes_at zero e g k l = subst (Notes (all_cards (set (set s.views id (joined v w)) other spent))) (some-injective (merged c d) e g) (notes_merged (all_cards (set (set s.views id (joined v w)) other spent)) c d k l)

@@ -10,7 +10,7 @@ use Rattle.wb_words.specs.declared.card.Card.{Card}
 use Rattle.wb_cells.specs.declared.view.Fraction.{Fraction}
 use Rattle.wb_cells.specs.declared.view.View.{View}
 use Rattle.wb_words.specs.SharedWords.{fail_word}
-use Rattle.wb_words.specs.Cards.{writes_on, counts_of, sharers, owners, stores, times_set}
+use Rattle.wb_words.specs.Cards.{writes_on, counts_of, sharers, owners, seals_on, ends, times_set}
 use Rattle.wb_cells.specs.Moves.{card_at}
 
 -- which words they are, and of how many blocks
@@ -35,11 +35,12 @@ pub record IsPass (words : ℕ) (me : Me ℕ View) : Type 0 where
   pub sized : words ≡ 3 * me.0.blocks + 5
   pub bare : me.1 ≡ []
 
--- A lock word counts this one card alone; a seal word is 0, or one that it stored there; a number word, or a statistics
+-- A lock word counts this one card alone; a seal word is 0 where it never sealed the block, else
+-- the newest seal on it in one of its logs; a number word, or a statistics
 -- word, is what it has added to it; the fail word has the bits that it set.
 abbrev pub IsSum : WordName → ℕ → Card → Type 0
 IsSum (LockWord b) x card = x ≡ 2 * sharers b.0 card + owners b.0 card
-IsSum (SealWord b) x card = (x ≡ 0) ⊎ (0 < stores b.0 x card)
+IsSum (SealWord b) x card = ((x ≡ 0) × (seals_on b.0 card ≡ 0)) ⊎ (0 < ends b.0 x card)
 IsSum (Number b) x card = x ≡ writes_on b.0 card
 IsSum (CountWord kind) x card = x ≡ counts_of kind card % 2 ^ 64
 IsSum Fail x card = x ≡ fail_word (times_set Failed card) (times_set Suspended card)

@@ -1,5 +1,5 @@
 -- Each kind of step keeps the rule of the logs: what a card notes is no more than what all cards did.
-use Rattle.std.proofs.Common.{◌≡◌, ◌≢◌, ℕ, zero, suc, ◌+◌, ◌<◌, ◌≤◌, Bool, true, false, cond, eqb, eq-eqb, List, [], ◌∷◌, length, set, sym, refl, ap, ◌∙◌, subst, ⊎_elim, inl, inr, arith, bit_or}
+use Rattle.std.proofs.Common.{◌≡◌, ◌≢◌, ℕ, zero, suc, ◌+◌, ◌<◌, ◌≤◌, Bool, true, false, cond, eqb, eq-eqb, ne_eqb, List, [], ◌∷◌, length, set, sym, refl, ap, ◌∙◌, subst, ⊎_elim, inl, inr, arith, Some, bit_or}
 use mathlib.Core.Logic.{dite}
 use mathlib.Core.Option.{some}
 use native.Mathlib.Decide.{ℕ_discrete}
@@ -15,9 +15,9 @@ use Rattle.wb_words.specs.SharedWords.{Words, word_at, value_of, put, fail_word,
 use Rattle.wb_words.specs.declared.card.Hold.{Hold}
 use Rattle.wb_words.specs.declared.card.Hold.TheVariants.{Nothing, Held}
 use Rattle.wb_words.specs.declared.card.Card.{Card}
-use Rattle.wb_words.specs.Cards.{blank_card, total, is_block, is_seal, is_share, is_own, is_bit, is_count, shares, owns, sharers, owners, counts_of, stores, seals_on, shared_of, owned_of, times_set, looked, losing, holding, sealing, finishing, counting, failing_at, failing}
-use Rattle.wb_words.specs.Rule.{block, WasLock, WasSeal, MayHaveFound, LooksAllowed, LossesAllowed, Notes, LogRule, LockRule}
-use Rattle.wb_words.proofs.Totals.{total-set, total-same, at_set, total_most}
+use Rattle.wb_words.specs.Cards.{blank_card, total, is_block, is_seal, seal_times, seal_count, newest, is_there, is_newest, with_seal, is_share, is_own, is_bit, is_count, shares, owns, sharers, owners, counts_of, stores, seals_on, ends, shared_of, owned_of, times_set, looked, losing, holding, sealing, finishing, counting, failing_at, failing}
+use Rattle.wb_words.specs.Rule.{block, WasLock, WasSeal, IsLast, MayHaveFound, LooksAllowed, LossesAllowed, Notes, LogRule, LockRule}
+use Rattle.wb_words.proofs.Totals.{total-set, total-same, total_at, at_set, total_most}
 use Rattle.wb_words.proofs.Values.{word_at_set, word_at_else}
 
 -- One card did no less than another, and all cards no less than all others.
@@ -74,6 +74,37 @@ module _ (cs ds : List Card) (l : AllNoLess cs ds) where
   pub notes_on : (c : Card) → Notes cs c → Notes ds c
   notes_on c k = record { looks = looks_on c.saw k.looks; losses = losses_on c.lost k.losses; shared = k.shared; owned = k.owned; sealed = k.sealed; kept = k.kept }
 
+-- a log with the seal of another block has the same newest one
+newest_else : (a : ℕ) (b : OBlock) (x : ℕ) (log : List (OBlock × ℕ)) → b.0 ≢ a → newest a ((b, x) ∷ log) ≡ newest a log
+newest_else a b x log ne = ap (λ (t : Bool). cond t (Some x) (newest a log)) (ne_eqb b.0 a ne)
+
+newest_own : (b : OBlock) (x : ℕ) (log : List (OBlock × ℕ)) → is_newest b.0 x ((b, x) ∷ log) ≡ 1
+newest_own b x log = ap (λ (t : Bool). is_there x (cond t (Some x) (newest b.0 log))) (eq-eqb b.0 b.0 refl) ∙ ap (λ (t : Bool). cond t 1 0) (eq-eqb x x refl)
+
+-- what one seal more makes of the logs
+seal_adds : (g : List (OBlock × ℕ) → ℕ) (one : ℕ) (b : OBlock) (x : ℕ) (logs : List (List (OBlock × ℕ))) → ((log : List (OBlock × ℕ)) → g ((b, x) ∷ log) ≡ one + g log) → g [] ≡ 0 → total g (with_seal b x logs) ≡ one + total g logs
+seal_adds g one b x [] more none = let m = more [] in omega arith
+seal_adds g one b x (log ∷ logs) more none = let m = more log in omega arith
+
+seal_ends : (b : OBlock) (x : ℕ) (logs : List (List (OBlock × ℕ))) → 0 < total (is_newest b.0 x) (with_seal b x logs)
+seal_ends b x [] = let one = newest_own b x [] in omega arith
+seal_ends b x (log ∷ logs) = let one = newest_own b x log in omega arith
+
+-- the newest seal is one of those stored
+newest_stored : (b x : ℕ) (log : List (OBlock × ℕ)) → is_newest b x log ≤ seal_times b x log
+newest_stored b x [] = omega arith
+newest_stored b x (s ∷ log) = by_test (eqb s.0.0 b) (newest_stored b x log)
+  where
+    by_test : (t : Bool) → is_newest b x log ≤ seal_times b x log → is_there x (cond t (Some s.1) (newest b log)) ≤ cond t (cond (eqb s.1 x) 1 0) 0 + seal_times b x log
+    by_test true r = omega arith
+    by_test false r = omega arith
+
+pub last_same : (cs ds : List Card) (b x : ℕ) → total (seals_on b) ds ≡ total (seals_on b) cs → total (ends b x) ds ≡ total (ends b x) cs → IsLast cs b x → IsLast ds b x
+last_same cs ds b x sealed same w = ⊎_elim (λ t. inl (t.0, sealed ∙ t.1)) (λ h. inr (omega arith)) w
+
+last_was : (cs : List Card) (b x : ℕ) → IsLast cs b x → WasSeal cs b x
+last_was cs b x w = ⊎_elim (λ t. inl t.0) (λ h. let m = total_most (ends b x) (stores b x) cs (λ p c at. total_most (is_newest b x) (seal_times b x) c.stored (λ q log there. newest_stored b x log)) in inr (omega arith)) w
+
 -- what a look finds now
 module _ (n : ℕ) (w : Words) (cs : List Card) (r : LockRule n w cs) where
   pub lock_now : (b : OBlock) → b.0 < n → WasLock cs b.0 (word_at w.cells b)
@@ -87,7 +118,7 @@ module _ (n : ℕ) (w : Words) (cs : List Card) (r : LockRule n w cs) where
 
   found_now : (word : WordName) → IsWord n word → MayHaveFound cs word (value_of w word)
   found_now (LockWord b) inside = lock_now b inside
-  found_now (SealWord b) inside = r.logs.seals b.0 inside
+  found_now (SealWord b) inside = last_was cs b.0 (word_at w.seals b) (r.logs.seals b.0 inside)
   found_now (Number b) inside = tt
   found_now (CountWord kind) inside = (total (counts_of kind) cs, omega arith, r.counts kind)
   found_now Fail inside = record { failures = total (times_set Failed) cs; suspensions = total (times_set Suspended) cs; is = r.logs.fail; failed = omega arith; suspended = omega arith }
@@ -129,10 +160,13 @@ module _ (n : ℕ) (w : Words) (cs : List Card) (p : ℕ) (c : Card) (r : LockRu
   notes_set d l new q e h = ⊎_elim (λ (t : (q ≡ p) × (d ≡ e)). subst (Notes (set cs p d)) t.1 new)
       (λ (t : (q ≢ p) × (get_elem? cs q ≡ some e)). notes_on cs (set cs p d) (no_less_set cs p c d at l) e (r.logs.notes q e t.1)) (at_set cs p q d e h)
 
+  last_still : (d : Card) → d.stored ≡ c.stored → (b x : ℕ) → IsLast cs b x → IsLast (set cs p d) b x
+  last_still d stored b x = last_same cs (set cs p d) b x (total-same (seals_on b) cs p c d at (ap (total (seal_count b)) stored)) (total-same (ends b x) cs p c d at (ap (total (is_newest b x)) stored))
+
   -- a step that neither seals nor sets a bit
-  quiet : (u : Words) (d : Card) → u.seals ≡ w.seals → u.fail ≡ w.fail → d.set ≡ c.set → NoLess c d → Notes (set cs p d) d → LogRule n u (set cs p d)
-  quiet u d seals fail same l new = record {
-    seals = λ b inside. subst (λ (z : List ℕ). WasSeal (set cs p d) b (word_at z (block b))) (sym seals) (seal_on cs (set cs p d) (no_less_set cs p c d at l) b (word_at w.seals (block b)) (r.logs.seals b inside));
+  quiet : (u : Words) (d : Card) → u.seals ≡ w.seals → u.fail ≡ w.fail → d.set ≡ c.set → d.stored ≡ c.stored → NoLess c d → Notes (set cs p d) d → LogRule n u (set cs p d)
+  quiet u d seals fail same stored l new = record {
+    seals = λ b inside. subst (λ (z : List ℕ). IsLast (set cs p d) b (word_at z (block b))) (sym seals) (last_still d stored b (word_at w.seals (block b)) (r.logs.seals b inside));
     fail = fail ∙ (r.logs.fail ∙ (λ j. fail_word (sym (bits Failed) j) (sym (bits Suspended) j)));
     notes = notes_set d l new;
   }
@@ -149,12 +183,12 @@ module _ (n : ℕ) (w : Words) (cs : List Card) (p : ℕ) (c : Card) (r : LockRu
   pub look_logs : (word : WordName) → IsWord n word → LogRule n w (set cs p (looked word (value_of w word) c))
   look_logs word inside = let d : Card = looked word (value_of w word) c in
       let l : NoLess c d = record { shared = λ b. omega arith; owned = λ b. omega arith; stored = λ b x. omega arith; counts = λ kind. omega arith; bits = λ bit. omega arith } in
-      quiet w d refl refl refl l (notes_so d l (found_now n w cs r word inside, mine.looks) mine.losses mine.shared mine.owned mine.sealed mine.kept)
+      quiet w d refl refl refl refl l (notes_so d l (found_now n w cs r word inside, mine.looks) mine.losses mine.shared mine.owned mine.sealed mine.kept)
 
   pub loss_logs : (b : OBlock) → b.0 < n → LogRule n w (set cs p (losing b (word_at w.cells b) c))
   loss_logs b inside = let d : Card = losing b (word_at w.cells b) c in
       let l : NoLess c d = record { shared = λ a. omega arith; owned = λ a. omega arith; stored = λ a x. omega arith; counts = λ kind. omega arith; bits = λ bit. omega arith } in
-      quiet w d refl refl refl l (notes_so d l mine.looks (lock_now n w cs r b inside, mine.losses) mine.shared mine.owned mine.sealed mine.kept)
+      quiet w d refl refl refl refl l (notes_so d l mine.looks (lock_now n w cs r b inside, mine.losses) mine.shared mine.owned mine.sealed mine.kept)
 
   pub hold_logs : (u : Words) (h : Hold) → u.seals ≡ w.seals → u.fail ≡ w.fail → LogRule n u (set cs p (holding h c))
   hold_logs u h seals fail = let d : Card = holding h c in
@@ -165,53 +199,57 @@ module _ (n : ℕ) (w : Words) (cs : List Card) (p : ℕ) (c : Card) (r : LockRu
         counts = λ kind. omega arith;
         bits = λ bit. omega arith;
       } in
-      quiet u d seals fail refl l (notes_so d l mine.looks mine.losses (λ a. let t = (hold_took h c a).0 in omega arith) (λ a. let t = (hold_took h c a).1 in let m = mine.owned a in omega arith)
+      quiet u d seals fail refl refl l (notes_so d l mine.looks mine.losses (λ a. let t = (hold_took h c a).0 in omega arith) (λ a. let t = (hold_took h c a).1 in let m = mine.owned a in omega arith)
       (λ a has. let t = (hold_took h c a).1 in let m = mine.sealed a has in omega arith) mine.kept)
 
   pub seal_logs : (b : OBlock) (x : ℕ) → b.0 < length w.seals → c.hold ≡ Held Owned b → LogRule n (put w (SealWord b) x) (set cs p (sealing b x c))
   seal_logs b x inside own = let d : Card = sealing b x c in let u : Words = put w (SealWord b) x in
-      let l : NoLess c d = record { shared = λ a. omega arith; owned = λ a. omega arith; stored = λ a y. omega arith; counts = λ kind. omega arith; bits = λ bit. omega arith } in record {
+      let l : NoLess c d = record { shared = λ a. omega arith; owned = λ a. omega arith; stored = λ a y. let t = seal_adds (seal_times a y) (is_seal a y (b, x)) b x c.stored (λ log. refl) refl in omega arith; counts = λ kind. omega arith; bits = λ bit. omega arith } in record {
         seals = λ a low. dite (ℕ_discrete a b.0)
-            (λ e. subst (λ (z : ℕ). WasSeal (set cs p d) z (word_at u.seals (block z))) (sym e) (subst (WasSeal (set cs p d) b.0) (sym (word_at_set w.seals b x inside)) (inr stands)))
-            (λ ne. subst (WasSeal (set cs p d) a) (sym (word_at_else w.seals (block a) b x ne)) (seal_on cs (set cs p d) (no_less_set cs p c d at l) a (word_at w.seals (block a)) (r.logs.seals a low)));
+            (λ e. subst (λ (z : ℕ). IsLast (set cs p d) z (word_at u.seals (block z))) (sym e) (subst (IsLast (set cs p d) b.0) (sym (word_at_set w.seals b x inside)) (inr stands)))
+            (λ ne. subst (IsLast (set cs p d) a) (sym (word_at_else w.seals (block a) b x ne)) (last_same cs (set cs p d) a (word_at w.seals (block a))
+            (total-same (seals_on a) cs p c d at (let t = seal_adds (seal_count a) (is_block a b) b x c.stored (λ log. refl) refl in let z : is_block a b ≡ 0 = ap (λ (t : Bool). cond t 1 0) (ne_eqb b.0 a (λ e. ne (sym e))) in omega arith))
+            (total-same (ends a (word_at w.seals (block a))) cs p c d at (ends_else a (word_at w.seals (block a)) c.stored (λ e. ne (sym e)))) (r.logs.seals a low)));
         fail = r.logs.fail ∙ (λ j. fail_word (sym (total-same (times_set Failed) cs p c d at (omega arith)) j) (sym (total-same (times_set Suspended) cs p c d at (omega arith)) j));
         notes = notes_set d l (notes_so d l mine.looks mine.losses mine.shared mine.owned owner mine.kept);
       }
     where
-      stands : 0 < total (stores b.0 x) (set cs p (sealing b x c))
-      stands = let t = total-set (stores b.0 x) cs p c (sealing b x c) at in
-          let one : is_seal b.0 x (b, x) ≡ 1 = ap (λ (z : Bool). cond z (cond (eqb x x) 1 0) 0) (eq-eqb b.0 b.0 refl) ∙ ap (λ (z : Bool). cond z 1 0) (eq-eqb x x refl) in
-          let here : stores b.0 x (sealing b x c) ≡ is_seal b.0 x (b, x) + stores b.0 x c = refl in omega arith
+      stands : 0 < total (ends b.0 x) (set cs p (sealing b x c))
+      stands = let t = total-set (ends b.0 x) cs p c (sealing b x c) at in let low = total_at (ends b.0 x) cs p c at in let one = seal_ends b x c.stored in omega arith
+
+      ends_else : (a y : ℕ) (logs : List (List (OBlock × ℕ))) → b.0 ≢ a → total (is_newest a y) (with_seal b x logs) ≡ total (is_newest a y) logs
+      ends_else a y [] ne = let e = ap (is_there y) (newest_else a b x [] ne) in omega arith
+      ends_else a y (log ∷ logs) ne = let e = ap (is_there y) (newest_else a b x log ne) in omega arith
 
       owner : (a : ℕ) → 0 < seals_on a (sealing b x c) → 0 < owned_of a c
-      owner a h = let o = mine.owned a in let e : owns a c.hold ≡ is_block a b = ap (owns a) own in
+      owner a h = let o = mine.owned a in let t = seal_adds (seal_count a) (is_block a b) b x c.stored (λ log. refl) refl in let e : owns a c.hold ≡ is_block a b = ap (owns a) own in
           dite (ℕ_discrete (seals_on a c) 0) (λ none. omega arith) (λ more. mine.sealed a (omega arith))
 
   pub finish_logs : (u : Words) (b : OBlock) → u.seals ≡ w.seals → u.fail ≡ w.fail → LogRule n u (set cs p (finishing b c))
   finish_logs u b seals fail = let d : Card = finishing b c in
       let l : NoLess c d = record { shared = λ a. omega arith; owned = λ a. omega arith; stored = λ a x. omega arith; counts = λ kind. omega arith; bits = λ bit. omega arith } in
-      quiet u d seals fail refl l (notes_so d l mine.looks mine.losses mine.shared mine.owned mine.sealed mine.kept)
+      quiet u d seals fail refl refl l (notes_so d l mine.looks mine.losses mine.shared mine.owned mine.sealed mine.kept)
 
   pub count_logs : (u : Words) (kind : Kind) → u.seals ≡ w.seals → u.fail ≡ w.fail → LogRule n u (set cs p (counting kind c))
   count_logs u kind seals fail = let d : Card = counting kind c in
       let l : NoLess c d = record { shared = λ a. omega arith; owned = λ a. omega arith; stored = λ a x. omega arith; counts = λ k. omega arith; bits = λ bit. omega arith } in
-      quiet u d seals fail refl l (notes_so d l mine.looks mine.losses mine.shared mine.owned mine.sealed mine.kept)
+      quiet u d seals fail refl refl l (notes_so d l mine.looks mine.losses mine.shared mine.owned mine.sealed mine.kept)
 
   pub fail_logs : (bit : FailBit) → LogRule n (put w Fail (bit_or w.fail (bit_word bit))) (set cs p (failing bit c))
   fail_logs bit = let d : Card = failing bit c in let u : Words = put w Fail (bit_or w.fail (bit_word bit)) in let f = failed_logs c.hold c in
       let l : NoLess c d = record {
         shared = λ a. let e = ap (total (is_share a)) f.2 in omega arith;
         owned = λ a. let e = ap (total (is_own a)) f.2 in omega arith;
-        stored = λ a x. let e = ap (total (is_seal a x)) f.3 in omega arith;
+        stored = λ a x. let e = ap (total (seal_times a x)) f.3 in omega arith;
         counts = λ kind. let e = ap (total (is_count kind)) f.4 in omega arith;
         bits = λ other. omega arith;
       } in record {
-        seals = λ b inside. seal_on cs (set cs p d) (no_less_set cs p c d at l) b (word_at w.seals (block b)) (r.logs.seals b inside);
+        seals = λ b inside. last_still d f.3 b (word_at w.seals (block b)) (r.logs.seals b inside);
         fail = is_so bit;
         notes = notes_set d l (notes_so d l (subst (LooksAllowed cs) (sym f.0) mine.looks) (subst (LossesAllowed cs) (sym f.1) mine.losses)
             (λ a. let s = failed_sums c.hold c a refl in let e = ap (total (is_share a)) f.2 in let m = mine.shared a in let q = s.0 in omega arith)
             (λ a. let s = failed_sums c.hold c a refl in let e = ap (total (is_own a)) f.2 in let m = mine.owned a in let q = s.1 in omega arith)
-            (λ a h. let e = ap (total (is_own a)) f.2 in let g = ap (total (λ (stored : OBlock × ℕ). is_block a stored.0)) f.3 in let m = mine.sealed a (omega arith) in omega arith)
+            (λ a h. let e = ap (total (is_own a)) f.2 in let g = ap (total (seal_count a)) f.3 in let m = mine.sealed a (omega arith) in omega arith)
             (λ a. let s = failed_sums c.hold c a refl in let m = mine.kept a in let q = s.2 in let one = bit_counts bit in omega arith));
       }
     where

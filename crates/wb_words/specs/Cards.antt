@@ -1,5 +1,5 @@
 -- What a card counts for, and what each kind of step makes of it.
-use Rattle.std.specs.Prelude.{ℕ, ◌+◌, ◌==◌, Bool, false, cond, List, [], ◌∷◌, ◌++◌, Some, None, option_map}
+use Rattle.std.specs.Prelude.{ℕ, ◌+◌, ◌==◌, Bool, false, cond, List, [], ◌∷◌, ◌++◌, Some, None, Option, option_map}
 use Rattle.wb_types.specs.declared.number.OBlock.{OBlock}
 use Rattle.wb_words.specs.declared.word.Access.{Access}
 use Rattle.wb_words.specs.declared.word.Access.TheVariants.{Shared, Owned}
@@ -69,13 +69,38 @@ counts_of kind card = total (is_count kind) card.added
 abbrev pub is_seal : ℕ → ℕ → OBlock × ℕ → ℕ
 is_seal b x stored = cond (stored.0.0 == b) (cond (stored.1 == x) 1 0) 0
 
+-- how often this seal on the block b is in a log
+abbrev pub seal_times : ℕ → ℕ → List (OBlock × ℕ) → ℕ
+seal_times b x log = total (is_seal b x) log
+
+-- how often any seal is there on it
+abbrev pub seal_count : ℕ → List (OBlock × ℕ) → ℕ
+seal_count b log = total (λ (stored : OBlock × ℕ). is_block b stored.0) log
+
+-- the newest seal on the block b in a log
+abbrev pub newest : ℕ → List (OBlock × ℕ) → Option ℕ
+newest b [] = None
+newest b (stored ∷ log) = cond (stored.0.0 == b) (Some stored.1) (newest b log)
+
+-- 1 where x is there, else 0
+abbrev pub is_there : ℕ → Option ℕ → ℕ
+is_there x None = 0
+is_there x (Some y) = cond (y == x) 1 0
+
+abbrev pub is_newest : ℕ → ℕ → List (OBlock × ℕ) → ℕ
+is_newest b x log = is_there x (newest b log)
+
 -- how often a card stored this seal on the block b
 abbrev pub stores : ℕ → ℕ → Card → ℕ
-stores b x card = total (is_seal b x) card.stored
+stores b x card = total (seal_times b x) card.stored
 
 -- how often it stored any seal there
 abbrev pub seals_on : ℕ → Card → ℕ
-seals_on b card = total (λ (stored : OBlock × ℕ). is_block b stored.0) card.stored
+seals_on b card = total (seal_count b) card.stored
+
+-- in how many of its logs this seal is the newest there: the one seal that it stored there last, where it has one log
+abbrev pub ends : ℕ → ℕ → Card → ℕ
+ends b x card = total (is_newest b x) card.stored
 
 abbrev pub is_share : ℕ → Access × OBlock → ℕ
 is_share b took = shares b (Held took.0 took.1)
@@ -129,9 +154,14 @@ with_hold (Held access b) took = (access, b) ∷ took
 abbrev pub holding : Hold → Card → Card
 holding hold card = record card { hold = hold; seal = None; number = None; took = with_hold hold card.took }
 
+-- the newest of the logs with one seal more
+abbrev pub with_seal : OBlock → ℕ → List (List (OBlock × ℕ)) → List (List (OBlock × ℕ))
+with_seal b seal [] = ((b, seal) ∷ []) ∷ []
+with_seal b seal (log ∷ logs) = ((b, seal) ∷ log) ∷ logs
+
 -- a seal that it stored on a block, which it knows then
 abbrev pub sealing : OBlock → ℕ → Card → Card
-sealing b seal card = record card { seal = Some seal; stored = (b, seal) ∷ card.stored }
+sealing b seal card = record card { seal = Some seal; stored = with_seal b seal card.stored }
 
 abbrev pub finishing : OBlock → Card → Card
 finishing b card = record card { number = option_map (λ n. n + 1) card.number; added = Number b ∷ card.added }

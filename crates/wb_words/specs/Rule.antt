@@ -11,7 +11,7 @@ use Rattle.wb_words.specs.declared.word.Word.TheVariants.{Cell as LockWord, Seal
 use Rattle.wb_words.specs.SharedWords.{Words, word_at, count_in, fail_word}
 use Rattle.wb_words.specs.declared.card.Hold.TheVariants.{Held}
 use Rattle.wb_words.specs.declared.card.Card.{Card}
-use Rattle.wb_words.specs.Cards.{total, is_block, sharers, owners, writes_on, counts_of, stores, seals_on, shared_of, owned_of, times_set}
+use Rattle.wb_words.specs.Cards.{total, is_block, sharers, owners, writes_on, counts_of, stores, seals_on, ends, shared_of, owned_of, times_set}
 
 abbrev pub block : ℕ → OBlock
 block b = record { 0 = b }
@@ -53,6 +53,10 @@ pub record WasLock (cards : List Card) (b x : ℕ) : Type 0 where
 abbrev pub WasSeal : List Card → ℕ → ℕ → Type 0
 WasSeal cards b x = (x ≡ 0) ⊎ (0 < total (stores b x) cards)
 
+-- the seal word of a block: 0 where no card ever sealed it, else the newest seal on it in some log
+abbrev pub IsLast : List Card → ℕ → ℕ → Type 0
+IsLast cards b x = ((x ≡ 0) × (total (seals_on b) cards ≡ 0)) ⊎ (0 < total (ends b x) cards)
+
 -- a fail word that there can have been: only bits that some card set
 pub record WasFail (cards : List Card) (x : ℕ) : Type 0 where
   pub failures : ℕ
@@ -86,9 +90,9 @@ pub record Notes (cards : List Card) (card : Card) : Type 0 where
   pub sealed : (b : ℕ) → 0 < seals_on b card → 0 < owned_of b card
   pub kept : (b : ℕ) → total (is_block b) card.kept ≤ times_set Failed card + times_set Suspended card
 
--- The seal and fail words and the logs of all cards: a seal word is 0 or was stored by some card, the fail word has the bits that some card set.
+-- The seal and fail words and the logs of all cards: a seal word is 0 or the newest that some log has, the fail word has the bits that some card set.
 pub record LogRule (n : ℕ) (words : Words) (cards : List Card) : Type 0 where
-  pub seals : (b : ℕ) → b < n → WasSeal cards b (word_at words.seals (block b))
+  pub seals : (b : ℕ) → b < n → IsLast cards b (word_at words.seals (block b))
   pub fail : words.fail ≡ fail_word (total (times_set Failed) cards) (total (times_set Suspended) cards)
   pub notes : (p : ℕ) (card : Card) → get_elem? cards p ≡ some card → Notes cards card
 

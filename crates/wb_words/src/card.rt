@@ -21,8 +21,9 @@ pub struct Card {
     pub kept: [OBlock; 0],
     /// The words to which it added one, a word for each time.
     pub added: [Word; 0],
-    /// Each seal that it stored, the newest first: the block, and the seal word.
-    pub stored: [(OBlock, u64); 0],
+    /// Each seal that it stored, the newest first: the block, and the seal word. After a join there is a log for each
+    /// of the two that had one.
+    pub stored: [[(OBlock, u64); 0]; 0],
     /// Each block that it took, the newest first, and how.
     pub took: [(Access, OBlock); 0],
     /// Each bit of the fail word that it set, the newest first.
