@@ -142,9 +142,12 @@ impl Cells {
         (Pass { seat }, Pass { seat: second })
     }
 
-    /// One look at a word. Who has the whole finds at a lock word what its card has of that block, at a statistics
-    /// word what it counted, and at a number word the writes that it finished; who has failed finds at the fail
-    /// word no less than its bit.
+    /// One look at a word, which it notes: the word of a moment at which the rule of all words held. At the fail word
+    /// it finds each bit that it, or a pass that it came from, has set.
+    ///
+    /// Who has the whole finds at a lock word what its card has of that block, at a statistics word what it counted, at
+    /// a number word the writes that it finished, at the fail word just the bits that it set, and at a seal word 0 where
+    /// it never sealed that block, else the newest seal on it in one of its logs.
     pub fn look(&self, pass: &mut Pass, word: Word) -> u64
         requires at { pass.old.table ≡ self.now.table }
         requires word { IsWord self.now.blocks word }
@@ -227,7 +230,8 @@ impl Cells {
         self.words.count(&mut pass.seat, 0, kind);
     }
 
-    /// Tells of a failure: from now on no block is taken. A block that the pass owns stays owned for good.
+    /// Tells of a failure, by the failed bit alone: from now on this pass, and each that is split from it or joined with
+    /// it, is refused every block. A block that the pass owns stays owned for good.
     pub fn fail(&self, pass: &mut Pass)
         requires { pass.old.table ≡ self.now.table }
         ensures { pass.new ≡ record pass.old { card = failing FailedBit pass.old.card; failed = FailedBit ∷ pass.old.failed } }
@@ -235,8 +239,8 @@ impl Cells {
         self.words.fail(&mut pass.seat, 0, FailBit::Failed);
     }
 
-    /// Tells of a suspension: from now on no block is taken. A block that the pass owns stays owned for
-    /// good.
+    /// Tells of a suspension, by the suspended bit alone, and refuses blocks as a failure does. A block that the pass
+    /// owns stays owned for good.
     pub fn suspended(&self, pass: &mut Pass)
         requires { pass.old.table ≡ self.now.table }
         ensures { pass.new ≡ record pass.old { card = failing SuspendedBit pass.old.card; failed = SuspendedBit ∷ pass.old.failed } }

@@ -15,9 +15,10 @@ use wb_types::{OBlock, Refusal};
 use wb_words::{Grip, GripStage, Gripped, Own, Share, Word};
 
 impl Cells {
-    /// The next of the five steps of a grip: a look at the fail word, a look at the block's lock word, the
-    /// exchange that shares or owns it, a look at its seal, a look at its number. While it answers `More`
-    /// the caller goes on; after a refusal nothing is different but looks and losses.
+    /// The next of the five steps of a grip, the one that `Grip::step` names: a look at the fail word, a look at the
+    /// block's lock word, the exchange that shares or owns it, a look at its seal, a look at its number. It finds the
+    /// word of a moment at which the rule of all words held, and makes of the card what such a step makes. While it
+    /// answers `More` the caller goes on; after a refusal nothing is different but looks and losses.
     pub fn grip_step(&self, pass: &mut Pass, grip: &mut Grip) -> Gripped
         requires at { pass.old.table ≡ self.now.table }
         requires block { grip.old.block.0 < self.now.blocks }
@@ -42,8 +43,9 @@ impl Cells {
     /// Shares a block: the steps of a grip to their end.
     ///
     /// `Failed` where the fail word was not 0; `Busy` where the lock word was owned or full, or changed
-    /// before the exchange. After either nothing is different but looks and losses. A pass that has failed
-    /// or been suspended is always answered `Failed`.
+    /// before the exchange. After either nothing is different but the looks and the loss of this call. A pass that has
+    /// failed or been suspended, or came from one that had, is always answered `Failed`. A pass that has the whole is
+    /// never answered `Busy`: it has the block, unless it set a bit of the fail word.
     pub fn try_share(&self, pass: &mut Pass, block: OBlock) -> Result<Share, Refusal>
         requires at { pass.old.table ≡ self.now.table }
         requires block { block.0 < self.now.blocks }
@@ -65,8 +67,9 @@ impl Cells {
     /// Owns a block: the steps of a grip to their end.
     ///
     /// `Failed` where the fail word was not 0; `Busy` where the lock word was owned or shared, or changed
-    /// before the exchange. After either nothing is different but looks and losses. A pass that has failed
-    /// or been suspended is always answered `Failed`.
+    /// before the exchange. After either nothing is different but the looks and the loss of this call. A pass that has
+    /// failed or been suspended, or came from one that had, is always answered `Failed`. A pass that has the whole is
+    /// never answered `Busy`: it has the block, unless it set a bit of the fail word.
     pub fn try_own(&self, pass: &mut Pass, block: OBlock) -> Result<Own, Refusal>
         requires at { pass.old.table ≡ self.now.table }
         requires block { block.0 < self.now.blocks }
