@@ -94,6 +94,8 @@ module _ (access : Access) (block : OBlock) (c d e : Card) (x : ℕ) where
         number_is = ap (λ (z : Card). z.number) is ∙ (ap (λ (h : Hold). cond (is_own_number h (Number block)) (Some x) d.number) hold ∙ ap (λ (t : Bool). cond t (Some x) d.number) (eq-eqb block.0 block.0 refl));
         kept = ap (λ (z : Card). z.kept) is ∙ ap (λ (z : Card). z.kept) was;
         added = ap (λ (z : Card). z.added) is ∙ ap (λ (z : Card). z.added) was;
+        took = ap (λ (z : Card). z.took) is ∙ ap (λ (z : Card). z.took) was;
+        set = ap (λ (z : Card). z.set) is ∙ ap (λ (z : Card). z.set) was;
         lost = ap (λ (z : Card). z.lost) is ∙ ap (λ (z : Card). z.lost) was;
         saw = (w, ap (λ (z : Card). z.saw) is ∙ ap (λ (l : List (WordName × ℕ)). (Number block, x) ∷ l) saw);
         least = least.1.1.1;

@@ -117,6 +117,8 @@ pub record TellsHeld (access : Access) (block : OBlock) (place : Option CBlock) 
   pub kept : after.kept ≡ card.kept
   pub added : after.added ≡ card.added
   pub stored : after.stored ≡ card.stored
+  pub took : after.took ≡ (access, block) ∷ card.took
+  pub set : after.set ≡ card.set
   pub lost : after.lost ≡ card.lost
   pub saw : (w : ℕ) × (after.saw ≡ (Number block, number) ∷ ((SealWord block, found) ∷ ((LockWord block, w) ∷ ((Fail, 0) ∷ card.saw))))
   pub least : SawAtMost block number card.saw
