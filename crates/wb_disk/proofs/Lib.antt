@@ -1,4 +1,5 @@
 pub mod Devices
+pub mod Neighbours
 pub mod Sectors
 pub mod Crashes
 pub mod Leaving

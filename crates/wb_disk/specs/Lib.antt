@@ -1,4 +1,5 @@
 pub mod Device
+pub mod Extents
 pub mod Memory
 pub mod Crash
 pub mod Stored

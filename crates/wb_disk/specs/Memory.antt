@@ -1,6 +1,7 @@
 -- A disk in memory, as its callers see it.
-use Rattle.std.specs.Prelude.{◌≡◌, ◌<◌, ℕ, List, [], map, length, replicate, slice_index, slice_set}
-use Rattle.wb_disk.specs.Device.{History}
+use Rattle.std.specs.Prelude.{◌≡◌, ◌<◌, ◌+◌, ℕ, List, [], map, length, replicate, take, slice_index, slice_set}
+use Rattle.wb_disk.specs.Device.{Content, History}
+use Rattle.wb_disk.specs.Extents.{written_each}
 
 -- what it holds, how often it has failed (modulo 2^64), and of each sector how many writes since the last sync there is memory for
 pub record Memory : Type 0 where
@@ -23,6 +24,14 @@ later_count h = length h.later
 -- the next write of this sector needs no memory
 abbrev pub HasRoom : Memory → ℕ → Type 0
 HasRoom disk at = slice_index (map later_count disk.contents) at < slice_index disk.capacity at
+
+-- a write of so many sectors from this one on needs no memory
+abbrev pub HasRoomFor : Memory → ℕ → ℕ → Type 0
+HasRoomFor disk first count = (i : ℕ) → i < count → HasRoom disk (first + i)
+
+-- the first contents of an extent are written, and not all
+abbrev pub FrontWritten : List History → ℕ → List Content → List History → Type 0
+FrontWritten old first contents new = (n : ℕ) × (n < length contents) × (new ≡ written_each old first (take n contents))
 
 -- two lists of numbers differ at this place alone, if at all
 abbrev pub DiffersOnlyAt : ℕ → List ℕ → List ℕ → Type 0

@@ -1,7 +1,8 @@
 //! What a disk is.
 
-ghost use Rattle.std.specs.Prelude.{◌≡◌, ◌<◌, ◌⊎◌, ℕ, List, OnOk, OnErr, length};
+ghost use Rattle.std.specs.Prelude.{◌≡◌, ◌<◌, ◌≤◌, ◌+◌, ◌⊎◌, ℕ, List, OnOk, OnErr, length};
 ghost use Rattle.wb_disk.specs.Device.{History, Gives, written, synced, PartlySynced, OneMore};
+ghost use Rattle.wb_disk.specs.Extents.{GivesEach, written_each, PartlyWritten};
 
 use wb_types::Content;
 
@@ -12,8 +13,8 @@ pub struct DiskFault;
 /// A disk, by the list of contents of each of its sectors.
 ///
 /// Sectors are atomic. A fault is answered only where the disk's count of faults rose. After a failed read the
-/// disk holds what it held, and `out` holds anything; a failed write has added its content or not; a failed
-/// sync has settled each sector or left it.
+/// disk holds what it held, and `out` holds anything; a failed write has added its content or not, that of an
+/// extent for each sector by itself; a failed sync has settled each sector or left it.
 pub trait Disk {
     /// Whether a disk of this type tells what it holds. The clauses on contents and faults are under it.
     ghost tells: { Type 0 };
@@ -47,6 +48,27 @@ pub trait Disk {
         ensures ok { tells → OnOk result (contents self.new ≡ written (contents self.old) at from.now) }
         ensures err { tells → OnErr result ((contents self.new ≡ contents self.old)
             ⊎ (contents self.new ≡ written (contents self.old) at from.now)) }
+        ensures no_fault { tells → OnOk result (faults self.new ≡ faults self.old) }
+        ensures cause { tells → OnErr result (OneMore (faults self.old) (faults self.new)) };
+
+    /// Reads the newest contents of the sectors from `first` on, as many as `out` has; all are below `sectors()`.
+    fn read_extent(&mut self, first: u64, out: &mut [Content]) -> Result<(), DiskFault>
+        requires { first + length out.old ≤ size self.old }
+        ensures size { size self.new ≡ size self.old }
+        ensures many { length out.new ≡ length out.old }
+        ensures given { tells → OnOk result (GivesEach (contents self.old) first out.new) }
+        ensures kept { tells → contents self.new ≡ contents self.old }
+        ensures no_fault { tells → OnOk result (faults self.new ≡ faults self.old) }
+        ensures cause { tells → OnErr result (OneMore (faults self.old) (faults self.new)) };
+
+    /// Writes the sectors from `first` on, as many as `from` has; all are below `sectors()`. The extent is not
+    /// atomic: until the next sync, a crash may leave an older content of each sector by itself, and after a
+    /// fault, which counts once, each has its content added or not.
+    fn write_extent(&mut self, first: u64, from: &[Content]) -> Result<(), DiskFault>
+        requires { first + length from.now ≤ size self.old }
+        ensures size { size self.new ≡ size self.old }
+        ensures ok { tells → OnOk result (contents self.new ≡ written_each (contents self.old) first from.now) }
+        ensures err { tells → OnErr result (PartlyWritten (contents self.old) first from.now (contents self.new)) }
         ensures no_fault { tells → OnOk result (faults self.new ≡ faults self.old) }
         ensures cause { tells → OnErr result (OneMore (faults self.old) (faults self.new)) };
 

@@ -1,5 +1,5 @@
-//! Disks with a volatile write cache: sectors that are read and written one at a time, and made durable by
-//! a sync.
+//! Disks with a volatile write cache: sectors that are read and written, one at a time or an extent of them, and
+//! made durable by a sync.
 //!
 //! A sector holds what the last sync made durable, and the writes since. A read gives the newest of them; a
 //! crash leaves any one.

@@ -1,10 +1,11 @@
 //! A disk in memory.
 
-ghost use Rattle.std.specs.Prelude.{◌≡◌, ◌<◌, ◌↔◌, [], ◌∷◌, ◌++◌, IsOk, IsTrue, IfOk, OnOk, OnErr, IfErr, length};
+ghost use Rattle.std.specs.Prelude.{◌≡◌, ◌<◌, ◌≤◌, ◌+◌, ◌↔◌, [], ◌∷◌, ◌++◌, IsOk, IsTrue, IfOk, OnOk, OnErr, IfErr, length};
 ghost use Rattle.std.specs.Bool.{OnTrue, OnFalse};
 ghost use Rattle.wb_types.specs.declared.refusal.Refusal.TheVariants.{Memory as OutOfMemory};
 ghost use Rattle.wb_disk.specs.Device.{Gives, written, synced, OneMore, Crashed};
-ghost use Rattle.wb_disk.specs.Memory.{blank, zeros, HasRoom, DiffersOnlyAt};
+ghost use Rattle.wb_disk.specs.Extents.{GivesEach, written_each};
+ghost use Rattle.wb_disk.specs.Memory.{blank, zeros, HasRoom, HasRoomFor, DiffersOnlyAt, FrontWritten};
 ghost use Rattle.wb_disk.specs.Crash.{Applies, crashed};
 ghost use Rattle.wb_disk.specs.Stored.{histories, capacities};
 
@@ -163,6 +164,41 @@ impl Disk for MemDisk {
                 Err(DiskFault)
             }
         }
+    }
+
+    /// It never fails.
+    fn read_extent(&mut self, first: u64, out: &mut [Content]) -> Result<(), DiskFault>
+        requires { first + length out.old ≤ length self.old.contents }
+        ensures ok { IsOk result }
+        ensures many { length out.new ≡ length out.old }
+        ensures given { GivesEach self.old.contents first out.new }
+        ensures kept { self.new ≡ self.old }
+    {
+        // The disk's size is a `u64`, so each of these sectors is.
+        let _sectors = self.sectors();
+        for (k, content) in out.iter_mut().enumerate() {
+            self.read(first + k as u64, content)?;
+        }
+        Ok(())
+    }
+
+    /// It writes the sectors in order. It fails at the first whose list has to grow and cannot, and has then
+    /// written those before it.
+    fn write_extent(&mut self, first: u64, from: &[Content]) -> Result<(), DiskFault>
+        requires { first + length from.now ≤ length self.old.contents }
+        ensures size { length self.new.contents ≡ length self.old.contents }
+        ensures ok { OnOk result (self.new.contents ≡ written_each self.old.contents first from.now) }
+        ensures no_fault { OnOk result (self.new.faults ≡ self.old.faults) }
+        ensures err { OnErr result (FrontWritten self.old.contents first from.now self.new.contents) }
+        ensures cause { OnErr result (OneMore self.old.faults self.new.faults) }
+        ensures room { HasRoomFor self.old first (length from.now) → IsOk result }
+    {
+        // The disk's size is a `u64`, so each of these sectors is.
+        let _sectors = self.sectors();
+        for (k, content) in from.iter().enumerate() {
+            self.write(first + k as u64, content)?;
+        }
+        Ok(())
     }
 
     /// It never fails. It goes over all sectors.

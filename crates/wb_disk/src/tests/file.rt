@@ -1,7 +1,7 @@
 //! Disks over files, real and fake.
 
 use super::fake_file::FakeFile;
-use super::{got, put};
+use super::{get_extent, got, put, put_extent};
 use crate::{Disk, DiskFault, FileDisk};
 use std::cell::Cell;
 use std::test::Fail;
@@ -25,6 +25,10 @@ fn a_file_keeps_what_was_written(rt: HostRuntime) -> Result<(), Fail> {
     fs::write(&rt, name, &zeros[..1100])?;
     assert_eq!(rt; got(&mut other, 1), Ok(0));
     assert_eq!(rt; got(&mut other, 2), Err(DiskFault));
+    assert_eq!(rt;
+        get_extent(&mut other, 1, &mut [[0; 512]; 2]),
+        Err(DiskFault)
+    );
     fs::remove_file(&rt, name)?;
     assert!(rt; FileDisk::open(&rt, name).is_err());
     assert!(rt; FileDisk::open(&rt, ".").is_err());
@@ -49,6 +53,42 @@ fn pieces_are_put_together(rt: HostRuntime) -> Result<(), Fail> {
         assert_eq!(rt; put(&mut disk, 1, 9), Ok(()));
         assert_eq!(rt; got(&mut disk, 0), Ok(0));
         assert_eq!(rt; got(&mut disk, 1), Ok(9));
+    }
+    Ok(())
+}
+
+#[test]
+fn an_extent_is_its_sectors_in_order(rt: HostRuntime) -> Result<(), Fail> {
+    for piece in [1, 100, 512, 700, 1024] {
+        let mut disk = FileDisk::over(fake(piece, 0, io::ErrorKind::Other))?;
+        assert_eq!(rt; put_extent(&mut disk, 0, &[[5; 512], [6; 512]]), Ok(()));
+        assert_eq!(rt; got(&mut disk, 0), Ok(5));
+        assert_eq!(rt; got(&mut disk, 1), Ok(6));
+        assert_eq!(rt; put_extent(&mut disk, 1, &[[7; 512]]), Ok(()));
+        let mut out = [[0; 512]; 2];
+        assert_eq!(rt; get_extent(&mut disk, 0, &mut out), Ok(()));
+        assert!(rt; out == [[5; 512], [7; 512]]);
+        assert_eq!(rt; put_extent(&mut disk, 2, &[]), Ok(()));
+        assert_eq!(rt; get_extent(&mut disk, 2, &mut out[..0]), Ok(()));
+    }
+    Ok(())
+}
+
+// Call 1 measures. One call moves both sectors, or in pieces of 512 bytes two calls, and as many read them.
+#[test]
+fn an_extent_that_fails_midway_is_a_fault(rt: HostRuntime) -> Result<(), Fail> {
+    for (piece, calls) in [(1024, 1), (512, 2)] {
+        for fails_at in 2..7 {
+            let file = fake(piece, fails_at, io::ErrorKind::StorageFull);
+            let mut disk = FileDisk::over(file)?;
+            let wrote = put_extent(&mut disk, 0, &[[5; 512], [6; 512]]);
+            assert_eq!(rt; wrote.is_err(), fails_at < 2 + calls);
+            if wrote.is_ok() {
+                let mut out = [[0; 512]; 2];
+                let read = get_extent(&mut disk, 0, &mut out);
+                assert_eq!(rt; read.is_err(), fails_at < 2 + 2 * calls);
+            }
+        }
     }
     Ok(())
 }

@@ -1,6 +1,6 @@
 //! A disk in memory, with memory and without.
 
-use super::{got, put};
+use super::{get_extent, got, put, put_extent};
 use crate::{Disk, MemDisk};
 use std::test::Fail;
 use wb_types::Refusal;
@@ -18,6 +18,26 @@ fn a_read_gives_the_latest_write(rt: HostRuntime) -> Result<(), Fail> {
     assert_eq!(rt; got(&mut disk, 0), Ok(0));
     assert_eq!(rt; got(&mut disk, 1), Ok(6));
     assert_eq!(rt; disk.faults(), 0);
+    Ok(())
+}
+
+// With each allocation failing in turn: the sectors before the one that found no memory are written.
+#[test]
+fn an_extent_lands_from_the_front(rt: HostRuntime) -> Result<(), Fail> {
+    let Ok(mut disk) = MemDisk::new(rt.alloc(), 4) else {
+        return Ok(());
+    };
+    let wrote = put_extent(&mut disk, 1, &[[5; 512], [6; 512]]);
+    let mut out = [[9; 512]; 4];
+    assert_eq!(rt; get_extent(&mut disk, 0, &mut out), Ok(()));
+    assert_eq!(rt; (out[0][0], out[3][511]), (0, 0));
+    let (first, second) = (out[1][0], out[2][511]);
+    if wrote.is_ok() {
+        assert_eq!(rt; (first, second, disk.faults()), (5, 6, 0));
+    } else {
+        assert!(rt; first == 0 || first == 5);
+        assert_eq!(rt; (second, disk.faults()), (0, 1));
+    }
     Ok(())
 }
 

@@ -65,6 +65,16 @@ impl Disk for FailingDisk {
         self.inside.write(at, from)
     }
 
+    fn read_extent(&mut self, first: u64, out: &mut [Content]) -> Result<(), DiskFault> {
+        self.count()?;
+        self.inside.read_extent(first, out)
+    }
+
+    fn write_extent(&mut self, first: u64, from: &[Content]) -> Result<(), DiskFault> {
+        self.count()?;
+        self.inside.write_extent(first, from)
+    }
+
     fn sync(&mut self) -> Result<(), DiskFault> {
         self.count()?;
         self.inside.sync()

@@ -48,6 +48,23 @@ impl Disk for Failing {
         Ok(())
     }
 
+    fn read_extent(&mut self, first: u64, out: &mut [Content]) -> Result<(), DiskFault> {
+        // The list's length is a `u64`, so each of these sectors is.
+        let _sectors = self.sectors();
+        for (k, content) in out.iter_mut().enumerate() {
+            self.read(first + k as u64, content)?;
+        }
+        Ok(())
+    }
+
+    fn write_extent(&mut self, first: u64, from: &[Content]) -> Result<(), DiskFault> {
+        let _sectors = self.sectors();
+        for (k, content) in from.iter().enumerate() {
+            self.write(first + k as u64, content)?;
+        }
+        Ok(())
+    }
+
     fn sync(&mut self) -> Result<(), DiskFault> {
         Ok(())
     }

@@ -1,0 +1,13 @@
+use Rattle.std.proofs.lemmas.Result.{on_err_weaker}
+use Rattle.wb_disk.proofs.Neighbours.{partly_front}
+use Rattle.wb_disk.proofs.memory.MemDiskDisk.TheImpl.Goals as goal
+
+-- the trait names what a front of the extent leaves by what may be left of each sector
+pub write_extent-tells : goal.write_extent-tells
+write_extent-tells c = record {
+  size = c.ensures.size;
+  ok = λ _. c.ensures.ok;
+  err = λ _. on_err_weaker c.result (partly_front c.args.self.now.contents c.new.self.now.contents c.args.first c.args.from.now) c.ensures.err;
+  no_fault = λ _. c.ensures.no_fault;
+  cause = λ _. c.ensures.cause;
+}
