@@ -10,16 +10,6 @@ use Rattle.wb_tasks.specs.declared.read.Phase.TheVariants.{Reads, Releases}
 use Rattle.wb_tasks.specs.declared.step.Answer.TheVariants.{Done as Finished, Refused as Refuses}
 use Rattle.wb_tasks.specs.declared.step.Got.TheVariants.{Done, Fault}
 
--- what is done when nothing is left is the count
-pub after_count : (part : BlockRange) (place : Option CBlock) (extents other : List Extent) → extents ≡ [] → read_left part (Releases Finished) other ≡ after (read_left part (Reads place) extents) Done
-after_count part place [] other e = refl
-after_count part place (x ∷ extents) other e = absurd (cc)
-
--- and else an extent
-pub after_extent : (part : BlockRange) (place : Option CBlock) (e : Extent) (extents : List Extent) → read_left part (Reads place) extents ≡ after (read_left part (Reads place) (e ∷ extents)) Done
-after_extent part None e extents = refl
-after_extent part (Some c) e extents = refl
-
 -- what failed is a read
 pub after_failed_read : (part : BlockRange) (place : Option CBlock) (extents : List Extent) → Fits (want (read_left part (Reads place) extents)) Fault → read_left part (Releases (Refuses (Io (device_at place)))) extents ≡ after (read_left part (Reads place) extents) Fault
 after_failed_read part None [] h = absurd h

@@ -13,13 +13,3 @@ pub after_failed_write : (part : BlockRange) (place : Option CBlock) (extents : 
 after_failed_write part place [] h = absurd h
 after_failed_write part None (e ∷ extents) h = refl
 after_failed_write part (Some c) (e ∷ extents) h = refl
-
--- what is done is an extent
-pub after_extent : (part : BlockRange) (place : Option CBlock) (e : Extent) (extents : List Extent) → write_left part (Writes place) extents ≡ after (write_left part (Writes place) (e ∷ extents)) Done
-after_extent part None e extents = refl
-after_extent part (Some c) e extents = refl
-
--- or, when nothing is left, the finish
-pub after_finish : (part : BlockRange) (place : Option CBlock) (extents other : List Extent) → extents ≡ [] → write_left part (Counts place) other ≡ after (write_left part (Writes place) extents) Done
-after_finish part place [] other e = refl
-after_finish part place (x ∷ extents) other e = absurd (cc)
