@@ -5,6 +5,7 @@ pub mod Suiting
 pub mod Rule
 pub mod Phases
 pub mod Invariant
+pub mod Blocks
 pub mod Looking
 pub mod Releasing
 pub mod Reading

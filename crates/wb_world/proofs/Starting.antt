@@ -1,11 +1,11 @@
 -- A job that is not refused lies within one block of the origin.
-use Rattle.std.proofs.Common.{◌≡◌, ◌≤◌, ◌<◌, ◌+◌, ◌-◌, ◌*◌, ◌/◌, ◌&&◌, ℕ, zero, suc, Bool, true, false, Some, None, refl, ap, ◌∙◌, arith, mul_comm}
+use Rattle.std.proofs.Common.{◌≡◌, ◌≤◌, ◌<◌, ◌+◌, ◌-◌, ◌*◌, ◌/◌, ◌&&◌, ℕ, zero, suc, Bool, true, false, List, Some, None, refl, ap, ◌∙◌, arith, mul_comm}
 use Rattle.std.proofs.lemmas.Bool.{eqb-true, leb-true}
 use Rattle.std.proofs.lemmas.Nat.{div_below}
 use Rattle.std.specs.Prelude.{nat_le, if◌then◌else◌}
 use Rattle.wb_types.specs.declared.refusal.Refusal.TheVariants.{Range, Crosses}
 use Rattle.wb_tasks.specs.Ready.{block_of}
-use Rattle.wb_world.specs.declared.job.Extent.{Extent}
+use Rattle.wb_types.specs.declared.extent.Extent.{Extent}
 use Rattle.wb_world.specs.declared.job.Job.{Job}
 use Rattle.wb_world.specs.declared.job.Job.TheVariants.{Read, Write}
 use Rattle.wb_world.specs.World.{Shape, sector_count, job_refusal, is_in_one_block, extent_of, task_job}
@@ -13,12 +13,12 @@ use Rattle.wb_world.specs.World.{Shape, sector_count, job_refusal, is_in_one_blo
 -- what it means that a job is not refused
 pub record MayStart (shape : Shape) (extent : Extent) : Type 0 where
   pub some : 1 ≤ extent.count
-  pub inside : extent.first.0 + extent.count ≤ sector_count shape
-  pub one_block : extent.first.0 / shape.block_sectors ≡ (extent.first.0 + extent.count - 1) / shape.block_sectors
+  pub inside : extent.first + extent.count ≤ sector_count shape
+  pub one_block : extent.first / shape.block_sectors ≡ (extent.first + extent.count - 1) / shape.block_sectors
 
 pub may_start : (shape : Shape) (extent : Extent) → job_refusal shape extent ≡ None → MayStart shape extent
-may_start shape extent e = go (nat_le 1 extent.count) (nat_le (extent.first.0 + extent.count) (sector_count shape)) (is_in_one_block shape extent) refl refl refl e where
-  go : (a b c : Bool) → nat_le 1 extent.count ≡ a → nat_le (extent.first.0 + extent.count) (sector_count shape) ≡ b → is_in_one_block shape extent ≡ c →
+may_start shape extent e = go (nat_le 1 extent.count) (nat_le (extent.first + extent.count) (sector_count shape)) (is_in_one_block shape extent) refl refl refl e where
+  go : (a b c : Bool) → nat_le 1 extent.count ≡ a → nat_le (extent.first + extent.count) (sector_count shape) ≡ b → is_in_one_block shape extent ≡ c →
       (if (a && b) then (if c then None else Some Crosses) else Some Range) ≡ None → MayStart shape extent
   go true true true f g h e = record { some = leb-true _ _ f; inside = leb-true _ _ g; one_block = eqb-true _ _ h }
   go true true false f g h e = absurd (cc)
@@ -31,9 +31,9 @@ some_sectors shape extent m = go shape.block_sectors refl where
   go zero e = let none : sector_count shape ≡ 0 = ap (λ k. k * shape.origin_blocks) e ∙ omega arith in absurd (omega (arith, m.some, m.inside))
   go (suc k) e = omega arith
 
-pub first_inside : (shape : Shape) (extent : Extent) → MayStart shape extent → extent.first.0 < shape.origin_blocks * shape.block_sectors
+pub first_inside : (shape : Shape) (extent : Extent) → MayStart shape extent → extent.first < shape.origin_blocks * shape.block_sectors
 first_inside shape extent m = omega (arith, m.some, m.inside, mul_comm shape.block_sectors shape.origin_blocks)
 
-pub starts_inside : (shape : Shape) (job : Job) → MayStart shape (extent_of job) → (block_of (task_job shape job)).0 < shape.origin_blocks
-starts_inside shape (Read extent) m = div_below extent.first.0 shape.block_sectors shape.origin_blocks (some_sectors shape extent m) (first_inside shape extent m)
-starts_inside shape (Write extent content) m = div_below extent.first.0 shape.block_sectors shape.origin_blocks (some_sectors shape extent m) (first_inside shape extent m)
+pub starts_inside : (shape : Shape) (job : Job) (cut : List Extent) → MayStart shape (extent_of job) → (block_of (task_job shape job cut)).0 < shape.origin_blocks
+starts_inside shape (Read extent) cut m = div_below extent.first shape.block_sectors shape.origin_blocks (some_sectors shape extent m) (first_inside shape extent m)
+starts_inside shape (Write extent content) cut m = div_below extent.first shape.block_sectors shape.origin_blocks (some_sectors shape extent m) (first_inside shape extent m)
