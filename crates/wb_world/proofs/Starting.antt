@@ -1,5 +1,5 @@
--- A job that is not refused lies within one block of the origin.
-use Rattle.std.proofs.Common.{◌≡◌, ◌≤◌, ◌<◌, ◌+◌, ◌-◌, ◌*◌, ◌/◌, ◌&&◌, ℕ, zero, suc, Bool, true, false, List, Some, None, refl, ap, ◌∙◌, arith, mul_comm}
+-- A job that is not refused lies within one block of the origin, and who starts is free.
+use Rattle.std.proofs.Common.{◌≡◌, ◌≤◌, ◌<◌, ◌+◌, ◌-◌, ◌*◌, ◌/◌, ◌&&◌, ℕ, zero, suc, inl, inr, slice_get, Bool, true, false, List, Option, Some, None, refl, ap, ◌∙◌, arith, mul_comm}
 use Rattle.std.proofs.lemmas.Bool.{eqb-true, leb-true}
 use Rattle.std.proofs.lemmas.Nat.{div_below}
 use Rattle.std.specs.Prelude.{nat_le, if◌then◌else◌}
@@ -8,7 +8,9 @@ use Rattle.wb_tasks.specs.Ready.{block_of}
 use Rattle.wb_types.specs.declared.extent.Extent.{Extent}
 use Rattle.wb_world.specs.declared.job.Job.{Job}
 use Rattle.wb_world.specs.declared.job.Job.TheVariants.{Read, Write}
-use Rattle.wb_world.specs.World.{Shape, sector_count, job_refusal, is_in_one_block, extent_of, task_job}
+use Rattle.wb_tasks.specs.Plan.{Plan}
+use Rattle.wb_world.specs.declared.event.Event.TheVariants.{Start}
+use Rattle.wb_world.specs.World.{Shape, State, Actor, DoesNotApply, sector_count, job_refusal, is_in_one_block, extent_of, task_job}
 
 -- what it means that a job is not refused
 pub record MayStart (shape : Shape) (extent : Extent) : Type 0 where
@@ -37,3 +39,19 @@ first_inside shape extent m = omega (arith, m.some, m.inside, mul_comm shape.blo
 pub starts_inside : (shape : Shape) (job : Job) (cut : List Extent) → MayStart shape (extent_of job) → (block_of (task_job shape job cut)).0 < shape.origin_blocks
 starts_inside shape (Read extent) cut m = div_below extent.first shape.block_sectors shape.origin_blocks (some_sectors shape extent m) (first_inside shape extent m)
 starts_inside shape (Write extent content) cut m = div_below extent.first shape.block_sectors shape.origin_blocks (some_sectors shape extent m) (first_inside shape extent m)
+
+-- who starts is there, has no task, and a target stands
+pub starts_free : (w : State) (a : ℕ) (job : Job) → (¬ DoesNotApply w (Start a job)) → (x : Actor) × (slice_get w.actors a ≡ Some x) × (x.task ≡ None) × (w.stands ≡ true)
+starts_free w a job applies = at_actor (slice_get w.actors a) refl
+  where
+    standing : (b : Bool) → w.stands ≡ b → w.stands ≡ true
+    standing true e = e
+    standing false e = absurd (applies (inr (inr e)))
+
+    at_task : (x : Actor) (t : Option (Job × Plan)) → slice_get w.actors a ≡ Some x → x.task ≡ t → x.task ≡ None
+    at_task x None e f = f
+    at_task x (Some doing) e f = absurd (applies (inr (inl (rw (e, f) tt))))
+
+    at_actor : (o : Option Actor) → slice_get w.actors a ≡ o → (x : Actor) × (slice_get w.actors a ≡ Some x) × (x.task ≡ None) × (w.stands ≡ true)
+    at_actor None e = absurd (applies (inl e))
+    at_actor (Some x) e = (x, e, at_task x x.task e refl, standing w.stands refl)

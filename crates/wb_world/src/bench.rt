@@ -30,14 +30,23 @@ pub(crate) struct Bench {
 }
 
 impl Bench {
-    /// What an event did that doesn't apply.
-    pub(crate) fn skipped(&self) -> Outcome
-        ensures { (result.what ≡ Skipped) × (result.read.items ≡ []) }
+    /// What an event did that read nothing.
+    pub(crate) fn told(&self, what: What) -> Outcome
+        ensures what { result.what ≡ what }
+        ensures read { result.read.items ≡ [] }
     {
         Outcome {
-            what: What::Skipped,
+            what,
             read: Vec::new(self.alloc),
         }
+    }
+
+    /// What an event did that doesn't apply.
+    pub(crate) fn skipped(&self) -> Outcome
+        ensures what { result.what ≡ Skipped }
+        ensures read { result.read.items ≡ [] }
+    {
+        self.told(What::Skipped)
     }
 
     /// One step of an actor on this job, what it gave, and what it read. `Memory` where what is read, or what a

@@ -192,12 +192,12 @@ fn happen(
 {
     match event {
         Event::Start(a, job) => {
-            let mut done = bench.skipped();
-            if *stands && *a < members.len() {
-                let member = &mut members[*a];
-                done.what = member.start(geometry, longest, job);
+            if !*stands || *a >= members.len() {
+                return Ok(bench.skipped());
             }
-            Ok(done)
+            let member = &mut members[*a];
+            let what = member.start(geometry, longest, job);
+            Ok(bench.told(what))
         }
         Event::Step(a) => {
             if !*stands || *a >= members.len() {
@@ -207,20 +207,19 @@ fn happen(
             member.step(*a, bench)
         }
         Event::FaultStep(a, choice) => {
-            let mut done = bench.skipped();
-            if *stands && *a < members.len() {
-                let member = &mut members[*a];
-                done.what = member.falter(bench, choice)?;
+            if !*stands || *a >= members.len() {
+                return Ok(bench.skipped());
             }
-            Ok(done)
+            let member = &mut members[*a];
+            let what = member.falter(bench, choice)?;
+            Ok(bench.told(what))
         }
         Event::Stop(choice) => {
-            let mut done = bench.skipped();
-            if bench.disk.stop(choice) {
-                *stands = false;
-                done.what = What::Stopped;
+            if !bench.disk.stop(choice) {
+                return Ok(bench.skipped());
             }
-            Ok(done)
+            *stands = false;
+            Ok(bench.told(What::Stopped))
         }
     }
 }
