@@ -1,5 +1,5 @@
 -- The steps of a request that count, finish and answer, and those that read.
-use Rattle.std.proofs.Common.{◌≡◌, ℕ, List, [], ◌++◌, Option, Some, None, refl, ap, subst, ◌∙◌, slice_get, slice_set, map, append-nil}
+use Rattle.std.proofs.Common.{◌≡◌, ℕ, List, [], Option, Some, None, refl, ap, subst, ◌∙◌, slice_get, slice_set, map, append-nil}
 use Rattle.std.specs.Prelude.{IsPermutation}
 use Rattle.wb_types.specs.declared.extent.Extent.{Extent}
 use Rattle.wb_types.specs.Extents.{sectors_in}

@@ -19,13 +19,12 @@ use Rattle.wb_world.specs.declared.job.Job.{Job}
 use Rattle.wb_world.specs.declared.event.Event.{Event}
 use Rattle.wb_world.specs.declared.event.Event.TheVariants.{Start, Step, FaultStep, Stop}
 use Rattle.wb_world.specs.declared.event.What.{What}
-use Rattle.wb_world.specs.declared.event.What.TheVariants.{Skipped, Refused, Started, Stepped, Stopped}
+use Rattle.wb_world.specs.declared.event.What.TheVariants.{Skipped, Started, Stopped}
 use Rattle.wb_world.specs.declared.event.Record.{Record}
 use Rattle.wb_world.specs.World.{Shape, State, Actor, Plain, OfSome, IsOnDevice, MayFail, DoesNotApply, lands, start, resting, stepped, device_by, words_then, card_then, task_then, job_refusal, extent_of, MayBe, May, IsRun, after_what, after_happening, after_all, Happening, records_of}
 use Rattle.wb_world.specs.Life.{Life, actors_of, actors_seen, state_of, chosen_for, happening_of, happenings, IsWhere, Happens, GoesOn}
-use Rattle.wb_world.specs.Performing.{Steps, StepsOn, Falters, FailsOn, IsManned, crew_then, started_or, free_outcome, task_given}
+use Rattle.wb_world.specs.Performing.{Steps, Falters, IsManned, crew_then, started_or, free_outcome, task_given}
 use Rattle.wb_types.proofs.Cutting.{pieces_cut}
-use Rattle.wb_world.proofs.Lists.{get_set_same}
 
 -- the records of a trace that is cut into pieces
 pub records_of-happenings : (longest : ℕ) (trace : List Record) → records_of (happenings longest trace) ≡ trace

@@ -12,4 +12,5 @@ pub mod Reading
 pub mod Writing
 pub mod Ending
 pub mod Runs
+pub mod Landing
 pub mod Happening

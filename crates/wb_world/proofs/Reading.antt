@@ -1,5 +1,5 @@
 -- The step of a read that reads an extent: it gives the last entry of each of its sectors' histories.
-use Rattle.std.proofs.Common.{◌≡◌, ◌≤◌, ◌<◌, ◌+◌, ◌-◌, ◌*◌, ◌/◌, ◌%◌, cond, ℕ, zero, suc, List, [], ◌∷◌, ◌++◌, Option, Some, None, refl, sym, ap, subst, ◌∙◌, arith, slice_get, slice_set, map, length}
+use Rattle.std.proofs.Common.{◌≡◌, ◌≤◌, ◌<◌, ◌+◌, ◌/◌, cond, ℕ, zero, suc, List, [], ◌∷◌, ◌++◌, Option, Some, None, refl, sym, ap, subst, ◌∙◌, arith, slice_get, slice_set, map, length}
 use Rattle.std.specs.Prelude.{All, IsPermutation}
 use Rattle.std.proofs.lemmas.List.{map-append, append_assoc}
 use Rattle.std.proofs.lemmas.List.Elements.{All-append, All-nil, All-cons}
@@ -18,16 +18,15 @@ use Rattle.wb_tasks.specs.declared.step.Got.TheVariants.{Done, Fault}
 use Rattle.wb_world.specs.declared.job.Job.TheVariants.{Read}
 use Rattle.wb_world.specs.declared.event.What.TheVariants.{Stepped}
 use Rattle.wb_world.specs.World.{Shape, State, Actor, task_job}
-use Rattle.wb_world.specs.Clerk.{Notes, Doing, Reading, sector_for, readings_from, device_note, latest_of}
+use Rattle.wb_world.specs.Clerk.{Notes, Doing, Reading, readings_from, device_note, latest_of}
 use Rattle.wb_world.specs.Headline.{IsLatest}
 use Rattle.wb_world.proofs.Lists.{get_set_same, get_set_other}
 use Rattle.wb_world.proofs.Contents.{WasWritten, IsLastWritten, Same, Stale}
-use Rattle.wb_world.proofs.Invariant.{Invariant, quiet, Good, good, GoodFault, good_fault, stale_of}
-use Rattle.wb_world.proofs.Phases.{Moving, GivingBack, SoFar, Within}
+use Rattle.wb_world.proofs.Invariant.{quiet, Good, good, GoodFault, good_fault, stale_of}
+use Rattle.wb_world.proofs.Phases.{Moving, GivingBack, SoFar}
 use Rattle.wb_words.specs.Cards.{total, shares as shared_by}
 use Rattle.wb_tasks.specs.Ready.{block_of}
 use Rattle.wb_world.proofs.Rule.{shares, owns, leaves_stale, stale_is_owned, total_has, total_most, lock_of, rule_same}
-use Rattle.wb_world.proofs.Starting.{MayStart, some_sectors}
 use Rattle.wb_world.proofs.Blocks.{in_block, sector_is}
 use Rattle.wb_world.proofs.Looking.{at_work, Working, acts, moves_on}
 

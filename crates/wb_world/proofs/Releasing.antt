@@ -1,5 +1,5 @@
 -- Giving a block back, and keeping it for good.
-use Rattle.std.proofs.Common.{◌≡◌, ◌+◌, ℕ, List, [], Some, ◌∷◌, refl, sym, ap, ◌∙◌, arith, inr, slice_get}
+use Rattle.std.proofs.Common.{◌≡◌, ◌+◌, ℕ, List, [], ◌∷◌, refl, sym, ap, ◌∙◌, arith, inr, slice_get}
 use Rattle.std.proofs.lemmas.Nat.{le_or_l, le_or_r}
 use Rattle.wb_types.specs.declared.refusal.Refusal.{Refusal}
 use Rattle.wb_types.specs.declared.extent.Extent.{Extent}

@@ -1,16 +1,14 @@
 -- Whole runs: each record keeps what is kept, so every answer is right, a crash leaves what was written, and no step is in vain.
-use Rattle.std.proofs.Common.{◌≡◌, ◌≤◌, ◌<◌, ◌+◌, ◌*◌, ◌⊎◌, inl, inr, ℕ, zero, suc, Bool, true, false, List, [], ◌∷◌, Option, Some, None, refl, sym, ap, subst, ◌∙◌, arith, slice_get, slice_set, unwrap_or, replicate, length, map, Contains}
+use Rattle.std.proofs.Common.{◌≡◌, ◌≤◌, ◌<◌, ◌+◌, inl, inr, ℕ, zero, suc, true, List, [], ◌∷◌, Option, Some, None, refl, sym, ap, subst, ◌∙◌, arith, slice_get, slice_set, unwrap_or, replicate, length, map, Contains}
 use Rattle.std.proofs.lemmas.List.Elements.{Contains-push_cases, All-nil}
 use Rattle.std.proofs.lemmas.List.{length-replicate}
 use Rattle.std.proofs.lemmas.Option.{slice_get-get_or}
 use Rattle.wb_types.specs.declared.extent.Extent.{Extent}
 use Rattle.wb_types.specs.Extents.{IsCutInto}
-use Rattle.wb_types.specs.declared.refusal.Refusal.{Refusal}
 use Rattle.wb_disk.specs.Device.{Content as Bytes, History, entries, newest}
 use Rattle.wb_disk.specs.Extents.{GivesEach}
 use Rattle.wb_disk.specs.Memory.{blank}
 use Rattle.wb_disk.specs.Crash.{Choice, crashed, crashed_from, content_at, chosen_position}
-use Rattle.wb_disk.specs.Crashes.{MayLeave}
 use Rattle.wb_disk.proofs.Crashes.{Contains-content_at}
 use Rattle.wb_words.specs.declared.card.Card.{Card}
 use Rattle.wb_words.specs.declared.card.Hold.TheVariants.{Nothing}
@@ -19,7 +17,6 @@ use Rattle.wb_words.specs.Cards.{blank_card}
 use Rattle.wb_words.specs.Rule.{LockRule}
 use Rattle.wb_words.specs.Effects.{result_of}
 use Rattle.wb_words.proofs.RuleKept.{fresh_rule}
-use Rattle.wb_tasks.specs.Tables.{BlockJob}
 use Rattle.wb_tasks.specs.Plan.{Plan, want, got_of}
 use Rattle.wb_tasks.specs.Ready.{MayTake}
 use Rattle.wb_tasks.proofs.Readiness.{is_ready}
@@ -35,10 +32,9 @@ use Rattle.wb_world.specs.declared.event.Event.{Event}
 use Rattle.wb_world.specs.declared.event.Event.TheVariants.{Start, Step, FaultStep, Stop}
 use Rattle.wb_world.specs.declared.event.What.{What}
 use Rattle.wb_world.specs.declared.event.What.TheVariants.{Skipped, Refused, Started, Stepped, Stopped}
-use Rattle.wb_world.specs.declared.event.Record.{Record}
 use Rattle.wb_world.specs.World.{Shape, State, Actor, Chosen, Plain, Cut, Happening, OfSome, AtWork, HasTask, IsOnDevice, DoesNotApply, Gives, start, resting, task_job, extent_of, sector_count, job_refusal, MayBe, IsRun, after_what, after_happening, after_all, after_crash, given, records_of}
 use Rattle.wb_world.specs.Clerk.{Notes, Doing, opened, begun, nobody, noted_what, note, noted}
-use Rattle.wb_world.specs.Headline.{AnswersRightly, ReadsLatest, IsAllowed, IsAllowedAt, ShowsAllowed, CrashConsistent, GivesSomething}
+use Rattle.wb_world.specs.Headline.{AnswersRightly, ReadsLatest, IsAllowed, CrashConsistent, GivesSomething}
 use Rattle.wb_world.specs.Performing.{AllSuited, IsPossible, TaskCan, AllCan}
 use Rattle.wb_world.proofs.Lists.{get_set_same, get_set_other, replicated, get_map}
 use Rattle.wb_world.proofs.Contents.{WasWritten, IsLastWritten, Same}
@@ -48,7 +44,7 @@ use Rattle.wb_world.proofs.Suiting.{event_suits}
 use Rattle.wb_world.proofs.Starting.{MayStart, may_start, starts_inside, starts_free}
 use Rattle.wb_world.proofs.Blocks.{cut_within}
 use Rattle.wb_world.proofs.Rule.{cards_of, rule_same}
-use Rattle.wb_world.proofs.Looking.{at_work, Working, acts, outcome_of, fail_look, lock_look, taking, seal_look, number_look}
+use Rattle.wb_world.proofs.Looking.{Working, acts, outcome_of, fail_look, lock_look, taking, seal_look, number_look}
 use Rattle.wb_world.proofs.Reading.{read_extent, read_failed}
 use Rattle.wb_world.proofs.Writing.{write_extent, write_failed}
 use Rattle.wb_world.proofs.Ending.{moved_all, count_written, answered}

@@ -1,10 +1,8 @@
 -- In every run each actor has what it needs for what is left of its task, so it is ready for each of its steps.
 use Rattle.std.proofs.Common.{◌≡◌, ◌∙◌, inl, inr, ℕ, Bool, true, false, eqb, List, [], ◌∷◌, Option, Some, None, refl, sym, ap, subst, slice_get, slice_set, map, if◌then◌else◌}
 use Rattle.std.proofs.lemmas.Bool.{cases_eq}
-use Rattle.wb_types.specs.declared.mode.Dev.TheVariants.{Metadata, Cache, Origin}
-use Rattle.wb_types.specs.declared.refusal.Refusal.{Refusal}
+use Rattle.wb_types.specs.declared.mode.Dev.TheVariants.{Origin}
 use Rattle.wb_types.specs.declared.extent.Extent.{Extent}
-use Rattle.wb_types.specs.Extents.{IsCutInto}
 use Rattle.wb_disk.specs.Device.{Content as Bytes, History}
 use Rattle.wb_disk.specs.Crash.{Choice}
 use Rattle.wb_words.specs.declared.card.Card.{Card}
@@ -14,12 +12,11 @@ use Rattle.wb_words.specs.declared.step.CellStep.TheVariants.{Look, Take, Releas
 use Rattle.wb_words.specs.declared.step.CellResult.TheVariants.{Done as Won, Lost as CellLost}
 use Rattle.wb_words.specs.SharedWords.{Words, word_at}
 use Rattle.wb_words.specs.Effects.{result_of}
-use Rattle.wb_tasks.specs.Tables.{OnBlock}
 use Rattle.wb_tasks.specs.Plan.{Plan, want, after, Fits, got_of}
 use Rattle.wb_tasks.specs.Ready.{MayMake, Suits}
 use Rattle.wb_tasks.proofs.Readiness.{keeps_ready, begins_ready, ends_holding_nothing}
 use Rattle.wb_tasks.specs.declared.step.DeviceStep.{DeviceStep}
-use Rattle.wb_tasks.specs.declared.step.DeviceStep.TheVariants.{Read as ReadExtent, Write as WriteExtent, Sync}
+use Rattle.wb_tasks.specs.declared.step.DeviceStep.TheVariants.{Read as ReadExtent, Write as WriteExtent}
 use Rattle.wb_tasks.specs.declared.step.Want.{Want}
 use Rattle.wb_tasks.specs.declared.step.Want.TheVariants.{Cell, Device, Desk, End}
 use Rattle.wb_tasks.specs.declared.step.Got.{Got}
@@ -28,10 +25,9 @@ use Rattle.wb_world.specs.declared.event.Event.{Event}
 use Rattle.wb_world.specs.declared.event.Event.TheVariants.{Start, Step, FaultStep, Stop}
 use Rattle.wb_world.specs.declared.event.What.{What}
 use Rattle.wb_world.specs.declared.event.What.TheVariants.{Skipped, Refused, Started, Stepped, Stopped}
-use Rattle.wb_world.specs.declared.event.Record.{Record}
 use Rattle.wb_world.specs.declared.job.Job.{Job}
 use Rattle.wb_world.specs.declared.job.Job.TheVariants.{Read, Write}
-use Rattle.wb_world.specs.World.{Shape, State, Actor, Chosen, Plain, Cut, Happening, OfSome, IsOnDevice, DoesNotApply, Gives, start, resting, lands, task_then, card_then, actor_then, job_refusal, extent_of, task_job, given, MayBe, IsRun, after_what, after_happening, after_all}
+use Rattle.wb_world.specs.World.{Shape, State, Actor, Chosen, Plain, Cut, Happening, OfSome, IsOnDevice, DoesNotApply, Gives, start, resting, task_then, card_then, actor_then, job_refusal, extent_of, task_job, given, MayBe, IsRun, after_what, after_happening, after_all}
 use Rattle.wb_world.specs.Performing.{TaskSuits, AllSuited}
 use Rattle.wb_world.proofs.Lists.{get_set_same, get_set_other, replicated}
 use Rattle.wb_world.proofs.Starting.{may_start, starts_inside, starts_free}

@@ -14,15 +14,14 @@ use Rattle.wb_tasks.specs.declared.step.DeviceStep.TheVariants.{Write as WriteEx
 use Rattle.wb_tasks.specs.declared.step.Want.TheVariants.{Device}
 use Rattle.wb_tasks.specs.declared.step.Got.{Got}
 use Rattle.wb_tasks.specs.declared.step.Got.TheVariants.{Done, Fault}
-use Rattle.wb_world.specs.declared.job.Job.{Job}
 use Rattle.wb_world.specs.declared.job.Job.TheVariants.{Write}
 use Rattle.wb_world.specs.declared.event.What.TheVariants.{Stepped}
-use Rattle.wb_world.specs.World.{Shape, State, Actor, task_job, lands}
-use Rattle.wb_world.specs.Clerk.{Notes, Doing, Position, Entering, enter, enter_each, entering, device_note, write_note, sector_for, next_position}
+use Rattle.wb_world.specs.World.{Shape, State, task_job, lands}
+use Rattle.wb_world.specs.Clerk.{Notes, Doing, Position, Entering, enter, enter_each, entering, device_note, write_note, next_position}
 use Rattle.wb_world.proofs.Lists.{get_set_same, get_set_other}
 use Rattle.wb_world.proofs.Contents.{AllWritten, AllLastWritten, last_more, both_written, both_last, alone_written, alone_last}
 use Rattle.wb_world.proofs.Invariant.{Invariant, moved, Good, good, GoodFault, good_fault, stale_of, last_same, stale_same}
-use Rattle.wb_world.proofs.Phases.{Phase, Moving, Failing, Stands, SoFar, Within}
+use Rattle.wb_world.proofs.Phases.{Phase, Moving, Failing, Stands, SoFar}
 use Rattle.wb_words.specs.Cards.{owns as owned_by}
 use Rattle.wb_tasks.specs.Ready.{block_of}
 use Rattle.wb_world.proofs.Rule.{leaves_stale, total_set, total_has, rule_same}

@@ -1,5 +1,5 @@
 -- What one step does to the device, to the crew and to what an actor is at.
-use Rattle.std.specs.Prelude.{◌≡◌, ◌≤◌, ◌+◌, ◌⊎◌, ℕ, length, Bool, true, List, [], Option, Some, None, slice_get}
+use Rattle.std.specs.Prelude.{◌≡◌, ◌≤◌, ◌+◌, ◌⊎◌, ℕ, length, true, List, [], Option, Some, None, slice_get}
 use Rattle.wb_types.specs.Extents.{pieces}
 use Rattle.wb_types.specs.declared.mode.Dev.TheVariants.{Origin}
 use Rattle.wb_types.specs.declared.refusal.Refusal.{Refusal}

@@ -17,7 +17,7 @@ use crate::event::{Outcome, What};
 use crate::room::{make_room, write_landing};
 use std::alloc::Global;
 use wb_cells::Crew;
-use wb_disk::{CrashChoice, Disk, MemDisk};
+use wb_disk::{Base, CrashChoice, Disk, MemDisk};
 use wb_tasks::{DeviceStep, Got, Want};
 use wb_types::{Content, Extent, Refusal, SECTOR_BYTES};
 
@@ -68,7 +68,8 @@ impl Bench {
             Want::Cell(step) => Ok((Got::from(self.crew.step(actor, step)), Vec::new(self.alloc))),
             Want::Device(DeviceStep::Read(_, extent)) => Ok((Got::Done, self.read(extent)?)),
             Want::Device(DeviceStep::Write(_, extent)) => {
-                self.write(job, extent)?;
+                let everywhere = CrashChoice::new(Base::Newest, Vec::new(self.alloc));
+                self.write(job, extent, &everywhere)?;
                 Ok((Got::Done, Vec::new(self.alloc)))
             }
             Want::End(_) => Ok((Got::Done, Vec::new(self.alloc))),
@@ -91,23 +92,20 @@ impl Bench {
         }
     }
 
-    /// A job's content in each of these sectors.
-    fn write(&mut self, job: &Job, extent: Extent) -> Result<(), Refusal>
+    /// A job's content in each of these sectors on which the choice lets it land. `Memory` where there is no room for
+    /// it; nothing has changed then.
+    fn write(&mut self, job: &Job, extent: Extent, choice: &CrashChoice) -> Result<(), Refusal>
         requires { extent.first + extent.count ≤ length self.old.disk.contents }
-        ensures device { OnOk result (self.new.disk.contents ≡ device_by (λ at. true) self.old.disk.contents job.now (DeviceWant (WriteExtent OriginDevice extent))) }
+        ensures device { OnOk result (self.new.disk.contents ≡ device_by (lands choice.now) self.old.disk.contents job.now (DeviceWant (WriteExtent OriginDevice extent))) }
         ensures crew { self.new.crew ≡ self.old.crew }
         ensures err { OnErr result (self.new.disk.contents ≡ self.old.disk.contents) }
         ensures refusal { IfErr result (λ refusal. refusal ≡ Memory) }
     {
-        let Job::Write(_, content) = job else {
-            return Ok(());
-        };
-        let contents = vec![in self.alloc; *content; extent.count as usize]?;
-        make_room(&mut self.disk, extent)?;
-        match self.disk.write_extent(extent.first, contents.as_slice()) {
-            Ok(()) => Ok(()),
-            Err(_) => Err(Refusal::Memory),
+        if let Job::Write(_, content) = job {
+            make_room(&mut self.disk, extent)?;
+            write_landing(&mut self.disk, extent, content, choice);
         }
+        Ok(())
     }
 
     /// A step of a job on the device that fails; what it writes has landed where the choice says so. `Memory` where
@@ -124,9 +122,8 @@ impl Bench {
         ensures err { OnErr result (self.new.disk.contents ≡ self.old.disk.contents) }
         ensures refusal { IfErr result (λ refusal. refusal ≡ Memory) }
     {
-        if let (DeviceStep::Write(_, extent), Job::Write(_, content)) = (step, job) {
-            make_room(&mut self.disk, extent)?;
-            write_landing(&mut self.disk, extent, content, choice);
+        if let DeviceStep::Write(_, extent) = step {
+            self.write(job, extent, choice)?;
         }
         Ok(())
     }
