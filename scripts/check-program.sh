@@ -1,7 +1,7 @@
 #!/bin/sh
-# What no test of the gate can show of the programs and the scripts: a build that fails or is stale, closed descriptors,
-# files that another program holds, a limit of the file size, help and version. It prints what failed, and at the end
-# 'N passed, N failed'; its status is 0 where nothing failed.
+# The programs and the scripts, from outside: the rows of scripts/cases, what formatting leaves, a build that fails or is
+# stale, closed descriptors, files that another program holds, a limit of the file size, help and version. It prints what
+# failed, and at the end 'N passed, N failed'; its status is 0 where nothing failed.
 #
 #     sh scripts/check-program.sh [WBCACHE WB_BENCH]
 #
@@ -118,6 +118,95 @@ fresh() {
 }
 table='cache m.img c.img o.img 64 0 tinylfu 0'
 sums() { cksum m.img c.img o.img | cut -d' ' -f1 | tr '\n' ' '; }
+
+# --- The rows of scripts/cases.
+filled() { # bytes, octal value: so many bytes of this value
+  head -c "$1" /dev/zero | tr '\0' "\\$2"
+}
+rows() { # file: its rows, less the lines that explain them
+  grep -v '^#' "$top/scripts/cases/$1"
+}
+told() { # words of the program: the exit status, the answers, and the reason, each between dots
+  "$cache" -v "$@" >out.txt 2>reason.txt
+  echo "$? .$(cat out.txt)$(tail -c 1 out.txt | tr -c '\n' '!').$(cat reason.txt)."
+}
+wanted() { # exit status, answers, reason as `told` says them
+  if test -n "$2"; then printf '%s .%b.%b.\n' "$1" "$2" "$3"; else printf '%s ..%b.\n' "$1" "$3"; fi
+}
+
+rows scripts.txt >rows.txt
+while IFS='|' read -r script printed status <&4; do
+  fresh
+  printf '%b' "$script" >lines
+  "$cache" run "$table" <lines >out.txt
+  found=$?
+  printf '%b' "$printed" >wanted.txt
+  check "the script '$script'" "$found $(cmp out.txt wanted.txt 2>&1)" "$status "
+done 4<rows.txt
+
+rows tables.txt >rows.txt
+while IFS='|' read -r words reason <&4; do
+  words=$(printf '%b.' "$words")
+  words=${words%.}
+  for call in run format; do
+    check "$call '$words'" "$(echo 'r 0 1' | told $call "$words")" \
+      "$(wanted 1 'refused 16 BadTable' "wbcache: $reason")"
+  done
+done 4<rows.txt
+
+for bytes in 0 1536 2047 2048 2559 130560 131072 131583 131584 327679 327680 328191; do
+  filled $bytes 245 >$bytes.img
+done
+rows files.txt >rows.txt
+while IFS='|' read -r files printed status reason <&4; do
+  for call in run format; do
+    check "$call over $files" "$(echo 'r 0 1' | told $call "cache $files 64 0 tinylfu 0")" \
+      "$(wanted "$status" "$printed" "wbcache: $reason")"
+  done
+done 4<rows.txt
+check 'a refusal writes nothing' "$(tr -d '\245' <2048.img | wc -c)" 0
+printf 'r 639 1\nr 640 1\n' >lines
+said=$("$cache" run '  cache 2559.img  131583.img 328191.img 00064 0   tinylfu 0 ' <lines; echo $?)
+check 'a part of a sector at the end is passed over' "$said" '639 a5
+refused 1 Range
+1'
+
+# --- What stays in the files.
+fresh
+printf 'w 63 2 5a\n' | "$cache" run "$table" >out.txt
+{ filled 32256 000; filled 1024 132; filled 294400 000; } >wanted.img
+check 'a write stays in the origin' "$(cat out.txt) $(cmp o.img wanted.img 2>&1)" 'ok '
+check 'a write changes no other file' "$(tr -d '\0' <m.img | wc -c) $(tr -d '\0' <c.img | wc -c)" '0 0'
+check 'and is read again' "$(printf 'r 62 4\n' | "$cache" run "$table" | tr '\n' ' ')" '62 00 63 5a 64 5a 65 00 '
+fresh
+for at in 512 2047 2048; do
+  printf '\001' | dd of=o.img bs=1 seek=$at conv=notrunc 2>/dev/null
+done
+check 'sectors whose bytes differ' "$(printf 'r 0 6\nw 4 1 0f\nr 4 1\n' | "$cache" run "$table" | tr '\n' ' ')" \
+  '0 00 1 mixed 2 00 3 mixed 4 mixed 5 00 ok 4 0f '
+
+# Formatting writes the two slots of the root, and nothing else.
+filled 2048 245 >m.img
+filled 131072 132 >c.img
+filled 327680 074 >o.img
+before=$(cksum c.img o.img)
+{
+  printf 'WBCROOT1\0\0\0\0\0\0\0\0\001\0\0\0\001\0\0\0\100\0\0\0\004\0\0\0\012\0\0\0\004\0\0\0\0\0\0\0'
+  filled 980 000
+  filled 1024 245
+} >wanted.img
+for time in once twice; do
+  check "formatted $time" "$("$cache" format "$table") $(cmp m.img wanted.img 2>&1)" 'formatted 4 10 '
+done
+check 'formatting writes no other file' "$(cksum c.img o.img)" "$before"
+fresh
+for bytes in 0 1024 2047; do
+  filled $bytes 001 >m.img
+  said=$("$cache" format "$table")
+  check "formatting $bytes bytes" "$? $said $(wc -c <m.img) $(tr -d '\001' <m.img | wc -c)" "1 refused 9 Geometry $bytes 0"
+done
+fresh
+check 'a refused formatting can be repeated' "$("$cache" format "$table")" 'formatted 4 10'
 
 # Descriptors 0 to 2.
 fresh

@@ -1,9 +1,7 @@
-//! Scripts over files and over fakes, and formatting of files.
+//! Scripts over devices, readers and writers that fail. What a script prints over files, what a table is refused with and
+//! what formatting leaves stand in scripts/cases and scripts/check-program.sh, as the program shows them.
 
 mod device;
-mod files;
-mod format;
-mod refused;
 mod stream;
 
 use crate::ended::Ended;

@@ -1,6 +1,6 @@
 //! Scripts over a device that fails.
 
-ghost use Rattle.std.specs.Prelude.{[], vec_len};
+ghost use Rattle.std.specs.Prelude.{[], length};
 
 use crate::engine::Engine;
 use crate::script::play;
@@ -8,65 +8,61 @@ use crate::status::Status;
 use crate::tally::Tally;
 use std::alloc::Global;
 use std::test::Fail;
-use wb_disk::{Disk, DiskFault};
-use wb_types::{Content, Geometry, SECTOR_BYTES};
+use wb_disk::{Disk, DiskFault, MemDisk};
+use wb_types::{Content, Geometry};
 
-/// A device in memory, of which one sector cannot be read and one cannot be written.
+/// A device in memory, of which one sector cannot be read and one cannot be written. It tells nothing.
 #[derive(Drop)]
 struct Failing {
-    sectors: Vec<Content>,
+    inside: MemDisk,
     unreadable: u64,
     unwritable: u64,
+}
+
+/// A step on so many sectors from one on, of which one fails.
+fn step(fails_at: u64, first: u64, count: usize) -> Result<(), DiskFault> {
+    if fails_at >= first && fails_at - first < count as u64 {
+        Err(DiskFault)
+    } else {
+        Ok(())
+    }
 }
 
 impl Disk for Failing {
     ghost tells = { ⊥ };
 
-    ghost size = { λ d. vec_len d.sectors };
+    ghost size = { λ d. length d.inside.contents };
 
     ghost contents = { λ _. [] };
 
     ghost faults = { λ _. 0 };
 
     fn sectors(&self) -> u64 {
-        self.sectors.len() as u64
+        self.inside.sectors()
     }
 
     fn read(&mut self, at: u64, out: &mut Content) -> Result<(), DiskFault> {
-        if at == self.unreadable {
-            return Err(DiskFault);
-        }
-        *out = self.sectors[at as usize];
-        Ok(())
+        step(self.unreadable, at, 1)?;
+        self.inside.read(at, out)
     }
 
     fn write(&mut self, at: u64, from: &Content) -> Result<(), DiskFault> {
-        if at == self.unwritable {
-            return Err(DiskFault);
-        }
-        self.sectors[at as usize] = *from;
-        Ok(())
+        step(self.unwritable, at, 1)?;
+        self.inside.write(at, from)
     }
 
     fn read_extent(&mut self, first: u64, out: &mut [Content]) -> Result<(), DiskFault> {
-        // The list's length is a `u64`, so each of these sectors is.
-        let _sectors = self.sectors();
-        for (k, content) in out.iter_mut().enumerate() {
-            self.read(first + k as u64, content)?;
-        }
-        Ok(())
+        step(self.unreadable, first, out.len())?;
+        self.inside.read_extent(first, out)
     }
 
     fn write_extent(&mut self, first: u64, from: &[Content]) -> Result<(), DiskFault> {
-        let _sectors = self.sectors();
-        for (k, content) in from.iter().enumerate() {
-            self.write(first + k as u64, content)?;
-        }
-        Ok(())
+        step(self.unwritable, first, from.len())?;
+        self.inside.write_extent(first, from)
     }
 
     fn sync(&mut self) -> Result<(), DiskFault> {
-        Ok(())
+        self.inside.sync()
     }
 
     ghost whole = { λ d h. absurd h };
@@ -75,7 +71,7 @@ impl Disk for Failing {
 /// An engine over ten blocks of 64 sectors, of which these two fail.
 fn engine(alloc: Global, unreadable: u64, unwritable: u64) -> Result<Engine<Failing>, Fail> {
     let origin = Failing {
-        sectors: vec![in alloc; [0; SECTOR_BYTES]; 640]?,
+        inside: MemDisk::new(alloc, 640)?,
         unreadable,
         unwritable,
     };
