@@ -8,7 +8,7 @@ use Rattle.wb_words.specs.declared.card.Hold.TheVariants.{Nothing}
 use Rattle.wb_words.specs.Cards.{blank_card}
 use Rattle.wb_words.specs.Effects.{card_after}
 use Rattle.wb_cells.specs.Crews.{CrewState, card_of}
-use Rattle.wb_tasks.specs.Tables.{TaskJob, access_of}
+use Rattle.wb_tasks.specs.Tables.{BlockJob, OnBlock, access_of}
 use Rattle.wb_tasks.specs.Ready.{AreFirst, MayTake, MayMake, Suits, block_of, left_by}
 use Rattle.wb_tasks.specs.Plan.{Plan, table, want, after, Fits}
 use Rattle.wb_tasks.specs.Run.{IsRunOf, Leads}
@@ -29,10 +29,10 @@ no_range access [] h = h
 no_range access (step ∷ steps) h = elim h [ inl now ↦ now | inr later ↦ no_range access steps later ]
 
 -- so no task refuses the range
-pub refused-not_range : {A : Type 0} (s : Plan) (job : TaskJob) (steps : List (Want × Got)) (answer : Answer) (r : Result A Refusal) → s ≡ table job → IsRunOf s steps answer → IfErr r (λ refusal. answer ≡ Refuses refusal) → IfErr r (λ refusal. refusal ≡ Range → ⊥)
+pub refused-not_range : {A : Type 0} (s : Plan) (job : BlockJob) (steps : List (Want × Got)) (answer : Answer) (r : Result A Refusal) → s ≡ table (OnBlock job) → IsRunOf s steps answer → IfErr r (λ refusal. answer ≡ Refuses refusal) → IfErr r (λ refusal. refusal ≡ Range → ⊥)
 refused-not_range s job steps answer (Ok x) begun run e = tt
 refused-not_range s job steps answer (Err refusal) begun run e =
-    let whole : IsRunOf (table job) steps (Refuses refusal) = subst (λ (t : Plan). IsRunOf t steps (Refuses refusal)) begun (subst (λ (x : Answer). IsRunOf s steps x) e run) in
+    let whole : IsRunOf (table (OnBlock job)) steps (Refuses refusal) = subst (λ (t : Plan). IsRunOf t steps (Refuses refusal)) begun (subst (λ (x : Answer). IsRunOf s steps x) e run) in
     λ range. no_range (access_of job) steps (subst (λ (x : Refusal). GaveCause (access_of job) x steps) range (refuses_for_cause job steps refusal whole))
 
 -- what no step changes is as it was
@@ -67,13 +67,13 @@ module _ {S : Type 0} (led : S → Want → Got → S → Type 0) (crew : S → 
       Leads-suits (after s step.1) l.0 steps mid made.0 (keeps_ready blocks s (card_of (crew old) 0) (card_of (crew l.0) 0) step.1 h fits made_so) f.2 l.2
 
   -- who begins with no block is ready for each step of a request, and ends with none
-  pub request_ready : (s : Plan) (job : TaskJob) (old : S) (steps : List (Want × Got)) (mid : S) → s ≡ table job → length (crew old).cards ≡ 1 → (block_of job).0 < blocks → (card_of (crew old) 0).hold ≡ Nothing → AreFirst s steps → Leads led old steps mid →
+  pub request_ready : (s : Plan) (job : BlockJob) (old : S) (steps : List (Want × Got)) (mid : S) → s ≡ table (OnBlock job) → length (crew old).cards ≡ 1 → (block_of job).0 < blocks → (card_of (crew old) 0).hold ≡ Nothing → AreFirst s steps → Leads led old steps mid →
       MayTake blocks (card_of (crew mid) 0) (want (left_by s steps))
   request_ready s job old steps mid begun one l idle f e =
       let suits : Suits blocks s (card_of (crew old) 0) = subst (λ (t : Plan). Suits blocks t (card_of (crew old) 0)) (sym begun) (begins_ready blocks job (card_of (crew old) 0) l idle) in
       is_ready blocks (left_by s steps) (card_of (crew mid) 0) (Leads-suits s old steps mid one suits f e)
 
-  pub request_ends : (s : Plan) (job : TaskJob) (old : S) (steps : List (Want × Got)) (new : S) (answer : Answer) → s ≡ table job → length (crew old).cards ≡ 1 → (block_of job).0 < blocks → (card_of (crew old) 0).hold ≡ Nothing → IsRunOf s steps answer → Leads led old steps new →
+  pub request_ends : (s : Plan) (job : BlockJob) (old : S) (steps : List (Want × Got)) (new : S) (answer : Answer) → s ≡ table (OnBlock job) → length (crew old).cards ≡ 1 → (block_of job).0 < blocks → (card_of (crew old) 0).hold ≡ Nothing → IsRunOf s steps answer → Leads led old steps new →
       (card_of (crew new) 0).hold ≡ Nothing
   request_ends s job old steps new answer begun one l idle run e =
       let suits : Suits blocks s (card_of (crew old) 0) = subst (λ (t : Plan). Suits blocks t (card_of (crew old) 0)) (sym begun) (begins_ready blocks job (card_of (crew old) 0) l idle) in

@@ -6,4 +6,4 @@ mod perform;
 mod stage;
 
 pub use owner::Owner;
-pub use stage::{OwnerStage, TakesContent};
+pub use stage::{LONGEST, OwnerStage, TakesContent};

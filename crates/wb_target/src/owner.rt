@@ -1,17 +1,19 @@
 //! The one client of a target so far: its requests over single blocks.
 
-ghost use Rattle.std.specs.Prelude.{◌≡◌, ◌≢◌, ◌<◌, ◌+◌, ◌^◌, IfOk, IfErr, OnOk};
+ghost use Rattle.std.specs.Prelude.{◌≡◌, ◌≢◌, ◌<◌, ◌+◌, ◌^◌, length, take, min, replicate, IfOk, IfErr, OnOk};
 ghost use Rattle.wb_words.specs.SharedWords.{fresh_words};
 ghost use Rattle.wb_words.specs.declared.card.Hold.TheVariants.{Nothing};
 ghost use Rattle.wb_cells.specs.Crews.{card_of};
-ghost use Rattle.wb_tasks.specs.Tables.{Reading, Writing, sectors_from};
+ghost use Rattle.wb_types.specs.Extents.{pieces};
+ghost use Rattle.wb_tasks.specs.Tables.{Reading, Writing};
+ghost use Rattle.wb_target.specs.declared.stage.TheConstants.{LONGEST as Longest};
 ghost use Rattle.wb_target.specs.Performed.{Performed};
 
-use crate::stage::{OwnerStage, TakesContent};
+use crate::stage::{LONGEST, OwnerStage, TakesContent};
 use std::alloc::Global;
 use wb_disk::Disk;
 use wb_tasks::{Answer, ReadTask, WriteTask, drive};
-use wb_types::{OBlock, Refusal, Sector};
+use wb_types::{Content, Extent, OBlock, Refusal};
 
 /// Performs requests of one client, each over sectors of one block. Between two of them it has no block.
 #[derive(Drop)]
@@ -34,48 +36,57 @@ impl<D: Disk + Drop, F: TakesContent + Drop> Owner<D, F> {
         })
     }
 
-    /// Reads `count` sectors from `first` on, which lie in this block: a run of the table of a read, whose answer this
-    /// is. `Io` where a step of the origin failed, `Failed` after a write that failed so.
+    /// Reads sectors that lie in this block, by extents of at most `LONGEST` sectors: a run of the table of a read, whose
+    /// answer this is. `Io` where a step of the origin failed, `Failed` after a write that failed so.
     pub fn read(
         &mut self,
         block_sectors: u32,
         block: OBlock,
-        first: Sector,
-        count: u64,
+        sectors: Extent,
     ) -> Result<(), Refusal>
         requires some { 0 < block_sectors }
-        requires range { first.0 + count < 2 ^ 64 }
+        requires range { sectors.first + sectors.count < 2 ^ 64 }
         requires block { block.0 < self.old.stage.origin_blocks }
-        ensures done { OnOk result (Performed D.tells D.contents F.took (Reading (record { block_sectors = block_sectors; block = block; sectors = sectors_from first.0 count })) self.old.stage Answer.Done self.new.stage) }
-        ensures performed { IfErr result (λ refusal. Performed D.tells D.contents F.took (Reading (record { block_sectors = block_sectors; block = block; sectors = sectors_from first.0 count })) self.old.stage (Answer.Refused refusal) self.new.stage) }
+        ensures done { OnOk result (Performed D.tells D.contents F.took (Reading (record { block_sectors = block_sectors; block = block; extents = pieces Longest sectors })) self.old.stage Answer.Done self.new.stage) }
+        ensures performed { IfErr result (λ refusal. Performed D.tells D.contents F.took (Reading (record { block_sectors = block_sectors; block = block; extents = pieces Longest sectors })) self.old.stage (Answer.Refused refusal) self.new.stage) }
         ensures refused { IfErr result (λ refusal. refusal ≢ Refusal.Range) }
         ensures blocks { self.new.stage.origin_blocks ≡ self.old.stage.origin_blocks }
     {
-        let mut task = ReadTask::new(block_sectors, block, first, count);
+        let mut task = ReadTask::new(block_sectors, block, sectors, LONGEST);
         answered(drive(&mut task, &mut self.stage))
     }
 
-    /// Writes the stage's content to `count` sectors from `first` on, which lie in this block: a run of the table of a
-    /// write, whose answer this is. `Io` where a step of the origin failed, `Failed` after a write that failed so,
+    /// Writes the stage's contents to sectors that lie in this block, by extents of at most `LONGEST` sectors: a run of
+    /// the table of a write, whose answer this is. `Io` where a step of the origin failed, `Failed` after a write that failed so,
     /// `Worn` where the block's number of writes is used up.
     pub fn write(
         &mut self,
         block_sectors: u32,
         block: OBlock,
-        first: Sector,
-        count: u64,
+        sectors: Extent,
     ) -> Result<(), Refusal>
         requires some { 0 < block_sectors }
-        requires range { first.0 + count < 2 ^ 64 }
+        requires range { sectors.first + sectors.count < 2 ^ 64 }
         requires block { block.0 < self.old.stage.origin_blocks }
-        ensures done { OnOk result (Performed D.tells D.contents F.took (Writing (record { block_sectors = block_sectors; block = block; sectors = sectors_from first.0 count })) self.old.stage Answer.Done self.new.stage) }
-        ensures performed { IfErr result (λ refusal. Performed D.tells D.contents F.took (Writing (record { block_sectors = block_sectors; block = block; sectors = sectors_from first.0 count })) self.old.stage (Answer.Refused refusal) self.new.stage) }
+        ensures done { OnOk result (Performed D.tells D.contents F.took (Writing (record { block_sectors = block_sectors; block = block; extents = pieces Longest sectors })) self.old.stage Answer.Done self.new.stage) }
+        ensures performed { IfErr result (λ refusal. Performed D.tells D.contents F.took (Writing (record { block_sectors = block_sectors; block = block; extents = pieces Longest sectors })) self.old.stage (Answer.Refused refusal) self.new.stage) }
         ensures refused { IfErr result (λ refusal. refusal ≢ Refusal.Range) }
         ensures blocks { self.new.stage.origin_blocks ≡ self.old.stage.origin_blocks }
-        ensures content { self.new.stage.content ≡ self.old.stage.content }
+        ensures contents { self.new.stage.contents ≡ self.old.stage.contents }
     {
-        let mut task = WriteTask::new(block_sectors, block, first, count);
+        let mut task = WriteTask::new(block_sectors, block, sectors, LONGEST);
         answered(drive(&mut task, &mut self.stage))
+    }
+}
+
+impl<D: Disk + Drop, F: TakesContent + Drop> Owner<D, F> {
+    /// Sets what the next write writes to each of so many sectors, or of the `LONGEST` that a step takes.
+    pub fn fill(&mut self, content: &Content, count: u64)
+        ensures filled { take (min count (length self.old.stage.contents.items)) self.new.stage.contents.items ≡ replicate (min count (length self.old.stage.contents.items)) content.now }
+        ensures many { length self.new.stage.contents.items ≡ length self.old.stage.contents.items }
+        ensures blocks { self.new.stage.origin_blocks ≡ self.old.stage.origin_blocks }
+    {
+        self.stage.fill(content, count);
     }
 }
 

@@ -7,7 +7,6 @@ ghost use Rattle.wb_target.specs.Performed.{Led};
 use crate::stage::{OwnerStage, TakesContent};
 use wb_disk::Disk;
 use wb_tasks::{Got, Stage, Want};
-use wb_types::Refusal;
 
 impl<D: Disk, F: TakesContent> Stage for OwnerStage<D, F> {
     ghost ready = { λ stage want. MayTake stage.origin_blocks (card_of stage.crew 0) want };
@@ -18,8 +17,7 @@ impl<D: Disk, F: TakesContent> Stage for OwnerStage<D, F> {
         match want {
             Want::Cell(step) => Got::from(self.crew.step(0, *step)),
             Want::Device(step) => self.device_step(*step),
-            Want::Desk(_) => Got::Refused(Refusal::Busy),
-            Want::End(_) => unreachable!(),
+            Want::Desk(_) | Want::End(_) => unreachable!(),
         }
     }
 }

@@ -5,18 +5,20 @@ use Rattle.wb_words.specs.declared.word.Access.TheVariants.{Shared, Owned}
 use Rattle.wb_types.specs.declared.refusal.Refusal.TheVariants.{Busy, Failed, Worn}
 use Rattle.wb_words.specs.declared.word.Word.{Word as WordName}
 use Rattle.wb_words.specs.declared.word.Word.TheVariants.{Cell as LockWord, Seal as SealWord, Number, Count as CountWord, Fail}
-use Rattle.wb_words.specs.SharedWords.{place_in, dirty_in, can_take}
-use Rattle.wb_tasks.specs.Tables.{BlockRange, TaskJob, access_of, Reading, Writing, work, taking, read_step, write_step, read_count, write_count}
-use Rattle.wb_tasks.specs.Plan.{Plan, want, after, after_look, release, Fits, IsStep, first_step, is_worn}
+use Rattle.wb_words.specs.SharedWords.{place_in, dirty_in}
+use Rattle.wb_types.specs.declared.extent.Extent.{Extent}
+use Rattle.wb_tasks.specs.Tables.{BlockRange, BlockJob, TaskJob, OnBlock, Reading, Writing, work, read_step, write_step, read_count, write_count}
+use Rattle.wb_tasks.specs.Plan.{Plan, want, after, after_look, lets_go, exchange, may_take, Fits, IsStep, first_step, is_worn}
 use Rattle.wb_tasks.specs.Ready.{AreFirst, left_by}
 use Rattle.wb_tasks.specs.Run.{IsRunOf, Leads}
 use Rattle.wb_tasks.specs.Length.{longest_work, longest_of, longest}
 use Rattle.wb_words.specs.declared.step.CellStep.TheVariants.{Look, Take, Release, Seal, Finish, Count, SetFailed, SetSuspended}
 use Rattle.wb_tasks.specs.declared.step.DeviceStep.TheVariants.{Read, Write, Sync}
+use Rattle.wb_tasks.specs.declared.step.DeskStep.TheVariants.{Map, BeginCommit}
 use Rattle.wb_tasks.specs.declared.step.Want.{Want}
 use Rattle.wb_tasks.specs.declared.step.Want.TheVariants.{Cell, Device, Desk, End}
 use Rattle.wb_tasks.specs.declared.step.Got.{Got}
-use Rattle.wb_tasks.specs.declared.step.Got.TheVariants.{Done, Word, Lost, Content, Fault, Refused}
+use Rattle.wb_tasks.specs.declared.step.Got.TheVariants.{Done, Word, Lost, Fault, Refused}
 use Rattle.wb_tasks.specs.declared.step.Answer.{Answer}
 use Rattle.wb_tasks.specs.declared.step.Answer.TheVariants.{Refused as Refuses}
 
@@ -46,35 +48,35 @@ longest_of-some job (Device s ∷ ws) = omega arith
 longest_of-some job (Desk s ∷ ws) = omega arith
 longest_of-some job (End a ∷ ws) = omega arith
 
--- a step for each sector, before others that take two or more with the answer
-longest_of-reads : (job : TaskJob) (part : BlockRange) (place : Option CBlock) (sectors : List ℕ) (ws : List Want) → 2 ≤ longest_of job ws → longest_of job (map (read_step part place) sectors ++ ws) ≡ length sectors + longest_of job ws
+-- a step for each extent, before others that take two or more with the answer
+longest_of-reads : (job : BlockJob) (part : BlockRange) (place : Option CBlock) (extents : List Extent) (ws : List Want) → 2 ≤ longest_of (OnBlock job) ws → longest_of (OnBlock job) (map (read_step part place) extents ++ ws) ≡ length extents + longest_of (OnBlock job) ws
 longest_of-reads job part place [] ws h = omega arith
-longest_of-reads job part None (at ∷ sectors) ws h = omega (arith, longest_of-reads job part None sectors ws h)
-longest_of-reads job part (Some c) (at ∷ sectors) ws h = omega (arith, longest_of-reads job part (Some c) sectors ws h)
+longest_of-reads job part None (e ∷ extents) ws h = omega (arith, longest_of-reads job part None extents ws h)
+longest_of-reads job part (Some c) (e ∷ extents) ws h = omega (arith, longest_of-reads job part (Some c) extents ws h)
 
-longest_of-writes : (job : TaskJob) (part : BlockRange) (place : Option CBlock) (sectors : List ℕ) (ws : List Want) → 2 ≤ longest_of job ws → longest_of job (map (write_step part place) sectors ++ ws) ≡ length sectors + longest_of job ws
+longest_of-writes : (job : BlockJob) (part : BlockRange) (place : Option CBlock) (extents : List Extent) (ws : List Want) → 2 ≤ longest_of (OnBlock job) ws → longest_of (OnBlock job) (map (write_step part place) extents ++ ws) ≡ length extents + longest_of (OnBlock job) ws
 longest_of-writes job part place [] ws h = omega arith
-longest_of-writes job part None (at ∷ sectors) ws h = omega (arith, longest_of-writes job part None sectors ws h)
-longest_of-writes job part (Some c) (at ∷ sectors) ws h = omega (arith, longest_of-writes job part (Some c) sectors ws h)
+longest_of-writes job part None (e ∷ extents) ws h = omega (arith, longest_of-writes job part None extents ws h)
+longest_of-writes job part (Some c) (e ∷ extents) ws h = omega (arith, longest_of-writes job part (Some c) extents ws h)
 
 -- what a job does takes no longer than it says, wherever its block stands
-longest_of-work : (job : TaskJob) (place : Option CBlock) (dirty : Bool) → longest_of job (work job place dirty) ≤ longest_work job
-longest_of-work (Reading part) None dirty = omega (arith, longest_of-reads (Reading part) part None part.sectors (read_count None ∷ Cell (Release Shared part.block) ∷ []) (omega arith))
-longest_of-work (Reading part) (Some c) dirty = omega (arith, longest_of-reads (Reading part) part (Some c) part.sectors (read_count (Some c) ∷ Cell (Release Shared part.block) ∷ []) (omega arith))
-longest_of-work (Writing part) None dirty = omega (arith, longest_of-writes (Writing part) part None part.sectors (Cell (Finish part.block) ∷ write_count None ∷ Cell (Release Owned part.block) ∷ []) (omega arith))
-longest_of-work (Writing part) (Some c) true = omega (arith, longest_of-writes (Writing part) part (Some c) part.sectors (Cell (Finish part.block) ∷ write_count (Some c) ∷ Cell (Release Owned part.block) ∷ []) (omega arith))
-longest_of-work (Writing part) (Some c) false = omega (arith, longest_of-writes (Writing part) part (Some c) part.sectors (Cell (Finish part.block) ∷ write_count (Some c) ∷ Cell (Release Owned part.block) ∷ []) (omega arith))
+longest_of-work : (job : BlockJob) (place : Option CBlock) (dirty : Bool) → longest_of (OnBlock job) (work job place dirty) ≤ longest_work job
+longest_of-work (Reading part) None dirty = omega (arith, longest_of-reads (Reading part) part None part.extents (read_count None ∷ Cell (Release Shared part.block) ∷ []) (omega arith))
+longest_of-work (Reading part) (Some c) dirty = omega (arith, longest_of-reads (Reading part) part (Some c) part.extents (read_count (Some c) ∷ Cell (Release Shared part.block) ∷ []) (omega arith))
+longest_of-work (Writing part) None dirty = omega (arith, longest_of-writes (Writing part) part None part.extents (Cell (Finish part.block) ∷ write_count None ∷ Cell (Release Owned part.block) ∷ []) (omega arith))
+longest_of-work (Writing part) (Some c) true = omega (arith, longest_of-writes (Writing part) part (Some c) part.extents (Cell (Finish part.block) ∷ write_count (Some c) ∷ Cell (Release Owned part.block) ∷ []) (omega arith))
+longest_of-work (Writing part) (Some c) false = omega (arith, longest_of-writes (Writing part) part (Some c) part.extents (Cell (Finish part.block) ∷ write_count (Some c) ∷ Cell (Release Owned part.block) ∷ []) (omega arith))
 
-some_work : (job : TaskJob) → 2 ≤ longest_work job
+some_work : (job : BlockJob) → 2 ≤ longest_work job
 some_work (Reading part) = omega arith
 some_work (Writing part) = omega arith
 
 -- a look leaves less
 falls_look : (job : TaskJob) (word : WordName) (ws : List Want) (a : Answer) (value : ℕ) → longest (after_look (record { job = job; steps = Cell (Look word) ∷ ws; answer = a }) (Cell (Look word)) value) < longest_of job (Cell (Look word) ∷ ws)
 falls_look job Fail ws a value = elim (value == 0) as (λ (b : Bool). longest (if b then (record { job = job; steps = ws; answer = a }) else (record { job = job; steps = []; answer = Refuses Failed })) < 1 + longest_of job ws) [ true ↦ omega arith | false ↦ omega (arith, longest_of-some job ws) ]
-falls_look job (LockWord block) ws a value = elim (can_take (access_of job) value) as (λ (b : Bool). longest (if b then (record { job = job; steps = taking (access_of job) block value; answer = a }) else (record { job = job; steps = []; answer = Refuses Busy })) < 4 + longest_work job) [ true ↦ omega arith | false ↦ omega arith ]
-falls_look job (SealWord block) ws a value = omega (arith, longest_of-work job (place_in value) (dirty_in value), some_work job)
-falls_look job (Number block) ws a value = elim (is_worn job value) as (λ (b : Bool). longest (if b then (record { job = job; steps = release job ∷ []; answer = Refuses Worn }) else (record { job = job; steps = ws; answer = a })) < 1 + max 2 (longest_of job ws)) [ true ↦ omega arith | false ↦ omega arith ]
+falls_look (OnBlock job) (LockWord block) ws a value = elim (may_take (OnBlock job) value) as (λ (b : Bool). longest (if b then (record { job = OnBlock job; steps = exchange (OnBlock job) value; answer = a }) else (record { job = OnBlock job; steps = []; answer = Refuses Busy })) < 4 + longest_work job) [ true ↦ omega arith | false ↦ omega arith ]
+falls_look (OnBlock job) (SealWord block) ws a value = omega (arith, longest_of-work job (place_in value) (dirty_in value), some_work job)
+falls_look (OnBlock job) (Number block) ws a value = elim (is_worn (OnBlock job) value) as (λ (b : Bool). longest (if b then (record { job = OnBlock job; steps = lets_go (OnBlock job); answer = Refuses Worn }) else (record { job = OnBlock job; steps = ws; answer = a })) < 1 + max 2 (longest_of (OnBlock job) ws)) [ true ↦ omega arith | false ↦ omega arith ]
 falls_look job (CountWord kind) ws a value = omega arith
 
 -- a step leaves less
@@ -89,14 +91,15 @@ falls job (Cell (Finish block) ∷ ws) a Done h = omega arith
 falls job (Cell (Count kind) ∷ ws) a Done h = omega arith
 falls job (Cell SetFailed ∷ ws) a Done h = omega arith
 falls job (Cell SetSuspended ∷ ws) a Done h = omega arith
-falls job (Device (Read device at) ∷ ws) a (Content content) h = omega arith
-falls job (Device (Read device at) ∷ ws) a Fault h = omega arith
-falls job (Device (Write device at) ∷ ws) a Done h = omega arith
-falls job (Device (Write device at) ∷ ws) a Fault h = omega arith
+falls job (Device (Read device e) ∷ ws) a Done h = omega arith
+falls (OnBlock job) (Device (Read device e) ∷ ws) a Fault h = omega arith
+falls job (Device (Write device e) ∷ ws) a Done h = omega arith
+falls (OnBlock job) (Device (Write device e) ∷ ws) a Fault h = omega arith
 falls job (Device (Sync device) ∷ ws) a Done h = omega arith
-falls job (Device (Sync device) ∷ ws) a Fault h = omega arith
+falls (OnBlock job) (Device (Sync device) ∷ ws) a Fault h = omega arith
 falls job (Desk step ∷ ws) a Done h = omega arith
-falls job (Desk step ∷ ws) a (Refused refusal) h = omega (arith, longest_of-some job ws)
+falls (OnBlock job) (Desk (Map block place) ∷ ws) a (Refused refusal) h = omega arith
+falls (OnBlock job) (Desk (BeginCommit clean most) ∷ ws) a (Refused refusal) h = omega arith
 falls job (w ∷ ws) a g h = absurd h
 
 -- one step more

@@ -4,3 +4,5 @@ pub mod Writing
 pub mod Driving
 pub mod Causing
 pub mod Readiness
+pub mod Bounding
+pub mod Pieces

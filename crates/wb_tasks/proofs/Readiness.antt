@@ -12,39 +12,40 @@ use Rattle.wb_words.specs.declared.card.Hold.{Hold}
 use Rattle.wb_words.specs.declared.card.Hold.TheVariants.{Nothing, Held}
 use Rattle.wb_words.specs.declared.card.Card.{Card}
 use Rattle.wb_words.specs.declared.step.CellStep.TheVariants.{Look, Take, Release, Seal, Finish, Count, SetFailed, SetSuspended}
-use Rattle.wb_words.specs.SharedWords.{word_at, value_of, place_in, dirty_in, can_take}
+use Rattle.wb_words.specs.SharedWords.{word_at, value_of, place_in, dirty_in}
 use Rattle.wb_words.specs.Cards.{losing, holding, failing_at, is_own_number}
 use Rattle.wb_words.specs.Ready.{HasNext}
-use Rattle.wb_tasks.specs.Tables.{BlockRange, TaskJob, Reading, Writing, access_of, work, taking, read_step, write_step}
-use Rattle.wb_tasks.specs.Ready.{MayTake, MayMake, block_of, HasBlock, KnowsNext, IsRest, Has, Suits}
-use Rattle.wb_tasks.specs.Plan.{Plan, table, want, after, first_step, release, is_worn, Fits, got_of}
+use Rattle.wb_types.specs.declared.extent.Extent.{Extent}
+use Rattle.wb_tasks.specs.Tables.{BlockRange, BlockJob, Reading, Writing, TaskJob, OnBlock, access_of, work, read_step, write_step}
+use Rattle.wb_tasks.specs.Ready.{MayTake, MayMake, block_of, HasBlock, KnowsNext, IsRest, Has, SuitsJob, Suits}
+use Rattle.wb_tasks.specs.Plan.{Plan, table, want, after, first_step, lets_go, exchange, may_take, is_worn, Fits, got_of}
 use Rattle.wb_tasks.specs.declared.step.Answer.{Answer}
 use Rattle.wb_tasks.specs.declared.step.Answer.TheVariants.{Refused as Refuses}
 use Rattle.wb_tasks.specs.declared.step.DeviceStep.TheVariants.{Read, Write, Sync}
 use Rattle.wb_tasks.specs.declared.step.Want.{Want}
 use Rattle.wb_tasks.specs.declared.step.Want.TheVariants.{Cell, Device, Desk, End}
 use Rattle.wb_tasks.specs.declared.step.Got.{Got}
-use Rattle.wb_tasks.specs.declared.step.Got.TheVariants.{Done, Word, Content, Fault}
+use Rattle.wb_tasks.specs.declared.step.Got.TheVariants.{Done, Word, Fault}
 
-rest_reads : (part : BlockRange) (place : Option CBlock) (sectors : List ℕ) (ws : List Want) → IsRest (Reading part) true ws → IsRest (Reading part) true (map (read_step part place) sectors ++ ws)
+rest_reads : (part : BlockRange) (place : Option CBlock) (extents : List Extent) (ws : List Want) → IsRest (Reading part) true ws → IsRest (Reading part) true (map (read_step part place) extents ++ ws)
 rest_reads part place [] ws r = r
-rest_reads part None (at ∷ sectors) ws r = (tt, rest_reads part None sectors ws r)
-rest_reads part (Some c) (at ∷ sectors) ws r = (tt, rest_reads part (Some c) sectors ws r)
+rest_reads part None (e ∷ extents) ws r = (tt, rest_reads part None extents ws r)
+rest_reads part (Some c) (e ∷ extents) ws r = (tt, rest_reads part (Some c) extents ws r)
 
-rest_writes : (part : BlockRange) (place : Option CBlock) (sectors : List ℕ) (ws : List Want) → IsRest (Writing part) true ws → IsRest (Writing part) true (map (write_step part place) sectors ++ ws)
+rest_writes : (part : BlockRange) (place : Option CBlock) (extents : List Extent) (ws : List Want) → IsRest (Writing part) true ws → IsRest (Writing part) true (map (write_step part place) extents ++ ws)
 rest_writes part place [] ws r = r
-rest_writes part None (at ∷ sectors) ws r = (refl, rest_writes part None sectors ws r)
-rest_writes part (Some c) (at ∷ sectors) ws r = (refl, rest_writes part (Some c) sectors ws r)
+rest_writes part None (e ∷ extents) ws r = (refl, rest_writes part None extents ws r)
+rest_writes part (Some c) (e ∷ extents) ws r = (refl, rest_writes part (Some c) extents ws r)
 
-rest_work : (job : TaskJob) (place : Option CBlock) (dirty : Bool) → IsRest job true (work job place dirty)
-rest_work (Reading part) None dirty = rest_reads part None part.sectors _ (refl, refl)
-rest_work (Reading part) (Some c) dirty = rest_reads part (Some c) part.sectors _ (refl, refl)
-rest_work (Writing part) None dirty = rest_writes part None part.sectors _ (refl, refl, refl, (refl, refl))
-rest_work (Writing part) (Some c) true = rest_writes part (Some c) part.sectors _ (refl, refl, refl, (refl, refl))
-rest_work (Writing part) (Some c) false = (refl, refl, rest_writes part (Some c) part.sectors _ (refl, refl, refl, (refl, refl)))
+rest_work : (job : BlockJob) (place : Option CBlock) (dirty : Bool) → IsRest job true (work job place dirty)
+rest_work (Reading part) None dirty = rest_reads part None part.extents _ (refl, refl)
+rest_work (Reading part) (Some c) dirty = rest_reads part (Some c) part.extents _ (refl, refl)
+rest_work (Writing part) None dirty = rest_writes part None part.extents _ (refl, refl, refl, (refl, refl))
+rest_work (Writing part) (Some c) true = rest_writes part (Some c) part.extents _ (refl, refl, refl, (refl, refl))
+rest_work (Writing part) (Some c) false = (refl, refl, rest_writes part (Some c) part.extents _ (refl, refl, refl, (refl, refl)))
 
 -- what is left of the work is all that is left
-has_rest : (job : TaskJob) (card : Card) (next : Bool) (ws : List Want) → IsRest job next ws → HasBlock job card → KnowsNext job next card.number → Has job card ws
+has_rest : (job : BlockJob) (card : Card) (next : Bool) (ws : List Want) → IsRest job next ws → HasBlock job card → KnowsNext job next card.number → Has job card ws
 has_rest job card next (Device step ∷ ws) r h k = (h, (next, r, k))
 has_rest job card next (Cell (Seal block place dirty) ∷ ws) r h k = (h, (next, r, k))
 has_rest job card next (Cell (Finish block) ∷ ws) r h k = (h, (next, r, k))
@@ -65,19 +66,19 @@ either P true s t p q = p refl
 either P false s t p q = q refl
 
 -- a number that is not worn has a next one
-known : (job : TaskJob) (value : ℕ) → is_worn job value ≡ false → KnowsNext job true (Some value)
+known : (job : BlockJob) (value : ℕ) → is_worn (OnBlock job) value ≡ false → KnowsNext job true (Some value)
 known (Reading part) value e = tt
 known (Writing part) value e = (value, refl, λ worn. absurd (true≢false (sym (eq-eqb value (2 ^ 64 - 1) worn) ∙ e)))
 
-knows_less : (job : TaskJob) (known : Option ℕ) → KnowsNext job false known
+knows_less : (job : BlockJob) (known : Option ℕ) → KnowsNext job false known
 knows_less (Reading part) known = tt
 knows_less (Writing part) known = tt
 
-suits : (blocks : ℕ) (job : TaskJob) (card : Card) (ws : List Want) (answer : Answer) → (block_of job).0 < blocks → Has job card ws → Suits blocks (record { job = job; steps = ws; answer = answer }) card
-suits blocks job card ws answer l h = record { inside = l; has = h }
+suits : (blocks : ℕ) (job : BlockJob) (card : Card) (ws : List Want) (answer : Answer) → (block_of job).0 < blocks → Has job card ws → Suits blocks (record { job = OnBlock job; steps = ws; answer = answer }) card
+suits blocks job card ws answer l h = (l, h)
 
-give_back : (blocks : ℕ) (job : TaskJob) (card : Card) (answer : Answer) → (block_of job).0 < blocks → HasBlock job card → Suits blocks (record { job = job; steps = release job ∷ []; answer = answer }) card
-give_back blocks job card answer l h = suits blocks job card (release job ∷ []) answer l (h, (false, (refl, refl), knows_less job card.number))
+give_back : (blocks : ℕ) (job : BlockJob) (card : Card) (answer : Answer) → (block_of job).0 < blocks → HasBlock job card → Suits blocks (record { job = OnBlock job; steps = lets_go (OnBlock job); answer = answer }) card
+give_back blocks job card answer l h = suits blocks job card (lets_go (OnBlock job)) answer l (h, (false, (refl, refl), knows_less job card.number))
 
 -- who looks at a number of its own block knows it then
 own_number : (access : Access) (a b : OBlock) (hold : Hold) → hold ≡ Held access a → b ≡ a → is_own_number hold (Number b) ≡ true
@@ -87,9 +88,9 @@ word_is : (x y : ℕ) → Word x ≡ Word y → x ≡ y
 word_is x y e = cc
 
 -- One step of a task, what came of it, and what became of its actor's card.
-module _ (blocks : ℕ) (job : TaskJob) (card card' : Card) (answer : Answer) (inside : (block_of job).0 < blocks) where
+module _ (blocks : ℕ) (job : BlockJob) (card card' : Card) (answer : Answer) (inside : (block_of job).0 < blocks) where
   abbrev Then : Want → List Want → Got → Type 0
-  Then next ws got = Suits blocks (after (record { job = job; steps = next ∷ ws; answer = answer }) got) card'
+  Then next ws got = Suits blocks (after (record { job = OnBlock job; steps = next ∷ ws; answer = answer }) got) card'
 
   -- an exchange that was won, or lost
   took : (access : Access) (b : OBlock) (seen : ℕ) (ws : List Want) (got : Got) → Has job card (Cell (Take access b seen) ∷ ws) → Fits (Cell (Take access b seen)) got → MayMake (Cell (Take access b seen)) got card card' → Then (Cell (Take access b seen)) ws got
@@ -99,7 +100,7 @@ module _ (blocks : ℕ) (job : TaskJob) (card card' : Card) (answer : Answer) (i
       won is = subst (λ (z : List Want). Has job card' z) (sym h.4) (ap (λ (c : Card). c.hold) is ∙ (λ i. Held (h.1 i) (h.2 i)), h.2)
 
       by_test : (t : Bool) → got ≡ got_of (if t then Rattle.wb_words.specs.declared.step.CellResult.TheVariants.Done else Rattle.wb_words.specs.declared.step.CellResult.TheVariants.Lost) → card' ≡ (if t then holding (Held access b) card else losing b (word_at made.0.cells b) card)
-          → (g : Got) → Fits (Cell (Take access b seen)) g → Suits blocks (after (record { job = job; steps = Cell (Take access b seen) ∷ ws; answer = answer }) got) card'
+          → (g : Got) → Fits (Cell (Take access b seen)) g → Suits blocks (after (record { job = OnBlock job; steps = Cell (Take access b seen) ∷ ws; answer = answer }) got) card'
       by_test true e is g f = rw e (suits blocks job card' ws answer inside (won is))
       by_test false e is g f = rw e (suits blocks job card' [] (Refuses Busy) inside (ap (λ (c : Card). c.hold) is ∙ h.0))
 
@@ -110,15 +111,15 @@ module _ (blocks : ℕ) (job : TaskJob) (card card' : Card) (answer : Answer) (i
       (λ _. suits blocks job card' ws answer inside (subst (λ (z : List Want). Has job card' z) (sym h.1) (hold, refl, refl)))
       (λ _. suits blocks job card' [] (Refuses Failed) inside hold)
   saw (LockWord b) ws value h made = let hold : card'.hold ≡ Nothing = ap (λ (c : Card). c.hold) made.2 ∙ h.0 in
-      either (λ (s : Plan). Suits blocks s card') (can_take (access_of job) value) _ _
-      (λ can. suits blocks job card' (taking (access_of job) b value) answer inside (hold, refl, h.1, can, refl))
+      either (λ (s : Plan). Suits blocks s card') (may_take (OnBlock job) value) _ _
+      (λ can. suits blocks job card' (exchange (OnBlock job) value) answer inside (hold, refl, refl, can, refl))
       (λ _. suits blocks job card' [] (Refuses Busy) inside hold)
   saw (SealWord b) ws value h made = let has : HasBlock job card' = ap (λ (c : Card). c.hold) made.2 ∙ h.0 in
       suits blocks job card' (Cell (Look (Number b)) ∷ work job (place_in value) (dirty_in value)) answer inside (has, h.1, rest_work job (place_in value) (dirty_in value))
   saw (Number b) ws value h made = let has : HasBlock job card' = ap (λ (c : Card). c.hold) made.2 ∙ h.0 in
       let found : ℕ = value_of made.0 (Number b) in
       let learnt : card'.number ≡ Some value = ap (λ (c : Card). c.number) made.2 ∙ (ap (λ (t : Bool). cond t (Some found) card.number) (own_number (access_of job) (block_of job) b card.hold h.0 h.1) ∙ ap (λ z. Some z) (sym (word_is value found made.1))) in
-      either (λ (s : Plan). Suits blocks s card') (is_worn job value) _ _
+      either (λ (s : Plan). Suits blocks s card') (is_worn (OnBlock job) value) _ _
       (λ _. give_back blocks job card' (Refuses Worn) inside has)
       (λ fine. suits blocks job card' ws answer inside (has_rest job card' true ws h.2 has (subst (KnowsNext job true) (sym learnt) (known job value fine))))
   saw (CountWord kind) ws value h made = absurd h.1.1
@@ -130,19 +131,19 @@ module _ (blocks : ℕ) (job : TaskJob) (card card' : Card) (answer : Answer) (i
   kept_number : (next : Bool) → card'.number ≡ card.number → KnowsNext job next card.number → KnowsNext job next card'.number
   kept_number next e k = subst (KnowsNext job next) (sym e) k
 
-  pub keeps_on : (ws : List Want) (got : Got) → Has job card ws → Fits (first_step ws answer) got → MayMake (first_step ws answer) got card card' → Suits blocks (after (record { job = job; steps = ws; answer = answer }) got) card'
+  pub keeps_on : (ws : List Want) (got : Got) → Has job card ws → Fits (first_step ws answer) got → MayMake (first_step ws answer) got card card' → Suits blocks (after (record { job = OnBlock job; steps = ws; answer = answer }) got) card'
   keeps_on [] got h f made = absurd f
   keeps_on (Cell (Look word) ∷ ws) (Word value) h f made = saw word ws value h made
   keeps_on (Cell (Take access b seen) ∷ ws) got h f made = took access b seen ws got h f made
   keeps_on (Cell SetFailed ∷ ws) Done h f made =
       let gone : card'.hold ≡ Nothing = ap (λ (c : Card). c.hold) made.2 ∙ ap (λ (z : Hold). (failing_at z card).hold) h.0 in
       suits blocks job card' ws answer inside (subst (λ (z : List Want). Has job card' z) (sym h.1) gone)
-  keeps_on (Device (Read device at) ∷ ws) (Content content) h f made = let r = h.1 in
+  keeps_on (Device (Read device e) ∷ ws) Done h f made = let r = h.1 in
       suits blocks job card' ws answer inside (has_rest job card' r.0 ws r.1.1 (kept_hold h.0 made) (kept_number r.0 (ap (λ (c : Card). c.number) made) r.2))
-  keeps_on (Device (Read device at) ∷ ws) Fault h f made = give_back blocks job card' (Refuses (Io device)) inside (kept_hold h.0 made)
-  keeps_on (Device (Write device at) ∷ ws) Done h f made = let r = h.1 in
+  keeps_on (Device (Read device e) ∷ ws) Fault h f made = give_back blocks job card' (Refuses (Io device)) inside (kept_hold h.0 made)
+  keeps_on (Device (Write device e) ∷ ws) Done h f made = let r = h.1 in
       suits blocks job card' ws answer inside (has_rest job card' r.0 ws r.1.1 (kept_hold h.0 made) (kept_number r.0 (ap (λ (c : Card). c.number) made) r.2))
-  keeps_on (Device (Write device at) ∷ ws) Fault h f made =
+  keeps_on (Device (Write device e) ∷ ws) Fault h f made =
       suits blocks job card' (Cell SetFailed ∷ []) (Refuses (Io device)) inside (kept_hold h.0 made ∙ ap (λ access. Held access (block_of job)) h.1.1.0, refl)
   keeps_on (Cell (Seal b place dirty) ∷ ws) Done h f made = let r = h.1 in
       suits blocks job card' ws answer inside (has_rest job card' r.0 ws r.1.2 (ap (λ (c : Card). c.hold) made.2 ∙ h.0) (kept_number r.0 (ap (λ (c : Card). c.number) made.2) r.2))
@@ -158,22 +159,25 @@ module _ (blocks : ℕ) (job : TaskJob) (card card' : Card) (answer : Answer) (i
   keeps_on (w ∷ ws) got h f made = absurd f
 
 pub keeps_ready : (blocks : ℕ) (s : Plan) (card card' : Card) (got : Got) → Suits blocks s card → Fits (want s) got → MayMake (want s) got card card' → Suits blocks (after s got) card'
-keeps_ready blocks s card card' got h f made = keeps_on blocks s.job card card' s.answer h.inside s.steps got h.has f made
+keeps_ready blocks s card card' got h f made = by_job s.job s.steps s.answer h f made
+  where
+    by_job : (job : TaskJob) (ws : List Want) (answer : Answer) → SuitsJob blocks job card ws → Fits (first_step ws answer) got → MayMake (first_step ws answer) got card card' → Suits blocks (after (record { job = job; steps = ws; answer = answer }) got) card'
+    by_job (OnBlock job) ws answer h f made = keeps_on blocks job card card' answer h.0 ws got h.1 f made
 
 -- What comes next.
 
-knows_next : (job : TaskJob) (next : Bool) (number : Option ℕ) → access_of job ≡ Owned → next ≡ true → KnowsNext job next number → HasNext number
+knows_next : (job : BlockJob) (next : Bool) (number : Option ℕ) → access_of job ≡ Owned → next ≡ true → KnowsNext job next number → HasNext number
 knows_next (Reading part) next number o n k = absurd (cc)
 knows_next (Writing part) true number o n k = k
 knows_next (Writing part) false number o n k = absurd (cc)
 
-owned : (job : TaskJob) (card : Card) → HasBlock job card → access_of job ≡ Owned → card.hold ≡ Held Owned (block_of job)
+owned : (job : BlockJob) (card : Card) → HasBlock job card → access_of job ≡ Owned → card.hold ≡ Held Owned (block_of job)
 owned job card h o = h ∙ ap (λ access. Held access (block_of job)) o
 
 below : (blocks : ℕ) (a b : OBlock) → a ≡ b → b.0 < blocks → a.0 < blocks
 below blocks a b e l = subst (λ (z : OBlock). z.0 < blocks) (sym e) l
 
-ready_for : (blocks : ℕ) (job : TaskJob) (card : Card) (ws : List Want) (answer : Answer) → (block_of job).0 < blocks → Has job card ws → MayTake blocks card (first_step ws answer)
+ready_for : (blocks : ℕ) (job : BlockJob) (card : Card) (ws : List Want) (answer : Answer) → (block_of job).0 < blocks → Has job card ws → MayTake blocks card (first_step ws answer)
 ready_for blocks job card [] answer l h = tt
 ready_for blocks job card (Cell (Look Fail) ∷ ws) answer l h = tt
 ready_for blocks job card (Cell (Look (LockWord b)) ∷ ws) answer l h = below blocks b (block_of job) h.1 l
@@ -189,17 +193,20 @@ ready_for blocks job card (Cell (Count kind) ∷ ws) answer l h = tt
 ready_for blocks job card (Cell SetFailed ∷ ws) answer l h = tt
 ready_for blocks job card (Cell SetSuspended ∷ ws) answer l h = tt
 ready_for blocks job card (Device step ∷ ws) answer l h = tt
-ready_for blocks job card (Desk step ∷ ws) answer l h = tt
+ready_for blocks job card (Desk step ∷ ws) answer l h = h.1.1
 ready_for blocks job card (End a ∷ ws) answer l h = tt
 
 pub is_ready : (blocks : ℕ) (s : Plan) (card : Card) → Suits blocks s card → MayTake blocks card (want s)
-is_ready blocks s card h = ready_for blocks s.job card s.steps s.answer h.inside h.has
+is_ready blocks s card h = by_job s.job h
+  where
+    by_job : (job : TaskJob) → SuitsJob blocks job card s.steps → MayTake blocks card (first_step s.steps s.answer)
+    by_job (OnBlock job) h = ready_for blocks job card s.steps s.answer h.0 h.1
 
-pub begins_ready : (blocks : ℕ) (job : TaskJob) (card : Card) → (block_of job).0 < blocks → card.hold ≡ Nothing → Suits blocks (table job) card
-begins_ready blocks job card l h = record { inside = l; has = (h, refl) }
+pub begins_ready : (blocks : ℕ) (job : BlockJob) (card : Card) → (block_of job).0 < blocks → card.hold ≡ Nothing → Suits blocks (table (OnBlock job)) card
+begins_ready blocks job card l h = (l, (h, refl))
 
 -- At the end.
-ended : (job : TaskJob) (card : Card) (ws : List Want) (answer end : Answer) → Has job card ws → first_step ws answer ≡ End end → card.hold ≡ Nothing
+ended : (job : BlockJob) (card : Card) (ws : List Want) (answer end : Answer) → Has job card ws → first_step ws answer ≡ End end → card.hold ≡ Nothing
 ended job card [] answer end h e = h
 ended job card (Cell step ∷ ws) answer end h e = absurd (cc)
 ended job card (Device step ∷ ws) answer end h e = absurd (cc)
@@ -207,4 +214,7 @@ ended job card (Desk step ∷ ws) answer end h e = absurd h.1.1
 ended job card (End a ∷ ws) answer end h e = absurd h.1.1
 
 pub ends_holding_nothing : (blocks : ℕ) (s : Plan) (card : Card) (end : Answer) → Suits blocks s card → want s ≡ End end → card.hold ≡ Nothing
-ends_holding_nothing blocks s card end h e = ended s.job card s.steps s.answer end h.has e
+ends_holding_nothing blocks s card end h e = by_job s.job h
+  where
+    by_job : (job : TaskJob) → SuitsJob blocks job card s.steps → card.hold ≡ Nothing
+    by_job (OnBlock job) h = ended job card s.steps s.answer end h.1 e

@@ -1,9 +1,10 @@
 -- What is left of a task, by the phase that it is in.
-use Rattle.std.specs.Prelude.{◌++◌, ℕ, true, List, [], ◌∷◌, Some, map}
+use Rattle.std.specs.Prelude.{◌++◌, true, List, [], ◌∷◌, Some, map}
 use Rattle.wb_types.specs.declared.refusal.Refusal.TheVariants.{Worn, Io}
 use Rattle.wb_words.specs.declared.word.Access.TheVariants.{Shared, Owned}
 use Rattle.wb_words.specs.declared.word.Word.TheVariants.{Cell as LockWord, Seal as SealWord, Number as NumberWord}
-use Rattle.wb_tasks.specs.Tables.{BlockRange, TaskJob, Reading, Writing, range_of, access_of, acquire, taking, work, read_step, write_step, read_count, write_count}
+use Rattle.wb_types.specs.declared.extent.Extent.{Extent}
+use Rattle.wb_tasks.specs.Tables.{BlockRange, BlockJob, Reading, Writing, OnBlock, range_of, access_of, acquire, taking, work, read_step, write_step, read_count, write_count}
 use Rattle.wb_tasks.specs.Plan.{Plan, release}
 use Rattle.wb_words.specs.declared.grip.GripStage.{GripStage}
 use Rattle.wb_words.specs.declared.grip.GripStage.TheVariants.{LookFail, LookLock, Exchange, LookSeal, LookNumber}
@@ -20,7 +21,7 @@ use Rattle.wb_tasks.specs.declared.step.Want.{Want}
 use Rattle.wb_tasks.specs.declared.step.Want.TheVariants.{Cell}
 
 -- the steps to come of a job that has not got its block
-abbrev pub steps_from : TaskJob → GripStage → List Want
+abbrev pub steps_from : BlockJob → GripStage → List Want
 steps_from job LookFail = acquire (range_of job).block
 steps_from job LookLock = Cell (Look (LockWord (range_of job).block)) ∷ []
 steps_from job (Exchange seen) = taking (access_of job) (range_of job).block seen
@@ -28,29 +29,29 @@ steps_from job LookSeal = Cell (Look (SealWord (range_of job).block)) ∷ []
 steps_from job (LookNumber seal) = Cell (Look (NumberWord (range_of job).block)) ∷ work job (place_in seal) (dirty_in seal)
 
 -- a job that has not got its block
-abbrev pub acquiring : TaskJob → GripStage → Plan
-acquiring job stage = record { job = job; steps = steps_from job stage; answer = Finished }
+abbrev pub acquiring : BlockJob → GripStage → Plan
+acquiring job stage = record { job = OnBlock job; steps = steps_from job stage; answer = Finished }
 
 -- what is left of a job after what it saw
-abbrev pub after_seeing : TaskJob → Seen → Plan
+abbrev pub after_seeing : BlockJob → Seen → Plan
 after_seeing job (Next stage) = acquiring job stage
-after_seeing job (Holds place dirty) = record { job = job; steps = work job place dirty; answer = Finished }
-after_seeing job (Refused refusal) = record { job = job; steps = []; answer = Refuses refusal }
-after_seeing job WornOut = record { job = job; steps = release job ∷ []; answer = Refuses Worn }
+after_seeing job (Holds place dirty) = record { job = OnBlock job; steps = work job place dirty; answer = Finished }
+after_seeing job (Refused refusal) = record { job = OnBlock job; steps = []; answer = Refuses refusal }
+after_seeing job WornOut = record { job = OnBlock job; steps = release job ∷ []; answer = Refuses Worn }
 
--- what is left of a read in a phase, with these sectors still to read
-abbrev pub read_left : BlockRange → ReadPhase → List ℕ → Plan
-read_left part (ReadAcquires stage) sectors = acquiring (Reading part) stage
-read_left part (Reads place) sectors = record { job = Reading part; steps = map (read_step part place) sectors ++ read_count place ∷ Cell (Release Shared part.block) ∷ []; answer = Finished }
-read_left part (ReadReleases answer) sectors = record { job = Reading part; steps = Cell (Release Shared part.block) ∷ []; answer = answer }
-read_left part (ReadEnded answer) sectors = record { job = Reading part; steps = []; answer = answer }
+-- what is left of a read in a phase, with these extents still to read
+abbrev pub read_left : BlockRange → ReadPhase → List Extent → Plan
+read_left part (ReadAcquires stage) extents = acquiring (Reading part) stage
+read_left part (Reads place) extents = record { job = OnBlock (Reading part); steps = map (read_step part place) extents ++ read_count place ∷ Cell (Release Shared part.block) ∷ []; answer = Finished }
+read_left part (ReadReleases answer) extents = record { job = OnBlock (Reading part); steps = Cell (Release Shared part.block) ∷ []; answer = answer }
+read_left part (ReadEnded answer) extents = record { job = OnBlock (Reading part); steps = []; answer = answer }
 
--- what is left of a write in a phase, with these sectors still to write
-abbrev pub write_left : BlockRange → WritePhase → List ℕ → Plan
-write_left part (WriteAcquires stage) sectors = acquiring (Writing part) stage
-write_left part (Dirties c) sectors = record { job = Writing part; steps = Cell (SealStep part.block (Some c) true) ∷ (map (write_step part (Some c)) sectors ++ Cell (Finish part.block) ∷ write_count (Some c) ∷ Cell (Release Owned part.block) ∷ []); answer = Finished }
-write_left part (Writes place) sectors = record { job = Writing part; steps = map (write_step part place) sectors ++ Cell (Finish part.block) ∷ write_count place ∷ Cell (Release Owned part.block) ∷ []; answer = Finished }
-write_left part (Counts place) sectors = record { job = Writing part; steps = write_count place ∷ Cell (Release Owned part.block) ∷ []; answer = Finished }
-write_left part (WriteReleases answer) sectors = record { job = Writing part; steps = Cell (Release Owned part.block) ∷ []; answer = answer }
-write_left part (SetsFailed device) sectors = record { job = Writing part; steps = Cell SetFailed ∷ []; answer = Refuses (Io device) }
-write_left part (WriteEnded answer) sectors = record { job = Writing part; steps = []; answer = answer }
+-- what is left of a write in a phase, with these extents still to write
+abbrev pub write_left : BlockRange → WritePhase → List Extent → Plan
+write_left part (WriteAcquires stage) extents = acquiring (Writing part) stage
+write_left part (Dirties c) extents = record { job = OnBlock (Writing part); steps = Cell (SealStep part.block (Some c) true) ∷ (map (write_step part (Some c)) extents ++ Cell (Finish part.block) ∷ write_count (Some c) ∷ Cell (Release Owned part.block) ∷ []); answer = Finished }
+write_left part (Writes place) extents = record { job = OnBlock (Writing part); steps = map (write_step part place) extents ++ Cell (Finish part.block) ∷ write_count place ∷ Cell (Release Owned part.block) ∷ []; answer = Finished }
+write_left part (Counts place) extents = record { job = OnBlock (Writing part); steps = write_count place ∷ Cell (Release Owned part.block) ∷ []; answer = Finished }
+write_left part (WriteReleases answer) extents = record { job = OnBlock (Writing part); steps = Cell (Release Owned part.block) ∷ []; answer = answer }
+write_left part (SetsFailed device) extents = record { job = OnBlock (Writing part); steps = Cell SetFailed ∷ []; answer = Refuses (Io device) }
+write_left part (WriteEnded answer) extents = record { job = OnBlock (Writing part); steps = []; answer = answer }

@@ -9,18 +9,19 @@ use Rattle.wb_words.specs.declared.step.CellStep.TheVariants.{Look, Take, Releas
 use Rattle.wb_words.specs.SharedWords.{Words, can_take}
 use Rattle.wb_words.specs.Effects.{result_of, card_after}
 use Rattle.wb_words.specs.Ready.{IsReady, HasNext}
-use Rattle.wb_tasks.specs.Tables.{TaskJob, Reading, Writing, range_of, access_of}
+use Rattle.wb_tasks.specs.Tables.{BlockJob, Reading, Writing, TaskJob, OnBlock, range_of, access_of}
 use Rattle.wb_tasks.specs.Plan.{Plan, want, after, Fits, IsStep, got_of}
 use Rattle.wb_tasks.specs.Run.{Leads}
 use Rattle.wb_tasks.specs.declared.step.DeviceStep.{DeviceStep}
 use Rattle.wb_tasks.specs.declared.step.DeviceStep.TheVariants.{Read, Write, Sync}
 use Rattle.wb_tasks.specs.declared.step.Want.{Want}
-use Rattle.wb_tasks.specs.declared.step.Want.TheVariants.{Cell, Device}
+use Rattle.wb_tasks.specs.declared.step.Want.TheVariants.{Cell, Device, Desk}
 use Rattle.wb_tasks.specs.declared.step.Got.{Got}
 
--- a step of any kind: of those on the words one that the actor is ready for
+-- a step of any kind: of those on the words one that the actor is ready for, and none of a desk, which there is not yet
 abbrev pub MayTake : ℕ → Card → Want → Type 0
 MayTake blocks card (Cell step) = IsReady blocks card step
+MayTake blocks card (Desk step) = ⊥
 MayTake blocks card next = Unit {0}
 
 -- A card that a step with this result makes of its actor's, whatever the words were.
@@ -28,27 +29,27 @@ abbrev pub MayMake : Want → Got → Card → Card → Type 0
 MayMake (Cell step) got card card' = (words : Words) × (got ≡ got_of (result_of words step)) × (card' ≡ card_after words step card)
 MayMake next got card card' = card' ≡ card
 
-abbrev pub block_of : TaskJob → OBlock
+abbrev pub block_of : BlockJob → OBlock
 block_of job = (range_of job).block
 
 -- the actor has the block of its job
-abbrev pub HasBlock : TaskJob → Card → Type 0
+abbrev pub HasBlock : BlockJob → Card → Type 0
 HasBlock job card = card.hold ≡ Held (access_of job) (block_of job)
 
 -- a write knows a number that has a next one
-abbrev pub KnowsNext : TaskJob → Bool → Option ℕ → Type 0
+abbrev pub KnowsNext : BlockJob → Bool → Option ℕ → Type 0
 KnowsNext (Reading part) next known = Unit {0}
 KnowsNext (Writing part) true known = HasNext known
 KnowsNext (Writing part) false known = Unit {0}
 
 -- A step on a device that a job may take: only a write writes.
-abbrev pub IsJobs : TaskJob → DeviceStep → Type 0
-IsJobs job (Read device at) = Unit {0}
-IsJobs job (Write device at) = access_of job ≡ Owned
+abbrev pub IsJobs : BlockJob → DeviceStep → Type 0
+IsJobs job (Read device e) = Unit {0}
+IsJobs job (Write device e) = access_of job ≡ Owned
 IsJobs job (Sync device) = ⊥
 
 -- What may be left of the work of a job that has its block; the flag says that its number is known to have a next one.
-abbrev pub IsRest : TaskJob → Bool → List Want → Type 0
+abbrev pub IsRest : BlockJob → Bool → List Want → Type 0
 IsRest job next (Device step ∷ ws) = IsJobs job step × IsRest job next ws
 IsRest job next (Cell (Seal block place dirty) ∷ ws) = (block ≡ block_of job) × (access_of job ≡ Owned) × IsRest job next ws
 IsRest job next (Cell (Finish block) ∷ ws) = (block ≡ block_of job) × (access_of job ≡ Owned) × (next ≡ true) × IsRest job false ws
@@ -57,7 +58,7 @@ IsRest job next (Cell (Release access block) ∷ []) = (access ≡ access_of job
 IsRest job next ws = ⊥
 
 -- what an actor has, with these steps of its job to come
-abbrev pub Has : TaskJob → Card → List Want → Type 0
+abbrev pub Has : BlockJob → Card → List Want → Type 0
 Has job card [] = card.hold ≡ Nothing
 Has job card (Cell (Look Fail) ∷ ws) = (card.hold ≡ Nothing) × (ws ≡ Cell (Look (LockWord (block_of job))) ∷ [])
 Has job card (Cell (Look (LockWord block)) ∷ ws) = (card.hold ≡ Nothing) × (block ≡ block_of job) × (ws ≡ [])
@@ -68,9 +69,11 @@ Has job card (Cell SetFailed ∷ ws) = (card.hold ≡ Held Owned (block_of job))
 Has job card ws = HasBlock job card × ((next : Bool) × IsRest job next ws × KnowsNext job next card.number)
 
 -- An actor with this card has what it needs for what is left of its task, where there are so many blocks.
-pub record Suits (blocks : ℕ) (s : Plan) (card : Card) : Type 0 where
-  pub inside : (block_of s.job).0 < blocks
-  pub has : Has s.job card s.steps
+abbrev pub SuitsJob : ℕ → TaskJob → Card → List Want → Type 0
+SuitsJob blocks (OnBlock job) card steps = ((block_of job).0 < blocks) × Has job card steps
+
+abbrev pub Suits : ℕ → Plan → Card → Type 0
+Suits blocks s card = SuitsJob blocks s.job card s.steps
 
 -- these are the first steps of what is left of a task
 abbrev pub AreFirst : Plan → List (Want × Got) → Type 0

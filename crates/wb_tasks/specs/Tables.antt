@@ -1,4 +1,5 @@
-use Rattle.std.specs.Prelude.{◌+◌, ◌*◌, ◌%◌, ◌++◌, ℕ, zero, suc, Bool, true, false, List, [], ◌∷◌, Option, Some, None, map}
+use Rattle.std.specs.Prelude.{◌+◌, ◌*◌, ◌%◌, ◌++◌, ℕ, Bool, true, false, List, [], ◌∷◌, Option, Some, None, map}
+use Rattle.wb_types.specs.declared.extent.Extent.{Extent}
 use Rattle.wb_types.specs.declared.mode.Dev.{Dev}
 use Rattle.wb_types.specs.declared.mode.Dev.TheVariants.{Cache, Origin}
 use Rattle.wb_types.specs.declared.number.OBlock.{OBlock}
@@ -12,28 +13,28 @@ use Rattle.wb_tasks.specs.declared.step.DeviceStep.TheVariants.{Read, Write}
 use Rattle.wb_tasks.specs.declared.step.Want.{Want}
 use Rattle.wb_tasks.specs.declared.step.Want.TheVariants.{Cell, Device}
 
--- sectors of one block of the origin, in the order in which they are taken
+-- Sectors of one block of the origin, as extents of the origin's address range, in the order in which they are taken. One
+-- step on a device moves one extent.
 pub record BlockRange : Type 0 where
   pub block_sectors : ℕ
   pub block : OBlock
-  pub sectors : List ℕ
+  pub extents : List Extent
 
--- this many sectors, rising from the first
-abbrev pub sectors_from : ℕ → ℕ → List ℕ
-sectors_from first zero = []
-sectors_from first (suc n) = first ∷ sectors_from (first + 1) n
+-- what a task does with one block
+pub data BlockJob : Type 0 where
+  Reading : BlockRange → BlockJob
+  Writing : BlockRange → BlockJob
 
--- what a task is to do
+-- What a task is to do. So far each has a block.
 pub data TaskJob : Type 0 where
-  Reading : BlockRange → TaskJob
-  Writing : BlockRange → TaskJob
+  OnBlock : BlockJob → TaskJob
 
-abbrev pub range_of : TaskJob → BlockRange
+abbrev pub range_of : BlockJob → BlockRange
 range_of (Reading part) = part
 range_of (Writing part) = part
 
 -- a read shares its block, a write owns it
-abbrev pub access_of : TaskJob → Access
+abbrev pub access_of : BlockJob → Access
 access_of (Reading part) = Shared
 access_of (Writing part) = Owned
 
@@ -43,17 +44,17 @@ abbrev pub device_at : Option CBlock → Dev
 device_at None = Origin
 device_at (Some c) = Cache
 
--- the sector of the cache device that holds a sector of a mapped block
-abbrev pub cache_sector : BlockRange → CBlock → ℕ → ℕ
-cache_sector part c at = c.0 * part.block_sectors + at % part.block_sectors
+-- the place of an extent of a block in the block's copy on the cache device
+abbrev pub cache_extent : BlockRange → CBlock → Extent → Extent
+cache_extent part c e = record { first = c.0 * part.block_sectors + e.first % part.block_sectors; count = e.count }
 
-abbrev pub read_step : BlockRange → Option CBlock → ℕ → Want
-read_step part None at = Device (Read Origin at)
-read_step part (Some c) at = Device (Read Cache (cache_sector part c at))
+abbrev pub read_step : BlockRange → Option CBlock → Extent → Want
+read_step part None e = Device (Read Origin e)
+read_step part (Some c) e = Device (Read Cache (cache_extent part c e))
 
-abbrev pub write_step : BlockRange → Option CBlock → ℕ → Want
-write_step part None at = Device (Write Origin at)
-write_step part (Some c) at = Device (Write Cache (cache_sector part c at))
+abbrev pub write_step : BlockRange → Option CBlock → Extent → Want
+write_step part None e = Device (Write Origin e)
+write_step part (Some c) e = Device (Write Cache (cache_extent part c e))
 
 -- a mapped block is sealed dirty before the first write to its clean copy
 abbrev pub dirtying : OBlock → Option CBlock → Bool → List Want
@@ -69,7 +70,7 @@ abbrev pub write_count : Option CBlock → Want
 write_count None = Cell (Count WriteMiss)
 write_count (Some c) = Cell (Count WriteHit)
 
--- The step tables.
+-- The step tables, for any cut of the sectors into extents.
 
 -- acquiring a block: the fail word, then the lock word; what comes after it is known once it was seen
 abbrev pub acquire : OBlock → List Want
@@ -80,6 +81,6 @@ abbrev pub taking : Access → OBlock → ℕ → List Want
 taking access block seen = Cell (Take access block seen) ∷ Cell (Look (SealWord block)) ∷ []
 
 -- what a job does once it has its block, which stands at this place
-abbrev pub work : TaskJob → Option CBlock → Bool → List Want
-work (Reading part) place dirty = map (read_step part place) part.sectors ++ read_count place ∷ Cell (Release Shared part.block) ∷ []
-work (Writing part) place dirty = dirtying part.block place dirty ++ map (write_step part place) part.sectors ++ Cell (Finish part.block) ∷ write_count place ∷ Cell (Release Owned part.block) ∷ []
+abbrev pub work : BlockJob → Option CBlock → Bool → List Want
+work (Reading part) place dirty = map (read_step part place) part.extents ++ read_count place ∷ Cell (Release Shared part.block) ∷ []
+work (Writing part) place dirty = dirtying part.block place dirty ++ map (write_step part place) part.extents ++ Cell (Finish part.block) ∷ write_count place ∷ Cell (Release Owned part.block) ∷ []

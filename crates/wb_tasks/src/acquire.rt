@@ -1,7 +1,7 @@
 //! Acquiring a block, as a task sees it: by the steps of a grip.
 
 ghost use Rattle.std.specs.Prelude.{◌≡◌};
-ghost use Rattle.wb_tasks.specs.Tables.{TaskJob, range_of, access_of};
+ghost use Rattle.wb_tasks.specs.Tables.{BlockJob, range_of, access_of};
 ghost use Rattle.wb_tasks.specs.Plan.{Plan, want, after_look, Fits};
 ghost use Rattle.wb_tasks.specs.Phases.{acquiring, after_seeing};
 
@@ -22,7 +22,7 @@ pub(crate) enum Seen {
 
 /// The next step of a job that takes this block with this access.
 pub(crate) fn want(access: Access, block: OBlock, stage: GripStage) -> Want
-    ensures { (job : TaskJob) → access_of job ≡ access → (range_of job).block ≡ block → result ≡ want (acquiring job stage) }
+    ensures { (job : BlockJob) → access_of job ≡ access → (range_of job).block ≡ block → result ≡ want (acquiring job stage) }
 {
     let grip = Grip {
         access,
@@ -34,7 +34,7 @@ pub(crate) fn want(access: Access, block: OBlock, stage: GripStage) -> Want
 
 /// What comes of a word that was looked at.
 pub(crate) fn after_look(access: Access, block: OBlock, stage: GripStage, word: u64) -> Seen
-    ensures { (job : TaskJob) → access_of job ≡ access → Fits (want (acquiring job stage)) (Got.Word word) → after_seeing job result ≡ after_look (acquiring job stage) (want (acquiring job stage)) word }
+    ensures { (job : BlockJob) → access_of job ≡ access → Fits (want (acquiring job stage)) (Got.Word word) → after_seeing job result ≡ after_look (acquiring job stage) (want (acquiring job stage)) word }
 {
     let mut grip = Grip {
         access,

@@ -2,7 +2,9 @@
 
 ghost use Rattle.std.specs.Prelude.{◌≡◌, ◌+◌, ◌*◌, ◌≤◌, ◌<◌, ℕ, List, length};
 ghost use Rattle.wb_types.specs.declared.refusal.Refusal.{Refusal as RefusalTerm};
-ghost use Rattle.wb_tasks.specs.Tables.{TaskJob, range_of, access_of};
+ghost use Rattle.wb_types.specs.declared.extent.Extent.{Extent};
+ghost use Rattle.wb_types.specs.Extents.{IsCutInto};
+ghost use Rattle.wb_tasks.specs.Tables.{BlockJob, OnBlock, range_of, access_of};
 ghost use Rattle.wb_tasks.specs.Plan.{Plan, table, want, after, Fits};
 ghost use Rattle.wb_tasks.specs.Ready.{MayTake, MayMake, Suits, block_of};
 ghost use Rattle.wb_words.specs.declared.card.Card.{Card as CardTerm};
@@ -16,10 +18,11 @@ ghost use Rattle.wb_tasks.specs.declared.step.Answer.TheVariants.{Refused as Ref
 ghost use Rattle.wb_tasks.specs.declared.step.Want.{Want as WantTerm};
 ghost use Rattle.wb_tasks.specs.declared.step.Got.{Got as GotTerm};
 
-/// The law that a read or write of n sectors answers within `2 n + 11` steps, by any stage: `drive`
-/// takes no more steps than `longest`.
+/// The law that a read or write of n sectors answers within `2 n + 11` steps, by any stage and however its sectors are
+/// cut into extents: `drive` takes no more steps than `longest`.
 pub fn step_bound()
-    ensures { (job : TaskJob) → longest (table job) ≤ 2 * length (range_of job).sectors + 11 }
+    ensures extents { (job : BlockJob) → longest (table (OnBlock job)) ≤ 2 * length (range_of job).extents + 11 }
+    ensures sectors { (job : BlockJob) (whole : Extent) → IsCutInto whole (range_of job).extents → longest (table (OnBlock job)) ≤ 2 * whole.count + 11 }
 {}
 
 /// The law that a read or write refuses for a cause alone: `Io` only where a step on that device failed,
@@ -28,7 +31,7 @@ pub fn step_bound()
 /// up, and nothing else ever.
 #[tactic(auto, using(crate::proofs::Causing::refuses_for_cause))]
 pub fn refusal_causes()
-    ensures { (job : TaskJob) (steps : List (WantTerm × GotTerm)) (refusal : RefusalTerm) → IsRunOf (table job) steps (Refuses refusal) → GaveCause (access_of job) refusal steps }
+    ensures { (job : BlockJob) (steps : List (WantTerm × GotTerm)) (refusal : RefusalTerm) → IsRunOf (table (OnBlock job)) steps (Refuses refusal) → GaveCause (access_of job) refusal steps }
 {}
 
 /// The law that an actor of a read or write is ready for each of its steps on the shared words: it has what it
@@ -37,7 +40,7 @@ pub fn refusal_causes()
 /// nothing is held.
 #[tactic(auto, using(crate::proofs::Readiness::ends_holding_nothing))]
 pub fn steps_are_ready()
-    ensures begins { (blocks : ℕ) (job : TaskJob) (card : CardTerm) → (block_of job).0 < blocks → card.hold ≡ Nothing → Suits blocks (table job) card }
+    ensures begins { (blocks : ℕ) (job : BlockJob) (card : CardTerm) → (block_of job).0 < blocks → card.hold ≡ Nothing → Suits blocks (table (OnBlock job)) card }
     ensures ready { (blocks : ℕ) (s : Plan) (card : CardTerm) → Suits blocks s card → MayTake blocks card (want s) }
     ensures keeps { (blocks : ℕ) (s : Plan) (card card' : CardTerm) (got : GotTerm) → Suits blocks s card → Fits (want s) got → MayMake (want s) got card card' → Suits blocks (after s got) card' }
     ensures ends { (blocks : ℕ) (s : Plan) (card : CardTerm) (answer : AnswerTerm) → Suits blocks s card → want s ≡ End answer → card.hold ≡ Nothing }

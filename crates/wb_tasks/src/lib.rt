@@ -5,6 +5,7 @@
 #![tactic(auto)]
 
 mod acquire;
+mod cut;
 mod law;
 mod read;
 mod request;

@@ -1,22 +1,24 @@
 //! A read of sectors of one block:
 //!
 //! 1. acquire the block to share it: fail word, lock word, exchange, seal, number;
-//! 2. read each sector, from the device that its seal names;
+//! 2. read each extent, from the device that its seal names;
 //! 3. count a hit or a miss;
 //! 4. give the block back, and answer done.
 //!
 //! After a fault: give the block back, and answer `Io`.
 
-ghost use Rattle.std.specs.Prelude.{◌≡◌, ◌+◌, ◌<◌, ◌^◌, []};
-ghost use Rattle.wb_tasks.specs.Tables.{Reading, sectors_from};
+ghost use Rattle.std.specs.Prelude.{◌≡◌, ◌+◌, ◌<◌, ◌≤◌, ◌^◌, []};
+ghost use Rattle.wb_types.specs.Extents.{pieces};
+ghost use Rattle.wb_tasks.specs.Tables.{Reading, OnBlock};
 ghost use Rattle.wb_tasks.specs.Plan.{Plan, want, after, refused, table, Fits};
 
 use crate::acquire::{self, Seen};
+use crate::cut::split;
 use crate::route::{device_at, route};
 use crate::step::{Answer, DeviceStep, Got, Want};
 use crate::task::Task;
 use std::marker::Model;
-use wb_types::{CBlock, Content, OBlock, Refusal, Sector};
+use wb_types::{CBlock, Extent, OBlock, Refusal};
 use wb_words::{Access, CellStep, GripStage, Kind};
 
 /// Where a read stands.
@@ -29,50 +31,50 @@ enum Phase {
     Ended(Answer),
 }
 
-/// A read of some sectors of a block, in rising order. It shares the block, reads where its seal says
+/// A read of some sectors of a block, extent by extent, rising. It shares the block, reads where its seal says
 /// that the newest copy stands, counts as a hit where that is the cache, and gives the block back.
 #[derive(Drop)]
 pub struct ReadTask {
     phase: Phase,
     block_sectors: u32,
     block: OBlock,
-    first: u64,
-    count: u64,
-    /// The next sector to read, and how many are left from it on.
-    at: u64,
-    left: u64,
+    sectors: Extent,
+    /// The sectors that are still to be read.
+    left: Extent,
+    /// How many sectors a step takes at most.
+    longest: u64,
 }
 
 impl Model for ReadTask {
-    ghost use Rattle.std.specs.Prelude.{ℕ, ◌+◌, ◌<◌, ◌^◌};
+    ghost use Rattle.std.specs.Prelude.{◌+◌, ◌<◌, ◌≤◌, ◌^◌};
     ghost use Rattle.wb_tasks.specs.Plan.{Plan};
 
     ghost Value = { Plan };
 
-    ghost use Rattle.wb_tasks.specs.Tables.{sectors_from};
+    ghost use Rattle.wb_types.specs.Extents.{pieces};
     ghost use Rattle.wb_tasks.specs.Phases.{read_left};
 
-    ghost view = { λ t. read_left (record { block_sectors = t.block_sectors; block = t.block; sectors = sectors_from t.first t.count }) t.phase (sectors_from t.at t.left) };
+    ghost view = { λ t. read_left (record { block_sectors = t.block_sectors; block = t.block; extents = pieces t.longest t.sectors }) t.phase (pieces t.longest t.left) };
 
-    ghost invariant = { λ t. (0 < t.block_sectors) × (t.first + t.count < 2 ^ 64) × (t.at + t.left < 2 ^ 64) };
+    ghost invariant = { λ t. (0 < t.block_sectors) × (1 ≤ t.longest) × (t.sectors.first + t.sectors.count < 2 ^ 64) × (t.left.first + t.left.count < 2 ^ 64) };
 }
 
 impl ReadTask {
-    /// A read of `count` sectors from `first` on, which lie in that block of the origin.
-    pub fn new(block_sectors: u32, block: OBlock, first: Sector, count: u64) -> ReadTask
+    /// A read of sectors that lie in that block of the origin. Each of its steps on a device takes at most `longest`
+    /// sectors.
+    pub fn new(block_sectors: u32, block: OBlock, sectors: Extent, longest: u64) -> ReadTask
         requires some { 0 < block_sectors }
-        requires in_range { first.0 + count < 2 ^ 64 }
-        ensures { result ≡ table (Reading (record { block_sectors = block_sectors; block = block; sectors = sectors_from first.0 count })) }
+        requires in_range { sectors.first + sectors.count < 2 ^ 64 }
+        requires longest { 1 ≤ longest }
+        ensures { result ≡ table (OnBlock (Reading (record { block_sectors = block_sectors; block = block; extents = pieces longest sectors }))) }
     {
-        let Sector(first) = first;
         ReadTask {
             phase: Phase::Acquires(GripStage::LookFail),
             block_sectors,
             block,
-            first,
-            count,
-            at: first,
-            left: count,
+            sectors,
+            left: sectors,
+            longest,
         }
     }
 
@@ -82,9 +84,10 @@ impl ReadTask {
     {
         match self.phase {
             Phase::Acquires(stage) => acquire::want(Access::Shared, self.block, stage),
-            Phase::Reads(place) if self.left > 0 => {
-                let (device, at) = route(self.block_sectors, place, self.at);
-                Want::Device(DeviceStep::Read(device, at))
+            Phase::Reads(place) if self.left.count > 0 => {
+                let (first, _) = split(self.left, self.longest);
+                let (device, extent) = route(self.block_sectors, place, first);
+                Want::Device(DeviceStep::Read(device, extent))
             }
             Phase::Reads(None) => Want::Cell(CellStep::Count(Kind::ReadMiss)),
             Phase::Reads(Some(_)) => Want::Cell(CellStep::Count(Kind::ReadHit)),
@@ -103,8 +106,7 @@ impl ReadTask {
                 Seen::Next(next) => self.phase = Phase::Acquires(next),
                 Seen::Holds(place, _) => {
                     self.phase = Phase::Reads(place);
-                    self.at = self.first;
-                    self.left = self.count;
+                    self.left = self.sectors;
                 }
                 Seen::Refused(refusal) => self.phase = Phase::Ended(Answer::Refused(refusal)),
                 Seen::Worn => self.phase = Phase::Releases(Answer::Refused(Refusal::Worn)),
@@ -120,19 +122,14 @@ impl ReadTask {
         match self.phase {
             // Only the exchange can have been done.
             Phase::Acquires(_) => self.phase = Phase::Acquires(GripStage::LookSeal),
+            Phase::Reads(_) if self.left.count > 0 => {
+                let (_, left) = split(self.left, self.longest);
+                self.left = left;
+            }
             Phase::Reads(_) => self.phase = Phase::Releases(Answer::Done),
             Phase::Releases(answer) => self.phase = Phase::Ended(answer),
             Phase::Ended(_) => {}
         }
-    }
-
-    /// What is left after the sector was read.
-    fn after_read(&mut self, content: &Content)
-        requires { Fits (want self.old) (Got.Content content.now) }
-        ensures { self.new ≡ after self.old (Got.Content content.now) }
-    {
-        self.at += 1;
-        self.left -= 1;
     }
 
     /// What is left after a fault.
@@ -143,6 +140,14 @@ impl ReadTask {
         if let Phase::Reads(place) = self.phase {
             self.phase = Phase::Releases(Answer::Refused(Refusal::Io(device_at(place))));
         }
+    }
+
+    /// What is left after the desk refused; a read asks it for nothing.
+    fn after_refusal(&mut self, refusal: Refusal)
+        requires { Fits (want self.old) (Got.Refused refusal) }
+        ensures { self.new ≡ after self.old (Got.Refused refusal) }
+    {
+        self.phase = Phase::Ended(Answer::Refused(refusal));
     }
 
     /// Nothing is left but the refusal.
@@ -162,10 +167,9 @@ impl Task for ReadTask {
             Got::Begin => {}
             Got::Word(word) => self.after_look(word),
             Got::Done => self.after_done(),
-            Got::Content(content) => self.after_read(&content),
             Got::Fault => self.after_fault(),
             Got::Lost => self.refuse(Refusal::Busy),
-            Got::Refused(refusal) => self.refuse(refusal),
+            Got::Refused(refusal) => self.after_refusal(refusal),
         }
         self.want()
     }

@@ -1,11 +1,11 @@
-//! Where a sector of a block stands in write-back mode.
+//! Where an extent of a block stands in write-back mode.
 
 ghost use Rattle.std.specs.Prelude.{◌≡◌, ◌<◌};
 ghost use Rattle.wb_tasks.specs.Tables.{BlockRange, read_step, write_step, device_at};
 ghost use Rattle.wb_tasks.specs.declared.step.Want.TheVariants.{Device};
 ghost use Rattle.wb_tasks.specs.declared.step.DeviceStep.TheVariants.{Read, Write};
 
-use wb_types::{CBlock, Dev};
+use wb_types::{CBlock, Dev, Extent};
 
 /// The device that has the newest copy of a block at this place.
 pub fn device_at(place: Option<CBlock>) -> Dev
@@ -17,17 +17,21 @@ pub fn device_at(place: Option<CBlock>) -> Dev
     }
 }
 
-/// The device and the sector on it that hold a sector of a block at this place.
-pub fn route(block_sectors: u32, place: Option<CBlock>, at: u64) -> (Dev, u64)
+/// The device and the extent of it that hold an extent of a block at this place.
+pub fn route(block_sectors: u32, place: Option<CBlock>, extent: Extent) -> (Dev, Extent)
     requires { 0 < block_sectors }
-    ensures read { (part : BlockRange) → part.block_sectors ≡ block_sectors → Device (Read result.0 result.1) ≡ read_step part place at }
-    ensures write { (part : BlockRange) → part.block_sectors ≡ block_sectors → Device (Write result.0 result.1) ≡ write_step part place at }
+    ensures read { (part : BlockRange) → part.block_sectors ≡ block_sectors → Device (Read result.0 result.1) ≡ read_step part place extent }
+    ensures write { (part : BlockRange) → part.block_sectors ≡ block_sectors → Device (Write result.0 result.1) ≡ write_step part place extent }
 {
     match place {
-        None => (Dev::Origin, at),
+        None => (Dev::Origin, extent),
         Some(CBlock(c)) => {
             let size = u64::from(block_sectors);
-            (Dev::Cache, u64::from(c) * size + at % size)
+            let there = Extent {
+                first: u64::from(c) * size + extent.first % size,
+                count: extent.count,
+            };
+            (Dev::Cache, there)
         }
     }
 }

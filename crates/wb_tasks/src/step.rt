@@ -1,13 +1,14 @@
 //! Single atomic steps, and what comes of them.
 
-use wb_types::{CBlock, Content, Dev, OBlock, Refusal};
+use wb_types::{CBlock, Dev, Extent, OBlock, Refusal};
 use wb_words::{CellResult, CellStep};
 
-/// A step on one device. Sectors are counted from 0 on each device.
+/// A step on one device. Sectors are counted from 0 on each device. What a read gives, and what a write writes, is
+/// with the performer.
 #[derive(Clone, Copy, Debug, PartialEq, Eq)]
 pub enum DeviceStep {
-    Read(Dev, u64),
-    Write(Dev, u64),
+    Read(Dev, Extent),
+    Write(Dev, Extent),
     Sync(Dev),
 }
 
@@ -18,10 +19,10 @@ pub enum DeskStep {
     Map(OBlock, CBlock),
     /// Removes a block from the mapping.
     Unmap(OBlock),
-    /// Gives up the order under which a migration runs.
-    ReleaseOrder,
-    /// Takes the image of a commit; the flag says whether its root is to be marked clean.
-    BeginCommit(bool),
+    /// Gives up the order under which a migration of this block runs.
+    ReleaseOrder(OBlock),
+    /// Takes the image of a commit, of at most so many nodes; the flag says whether its root is to be marked clean.
+    BeginCommit(bool, u32),
     EndCommit,
 }
 
@@ -52,8 +53,6 @@ pub enum Got {
     Word(u64),
     /// The exchange was lost to another.
     Lost,
-    /// What a sector held.
-    Content(Content),
     /// The device failed.
     Fault,
     /// The desk refused.

@@ -8,16 +8,23 @@ use self::rows::{ROWS, Row};
 use crate::*;
 use std::alloc::Global;
 use std::test::Fail;
-use wb_types::{Refusal, Sector};
+use wb_types::{Extent, Refusal};
 use wb_words::Word;
 
-/// Drives two sectors of the block, from its second on, as a row has it.
+/// Two sectors of the block, from its second on.
+const SECTORS: Extent = Extent {
+    first: 129,
+    count: 2,
+};
+
+/// Drives the two sectors as a row has it.
 fn play(alloc: Global, row: &Row) -> Result<(Answer, Bench), Refusal> {
     let mut bench = Bench::new(alloc, row)?;
+    let longest = row.longest.max(1);
     let task = if row.writes {
-        RequestTask::writes(WriteTask::new(BLOCK_SECTORS, BLOCK, Sector(129), 2))
+        RequestTask::writes(WriteTask::new(BLOCK_SECTORS, BLOCK, SECTORS, longest))
     } else {
-        RequestTask::reads(ReadTask::new(BLOCK_SECTORS, BLOCK, Sector(129), 2))
+        RequestTask::reads(ReadTask::new(BLOCK_SECTORS, BLOCK, SECTORS, longest))
     };
     let mut task = task;
     let answer = drive(&mut task, &mut bench);
@@ -78,9 +85,9 @@ fn what_is_moved_is_on_the_device_of_the_route(rt: HostRuntime) -> Result<(), Fa
 #[test]
 fn a_request_of_either_kind_begins_at_the_fail_word(rt: HostRuntime) -> Result<(), Fail> {
     let first = Want::Cell(CellStep::Look(Word::Fail));
-    let read = RequestTask::reads(ReadTask::new(BLOCK_SECTORS, BLOCK, Sector(129), 2));
+    let read = RequestTask::reads(ReadTask::new(BLOCK_SECTORS, BLOCK, SECTORS, 1));
     assert_eq!(rt; read.want(), first);
-    let write = RequestTask::writes(WriteTask::new(BLOCK_SECTORS, BLOCK, Sector(129), 2));
+    let write = RequestTask::writes(WriteTask::new(BLOCK_SECTORS, BLOCK, SECTORS, 1));
     assert_eq!(rt; write.want(), first);
     Ok(())
 }

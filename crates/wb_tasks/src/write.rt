@@ -3,23 +3,25 @@
 //! 1. acquire the block to own it: fail word, lock word, exchange, seal, number;
 //! 2. where no number is left, give the block back and answer `Worn`;
 //! 3. where it is cached and clean, seal it dirty;
-//! 4. write each sector, to the device that its seal names;
+//! 4. write each extent, to the device that its seal names;
 //! 5. finish: the block's number rises by one;
 //! 6. count a hit or a miss;
 //! 7. give the block back, and answer done.
 //!
 //! After a fault: set the failed bit, keep the block for good, and answer `Io`.
 
-ghost use Rattle.std.specs.Prelude.{◌≡◌, ◌+◌, ◌<◌, ◌^◌, []};
-ghost use Rattle.wb_tasks.specs.Tables.{Writing, sectors_from};
+ghost use Rattle.std.specs.Prelude.{◌≡◌, ◌+◌, ◌<◌, ◌≤◌, ◌^◌, []};
+ghost use Rattle.wb_types.specs.Extents.{pieces};
+ghost use Rattle.wb_tasks.specs.Tables.{Writing, OnBlock};
 ghost use Rattle.wb_tasks.specs.Plan.{Plan, want, after, refused, table, Fits};
 
 use crate::acquire::{self, Seen};
+use crate::cut::split;
 use crate::route::{device_at, route};
 use crate::step::{Answer, DeviceStep, Got, Want};
 use crate::task::Task;
 use std::marker::Model;
-use wb_types::{CBlock, Dev, OBlock, Refusal, Sector};
+use wb_types::{CBlock, Dev, Extent, OBlock, Refusal};
 use wb_words::{Access, CellStep, GripStage, Kind};
 
 /// Where a write stands.
@@ -37,7 +39,7 @@ enum Phase {
     Ended(Answer),
 }
 
-/// A write of some sectors of a block, in rising order, in write-back mode. It owns the block, seals a clean
+/// A write of some sectors of a block, extent by extent, rising, in write-back mode. It owns the block, seals a clean
 /// copy in the cache dirty, writes where the newest copy stands, is finished, counts as a hit where that
 /// is the cache, and gives the block back.
 #[derive(Drop)]
@@ -45,43 +47,43 @@ pub struct WriteTask {
     phase: Phase,
     block_sectors: u32,
     block: OBlock,
-    first: u64,
-    count: u64,
-    /// The next sector to write, and how many are left from it on.
-    at: u64,
-    left: u64,
+    sectors: Extent,
+    /// The sectors that are still to be written.
+    left: Extent,
+    /// How many sectors a step takes at most.
+    longest: u64,
 }
 
 impl Model for WriteTask {
-    ghost use Rattle.std.specs.Prelude.{ℕ, ◌+◌, ◌<◌, ◌^◌};
+    ghost use Rattle.std.specs.Prelude.{◌+◌, ◌<◌, ◌≤◌, ◌^◌};
     ghost use Rattle.wb_tasks.specs.Plan.{Plan};
 
     ghost Value = { Plan };
 
-    ghost use Rattle.wb_tasks.specs.Tables.{sectors_from};
+    ghost use Rattle.wb_types.specs.Extents.{pieces};
     ghost use Rattle.wb_tasks.specs.Phases.{write_left};
 
-    ghost view = { λ t. write_left (record { block_sectors = t.block_sectors; block = t.block; sectors = sectors_from t.first t.count }) t.phase (sectors_from t.at t.left) };
+    ghost view = { λ t. write_left (record { block_sectors = t.block_sectors; block = t.block; extents = pieces t.longest t.sectors }) t.phase (pieces t.longest t.left) };
 
-    ghost invariant = { λ t. (0 < t.block_sectors) × (t.first + t.count < 2 ^ 64) × (t.at + t.left < 2 ^ 64) };
+    ghost invariant = { λ t. (0 < t.block_sectors) × (1 ≤ t.longest) × (t.sectors.first + t.sectors.count < 2 ^ 64) × (t.left.first + t.left.count < 2 ^ 64) };
 }
 
 impl WriteTask {
-    /// A write of `count` sectors from `first` on, which lie in that block of the origin.
-    pub fn new(block_sectors: u32, block: OBlock, first: Sector, count: u64) -> WriteTask
+    /// A write of sectors that lie in that block of the origin. Each of its steps on a device takes at most `longest`
+    /// sectors.
+    pub fn new(block_sectors: u32, block: OBlock, sectors: Extent, longest: u64) -> WriteTask
         requires some { 0 < block_sectors }
-        requires in_range { first.0 + count < 2 ^ 64 }
-        ensures { result ≡ table (Writing (record { block_sectors = block_sectors; block = block; sectors = sectors_from first.0 count })) }
+        requires in_range { sectors.first + sectors.count < 2 ^ 64 }
+        requires longest { 1 ≤ longest }
+        ensures { result ≡ table (OnBlock (Writing (record { block_sectors = block_sectors; block = block; extents = pieces longest sectors }))) }
     {
-        let Sector(first) = first;
         WriteTask {
             phase: Phase::Acquires(GripStage::LookFail),
             block_sectors,
             block,
-            first,
-            count,
-            at: first,
-            left: count,
+            sectors,
+            left: sectors,
+            longest,
         }
     }
 
@@ -92,9 +94,10 @@ impl WriteTask {
         match self.phase {
             Phase::Acquires(stage) => acquire::want(Access::Owned, self.block, stage),
             Phase::Dirties(c) => Want::Cell(CellStep::Seal(self.block, Some(c), true)),
-            Phase::Writes(place) if self.left > 0 => {
-                let (device, at) = route(self.block_sectors, place, self.at);
-                Want::Device(DeviceStep::Write(device, at))
+            Phase::Writes(place) if self.left.count > 0 => {
+                let (first, _) = split(self.left, self.longest);
+                let (device, extent) = route(self.block_sectors, place, first);
+                Want::Device(DeviceStep::Write(device, extent))
             }
             Phase::Writes(_) => Want::Cell(CellStep::Finish(self.block)),
             Phase::Counts(None) => Want::Cell(CellStep::Count(Kind::WriteMiss)),
@@ -111,8 +114,7 @@ impl WriteTask {
         ensures { self.new ≡ after self.old (Got.Word word) }
     {
         if let Phase::Acquires(stage) = self.phase {
-            self.at = self.first;
-            self.left = self.count;
+            self.left = self.sectors;
             match acquire::after_look(Access::Owned, self.block, stage, word) {
                 Seen::Next(next) => self.phase = Phase::Acquires(next),
                 Seen::Holds(Some(c), false) => self.phase = Phase::Dirties(c),
@@ -132,9 +134,9 @@ impl WriteTask {
             // Only the exchange can have been done.
             Phase::Acquires(_) => self.phase = Phase::Acquires(GripStage::LookSeal),
             Phase::Dirties(c) => self.phase = Phase::Writes(Some(c)),
-            Phase::Writes(_) if self.left > 0 => {
-                self.at += 1;
-                self.left -= 1;
+            Phase::Writes(_) if self.left.count > 0 => {
+                let (_, left) = split(self.left, self.longest);
+                self.left = left;
             }
             Phase::Writes(place) => self.phase = Phase::Counts(place),
             Phase::Counts(_) => self.phase = Phase::Releases(Answer::Done),
@@ -156,6 +158,14 @@ impl WriteTask {
         }
     }
 
+    /// What is left after the desk refused; a write asks it for nothing.
+    fn after_refusal(&mut self, refusal: Refusal)
+        requires { Fits (want self.old) (Got.Refused refusal) }
+        ensures { self.new ≡ after self.old (Got.Refused refusal) }
+    {
+        self.phase = Phase::Ended(Answer::Refused(refusal));
+    }
+
     /// Nothing is left but the refusal.
     #[tactic(auto, using(crate::proofs::Views::refused_write))]
     fn refuse(&mut self, refusal: Refusal)
@@ -173,11 +183,9 @@ impl Task for WriteTask {
             Got::Begin => {}
             Got::Word(word) => self.after_look(word),
             Got::Done => self.after_done(),
-            // No step of a write gives a content.
-            Got::Content(_) => self.phase = Phase::Ended(Answer::Done),
             Got::Fault => self.after_fault(),
             Got::Lost => self.refuse(Refusal::Busy),
-            Got::Refused(refusal) => self.refuse(refusal),
+            Got::Refused(refusal) => self.after_refusal(refusal),
         }
         self.want()
     }

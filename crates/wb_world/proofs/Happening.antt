@@ -1,9 +1,9 @@
 -- What an event does to the parts of a world is what the machine says.
-use Rattle.std.proofs.Common.{◌≡◌, ◌≤◌, ℕ, zero, suc, Bool, true, false, List, [], ◌∷◌, ◌++◌, Option, Some, None, refl, sym, ap, subst, ◌∙◌, arith, slice_get, slice_set, slice_index_or, length, length-set, replicate, map, Result, Ok, Err, IfOk}
+use Rattle.std.proofs.Common.{◌≡◌, ◌≤◌, ◌⊎◌, inl, inr, ℕ, zero, suc, Bool, true, false, List, [], ◌∷◌, ◌++◌, Option, Some, None, refl, sym, ap, subst, ◌∙◌, arith, slice_get, slice_set, slice_index_or, length, length-set, replicate, map, Result, Ok, Err, IfOk}
 use Rattle.std.proofs.lemmas.List.{map-append}
 use Rattle.wb_types.specs.declared.refusal.Refusal.{Refusal}
-use Rattle.wb_disk.specs.Device.{History}
-use Rattle.wb_words.specs.SharedWords.{Words}
+use Rattle.wb_disk.specs.Device.{Content as Bytes, History}
+use Rattle.wb_disk.specs.Crash.{Choice, Applies, crashed}
 use Rattle.wb_words.specs.declared.card.Card.{Card}
 use Rattle.wb_words.specs.Cards.{blank_card}
 use Rattle.wb_words.specs.Effects.{card_after}
@@ -12,16 +12,24 @@ use Rattle.wb_tasks.specs.Plan.{Plan, want}
 use Rattle.wb_tasks.specs.declared.step.Want.{Want}
 use Rattle.wb_tasks.specs.declared.step.Want.TheVariants.{Cell, Device, Desk, End}
 use Rattle.wb_tasks.specs.declared.step.Got.{Got}
+use Rattle.wb_tasks.specs.declared.step.Got.TheVariants.{Fault}
 use Rattle.wb_world.specs.declared.member.Member.{Member}
+use Rattle.wb_world.specs.declared.event.Outcome.{Outcome}
 use Rattle.wb_world.specs.declared.job.Job.{Job}
 use Rattle.wb_world.specs.declared.event.Event.{Event}
-use Rattle.wb_world.specs.declared.event.Event.TheVariants.{Start, Step, FaultStep}
+use Rattle.wb_world.specs.declared.event.Event.TheVariants.{Start, Step, FaultStep, Stop}
 use Rattle.wb_world.specs.declared.event.What.{What}
-use Rattle.wb_world.specs.declared.event.What.TheVariants.{Skipped, Refused, Started, Stepped, Stopped}
+use Rattle.wb_world.specs.declared.event.What.TheVariants.{Skipped, Started, Stopped}
 use Rattle.wb_world.specs.declared.event.Record.{Record}
-use Rattle.wb_world.specs.World.{Shape, State, Actor, start, resting, can_fail, failed_or, task_failure, free_outcome, words_then, card_then, task_then, MayBe, May, IsRun, after_what, after_record, after_all}
-use Rattle.wb_world.specs.Life.{Life, actors_of, state_of, IsWhere, Happens, GoesOn}
-use Rattle.wb_world.specs.Performing.{Steps, Falters, IsManned, crew_then, task_given, device_left, device_left_failing, crew_left, task_left}
+use Rattle.wb_world.specs.World.{Shape, State, Actor, Plain, OfSome, IsOnDevice, MayFail, DoesNotApply, lands, start, resting, stepped, device_by, words_then, card_then, task_then, job_refusal, extent_of, MayBe, May, IsRun, after_what, after_happening, after_all, Happening, records_of}
+use Rattle.wb_world.specs.Life.{Life, actors_of, actors_seen, state_of, chosen_for, happening_of, happenings, IsWhere, Happens, GoesOn}
+use Rattle.wb_world.specs.Performing.{Steps, Falters, IsManned, crew_then, started_or, free_outcome, task_given}
+use Rattle.wb_types.proofs.Cutting.{pieces_cut}
+
+-- the records of a trace that is cut into pieces
+pub records_of-happenings : (longest : ℕ) (trace : List Record) → records_of (happenings longest trace) ≡ trace
+records_of-happenings longest [] = refl
+records_of-happenings longest (r ∷ rs) = ap (λ l. r ∷ l) (records_of-happenings longest rs)
 
 -- a list in which an element was set to itself
 pub set_same : {X : Type 0} (xs : List X) (i : ℕ) (x : X) → slice_get xs i ≡ Some x → slice_set xs i x ≡ xs
@@ -29,25 +37,13 @@ set_same [] i x e = refl
 set_same (z ∷ xs) zero x e = let same : z ≡ x = cc in ap (λ v. v ∷ xs) (sym same)
 set_same (z ∷ xs) (suc i) x e = ap (λ vs. z ∷ vs) (set_same xs i x e)
 
--- a step that can fail is none on the words
-no_words : (device : List History) (job : Job) (w next : Want) (got : Got) (c : Bool) → can_fail device job w ≡ c → Stepped next got ≡ failed_or w c → ((words : Words) → words_then words next ≡ words) × ((words : Words) (card : Card) → card_then words card next ≡ card)
-no_words device job w next got false e f = absurd (cc)
-no_words device job (Device step) next got true e f = let same : next ≡ Device step = cc in ((λ words. ap (words_then words) same), (λ words card. ap (card_then words card) same))
-no_words device job (Cell step) next got true e f = absurd (cc)
-no_words device job (Desk step) next got true e f = absurd (cc)
-no_words device job (End answer) next got true e f = absurd (cc)
-
-untouched : (device : List History) (task : Option (Job × Plan)) (next : Want) (got : Got) → Stepped next got ≡ task_failure device task → ((words : Words) → words_then words next ≡ words) × ((words : Words) (card : Card) → card_then words card next ≡ card)
-untouched device None next got f = absurd (cc)
-untouched device (Some doing) next got f = no_words device doing.0 (want doing.1) next got (can_fail device doing.0 (want doing.1)) refl f
-
 -- Actors, as members of the crew and their cards.
 
-nobody : (members : List Member) (cards : List Card) (a : ℕ) → slice_get members a ≡ None → slice_get (actors_of members cards) a ≡ None
-nobody [] cards a e = refl
-nobody (m ∷ ms) [] a e = refl
-nobody (m ∷ ms) (c ∷ cs) zero e = absurd (cc)
-nobody (m ∷ ms) (c ∷ cs) (suc a) e = nobody ms cs a e
+pub absent : (members : List Member) (cards : List Card) (a : ℕ) → slice_get members a ≡ None → slice_get (actors_of members cards) a ≡ None
+absent [] cards a e = refl
+absent (m ∷ ms) [] a e = refl
+absent (m ∷ ms) (c ∷ cs) zero e = absurd (cc)
+absent (m ∷ ms) (c ∷ cs) (suc a) e = absent ms cs a e
 
 abbrev actor_at : Member → List Card → ℕ → Actor
 actor_at m cards a = record { task = m.task; card = slice_index_or cards a blank_card }
@@ -76,45 +72,101 @@ pub all_resting : (k : ℕ) → actors_of (replicate k (record { task = None }))
 all_resting zero = refl
 all_resting (suc k) = ap (λ xs. resting ∷ xs) (all_resting k)
 
--- a member that is not there
-pub nobody_starts : (shape : Shape) (device : List History) (crew : CrewState) (members : List Member) (a : ℕ) (job : Job) → slice_get members a ≡ None → Happens shape (state_of device crew members) (Start a job) Skipped (state_of device crew members)
-nobody_starts shape device crew members a job e = record { may = rw (nobody members crew.cards a e) refl; leads = refl }
+-- An event that doesn't apply.
 
-pub nobody_steps : (shape : Shape) (device : List History) (crew : CrewState) (members : List Member) (a : ℕ) → slice_get members a ≡ None → Happens shape (state_of device crew members) (Step a) Skipped (state_of device crew members)
-nobody_steps shape device crew members a e = record { may = rw (nobody members crew.cards a e) refl; leads = refl }
+pub passes : (shape : Shape) (longest : ℕ) (w : State) (event : Event) (what : What) (read : List Bytes) → DoesNotApply w event → what ≡ Skipped → read ≡ [] → Happens shape longest w event what read w
+passes shape longest w (Start a job) what read d e f = rw (e, f) (record { may = d; leads = refl })
+passes shape longest w (Step a) what read d e f = rw (e, f) (record { may = d; leads = refl })
+passes shape longest w (FaultStep a choice) what read d e f = rw (e, f) (record { may = d; leads = refl })
+passes shape longest w (Stop choice) what read d e f = rw (e, f) (record { may = d; leads = refl })
 
-pub nobody_falters : (shape : Shape) (device : List History) (crew : CrewState) (members : List Member) (a : ℕ) (landed : Bool) → slice_get members a ≡ None → Happens shape (state_of device crew members) (FaultStep a landed) Skipped (state_of device crew members)
-nobody_falters shape device crew members a landed e = record { may = rw (nobody members crew.cards a e) refl; leads = refl }
+-- who is not there, or has nothing to do, is at no work
+nobody_there : (actors : List Actor) (a : ℕ) (P : Actor → Type 0) → slice_get actors a ≡ None → OfSome (slice_get actors a) P → ⊥
+nobody_there actors a P e h = subst (λ (o : Option Actor). OfSome o P) e h
 
-module _ (shape : Shape) (device : List History) (crew : CrewState) (members : List Member) (a : ℕ) (m n : Member) (here : slice_get members a ≡ Some m) (many : length members ≤ length crew.cards) where
-  x : Actor
-  x = actor_at m crew.cards a
+nobody_works : (actors : List Actor) (a : ℕ) (P : Job × Plan → Type 0) → OfSome (slice_get (map (λ (x : Actor). resting) actors) a) (λ (x : Actor). OfSome x.task P) → ⊥
+nobody_works [] a P h = h
+nobody_works (x ∷ xs) zero P h = h
+nobody_works (x ∷ xs) (suc a) P h = nobody_works xs a P h
 
+-- no target stands, or there is no such actor
+abbrev pub IsAway : Bool → List Member → ℕ → Type 0
+IsAway stands members a = (stands ≡ false) ⊎ (slice_get members a ≡ None)
+
+abbrev seen_by : List History → CrewState → List Member → Bool → State
+seen_by device crew members stands = state_of device crew stands members
+
+pub start_passes : (device : List History) (crew : CrewState) (stands : Bool) (members : List Member) (a : ℕ) (job : Job) → IsAway stands members a → DoesNotApply (state_of device crew stands members) (Start a job)
+start_passes device crew stands members a job (inl e) = inr (inr e)
+start_passes device crew true members a job (inr e) = inl (absent members crew.cards a e)
+start_passes device crew false members a job (inr e) = inr (inr refl)
+
+away_works : (device : List History) (crew : CrewState) (stands : Bool) (members : List Member) (a : ℕ) (P : Job × Plan → Type 0) → IsAway stands members a →
+    OfSome (slice_get (state_of device crew stands members).actors a) (λ (x : Actor). OfSome x.task P) → ⊥
+away_works device crew true members a P (inl e) h = absurd (cc)
+away_works device crew true members a P (inr e) h = nobody_there (actors_of members crew.cards) a (λ (x : Actor). OfSome x.task P) (absent members crew.cards a e) h
+away_works device crew false members a P i h = nobody_works (actors_of members crew.cards) a P h
+
+pub step_passes : (device : List History) (crew : CrewState) (stands : Bool) (members : List Member) (a : ℕ) → IsAway stands members a → DoesNotApply (state_of device crew stands members) (Step a)
+step_passes device crew stands members a i = λ h. away_works device crew stands members a _ i h
+
+pub fault_passes : (device : List History) (crew : CrewState) (stands : Bool) (members : List Member) (a : ℕ) (choice : Choice) → IsAway stands members a → DoesNotApply (state_of device crew stands members) (FaultStep a choice)
+fault_passes device crew stands members a choice i = inl (λ h. away_works device crew stands members a _ i h)
+
+-- An actor that is there, while a target stands.
+
+module _ (shape : Shape) (longest : ℕ) (device : List History) (crew : CrewState) (members : List Member) (a : ℕ) (m n : Member) (here : slice_get members a ≡ Some m) (many : length members ≤ length crew.cards) where
   there : slice_get (actors_of members crew.cards) a ≡ Some (actor_at m crew.cards a)
   there = somebody members crew.cards a m here many
 
+  abbrev before : State
+  before = state_of device crew true members
+
   -- nothing changed
-  stays : n.task ≡ m.task → state_of device crew (slice_set members a n) ≡ state_of device crew members
-  stays e = ap (λ xs. record { device = device; words = crew.words; actors = xs }) (set_task members crew.cards a n ∙ ap (λ t. slice_set (actors_of members crew.cards) a (record { task = t; card = slice_index_or crew.cards a blank_card })) e ∙ set_same (actors_of members crew.cards) a (actor_at m crew.cards a) there)
+  stays : n.task ≡ m.task → state_of device crew true (slice_set members a n) ≡ state_of device crew true members
+  stays e = ap (λ xs. record { device = device; words = crew.words; stands = true; actors = xs }) (set_task members crew.cards a n ∙ ap (λ t. slice_set (actors_of members crew.cards) a (record { task = t; card = slice_index_or crew.cards a blank_card })) e ∙ set_same (actors_of members crew.cards) a (actor_at m crew.cards a) there)
+
+  -- it has a task, or not
+  has_task : (doing : Job × Plan) → m.task ≡ Some doing → (P : Job × Plan → Type 0) → P doing → OfSome (slice_get (actors_of members crew.cards) a) (λ (x : Actor). OfSome x.task P)
+  has_task doing e P p = rw (there, e) p
+
+  has_none : m.task ≡ None → (P : Job × Plan → Type 0) → OfSome (slice_get (actors_of members crew.cards) a) (λ (x : Actor). OfSome x.task P) → ⊥
+  has_none e P h = subst (λ (t : Option (Job × Plan)). OfSome t P) e (subst (λ (o : Option Actor). OfSome o (λ (x : Actor). OfSome x.task P)) there h)
+
+  the_task : (doing : Job × Plan) → m.task ≡ Some doing → (P : Job × Plan → Type 0) → OfSome (slice_get (actors_of members crew.cards) a) (λ (x : Actor). OfSome x.task P) → P doing
+  the_task doing e P h = subst (λ (t : Option (Job × Plan)). OfSome t P) e (subst (λ (o : Option Actor). OfSome o (λ (x : Actor). OfSome x.task P)) there h)
 
   -- a start
-  start_leads : (job : Job) (what : What) → n.task ≡ task_given shape m.task job what → state_of device crew (slice_set members a n) ≡ after_what shape (state_of device crew members) (Start a job) what
-  start_leads job Started e = rw there (ap (λ xs. record { device = device; words = crew.words; actors = xs }) (set_task members crew.cards a n ∙ ap (λ t. slice_set (actors_of members crew.cards) a (record { task = t; card = slice_index_or crew.cards a blank_card })) e))
-  start_leads job Skipped e = stays e
-  start_leads job (Refused refusal) e = stays e
-  start_leads job (Stepped next got) e = stays e
-  start_leads job Stopped e = stays e
+  applies : (job : Job) → m.task ≡ None → DoesNotApply (state_of device crew true members) (Start a job) → ⊥
+  applies job e (inl none) = absurd (let some = there in cc)
+  applies job e (inr (inl h)) = has_none e _ h
+  applies job e (inr (inr f)) = absurd (cc)
 
-  pub start_happens : (job : Job) (what : What) → what ≡ free_outcome shape m.task job → n.task ≡ task_given shape m.task job what →
-      Happens shape (state_of device crew members) (Start a job) what (state_of device crew (slice_set members a n))
-  start_happens job what o g = record { may = rw there o; leads = start_leads job what g }
+  given_leads : (job : Job) → n.task ≡ task_given shape longest m.task job Started → state_of device crew true (slice_set members a n) ≡ after_what shape (state_of device crew true members) (Start a job) Started (chosen_for longest (Start a job) Started)
+  given_leads job e = rw there (ap (λ xs. record { device = device; words = crew.words; stands = true; actors = xs }) (set_task members crew.cards a n ∙ ap (λ t. slice_set (actors_of members crew.cards) a (record { task = t; card = slice_index_or crew.cards a blank_card })) e))
+
+  free_starts : (job : Job) (what : What) (read : List Bytes) (o : Option Refusal) → 1 ≤ longest → job_refusal shape (extent_of job) ≡ o → m.task ≡ None → what ≡ started_or o → read ≡ [] → n.task ≡ task_given shape longest m.task job what →
+      Happens shape longest (state_of device crew true members) (Start a job) what read (state_of device crew true (slice_set members a n))
+  free_starts job what read None l r e w f t = rw (w, f) (record { may = (applies job e, (r, pieces_cut longest (extent_of job) l)); leads = given_leads job (t ∙ ap (λ v. task_given shape longest m.task job v) w) })
+  free_starts job what read (Some refusal) l r e w f t = rw (w, f) (record { may = (applies job e, r); leads = stays (t ∙ ap (λ v. task_given shape longest m.task job v) w) })
+
+  pub start_happens : (job : Job) (what : What) (read : List Bytes) → 1 ≤ longest → what ≡ free_outcome shape m.task job → read ≡ [] → n.task ≡ task_given shape longest m.task job what →
+      Happens shape longest (state_of device crew true members) (Start a job) what read (state_of device crew true (slice_set members a n))
+  start_happens job what read l w f t = by_task m.task refl
+    where
+      by_task : (o : Option (Job × Plan)) → m.task ≡ o → Happens shape longest (state_of device crew true members) (Start a job) what read (state_of device crew true (slice_set members a n))
+      by_task None e = free_starts job what read (job_refusal shape (extent_of job)) l refl e (w ∙ ap (λ o. free_outcome shape o job) e) f t
+      by_task (Some doing) e =
+          let skipped : what ≡ Skipped = w ∙ ap (λ o. free_outcome shape o job) e in
+          let same = stays (t ∙ ap (λ v. task_given shape longest m.task job v) skipped) in
+          rw same (passes shape longest (state_of device crew true members) (Start a job) what read (inr (inl (has_task doing e _ tt))) skipped f)
 
   -- where the crew went on by a step
-  went_on : (next : Want) (got : Got) (t : Option (Job × Plan)) → n.task ≡ t → actors_of (slice_set members a n) (crew_then crew a next).cards ≡ slice_set (actors_of members crew.cards) a (record { task = t; card = card_then crew.words (slice_index_or crew.cards a blank_card) next })
-  went_on (Cell step) got t e = set_both members crew.cards a n (card_after crew.words step (slice_index_or crew.cards a blank_card)) ∙ ap (λ v. slice_set (actors_of members crew.cards) a (record { task = v; card = card_after crew.words step (slice_index_or crew.cards a blank_card) })) e
-  went_on (Device step) got t e = set_task members crew.cards a n ∙ ap (λ v. slice_set (actors_of members crew.cards) a (record { task = v; card = slice_index_or crew.cards a blank_card })) e
-  went_on (Desk step) got t e = set_task members crew.cards a n ∙ ap (λ v. slice_set (actors_of members crew.cards) a (record { task = v; card = slice_index_or crew.cards a blank_card })) e
-  went_on (End answer) got t e = set_task members crew.cards a n ∙ ap (λ v. slice_set (actors_of members crew.cards) a (record { task = v; card = slice_index_or crew.cards a blank_card })) e
+  went_on : (next : Want) (t : Option (Job × Plan)) → n.task ≡ t → actors_of (slice_set members a n) (crew_then crew a next).cards ≡ slice_set (actors_of members crew.cards) a (record { task = t; card = card_then crew.words (slice_index_or crew.cards a blank_card) next })
+  went_on (Cell step) t e = set_both members crew.cards a n (card_after crew.words step (slice_index_or crew.cards a blank_card)) ∙ ap (λ v. slice_set (actors_of members crew.cards) a (record { task = v; card = card_after crew.words step (slice_index_or crew.cards a blank_card) })) e
+  went_on (Device step) t e = set_task members crew.cards a n ∙ ap (λ v. slice_set (actors_of members crew.cards) a (record { task = v; card = slice_index_or crew.cards a blank_card })) e
+  went_on (Desk step) t e = set_task members crew.cards a n ∙ ap (λ v. slice_set (actors_of members crew.cards) a (record { task = v; card = slice_index_or crew.cards a blank_card })) e
+  went_on (End answer) t e = set_task members crew.cards a n ∙ ap (λ v. slice_set (actors_of members crew.cards) a (record { task = v; card = slice_index_or crew.cards a blank_card })) e
 
   words_on : (next : Want) → (crew_then crew a next).words ≡ words_then crew.words next
   words_on (Cell step) = refl
@@ -122,107 +174,118 @@ module _ (shape : Shape) (device : List History) (crew : CrewState) (members : L
   words_on (Desk step) = refl
   words_on (End answer) = refl
 
+  -- what a step of a task leads to
+  went_leads : (doing : Job × Plan) (next : Want) (got : Got) (landing : ℕ → Bool) → m.task ≡ Some doing → n.task ≡ task_then (Some doing) next got →
+      state_of (device_by landing device doing.0 next) (crew_then crew a next) true (slice_set members a n) ≡ Rattle.wb_world.specs.World.went landing (state_of device crew true members) a next got
+  went_leads doing next got landing e t = rw (there, e) (λ i. record { device = device_by landing device doing.0 next; words = words_on next i; stands = true; actors = went_on next (task_then (Some doing) next got) t i })
+
   -- a step
-  step_leads : (what : What) → n.task ≡ task_left m.task what → state_of (device_left device m.task what) (crew_left crew a what) (slice_set members a n) ≡ after_what shape (state_of device crew members) (Step a) what
-  step_leads (Stepped next got) e = rw there (λ i. record { device = device_left device m.task (Stepped next got); words = words_on next i; actors = went_on next got (task_then m.task next got) e i })
-  step_leads Skipped e = stays e
-  step_leads (Refused refusal) e = stays e
-  step_leads Started e = stays e
-  step_leads Stopped e = stays e
+  pub step_happens : (what : What) (read : List Bytes) (device' : List History) (crew' : CrewState) → Steps device crew a m.task what read device' crew' n.task →
+      Happens shape longest (state_of device crew true members) (Step a) what read (state_of device' crew' true (slice_set members a n))
+  step_happens what read device' crew' s = by_task m.task refl s
+    where
+      by_task : (o : Option (Job × Plan)) → m.task ≡ o → Steps device crew a o what read device' crew' n.task → Happens shape longest (state_of device crew true members) (Step a) what read (state_of device' crew' true (slice_set members a n))
+      by_task None e s =
+          let same = stays (s.0.task_is ∙ sym e) in
+          rw (s.0.device_is, s.2, same) (passes shape longest (state_of device crew true members) (Step a) what read (λ h. has_none e _ h) s.0.what_is s.1)
+      by_task (Some doing) e s =
+          rw (s.what_is, s.performs.device_is, s.performs.crew_is) (record { may = has_task doing e _ (refl, s.performs.gives); leads = went_leads doing (want doing.1) s.got (λ at. true) e s.task_is })
 
-  pub step_happens : (what : What) (device' : List History) (crew' : CrewState) → Steps device crew a m.task what device' crew' n.task →
-      Happens shape (state_of device crew members) (Step a) what (state_of device' crew' (slice_set members a n))
-  step_happens what device' crew' s = record { may = rw there s.what_is; leads = rw (s.device_is, s.crew_is) (step_leads what s.task_is) }
+  -- a step that fails
+  crew_stays : (next : Want) → IsOnDevice next → crew_then crew a next ≡ crew
+  crew_stays (Device step) o = refl
+  crew_stays (Cell step) o = absurd o
+  crew_stays (Desk step) o = absurd o
+  crew_stays (End answer) o = absurd o
 
-  -- a step that fails, which is none on the words
-  fault_leads : (landed : Bool) (next : Want) (got : Got) → words_then crew.words next ≡ crew.words → card_then crew.words (slice_index_or crew.cards a blank_card) next ≡ slice_index_or crew.cards a blank_card → n.task ≡ task_then m.task next got →
-      state_of (device_left_failing landed device m.task (Stepped next got)) crew (slice_set members a n) ≡ after_what shape (state_of device crew members) (FaultStep a landed) (Stepped next got)
-  fault_leads landed next got words card e = rw there (λ i. record {
-    device = device_left_failing landed device m.task (Stepped next got);
-    words = sym words i;
-    actors = (set_task members crew.cards a n ∙ (λ j. slice_set (actors_of members crew.cards) a (record { task = e j; card = sym card j }))) i;
-  })
+  pub falter_happens : (choice : Choice) (what : What) (read : List Bytes) (device' : List History) → read ≡ [] → Falters choice device m.task what device' n.task →
+      Happens shape longest (state_of device crew true members) (FaultStep a choice) what read (state_of device' crew true (slice_set members a n))
+  falter_happens choice what read device' f s = by_task m.task refl s
+    where
+      why : (doing : Job × Plan) → m.task ≡ Some doing → ((IsOnDevice (want doing.1) → ⊥) ⊎ (MayFail choice (length device) → ⊥)) → DoesNotApply (state_of device crew true members) (FaultStep a choice)
+      why doing e (inl off) = inl (λ h. off (the_task doing e (λ (d : Job × Plan). IsOnDevice (want d.1)) h))
+      why doing e (inr cannot) = inr cannot
 
-  falter_leads : (landed : Bool) (what : What) → what ≡ task_failure device m.task → n.task ≡ task_left m.task what →
-      state_of (device_left_failing landed device m.task what) crew (slice_set members a n) ≡ after_what shape (state_of device crew members) (FaultStep a landed) what
-  falter_leads landed (Stepped next got) f e = let still = untouched device m.task next got f in fault_leads landed next got (still.0 crew.words) (still.1 crew.words (slice_index_or crew.cards a blank_card)) e
-  falter_leads landed Skipped f e = stays e
-  falter_leads landed (Refused refusal) f e = stays e
-  falter_leads landed Started f e = stays e
-  falter_leads landed Stopped f e = stays e
+      by_task : (o : Option (Job × Plan)) → m.task ≡ o → Falters choice device o what device' n.task → Happens shape longest (state_of device crew true members) (FaultStep a choice) what read (state_of device' crew true (slice_set members a n))
+      by_task None e s =
+          let same = stays (s.task_is ∙ sym e) in
+          rw (s.device_is, same) (passes shape longest (state_of device crew true members) (FaultStep a choice) what read (inl (λ h. has_none e _ h)) s.what_is f)
+      by_task (Some doing) e (inl s) =
+          let leads = went_leads doing (want doing.1) Fault (lands choice) e s.task_is in
+          let kept = crew_stays (want doing.1) s.on_device in
+          rw (s.what_is, f, s.device_is) (record {
+            may = (s.may, has_task doing e _ (refl, s.on_device, refl));
+            leads = subst (λ (c : CrewState). state_of (device_by (lands choice) device doing.0 (want doing.1)) c true (slice_set members a n) ≡ Rattle.wb_world.specs.World.went (lands choice) (state_of device crew true members) a (want doing.1) Fault) kept leads;
+          })
+      by_task (Some doing) e (inr s) =
+          let same = stays (s.0.task_is ∙ sym e) in
+          rw (s.0.device_is, same) (passes shape longest (state_of device crew true members) (FaultStep a choice) what read (why doing e s.1) s.0.what_is f)
 
-  pub falter_happens : (landed : Bool) (what : What) (device' : List History) → Falters landed device m.task what device' n.task →
-      Happens shape (state_of device crew members) (FaultStep a landed) what (state_of device' crew (slice_set members a n))
-  falter_happens landed what device' s = record { may = rw there s.what_is; leads = rw s.device_is (falter_leads landed what s.what_is s.task_is) }
+-- A crash.
+
+rest_twice : (actors : List Actor) → map (λ (x : Actor). resting) actors ≡ map (λ (x : Actor). resting) (map (λ (x : Actor). resting) actors)
+rest_twice [] = refl
+rest_twice (x ∷ xs) = ap (λ ys. resting ∷ ys) (rest_twice xs)
+
+rested : (stands : Bool) (actors : List Actor) → actors_seen false actors ≡ map (λ (x : Actor). resting) (actors_seen stands actors)
+rested true actors = refl
+rested false actors = rest_twice actors
+
+pub stop_happens : (shape : Shape) (longest : ℕ) (device device' : List History) (crew : CrewState) (stands : Bool) (members : List Member) (choice : Choice) (what : What) (read : List Bytes) → Applies choice device → device' ≡ crashed choice device → what ≡ Stopped → read ≡ [] →
+    Happens shape longest (state_of device crew stands members) (Stop choice) what read (state_of device' crew false members)
+stop_happens shape longest device device' crew stands members choice what read applies d w f =
+    rw (w, f, d) (record { may = applies; leads = λ i. record { device = crashed choice device; words = crew.words; stands = false; actors = rested stands (actors_of members crew.cards) i } })
 
 -- a run goes on by a record that may come
-pub run_more : (shape : Shape) (w : State) (trace : List Record) (r : Record) → IsRun shape w trace → May shape (after_all shape w trace) r → IsRun shape w (trace ++ r ∷ [])
-run_more shape w [] r run m = (m, tt)
-run_more shape w (q ∷ trace) r run m = (run.0, run_more shape (after_record shape w q) trace r run.1 m)
+pub run_more : (shape : Shape) (w : State) (hs : List Happening) (h : Happening) → IsRun shape w hs → May shape (after_all shape w hs) h → IsRun shape w (hs ++ h ∷ [])
+run_more shape w [] h run m = (m, tt)
+run_more shape w (q ∷ hs) h run m = (run.0, run_more shape (after_happening shape w q) hs h run.1 m)
 
-pub after_more : (shape : Shape) (w : State) (trace : List Record) (r : Record) → after_all shape w (trace ++ r ∷ []) ≡ after_record shape (after_all shape w trace) r
-after_more shape w [] r = refl
-after_more shape w (q ∷ trace) r = after_more shape (after_record shape w q) trace r
+pub after_more : (shape : Shape) (w : State) (hs : List Happening) (h : Happening) → after_all shape w (hs ++ h ∷ []) ≡ after_happening shape (after_all shape w hs) h
+after_more shape w [] h = refl
+after_more shape w (q ∷ hs) h = after_more shape (after_happening shape w q) hs h
 
 -- a life goes on
-pub where_more : (shape : Shape) (trace trace' : List Record) (old new : State) (event : Event) (what : What) →
-    IsWhere (record { shape = shape; trace = trace }) old → Happens shape old event what new → trace' ≡ trace ++ record { event = event; what = what } ∷ [] →
-    IsWhere (record { shape = shape; trace = trace' }) new
-where_more shape trace trace' old new event what i h e =
-    let r : Record = record { event = event; what = what } in
-    rw e (record {
-      run = run_more shape (start shape) trace r i.run (subst (λ (w : State). May shape w r) (sym i.leads) h.may);
-      leads = after_more shape (start shape) trace r ∙ ap (λ w. after_record shape w r) i.leads ∙ sym h.leads;
-    })
-
--- where the step of a member went well, this is what happened
-pub stepped_happens : (shape : Shape) (device : List History) (crew : CrewState) (members : List Member) (event : Event) (a : ℕ) (m n : Member) (r : Result What Refusal) (device' : List History) (crew' : CrewState) → slice_get members a ≡ Some m → length members ≤ length crew.cards → event ≡ Step a →
-    IfOk r (λ what. Steps device crew a m.task what device' crew' n.task) →
-    IfOk r (λ what. Happens shape (state_of device crew members) event what (state_of device' crew' (slice_set members a n)))
-stepped_happens shape device crew members event a m n (Ok what) device' crew' e l f s = rw f (step_happens shape device crew members a m n e l what device' crew' s)
-stepped_happens shape device crew members event a m n (Err refusal) device' crew' e l f s = s
-
-pub faltered_happens : (shape : Shape) (device : List History) (crew crew' : CrewState) (members : List Member) (event : Event) (a : ℕ) (landed : Bool) (m n : Member) (r : Result What Refusal) (device' : List History) → slice_get members a ≡ Some m → length members ≤ length crew.cards → event ≡ FaultStep a landed → crew' ≡ crew →
-    IfOk r (λ what. Falters landed device m.task what device' n.task) →
-    IfOk r (λ what. Happens shape (state_of device crew members) event what (state_of device' crew' (slice_set members a n)))
-faltered_happens shape device crew crew' members event a landed m n (Ok what) device' e l f c s = rw (f, c) (falter_happens shape device crew members a m n e l landed what device' s)
-faltered_happens shape device crew crew' members event a landed m n (Err refusal) device' e l f c s = s
-
--- how many cards there are after a step
-pub cards_stay : (crew : CrewState) (a : ℕ) (what : What) → length (crew_left crew a what).cards ≡ length crew.cards
-cards_stay crew a (Stepped (Cell step) got) = length-set crew.cards a (card_after crew.words step (slice_index_or crew.cards a blank_card))
-cards_stay crew a (Stepped (Device step) got) = refl
-cards_stay crew a (Stepped (Desk step) got) = refl
-cards_stay crew a (Stepped (End answer) got) = refl
-cards_stay crew a Skipped = refl
-cards_stay crew a (Refused refusal) = refl
-cards_stay crew a Started = refl
-cards_stay crew a Stopped = refl
-
-blocks_stay : (crew : CrewState) (a : ℕ) (what : What) → (crew_left crew a what).blocks ≡ crew.blocks
-blocks_stay crew a (Stepped (Cell step) got) = refl
-blocks_stay crew a (Stepped (Device step) got) = refl
-blocks_stay crew a (Stepped (Desk step) got) = refl
-blocks_stay crew a (Stepped (End answer) got) = refl
-blocks_stay crew a Skipped = refl
-blocks_stay crew a (Refused refusal) = refl
-blocks_stay crew a Started = refl
-blocks_stay crew a Stopped = refl
-
-pub manned_on : (shape : Shape) (crew crew' : CrewState) (members : List Member) (a : ℕ) (n : Member) (what : What) → crew' ≡ crew_left crew a what → IsManned shape crew members → IsManned shape crew' (slice_set members a n)
-manned_on shape crew crew' members a n what e m = rw e (record { blocks = blocks_stay crew a what ∙ m.blocks; many = omega (arith, m.many, length-set members a n, cards_stay crew a what) })
+pub where_more : (shape : Shape) (longest : ℕ) (trace trace' : List Record) (old new : State) (r : Record) →
+    IsWhere (record { shape = shape; longest = longest; trace = trace }) old → Happens shape longest old r.event r.what r.read.items new → trace' ≡ trace ++ r ∷ [] →
+    IsWhere (record { shape = shape; longest = longest; trace = trace' }) new
+where_more shape longest trace trace' old new r i h e =
+    let hs = happenings longest trace in
+    let last = happening_of longest r in
+    let more : happenings longest trace' ≡ hs ++ last ∷ [] = ap (λ t. happenings longest t) e ∙ map-append (happening_of longest) trace (r ∷ []) in
+    record {
+      run = subst (λ (l : List Happening). IsRun shape (start shape) l) (sym more) (run_more shape (start shape) hs last i.run (subst (λ (w : State). May shape w last) (sym i.leads) h.may));
+      leads = ap (λ (l : List Happening). after_all shape (start shape) l) more ∙ after_more shape (start shape) hs last ∙ ap (λ w. after_happening shape w last) i.leads ∙ sym h.leads;
+    }
 
 -- a life that went on by a record of this event
-pub goes_on : (old new : Life) (state after : State) (event : Event) (what : What) → IsWhere old state → Happens old.shape state event what after → new ≡ record old { trace = old.trace ++ record { event = event; what = what } ∷ [] } → GoesOn old event new
-goes_on old new state after event what i h e = record {
-  what = record { event = event; what = what };
+pub goes_on : (old new : Life) (state after : State) (r : Record) → IsWhere old state → Happens old.shape old.longest state r.event r.what r.read.items after → new ≡ record old { trace = old.trace ++ r ∷ [] } → GoesOn old r.event new
+goes_on old new state after r i h e = record {
+  what = r;
   of_event = refl;
-  may = subst (λ (w : State). MayBe old.shape w event what) (sym i.leads) h.may;
+  may = subst (λ (w : State). May old.shape w (happening_of old.longest r)) (sym i.leads) h.may;
   trace = e;
 }
+
+-- how many cards there are after a step
+pub manned_then : (shape : Shape) (crew : CrewState) (members : List Member) (a : ℕ) (n : Member) (next : Want) → IsManned shape crew members → IsManned shape (crew_then crew a next) (slice_set members a n)
+manned_then shape crew members a n (Cell step) m = record { blocks = m.blocks; many = omega (arith, m.many, length-set members a n, length-set crew.cards a (card_after crew.words step (slice_index_or crew.cards a blank_card))) }
+manned_then shape crew members a n (Device step) m = record { blocks = m.blocks; many = omega (arith, m.many, length-set members a n) }
+manned_then shape crew members a n (Desk step) m = record { blocks = m.blocks; many = omega (arith, m.many, length-set members a n) }
+manned_then shape crew members a n (End answer) m = record { blocks = m.blocks; many = omega (arith, m.many, length-set members a n) }
+
+manned_same : (shape : Shape) (crew : CrewState) (members : List Member) (a : ℕ) (n : Member) → IsManned shape crew members → IsManned shape crew (slice_set members a n)
+manned_same shape crew members a n m = record { blocks = m.blocks; many = omega (arith, m.many, length-set members a n) }
 
 -- the events of a life that went on
 pub events_more : (old new : Life) (event : Event) → GoesOn old event new → map (λ (r : Record). r.event) new.trace ≡ map (λ (r : Record). r.event) old.trace ++ event ∷ []
 events_more old new event g =
     let name : Record → Event = λ r. r.event in
     ap (λ (l : Life). map name l.trace) g.trace ∙ map-append name old.trace (g.what ∷ []) ∙ ap (λ v. map name old.trace ++ v ∷ []) g.of_event
+
+-- where the step of a member went well, this is what happened
+pub stepped_happens : (shape : Shape) (longest : ℕ) (device : List History) (crew : CrewState) (stands : Bool) (members : List Member) (event : Event) (a : ℕ) (m n : Member) (r : Result Outcome Refusal) (device' : List History) (crew' : CrewState) → slice_get members a ≡ Some m → length members ≤ length crew.cards → stands ≡ true → event ≡ Step a →
+    IfOk r (λ done. Steps device crew a m.task done.what done.read.items device' crew' n.task) →
+    IfOk r (λ done. Happens shape longest (state_of device crew stands members) event done.what done.read.items (state_of device' crew' stands (slice_set members a n)))
+stepped_happens shape longest device crew stands members event a m n (Ok done) device' crew' e l t f s = rw (f, t) (step_happens shape longest device crew members a m n e l done.what done.read.items device' crew' s)
+stepped_happens shape longest device crew stands members event a m n (Err refusal) device' crew' e l t f s = s

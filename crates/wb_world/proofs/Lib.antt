@@ -5,10 +5,12 @@ pub mod Suiting
 pub mod Rule
 pub mod Phases
 pub mod Invariant
+pub mod Blocks
 pub mod Looking
 pub mod Releasing
 pub mod Reading
 pub mod Writing
 pub mod Ending
 pub mod Runs
+pub mod Landing
 pub mod Happening

@@ -1,24 +1,28 @@
 -- What a clerk writes down who sees the records alone: the write history of each sector, which of its entries
 -- are finished, how far a crash may go back, and what each actor has been told to do. No device, no word and
--- no task phase stands in it.
-use Rattle.std.specs.Prelude.{◌+◌, ℕ, List, [], ◌∷◌, ◌++◌, Option, Some, None, replicate, length, slice_get, slice_set, max, unwrap_or}
+-- no task phase stands in it, nor how a job's sectors were cut.
+use Rattle.std.specs.Prelude.{◌+◌, ◌*◌, ◌/◌, ◌%◌, ℕ, suc, List, [], ◌∷◌, ◌++◌, Option, Some, None, map, replicate, length, slice_get, slice_set, max, unwrap_or}
+use Rattle.wb_types.specs.declared.extent.Extent.{Extent}
+use Rattle.wb_types.specs.Extents.{rising}
 use Rattle.wb_disk.specs.Device.{Content as Bytes, History, newest, written}
 use Rattle.wb_disk.specs.Memory.{blank}
 use Rattle.wb_tasks.specs.declared.step.Answer.TheVariants.{Done as Finished}
-use Rattle.wb_tasks.specs.declared.step.DeviceStep.TheVariants.{Read as ReadSector, Write as WriteSector}
+use Rattle.wb_tasks.specs.declared.step.DeviceStep.{DeviceStep}
+use Rattle.wb_tasks.specs.declared.step.DeviceStep.TheVariants.{Read as ReadExtent, Write as WriteExtent}
 use Rattle.wb_tasks.specs.declared.step.Want.{Want}
 use Rattle.wb_tasks.specs.declared.step.Want.TheVariants.{Device, End}
 use Rattle.wb_tasks.specs.declared.step.Got.{Got}
-use Rattle.wb_tasks.specs.declared.step.Got.TheVariants.{Content}
+use Rattle.wb_tasks.specs.declared.step.Got.TheVariants.{Done}
 use Rattle.wb_world.specs.declared.job.Job.{Job}
+use Rattle.wb_world.specs.declared.job.Job.TheVariants.{Read, Write}
 use Rattle.wb_world.specs.declared.event.Event.{Event}
 use Rattle.wb_world.specs.declared.event.Event.TheVariants.{Start, Step, FaultStep, Stop}
 use Rattle.wb_world.specs.declared.event.What.{What}
 use Rattle.wb_world.specs.declared.event.What.TheVariants.{Started, Stepped, Stopped}
 use Rattle.wb_world.specs.declared.event.Record.{Record}
-use Rattle.wb_world.specs.World.{Shape, sector_count, sectors_of, content_of}
+use Rattle.wb_world.specs.World.{Shape, sector_count}
 
--- what one step of a read gave: the sector, its content, and the last entry of the sector's history at that step
+-- what a step of a read gave of one sector: its content, and the last entry of the sector's history at that step
 pub record Reading : Type 0 where
   pub sector : ℕ
   pub content : Bytes
@@ -29,12 +33,12 @@ pub record Position : Type 0 where
   pub sector : ℕ
   pub position : ℕ
 
--- what an actor is at: its job, the sectors still to be moved, in order, what it has read, and what it has entered
+-- what an actor is at: its job, what it has read, what it has entered, and what was finished when it started
 pub record Doing : Type 0 where
   pub job : Job
-  pub left : List ℕ
   pub readings : List Reading
   pub entered : List Position
+  pub then_finished : List ℕ
 
 -- Of each sector the history of what was written to it, the position of its last finished entry, and the position
 -- behind which no crash may go; and what each actor is at.
@@ -53,10 +57,16 @@ opened shape = record {
   doings = replicate shape.actors None;
 }
 
-abbrev pub begun : Job → Doing
-begun job = record { job = job; left = sectors_of job; readings = []; entered = [] }
+abbrev pub begun : Notes → Job → Doing
+begun n job = record { job = job; readings = []; entered = []; then_finished = n.finished }
 
--- A step on a device moves the next sector of its job.
+-- nobody is at anything
+abbrev pub nobody : List (Option Doing) → List (Option Doing)
+nobody doings = map (λ (d : Option Doing). None) doings
+
+-- the first sector of the origin's address range that a step on this extent of a device moves, for a request in one block
+abbrev pub sector_for : Shape → Extent → Extent → ℕ
+sector_for shape request e = request.first / shape.block_sectors * shape.block_sectors + e.first % shape.block_sectors
 
 -- the newest entry, and the position that the next one gets, of a sector's history
 abbrev pub latest_of : Option History → Option Bytes
@@ -67,26 +77,26 @@ abbrev pub next_position : Option History → ℕ
 next_position None = 0
 next_position (Some h) = length h.later + 1
 
--- what a read has read, with one sector more
-abbrev pub read_on : Doing → List ℕ → List History → Bytes → Doing
-read_on doing [] histories content = doing
-read_on doing (sector ∷ left) histories content = record doing {
-  left = left;
-  readings = doing.readings ++ record { sector = sector; content = content; latest = latest_of (slice_get histories sector) } ∷ [];
+-- what a read of the sectors from this one on was given
+abbrev pub readings_from : List History → ℕ → List Bytes → List Reading
+readings_from histories sector [] = []
+readings_from histories sector (c ∷ cs) = record { sector = sector; content = c; latest = latest_of (slice_get histories sector) } ∷ readings_from histories (suc sector) cs
+
+-- the histories, and what a write has entered into them
+pub record Entering : Type 0 where
+  pub histories : List History
+  pub entered : List Position
+
+-- one sector more
+abbrev pub enter : Bytes → ℕ → Entering → Entering
+enter content sector e = record {
+  histories = written e.histories sector content;
+  entered = e.entered ++ record { sector = sector; position = next_position (slice_get e.histories sector) } ∷ [];
 }
 
--- what a write has entered, with one sector more
-abbrev pub write_on : Doing → List ℕ → List History → Doing
-write_on doing [] histories = doing
-write_on doing (sector ∷ left) histories = record doing {
-  left = left;
-  entered = doing.entered ++ record { sector = sector; position = next_position (slice_get histories sector) } ∷ [];
-}
-
--- the histories after a step of a write, which enters its content for the next sector as a device would add it
-abbrev pub entered_by : Job → List ℕ → List History → List History
-entered_by job [] histories = histories
-entered_by job (sector ∷ left) histories = written histories sector (content_of job)
+abbrev pub enter_each : Bytes → List ℕ → Entering → Entering
+enter_each content [] e = e
+enter_each content (sector ∷ sectors) e = enter_each content sectors (enter content sector e)
 
 -- the greater of what was finished of a sector and this position
 abbrev pub raised : List ℕ → Position → List ℕ
@@ -96,33 +106,48 @@ abbrev pub all_raised : List ℕ → List Position → List ℕ
 all_raised finished [] = finished
 all_raised finished (entry ∷ entries) = all_raised (raised finished entry) entries
 
--- A step of an actor that is at something. A write is entered at its step, failing or not; what it entered is
--- finished when it is answered done.
-abbrev pub noted_step : Notes → ℕ → Option (Option Doing) → Want → Got → Notes
-noted_step n a (Some (Some doing)) (Device (ReadSector device at)) (Content content) =
-    record n { doings = slice_set n.doings a (Some (read_on doing doing.left n.histories content)) }
-noted_step n a (Some (Some doing)) (Device (WriteSector device at)) got = record n {
-  histories = entered_by doing.job doing.left n.histories;
-  doings = slice_set n.doings a (Some (write_on doing doing.left n.histories));
-}
-noted_step n a (Some (Some doing)) (End Finished) got = record n {
+-- what an actor is at, from now on
+abbrev pub put : Notes → ℕ → Option Doing → Notes
+put n a doing = record n { doings = slice_set n.doings a doing }
+
+abbrev pub read_note : Notes → ℕ → Doing → ℕ → List Bytes → Notes
+read_note n a doing sector contents = put n a (Some (record doing { readings = doing.readings ++ readings_from n.histories sector contents }))
+
+abbrev pub entering : Notes → Doing → Entering
+entering n doing = record { histories = n.histories; entered = doing.entered }
+
+abbrev pub write_note : Notes → ℕ → Doing → Entering → Notes
+write_note n a doing e = record n { histories = e.histories; doings = slice_set n.doings a (Some (record doing { entered = e.entered })) }
+
+-- A step on a device. A read notes each sector that it was given; a write enters each sector of its extent at that step,
+-- failing or not.
+abbrev pub device_note : Shape → Notes → ℕ → Doing → Job → DeviceStep → Got → List Bytes → Notes
+device_note shape n a doing (Read extent) (ReadExtent device e) Done read = read_note n a doing (sector_for shape extent e) read
+device_note shape n a doing (Write extent content) (WriteExtent device e) got read =
+    write_note n a doing (enter_each content (rising (sector_for shape extent e) e.count) (entering n doing))
+device_note shape n a doing job step got read = n
+
+-- a step of an actor that is at something; what a write entered is finished when it is answered done
+abbrev pub noted_step : Shape → Notes → ℕ → Option (Option Doing) → Want → Got → List Bytes → Notes
+noted_step shape n a (Some (Some doing)) (Device step) got read = device_note shape n a doing doing.job step got read
+noted_step shape n a (Some (Some doing)) (End Finished) got read = record n {
   finished = all_raised n.finished doing.entered;
   doings = slice_set n.doings a None;
 }
-noted_step n a (Some (Some doing)) (End answer) got = record n { doings = slice_set n.doings a None }
-noted_step n a doing next got = n
+noted_step shape n a (Some (Some doing)) (End answer) got read = put n a None
+noted_step shape n a doing next got read = n
 
--- A crash ends what everybody is at, and nobody is left. The histories stay.
-abbrev pub noted_what : Notes → Event → What → Notes
-noted_what n (Start a job) Started = record n { doings = slice_set n.doings a (Some (begun job)) }
-noted_what n (Step a) (Stepped next got) = noted_step n a (slice_get n.doings a) next got
-noted_what n (FaultStep a landed) (Stepped next got) = noted_step n a (slice_get n.doings a) next got
-noted_what n (Stop choice) Stopped = record n { doings = [] }
-noted_what n event what = n
+-- A crash ends what everybody is at. The histories stay.
+abbrev pub noted_what : Shape → Notes → Event → What → List Bytes → Notes
+noted_what shape n (Start a job) Started read = put n a (Some (begun n job))
+noted_what shape n (Step a) (Stepped next got) read = noted_step shape n a (slice_get n.doings a) next got read
+noted_what shape n (FaultStep a choice) (Stepped next got) read = noted_step shape n a (slice_get n.doings a) next got read
+noted_what shape n (Stop choice) Stopped read = record n { doings = nobody n.doings }
+noted_what shape n event what read = n
 
-abbrev pub note : Notes → Record → Notes
-note n r = noted_what n r.event r.what
+abbrev pub note : Shape → Notes → Record → Notes
+note shape n r = noted_what shape n r.event r.what r.read.items
 
-abbrev pub noted : Notes → List Record → Notes
-noted n [] = n
-noted n (r ∷ rs) = noted (note n r) rs
+abbrev pub noted : Shape → Notes → List Record → Notes
+noted shape n [] = n
+noted shape n (r ∷ rs) = noted shape (note shape n r) rs

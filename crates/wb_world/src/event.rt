@@ -3,7 +3,7 @@
 use crate::Job;
 use wb_disk::CrashChoice;
 use wb_tasks::{Got, Want};
-use wb_types::Refusal;
+use wb_types::{Content, Refusal};
 
 /// What is to happen. Actors are counted from 0.
 #[derive(Debug, Drop)]
@@ -12,9 +12,11 @@ pub enum Event {
     Start(usize, Job),
     /// An actor's task does its next step, or answers.
     Step(usize),
-    /// The next step of an actor, a device step, fails; the flag says whether what it writes has landed.
-    FaultStep(usize, bool),
-    /// Power is lost. Each sector keeps the chosen content; actors, words and tasks are gone.
+    /// The next step of an actor, a device step, fails. Of what it writes the choice says sector by sector what has
+    /// landed: a sector that is named with 1 has, one named with 0 has not, and for all others its base says it.
+    FaultStep(usize, CrashChoice),
+    /// Power is lost. Each sector keeps the chosen content; words and tasks are gone, and the actors have nothing to
+    /// do.
     Stop(CrashChoice),
 }
 
@@ -31,9 +33,17 @@ pub enum What {
     Stopped,
 }
 
-/// An event, and what it did.
+/// An event, what it did, and what a step of a read was given: one content a sector, and none of anything else.
 #[derive(Debug, Drop)]
 pub struct Record {
     pub event: Event,
     pub what: What,
+    pub read: Vec<Content>,
+}
+
+/// What an event did, and what it read.
+#[derive(Drop)]
+pub(crate) struct Outcome {
+    pub(crate) what: What,
+    pub(crate) read: Vec<Content>,
 }

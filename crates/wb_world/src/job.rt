@@ -1,13 +1,6 @@
 //! What an actor can be told to do.
 
-use wb_types::{Content, Sector};
-
-/// Sectors of the origin, one after another.
-#[derive(Clone, Copy, Debug, PartialEq, Eq)]
-pub struct Extent {
-    pub first: Sector,
-    pub count: u64,
-}
+use wb_types::{Content, Extent};
 
 /// A task with its arguments.
 #[derive(Clone, Copy, Debug, PartialEq, Eq)]

@@ -6,9 +6,11 @@
 
 mod bench;
 mod event;
+mod failing;
 mod job;
 mod law;
 mod member;
+mod room;
 mod start;
 #[cfg(test)]
 mod tests;
@@ -16,7 +18,7 @@ mod trace;
 mod world;
 
 pub use event::{Event, Record, What};
-pub use job::{Extent, Job};
+pub use job::Job;
 pub use law::headline;
 pub use member::Member;
 pub use trace::Trace;

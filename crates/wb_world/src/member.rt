@@ -1,12 +1,14 @@
 //! A member of the crew: what an actor is at, and its steps.
 
-ghost use Rattle.std.specs.Prelude.{◌≡◌, ◌<◌, length, slice_index_or, IfOk, IfErr, OnErr};
+ghost use Rattle.std.specs.Prelude.{◌≡◌, ◌≤◌, ◌<◌, length, slice_index_or, IfOk, IfErr, OnErr};
 ghost use Rattle.wb_types.specs.declared.refusal.Refusal.TheVariants.{Memory};
 
 use crate::Job;
 use crate::bench::Bench;
-use crate::event::What;
+use crate::event::{Outcome, What};
+use crate::failing::may_fail;
 use crate::start::{refusal_of, task_of};
+use wb_disk::{CrashChoice, Disk};
 use wb_tasks::{Got, RequestTask, Task, Want};
 use wb_types::{Geometry, Refusal};
 
@@ -22,8 +24,7 @@ impl Member {
     ghost use Rattle.wb_words.specs.Cards.{blank_card};
     ghost use Rattle.wb_world.specs.declared.world.TheConstants.{ACTORS};
     ghost use Rattle.wb_world.specs.Life.{shape_of};
-    ghost use Rattle.wb_world.specs.World.{free_outcome};
-    ghost use Rattle.wb_world.specs.Performing.{Steps, Falters, TaskSuits, task_given};
+    ghost use Rattle.wb_world.specs.Performing.{Steps, Falters, TaskSuits, TaskCan, free_outcome, task_given};
 
     /// With nothing to do.
     pub(crate) fn resting() -> Member
@@ -32,10 +33,11 @@ impl Member {
         Member { task: None }
     }
 
-    /// Gets a job, if it has none and the job may be started.
-    pub(crate) fn start(&mut self, geometry: &Geometry, job: &Job) -> What
+    /// Gets a job, if it has none and the job may be started. A step on the device takes at most so many sectors.
+    pub(crate) fn start(&mut self, geometry: &Geometry, longest: u64, job: &Job) -> What
+        requires { 1 ≤ longest }
         ensures what { result ≡ free_outcome (shape_of geometry.now ACTORS) self.old.task job.now }
-        ensures task { self.new.task ≡ task_given (shape_of geometry.now ACTORS) self.old.task job.now result }
+        ensures task { self.new.task ≡ task_given (shape_of geometry.now ACTORS) longest self.old.task job.now result }
     {
         if self.task.is_some() {
             return What::Skipped;
@@ -43,40 +45,47 @@ impl Member {
         match refusal_of(geometry, job) {
             Some(refusal) => What::Refused(refusal),
             None => {
-                self.task = Some((*job, task_of(geometry, job)));
+                self.task = Some((*job, task_of(geometry, longest, job)));
                 What::Started
             }
         }
     }
 
-    /// The next step of its task, as the actor of this number. `Memory` where a write wants more than there is;
-    /// nothing has changed then.
-    pub(crate) fn step(&mut self, number: usize, bench: &mut Bench) -> Result<What, Refusal>
+    /// The next step of its task, as the actor of this number. `Memory` where what is read, or what a write adds,
+    /// wants more than there is; nothing has changed then.
+    pub(crate) fn step(&mut self, number: usize, bench: &mut Bench) -> Result<Outcome, Refusal>
         requires there { number < length bench.old.crew.cards }
         requires suits { TaskSuits bench.old.crew.blocks (slice_index_or bench.old.crew.cards number blank_card) self.old.task }
-        ensures ok { IfOk result (λ what. Steps bench.old.disk.contents bench.old.crew number self.old.task what bench.new.disk.contents bench.new.crew self.new.task) }
+        requires can { TaskCan bench.old.disk.contents self.old.task }
+        ensures ok { IfOk result (λ done. Steps bench.old.disk.contents bench.old.crew number self.old.task done.what done.read.items bench.new.disk.contents bench.new.crew self.new.task) }
         ensures err { OnErr result ((bench.new.disk.contents ≡ bench.old.disk.contents) × (bench.new.crew ≡ bench.old.crew) × (self.new ≡ self.old)) }
         ensures refusal { IfErr result (λ refusal. refusal ≡ Memory) }
     {
         let Some((job, task)) = &mut self.task else {
-            return Ok(What::Skipped);
+            return Ok(bench.skipped());
         };
         let want = task.want();
-        let Some(got) = bench.perform(number, job, want)? else {
-            return Ok(What::Skipped);
-        };
+        let (got, read) = bench.perform(number, job, want)?;
         if let Want::End(_) = want {
             self.task = None;
         } else {
             task.next(got);
         }
-        Ok(What::Stepped(want, got))
+        Ok(Outcome {
+            what: What::Stepped(want, got),
+            read,
+        })
     }
 
-    /// The next step of its task, a step on the device, which fails; what it writes has landed or not. `Memory`
-    /// where what lands wants more than there is; nothing has changed then.
-    pub(crate) fn falter(&mut self, bench: &mut Bench, landed: bool) -> Result<What, Refusal>
-        ensures ok { IfOk result (λ what. Falters landed bench.old.disk.contents self.old.task what bench.new.disk.contents self.new.task) }
+    /// The next step of its task, a step on the device, which fails so. `Memory` where what lands wants more than
+    /// there is; nothing has changed then.
+    pub(crate) fn falter(
+        &mut self,
+        bench: &mut Bench,
+        choice: &CrashChoice,
+    ) -> Result<What, Refusal>
+        requires { TaskCan bench.old.disk.contents self.old.task }
+        ensures ok { IfOk result (λ what. Falters choice.now bench.old.disk.contents self.old.task what bench.new.disk.contents self.new.task) }
         ensures err { OnErr result ((bench.new.disk.contents ≡ bench.old.disk.contents) × (self.new ≡ self.old)) }
         ensures crew { bench.new.crew ≡ bench.old.crew }
         ensures refusal { IfErr result (λ refusal. refusal ≡ Memory) }
@@ -85,9 +94,13 @@ impl Member {
             return Ok(What::Skipped);
         };
         let want = task.want();
-        if !bench.fail(job, want, landed)? {
+        let Want::Device(step) = want else {
+            return Ok(What::Skipped);
+        };
+        if !may_fail(choice, bench.disk.sectors()) {
             return Ok(What::Skipped);
         }
+        bench.fail(job, step, choice)?;
         task.next(Got::Fault);
         Ok(What::Stepped(want, Got::Fault))
     }

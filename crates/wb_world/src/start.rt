@@ -1,14 +1,16 @@
 //! Whether a job may be started, and its task.
 
-ghost use Rattle.std.specs.Prelude.{◌≡◌, None};
+ghost use Rattle.std.specs.Prelude.{◌≡◌, ◌≤◌, None};
+ghost use Rattle.wb_types.specs.Extents.{pieces};
+ghost use Rattle.wb_tasks.specs.Tables.{OnBlock};
 ghost use Rattle.wb_tasks.specs.Plan.{table};
 ghost use Rattle.wb_world.specs.declared.world.TheConstants.{ACTORS};
 ghost use Rattle.wb_world.specs.World.{job_refusal, task_job, extent_of};
 ghost use Rattle.wb_world.specs.Life.{shape_of};
 
-use crate::job::{Extent, Job};
+use crate::job::Job;
 use wb_tasks::{ReadTask, RequestTask, WriteTask};
-use wb_types::{Geometry, OBlock, Refusal, Sector};
+use wb_types::{Geometry, OBlock, Refusal};
 
 /// Why a job is not started: `Range` where it has no sector or one outside the origin, `Crosses` where it lies
 /// in more than one block.
@@ -16,7 +18,7 @@ pub(crate) fn refusal_of(geometry: &Geometry, job: &Job) -> Option<Refusal>
     ensures { result ≡ job_refusal (shape_of geometry.now ACTORS) (extent_of job.now) }
 {
     let extent = job.extent();
-    let Sector(first) = extent.first;
+    let first = extent.first;
     let Some(end) = first.checked_add(extent.count) else {
         return Some(Refusal::Range);
     };
@@ -31,18 +33,20 @@ pub(crate) fn refusal_of(geometry: &Geometry, job: &Job) -> Option<Refusal>
     }
 }
 
-/// The task of a job that may be started.
-pub(crate) fn task_of(geometry: &Geometry, job: &Job) -> RequestTask
-    requires { job_refusal (shape_of geometry.now ACTORS) (extent_of job.now) ≡ None }
-    ensures { result ≡ table (task_job (shape_of geometry.now ACTORS) job.now) }
+/// The task of a job that may be started, of whose steps each takes at most so many sectors.
+pub(crate) fn task_of(geometry: &Geometry, longest: u64, job: &Job) -> RequestTask
+    requires may_start { job_refusal (shape_of geometry.now ACTORS) (extent_of job.now) ≡ None }
+    requires longest { 1 ≤ longest }
+    ensures { result ≡ table (OnBlock (task_job (shape_of geometry.now ACTORS) job.now (pieces longest (extent_of job.now)))) }
 {
-    let Extent { first, count } = job.extent();
-    let Sector(at) = first;
-    let block = OBlock((at / u64::from(geometry.block)) as u32);
+    let extent = job.extent();
+    let block = OBlock((extent.first / u64::from(geometry.block)) as u32);
     match job {
-        Job::Read(_) => RequestTask::reads(ReadTask::new(geometry.block, block, first, count)),
+        Job::Read(_) => {
+            RequestTask::reads(ReadTask::new(geometry.block, block, extent, longest))
+        }
         Job::Write(_, _) => {
-            RequestTask::writes(WriteTask::new(geometry.block, block, first, count))
+            RequestTask::writes(WriteTask::new(geometry.block, block, extent, longest))
         }
     }
 }

@@ -1,6 +1,6 @@
 //! Reads and writes of one client on the origin.
 
-ghost use Rattle.std.specs.Prelude.{◌≡◌, ◌<◌, ◌≤◌, ◌+◌, ◌*◌, IfOk, IfErr, OnOk, OnErr, IsErrOf, replicate};
+ghost use Rattle.std.specs.Prelude.{◌≡◌, ◌<◌, ◌≤◌, ◌+◌, ◌*◌, IfOk, IfErr, OnOk, OnErr, IsErrOf, length, take, min, replicate};
 ghost use Rattle.wb_words.specs.SharedWords.{fresh_words};
 ghost use Rattle.wbcache.specs.Request.{IsInside, AsksInside};
 
@@ -10,7 +10,7 @@ use crate::part::first_part;
 use std::alloc::Global;
 use wb_disk::Disk;
 use wb_target::Owner;
-use wb_types::{Geometry, Refusal, SECTOR_BYTES, Sector};
+use wb_types::{Extent, Geometry, Refusal, SECTOR_BYTES, Sector};
 
 /// Serves one client: each request goes block by block, in rising order, as a task over that block.
 #[derive(Drop)]
@@ -64,12 +64,11 @@ impl<D: Disk + Drop> Engine<D> {
         while first < end {
             let part = first_part(self.geometry.block, first, end);
             self.owner.stage.taker.begin(first, part.count as usize)?;
-            self.owner.read(
-                self.geometry.block,
-                part.block,
-                Sector(part.first),
-                part.count,
-            )?;
+            let sectors = Extent {
+                first: part.first,
+                count: part.count,
+            };
+            self.owner.read(self.geometry.block, part.block, sectors)?;
             self.owner.stage.taker.print(text)?;
             first += part.count;
         }
@@ -79,20 +78,19 @@ impl<D: Disk + Drop> Engine<D> {
     fn write(&mut self, at: Sector, count: u64, fill: u8) -> Result<(), Refusal>
         ensures outside { ¬ IsInside at.0 count (self.old.geometry.block * self.old.geometry.origin_blocks) → IsErrOf result Refusal.Range }
         ensures inside { IsErrOf result Refusal.Range → ¬ IsInside at.0 count (self.old.geometry.block * self.old.geometry.origin_blocks) }
-        ensures content { OnOk result (self.new.owner.stage.content ≡ replicate 512 fill) }
+        ensures contents { OnOk result (take (min count (length self.old.owner.stage.contents.items)) self.new.owner.stage.contents.items ≡ replicate (min count (length self.old.owner.stage.contents.items)) (replicate 512 fill)) }
         ensures geometry { self.new.geometry ≡ self.old.geometry }
     {
         let end = self.end_of(at, count)?;
-        self.owner.stage.content = [fill; SECTOR_BYTES];
+        self.owner.fill(&[fill; SECTOR_BYTES], count);
         let Sector(mut first) = at;
         while first < end {
             let part = first_part(self.geometry.block, first, end);
-            self.owner.write(
-                self.geometry.block,
-                part.block,
-                Sector(part.first),
-                part.count,
-            )?;
+            let sectors = Extent {
+                first: part.first,
+                count: part.count,
+            };
+            self.owner.write(self.geometry.block, part.block, sectors)?;
             first += part.count;
         }
         Ok(())

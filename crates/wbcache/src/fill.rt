@@ -1,7 +1,7 @@
 //! What a user is shown of a sector.
 
 use std::fmt;
-use wb_types::Content;
+use wb_types::{Content, SECTOR_BYTES};
 
 /// What fills a sector. Shown, it is two hexadecimal digits, or `mixed`.
 #[derive(Clone, Copy, Debug, PartialEq, Eq)]
@@ -19,9 +19,9 @@ impl Fill {
     pub fn of(content: &Content) -> Fill
         ensures { Shows result content.now }
     {
-        let first = content[0];
-        if content.iter().all(|byte| *byte == first) {
-            Fill::Uniform(first)
+        // Each byte is the one before it: one comparison of memory.
+        if content[1..] == content[..SECTOR_BYTES - 1] {
+            Fill::Uniform(content[0])
         } else {
             Fill::Mixed
         }

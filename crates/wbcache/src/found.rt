@@ -60,13 +60,15 @@ impl Found {
     }
 }
 
-/// What fills a sector is noted as it is read; one outside the read is passed over.
+/// What fills the sectors of an extent is noted as it is read; one outside the read is passed over.
 impl TakesContent for Found {
     ghost use Rattle.wbcache.specs.Fill.{IsNoted};
 
     ghost took = { IsNoted };
 
-    fn take(&mut self, at: u64, content: &Content) {
-        self.note(at, Fill::of(content));
+    fn take(&mut self, first: u64, contents: &[Content]) {
+        for k in 0..contents.len() {
+            self.note(first + k as u64, Fill::of(&contents[k]));
+        }
     }
 }

@@ -6,7 +6,7 @@ ghost use Rattle.wb_tasks.specs.declared.step.Want.TheVariants.{Cell, Device};
 use super::rows::Row;
 use crate::*;
 use std::alloc::Global;
-use wb_types::{CBlock, Content, Dev, OBlock, Refusal};
+use wb_types::{CBlock, Dev, Extent, OBlock, Refusal};
 use wb_words::{Access, Word, seal_word};
 
 /// The block that the tests are on. It has the origin's sectors 128 to 191.
@@ -32,7 +32,7 @@ pub struct Bench {
     /// What all bytes of each sector are.
     pub origin: [u8; 192],
     pub cache: [u8; 192],
-    /// What the last read gave.
+    /// What the last sector that was read held.
     pub gave: u8,
     pub wants: Vec<Want>,
     /// The device step that fails.
@@ -91,24 +91,28 @@ impl Bench {
             return Got::Fault;
         }
         match step {
-            DeviceStep::Read(device, at) => Got::Content(self.read(device, at)),
-            DeviceStep::Write(device, at) => {
-                if let Some(sector) = self.sectors(device).get_mut(at as usize) {
-                    *sector = 3;
-                }
-                Got::Done
-            }
-            DeviceStep::Sync(_) => Got::Done,
+            DeviceStep::Read(device, extent) => self.read(device, extent),
+            DeviceStep::Write(device, extent) => self.write(device, extent),
+            DeviceStep::Sync(_) => {}
+        }
+        Got::Done
+    }
+
+    fn read(&mut self, device: Dev, extent: Extent) {
+        for at in extent.first..extent.first.saturating_add(extent.count) {
+            self.gave = match self.sectors(device).get(at as usize) {
+                Some(sector) => *sector,
+                None => 0,
+            };
         }
     }
 
-    fn read(&mut self, device: Dev, at: u64) -> Content {
-        let gave = match self.sectors(device).get(at as usize) {
-            Some(sector) => *sector,
-            None => 0,
-        };
-        self.gave = gave;
-        [gave; 512]
+    fn write(&mut self, device: Dev, extent: Extent) {
+        for at in extent.first..extent.first.saturating_add(extent.count) {
+            if let Some(sector) = self.sectors(device).get_mut(at as usize) {
+                *sector = 3;
+            }
+        }
     }
 
     fn sectors(&mut self, device: Dev) -> &mut [u8] {

@@ -2,7 +2,7 @@
 
 use super::bench::BLOCK;
 use crate::*;
-use wb_types::{CBlock, Dev, Refusal};
+use wb_types::{CBlock, Dev, Extent, Refusal};
 use wb_words::{Access, Kind, Word};
 
 /// A read or write of two sectors of the block, from its second on.
@@ -10,6 +10,8 @@ use wb_words::{Access, Kind, Word};
 pub struct Row {
     pub name: &'static str,
     pub writes: bool,
+    /// How many sectors a step takes at most.
+    pub longest: u64,
     /// Whether the block is mapped, to cache block 1, and dirty there.
     pub mapped: Option<bool>,
     /// The device step that fails.
@@ -29,6 +31,7 @@ pub struct Row {
 const FREE: Row = Row {
     name: "",
     writes: false,
+    longest: 1,
     mapped: None,
     fails: None,
     shows: None,
@@ -39,13 +42,44 @@ const FREE: Row = Row {
     words: &[(Word::Cell(BLOCK), 0), (Word::Fail, 0)],
 };
 
+/// The block's second and third sector, on the origin and in cache block 1.
+const SECOND: Extent = Extent {
+    first: 129,
+    count: 1,
+};
+
+const THIRD: Extent = Extent {
+    first: 130,
+    count: 1,
+};
+
+const BOTH: Extent = Extent {
+    first: 129,
+    count: 2,
+};
+
+const CACHED_SECOND: Extent = Extent {
+    first: 65,
+    count: 1,
+};
+
+const CACHED_THIRD: Extent = Extent {
+    first: 66,
+    count: 1,
+};
+
+const CACHED_BOTH: Extent = Extent {
+    first: 65,
+    count: 2,
+};
+
 const LEAVE: Want = Want::Cell(CellStep::Release(Access::Shared, BLOCK));
 
 const DISOWN: Want = Want::Cell(CellStep::Release(Access::Owned, BLOCK));
 
 const FINISH: Want = Want::Cell(CellStep::Finish(BLOCK));
 
-pub const ROWS: [Row; 11] = [
+pub const ROWS: [Row; 14] = [
     Row {
         name: "an unmapped block is read from the origin",
         from: 0,
@@ -55,8 +89,8 @@ pub const ROWS: [Row; 11] = [
             Want::Cell(CellStep::Take(Access::Shared, BLOCK, 0)),
             Want::Cell(CellStep::Look(Word::Seal(BLOCK))),
             Want::Cell(CellStep::Look(Word::Number(BLOCK))),
-            Want::Device(DeviceStep::Read(Dev::Origin, 129)),
-            Want::Device(DeviceStep::Read(Dev::Origin, 130)),
+            Want::Device(DeviceStep::Read(Dev::Origin, SECOND)),
+            Want::Device(DeviceStep::Read(Dev::Origin, THIRD)),
             Want::Cell(CellStep::Count(Kind::ReadMiss)),
             LEAVE,
         ],
@@ -66,8 +100,8 @@ pub const ROWS: [Row; 11] = [
         name: "a mapped block is read from the cache",
         mapped: Some(false),
         wants: &[
-            Want::Device(DeviceStep::Read(Dev::Cache, 65)),
-            Want::Device(DeviceStep::Read(Dev::Cache, 66)),
+            Want::Device(DeviceStep::Read(Dev::Cache, CACHED_SECOND)),
+            Want::Device(DeviceStep::Read(Dev::Cache, CACHED_THIRD)),
             Want::Cell(CellStep::Count(Kind::ReadHit)),
             LEAVE,
         ],
@@ -93,9 +127,9 @@ pub const ROWS: [Row; 11] = [
     },
     Row {
         name: "a fault on a read gives the block back",
-        fails: Some(DeviceStep::Read(Dev::Origin, 129)),
+        fails: Some(DeviceStep::Read(Dev::Origin, SECOND)),
         answer: Answer::Refused(Refusal::Io(Dev::Origin)),
-        wants: &[Want::Device(DeviceStep::Read(Dev::Origin, 129)), LEAVE],
+        wants: &[Want::Device(DeviceStep::Read(Dev::Origin, SECOND)), LEAVE],
         ..FREE
     },
     Row {
@@ -106,8 +140,8 @@ pub const ROWS: [Row; 11] = [
             Want::Cell(CellStep::Take(Access::Owned, BLOCK, 0)),
             Want::Cell(CellStep::Look(Word::Seal(BLOCK))),
             Want::Cell(CellStep::Look(Word::Number(BLOCK))),
-            Want::Device(DeviceStep::Write(Dev::Origin, 129)),
-            Want::Device(DeviceStep::Write(Dev::Origin, 130)),
+            Want::Device(DeviceStep::Write(Dev::Origin, SECOND)),
+            Want::Device(DeviceStep::Write(Dev::Origin, THIRD)),
             FINISH,
             Want::Cell(CellStep::Count(Kind::WriteMiss)),
             DISOWN,
@@ -121,8 +155,8 @@ pub const ROWS: [Row; 11] = [
         mapped: Some(false),
         wants: &[
             Want::Cell(CellStep::Seal(BLOCK, Some(CBlock(1)), true)),
-            Want::Device(DeviceStep::Write(Dev::Cache, 65)),
-            Want::Device(DeviceStep::Write(Dev::Cache, 66)),
+            Want::Device(DeviceStep::Write(Dev::Cache, CACHED_SECOND)),
+            Want::Device(DeviceStep::Write(Dev::Cache, CACHED_THIRD)),
             FINISH,
             Want::Cell(CellStep::Count(Kind::WriteHit)),
             DISOWN,
@@ -135,8 +169,8 @@ pub const ROWS: [Row; 11] = [
         writes: true,
         mapped: Some(true),
         wants: &[
-            Want::Device(DeviceStep::Write(Dev::Cache, 65)),
-            Want::Device(DeviceStep::Write(Dev::Cache, 66)),
+            Want::Device(DeviceStep::Write(Dev::Cache, CACHED_SECOND)),
+            Want::Device(DeviceStep::Write(Dev::Cache, CACHED_THIRD)),
             FINISH,
             Want::Cell(CellStep::Count(Kind::WriteHit)),
             DISOWN,
@@ -165,11 +199,47 @@ pub const ROWS: [Row; 11] = [
     Row {
         name: "a fault on a write keeps the block",
         writes: true,
-        fails: Some(DeviceStep::Write(Dev::Origin, 130)),
+        fails: Some(DeviceStep::Write(Dev::Origin, THIRD)),
         answer: Answer::Refused(Refusal::Io(Dev::Origin)),
         from: 6,
         wants: &[
-            Want::Device(DeviceStep::Write(Dev::Origin, 130)),
+            Want::Device(DeviceStep::Write(Dev::Origin, THIRD)),
+            Want::Cell(CellStep::SetFailed),
+        ],
+        words: &[(Word::Cell(BLOCK), 1), (Word::Fail, 1)],
+        ..FREE
+    },
+    Row {
+        name: "both sectors are read by one step",
+        longest: 2,
+        wants: &[
+            Want::Device(DeviceStep::Read(Dev::Origin, BOTH)),
+            Want::Cell(CellStep::Count(Kind::ReadMiss)),
+            LEAVE,
+        ],
+        ..FREE
+    },
+    Row {
+        name: "both sectors are written by one step",
+        writes: true,
+        mapped: Some(true),
+        longest: 256,
+        wants: &[
+            Want::Device(DeviceStep::Write(Dev::Cache, CACHED_BOTH)),
+            FINISH,
+            Want::Cell(CellStep::Count(Kind::WriteHit)),
+            DISOWN,
+        ],
+        ..FREE
+    },
+    Row {
+        name: "a fault on one step for both keeps the block",
+        writes: true,
+        longest: 2,
+        fails: Some(DeviceStep::Write(Dev::Origin, BOTH)),
+        answer: Answer::Refused(Refusal::Io(Dev::Origin)),
+        wants: &[
+            Want::Device(DeviceStep::Write(Dev::Origin, BOTH)),
             Want::Cell(CellStep::SetFailed),
         ],
         words: &[(Word::Cell(BLOCK), 1), (Word::Fail, 1)],

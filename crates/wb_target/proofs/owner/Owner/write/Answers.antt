@@ -11,10 +11,10 @@ returns-clause-blocks g c =
     let run = c.drive.ensures.run in
     Leads-kept _ (λ stage. stage.origin_blocks) (λ s w got t h. h.2) c.args.self.now.stage run.0 c.drive.new.stage run.3
 
-pub returns-clause-content : goal.returns-clause-content
-returns-clause-content g c =
+pub returns-clause-contents : goal.returns-clause-contents
+returns-clause-contents g c =
     let run = c.drive.ensures.run in
-    Leads-kept _ (λ stage. stage.content) (λ s w got t h. h.0) c.args.self.now.stage run.0 c.drive.new.stage run.3
+    Leads-kept _ (λ stage. stage.contents) (λ s w got t h. h.0) c.args.self.now.stage run.0 c.drive.new.stage run.3
 
 pub drive-requires : goal.drive-requires
 drive-requires g c steps mid first leads step =

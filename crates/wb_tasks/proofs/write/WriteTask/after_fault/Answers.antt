@@ -1,5 +1,6 @@
 use Rattle.std.proofs.Common.{◌∙◌, sym, ap}
-use Rattle.wb_tasks.specs.Tables.{BlockRange, sectors_from}
+use Rattle.wb_types.specs.Extents.{pieces}
+use Rattle.wb_tasks.specs.Tables.{BlockRange}
 use Rattle.wb_tasks.specs.Phases.{write_left}
 use Rattle.wb_tasks.specs.declared.step.Got.TheVariants.{Fault}
 use Rattle.wb_tasks.proofs.Views.{by_view}
@@ -9,6 +10,6 @@ use Rattle.wb_tasks.proofs.write.WriteTask.after_fault.Goals as goal
 pub returns-in-Writes : goal.returns-in-Writes
 returns-in-Writes c =
     let t = c.self.inside in
-    let part : BlockRange = record { block_sectors = t.block_sectors; block = t.block; sectors = sectors_from t.first t.count } in
-    let sectors = sectors_from t.at t.left in
-    by_view _ _ _ Fault (ap (λ p. write_left part p sectors) (sym c.in-Writes.is) ∙ c.self.view_is) c.requires (rw c.device_at.ensures (after_failed_write part c.in-Writes.place sectors))
+    let part : BlockRange = record { block_sectors = t.block_sectors; block = t.block; extents = pieces t.longest t.sectors } in
+    let extents = pieces t.longest t.left in
+    by_view _ _ _ Fault (ap (λ p. write_left part p extents) (sym c.in-Writes.is) ∙ c.self.view_is) c.requires (rw c.device_at.ensures (after_failed_write part c.in-Writes.place extents))

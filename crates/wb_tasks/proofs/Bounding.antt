@@ -1,0 +1,17 @@
+-- A read or write takes no more steps than its sectors allow, however they are cut.
+use Rattle.std.proofs.Common.{◌+◌, ◌*◌, ◌≤◌, length, arith}
+use Rattle.wb_types.specs.declared.extent.Extent.{Extent}
+use Rattle.wb_types.specs.Extents.{IsCutInto}
+use Rattle.wb_types.proofs.Cutting.{cut_short}
+use Rattle.wb_tasks.specs.Tables.{BlockJob, Reading, Writing, OnBlock, range_of}
+use Rattle.wb_tasks.specs.Plan.{table}
+use Rattle.wb_tasks.specs.Length.{longest}
+
+-- by the number of extents
+pub longest_is : (job : BlockJob) → longest (table (OnBlock job)) ≤ 2 * length (range_of job).extents + 11
+longest_is (Reading part) = omega arith
+longest_is (Writing part) = omega arith
+
+-- and by that of sectors
+pub longest_cut : (job : BlockJob) (whole : Extent) → IsCutInto whole (range_of job).extents → longest (table (OnBlock job)) ≤ 2 * whole.count + 11
+longest_cut job whole i = let few = cut_short whole (range_of job).extents i in let most = longest_is job in omega (arith, few, most)
