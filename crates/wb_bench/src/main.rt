@@ -35,7 +35,7 @@ use std::process::ExitCode;
 use wb_disk::{Disk, FileDisk};
 use wb_streams::hold_streams;
 use wb_target::Owner;
-use wb_types::{OBlock, Refusal, SECTOR_BYTES, Sector};
+use wb_types::{Extent, OBlock, Refusal, SECTOR_BYTES};
 
 /// Sectors of a block.
 const BLOCK: u32 = 64;
@@ -150,14 +150,17 @@ fn drive_all(asked: &Requests<'_>, blocks: u64, owner: &mut Owner<FileDisk, Unno
     requires few { blocks ≤ 1048576 }
     requires one_block { asked.now.sectors ≤ 64 }
 {
-    owner.stage.content = [0x5a; SECTOR_BYTES];
+    owner.fill(&[0x5a; SECTOR_BYTES], asked.sectors);
     for number in 0..asked.requests {
         let block = number % blocks;
-        let first = Sector(block * u64::from(BLOCK));
+        let sectors = Extent {
+            first: block * u64::from(BLOCK),
+            count: asked.sectors,
+        };
         let block = OBlock(block as u32);
         let answer = match asked.direction {
-            Direction::Read => owner.read(BLOCK, block, first, asked.sectors),
-            Direction::Write => owner.write(BLOCK, block, first, asked.sectors),
+            Direction::Read => owner.read(BLOCK, block, sectors),
+            Direction::Write => owner.write(BLOCK, block, sectors),
         };
         answer.ok()?;
     }

@@ -8,7 +8,7 @@ use wb_types::Content;
 pub struct Unnoted;
 
 impl TakesContent for Unnoted {
-    ghost took = { λ old at content new. Unit {0} };
+    ghost took = { λ old first contents new. Unit {0} };
 
-    fn take(&mut self, _at: u64, _content: &Content) {}
+    fn take(&mut self, _first: u64, _contents: &[Content]) {}
 }

@@ -1,8 +1,8 @@
 //! What happens line by line, and what the last event of each line did.
 
-use crate::{Extent, Job, What};
+use crate::{Job, What};
 use wb_tasks::{Answer, CellStep, DeviceStep, Got, Want};
-use wb_types::{Dev, OBlock, Refusal, Sector};
+use wb_types::{Dev, Extent, OBlock, Refusal};
 use wb_words::{Access, Kind, Word};
 
 /// What is to happen.
@@ -27,6 +27,12 @@ const B0: OBlock = OBlock(0);
 
 const B1: OBlock = OBlock(1);
 
+const SECTOR_0: Extent = Extent { first: 0, count: 1 };
+
+const SECTOR_1: Extent = Extent { first: 1, count: 1 };
+
+const SECTOR_65: Extent = Extent { first: 65, count: 1 };
+
 const DONE: What = What::Stepped(Want::End(Answer::Done), Got::Done);
 
 const BUSY: What = What::Stepped(Want::End(Answer::Refused(Refusal::Busy)), Got::Done);
@@ -38,9 +44,9 @@ const IO: What = What::Stepped(
     Got::Done,
 );
 
-const FAULT: What = What::Stepped(Want::Device(DeviceStep::Write(Dev::Origin, 0)), Got::Fault);
+const FAULT: What = What::Stepped(Want::Device(DeviceStep::Write(Dev::Origin, SECTOR_0)), Got::Fault);
 
-const READ_FAULT: What = What::Stepped(Want::Device(DeviceStep::Read(Dev::Origin, 0)), Got::Fault);
+const READ_FAULT: What = What::Stepped(Want::Device(DeviceStep::Read(Dev::Origin, SECTOR_0)), Got::Fault);
 
 const KNOWN: What = What::Stepped(Want::Cell(CellStep::Look(Word::Number(B0))), Got::Word(0));
 
@@ -50,18 +56,18 @@ const FREE: What = What::Stepped(Want::Cell(CellStep::Look(Word::Cell(B0))), Got
 
 /// Jobs over the first sector, the second, one of the next block, and two.
 const FIRST: Job = Job::Read(Extent {
-    first: Sector(0),
+    first: 0,
     count: 1,
 });
 
 const SECOND: Job = Job::Read(Extent {
-    first: Sector(1),
+    first: 1,
     count: 1,
 });
 
 const WRITE_FIRST: Job = Job::Write(
     Extent {
-        first: Sector(0),
+        first: 0,
         count: 1,
     },
     [0x11; 512],
@@ -69,7 +75,7 @@ const WRITE_FIRST: Job = Job::Write(
 
 const WRITE_AGAIN: Job = Job::Write(
     Extent {
-        first: Sector(0),
+        first: 0,
         count: 1,
     },
     [0x22; 512],
@@ -77,7 +83,7 @@ const WRITE_AGAIN: Job = Job::Write(
 
 const WRITE_TWO: Job = Job::Write(
     Extent {
-        first: Sector(0),
+        first: 0,
         count: 2,
     },
     [0x11; 512],
@@ -85,7 +91,7 @@ const WRITE_TWO: Job = Job::Write(
 
 const WRITE_NEXT: Job = Job::Write(
     Extent {
-        first: Sector(65),
+        first: 65,
         count: 1,
     },
     [0x22; 512],
@@ -118,7 +124,7 @@ pub const ROWS: [Row; 9] = [
             ),
             (
                 Line::Steps(0, 1),
-                What::Stepped(Want::Device(DeviceStep::Write(Dev::Origin, 65)), Got::Done),
+                What::Stepped(Want::Device(DeviceStep::Write(Dev::Origin, SECTOR_65)), Got::Done),
             ),
             (
                 Line::Steps(0, 1),
@@ -144,8 +150,8 @@ pub const ROWS: [Row; 9] = [
             (
                 Line::Steps(1, 6),
                 What::Stepped(
-                    Want::Device(DeviceStep::Read(Dev::Origin, 1)),
-                    Got::Content([0x11; 512]),
+                    Want::Device(DeviceStep::Read(Dev::Origin, SECTOR_1)),
+                    Got::Done,
                 ),
             ),
             (Line::Steps(1, 3), DONE),
@@ -193,7 +199,7 @@ pub const ROWS: [Row; 9] = [
                 Line::Start(
                     0,
                     Job::Read(Extent {
-                        first: Sector(0),
+                        first: 0,
                         count: 0,
                     }),
                 ),
@@ -203,7 +209,7 @@ pub const ROWS: [Row; 9] = [
                 Line::Start(
                     0,
                     Job::Read(Extent {
-                        first: Sector(640),
+                        first: 640,
                         count: 1,
                     }),
                 ),
@@ -213,7 +219,7 @@ pub const ROWS: [Row; 9] = [
                 Line::Start(
                     0,
                     Job::Read(Extent {
-                        first: Sector(639),
+                        first: 639,
                         count: 2,
                     }),
                 ),
@@ -223,7 +229,7 @@ pub const ROWS: [Row; 9] = [
                 Line::Start(
                     0,
                     Job::Read(Extent {
-                        first: Sector(18_446_744_073_709_551_615),
+                        first: 18_446_744_073_709_551_615,
                         count: 2,
                     }),
                 ),
@@ -233,7 +239,7 @@ pub const ROWS: [Row; 9] = [
                 Line::Start(
                     0,
                     Job::Read(Extent {
-                        first: Sector(63),
+                        first: 63,
                         count: 2,
                     }),
                 ),
@@ -244,7 +250,7 @@ pub const ROWS: [Row; 9] = [
                 Line::Start(
                     0,
                     Job::Read(Extent {
-                        first: Sector(639),
+                        first: 639,
                         count: 1,
                     }),
                 ),
