@@ -7,5 +7,5 @@ pub mod Loading
 pub mod Fields
 pub mod Loaded
 pub mod Planning
-pub mod Boxes
-pub mod BoxesFall
+pub mod Branches
+pub mod BranchLevels

@@ -2,7 +2,7 @@
 
 ghost use Rattle.std.specs.Prelude.{◌≡◌, [], false, ◌≤◌, ◌<◌, ◌+◌, ◌-◌, ◌*◌, ◌/◌, ◌%◌, ◌^◌, ℕ, Some, None, is_some, true, IfOk, OnOk, OnErr, slice_index_or, replicate};
 ghost use Rattle.std.specs.List.{list_any};
-ghost use Rattle.wb_tree.specs.Boxes.{rewritten, sole_branch};
+ghost use Rattle.wb_tree.specs.Branches.{rewritten, sole_branch};
 
 use std::alloc::{AllocError, Allocator};
 use std::marker::Model;
@@ -24,11 +24,11 @@ pub(crate) struct Node<A: Allocator> {
 }
 
 impl<A: Allocator> Model for Node<A> {
-    ghost use Rattle.wb_tree.specs.Boxes.{Branch};
+    ghost use Rattle.wb_tree.specs.Branches.{Branch};
 
     ghost Value = { Branch };
 
-    ghost use Rattle.wb_tree.specs.Boxes.{branch_of, IsNode};
+    ghost use Rattle.wb_tree.specs.Branches.{branch_of, IsNode};
 
     ghost view = { λ n. branch_of n.level n.index n.place n.words n.kids.items };
 
@@ -37,7 +37,7 @@ impl<A: Allocator> Model for Node<A> {
     ghost size = { λ b. b.level };
 
 
-    ghost use Rattle.wb_tree.specs.BoxesFall.{deep_level};
+    ghost use Rattle.wb_tree.specs.BranchLevels.{deep_level};
 
     ghost size_decreases = { λ n h. deep_level A.Allocator n h };
 }
@@ -60,7 +60,7 @@ impl<A: Allocator> Node<A> {
 
     /// Gives the cache block at this offset an entry; the node and those on the way to the block are then no longer
     /// known. Where a box that is missing cannot be had, the node is as it was.
-    #[tactic(auto, using(crate::proofs::Boxes::Branches::index_small, crate::proofs::Boxes::Branches::kid_index))]
+    #[tactic(auto, using(crate::proofs::Branching::Branches::index_small, crate::proofs::Branching::Branches::kid_index))]
     pub(crate) fn set(&mut self, alloc: &A, offset: u32, entry: Entry) -> Result<(), AllocError>
     where
         A: Clone,
@@ -121,7 +121,7 @@ impl<A: Allocator> Node<A> {
     }
 
     /// A node of this level and index, of which one cache block has an entry; and all boxes below it.
-    #[tactic(auto, using(crate::proofs::Boxes::Branches::index_small, crate::proofs::Boxes::Branches::kid_index))]
+    #[tactic(auto, using(crate::proofs::Branching::Branches::index_small, crate::proofs::Branching::Branches::kid_index))]
     fn new(
         alloc: &A,
         level: u32,
@@ -201,7 +201,7 @@ fn has_some<T>(slots: &[Option<T>]) -> bool
 }
 
 /// The word of a node of this level that the cache block at this offset is at or below.
-#[tactic(auto, using(crate::proofs::Boxes::Branches::word_below))]
+#[tactic(auto, using(crate::proofs::Branching::Branches::word_below))]
 fn word_of(level: u32, offset: u32) -> usize
     requires from { 1 ≤ level }
     requires to { level ≤ 4 }
@@ -213,7 +213,7 @@ fn word_of(level: u32, offset: u32) -> usize
 }
 
 /// The offset of the cache block from the first one at or below that word.
-#[tactic(auto, using(crate::proofs::Boxes::Branches::rest_below))]
+#[tactic(auto, using(crate::proofs::Branching::Branches::rest_below))]
 fn rest_of(level: u32, offset: u32) -> u32
     requires from { 1 ≤ level }
     requires to { level ≤ 4 }

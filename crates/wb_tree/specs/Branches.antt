@@ -4,7 +4,6 @@ use Rattle.std.specs.List.{list_any, flat_map, AllByRecursion}
 use Rattle.wb_types.specs.declared.entry.Entry.{Entry}
 use Rattle.wb_types.specs.declared.number.Place.{Place}
 use Rattle.wb_tree.specs.declared.placed.PlacedNode.{PlacedNode}
-use Rattle.wb_types.specs.Limits.{depth_of}
 use Rattle.wb_tree.specs.Mapping.{Mapping, IsSound}
 
 -- a node by its level and its index in that level, the entries of the 32 ^ level cache blocks below it, and the known
@@ -107,7 +106,9 @@ boxes_of cache_blocks depth root = record { entries = take cache_blocks (entries
 -- what holds of the fields of a tree of boxes
 pub record AreBoxes {A : Type 0} (cache_blocks depth : ℕ) (root : Option (Box Branch A)) : Type 0 where
   pub few : cache_blocks ≤ 1048576
-  pub depth_is : depth ≡ depth_of cache_blocks
+  pub from : 1 ≤ depth
+  pub to : depth ≤ 4
+  pub enough : cache_blocks ≤ 32 ^ depth
   pub top : IsSlot depth 0 root
   pub sound : IsSound (boxes_of cache_blocks depth root)
   -- no entry lies past the last cache block

@@ -6,7 +6,7 @@ use denote.Param.Weighed.{most}
 use Rattle.wb_tree.specs.declared.boxes.node.Node.TheInside.{Inside}
 use Rattle.wb_tree.specs.declared.boxes.node.Node.TheDeep.{deep-Node}
 use Rattle.wb_tree.specs.declared.boxes.node.Node.TheShapes.{weighed-Node-kids, weighed-Node-kids-at-2}
-use Rattle.wb_tree.specs.Boxes.{Branch, IsNode, IsSlot}
+use Rattle.wb_tree.specs.Branches.{Branch, IsNode, IsSlot}
 
 slot_level : {A : Type 0} (μ : Option (Box Branch A) → ℕ) → μ None ≡ 0 → ((kid : Box Branch A) → μ (Some kid) ≡ kid.value.level + 1)
     → (o : Option (Box Branch A)) (level index : ℕ) → 1 ≤ level → IsSlot (level - 1) index o → μ o ≤ level

@@ -11,7 +11,7 @@ use Rattle.wb_types.proofs.Truth.{yes}
 use Rattle.wb_types.specs.declared.entry.Entry.{Entry}
 use Rattle.wb_types.specs.declared.number.Place.{Place}
 use Rattle.wb_tree.specs.declared.placed.PlacedNode.{PlacedNode}
-use Rattle.wb_tree.specs.Boxes.{Branch, IsBranch, IsKid, IsNode, IsSlot, IsUnder, branch_of, entries_below, entries_in, forget, known_below, known_in, placed_here, rewritten, sole_branch}
+use Rattle.wb_tree.specs.Branches.{Branch, IsBranch, IsKid, IsNode, IsSlot, IsUnder, branch_of, entries_below, entries_in, forget, known_below, known_in, placed_here, rewritten, sole_branch}
 
 -- what stands at the words of a node whose first child has this index
 abbrev pub AreSlots : {A : Type 0} → ℕ → ℕ → List (Option (Box Branch A)) → Type 0
