@@ -1,5 +1,5 @@
 -- What a box of the tree holds: a node, and all nodes below it.
-use Rattle.std.specs.Prelude.{◌≡◌, ◌≤◌, ◌+◌, ◌-◌, ◌*◌, ◌/◌, ◌^◌, ◌&&◌, ◌==◌, ℕ, Bool, true, Option, Some, None, is_some, if◌then◌else◌, Box, List, [], ◌∷◌, ◌++◌, length, replicate, slice_index_or, slice_set, take, drop}
+use Rattle.std.specs.Prelude.{◌≡◌, ◌≤◌, ◌+◌, ◌-◌, ◌*◌, ◌/◌, ◌^◌, ◌==◌, ℕ, true, Option, Some, None, is_some, if◌then◌else◌, Box, List, [], ◌∷◌, ◌++◌, length, replicate, slice_index_or, slice_set, take, drop}
 use Rattle.std.specs.List.{list_any, flat_map, AllByRecursion}
 use Rattle.wb_types.specs.declared.entry.Entry.{Entry}
 use Rattle.wb_types.specs.declared.number.Place.{Place}

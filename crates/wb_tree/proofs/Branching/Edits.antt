@@ -1,6 +1,6 @@
 -- What a change of one entry leaves of a tree of boxes: the nodes above the cache block are no longer known, the others
 -- stay.
-use Rattle.std.proofs.Common.{◌≡◌, ◌≢◌, ◌≤◌, ◌<◌, ◌+◌, ◌-◌, ◌*◌, ◌/◌, ◌^◌, ◌&&◌, ◌==◌, ◌∙◌, sym, ap, subst, refl, ℕ, zero, suc, Bool, true, false, cond, Option, Some, None, Box, List, [], ◌∷◌, length, replicate, take, drop, get_or, set, arith, add-one, inl, inr}
+use Rattle.std.proofs.Common.{◌≡◌, ◌≤◌, ◌<◌, ◌+◌, ◌-◌, ◌*◌, ◌/◌, ◌^◌, ◌&&◌, ◌==◌, ◌∙◌, sym, ap, subst, refl, ℕ, zero, suc, true, false, Option, Some, None, Box, List, [], ◌∷◌, length, replicate, take, drop, get_or, set, arith, add-one, inl, inr}
 use Rattle.std.specs.Prelude.{IsSome, is_some, slice_set}
 use Rattle.std.specs.List.{list_any}
 use Rattle.std.proofs.lemmas.Bool.{cases_eq, cases_Bool, eqb-true}
@@ -8,15 +8,16 @@ use Rattle.std.proofs.lemmas.List.{length-set, length-take, drop-set-lt, set-get
 use Rattle.wb_types.specs.Limits.{depth_of}
 use Rattle.wb_types.specs.declared.entry.Entry.{Entry}
 use Rattle.wb_types.specs.declared.number.Place.{Place}
-use Rattle.wb_types.proofs.Truth.{and_true, yes}
+use Rattle.wb_types.proofs.Truth.{yes}
 use Rattle.wb_tree.specs.declared.placed.PlacedNode.{PlacedNode}
-use Rattle.wb_tree.specs.Mapping.{Mapping, Forgets, IsOnPath, IsSound, exists, place_in, place_of}
+use Rattle.wb_tree.specs.Mapping.{Mapping, Forgets, IsOnPath, IsSound, place_in, place_of}
 use Rattle.wb_tree.specs.Edits.{IsEdited}
 use Rattle.wb_tree.specs.Branches.{AreBoxes, Branch, IsSlot, boxes_of, entries_in, forget, known_in, rewritten, sole_branch}
 use Rattle.wb_tree.proofs.Reading.Grown.{up_block}
 use Rattle.wb_tree.proofs.Nodes.Knowing.{none_or_some, same_names}
 use Rattle.wb_tree.proofs.Stored.Edited.{edited-once, exists-set}
-use Rattle.wb_tree.proofs.Branching.Branches.{all_none, any_set, length_in, slot_rewritten, slot_sole}
+use Rattle.wb_tree.proofs.Branching.Branches.{slot_rewritten, slot_sole}
+use Rattle.wb_tree.proofs.Branching.Slots.{all_none, any_set, length_in}
 
 -- ---- places
 
@@ -133,6 +134,7 @@ next_new depth new block entry from to less e = record {
   known = ap (λ (b : Branch). b.known) e;
   top = slot_sole depth 0 block entry new from to (first_fits depth from to) less e;
 }
+
 pub next_gone : {A : Type 0} (depth : ℕ) (kid : Box Branch A) (b : Branch) (block : ℕ) → IsSlot depth 0 (Some kid) → b ≡ rewritten kid.value block None → list_any is_some b.entries ≡ false → b.known ≡ [] → IsNext depth (Some kid) block None None
 next_gone depth kid b block slot e empty unknown = record {
   entries =

@@ -36,7 +36,6 @@ impl<A: Allocator> Model for Node<A> {
 
     ghost size = { λ b. b.level };
 
-
     ghost use Rattle.wb_tree.specs.BranchLevels.{deep_level};
 
     ghost size_decreases = { λ n h. deep_level A.Allocator n h };

@@ -97,7 +97,10 @@ fn a_refused_set_leaves_what_was_set_before(rt: HostRuntime) -> Result<(), Fail>
     for (bytes, at_least, at_most) in [(64, 0, 0), (1 << 20, 40, 40)] {
         let heap = LocalHeap::new(rt.alloc(), bytes)?;
         let (count, right) = fill(&heap);
-        assert!(rt; right && at_least <= count && count <= at_most, "{bytes} {count}");
+        assert!(rt;
+            right && at_least <= count && count <= at_most,
+            "{bytes} {count}"
+        );
         assert_eq!(rt; heap.used(), 0);
     }
     for step in 1..33 {

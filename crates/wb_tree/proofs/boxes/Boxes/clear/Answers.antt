@@ -1,4 +1,4 @@
-use Rattle.std.proofs.Common.{◌≡◌, ◌∙◌, Option, Some, None, ap, sym, subst}
+use Rattle.std.proofs.Common.{◌∙◌, Some, None, ap, sym, subst}
 use Rattle.std.specs.Box.{with_value}
 use Rattle.wb_tree.specs.Branches.{AreBoxes, IsSlot, boxes_of, rewritten}
 use Rattle.wb_tree.proofs.Branching.Edits.{IsEdit, inside-boxes, next-boxes, next-edit, next_gone, next_kid, no_entry_is, some_entry_is, same-edit}

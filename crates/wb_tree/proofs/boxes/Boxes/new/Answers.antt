@@ -1,4 +1,3 @@
-use Rattle.std.proofs.Common.{◌≡◌}
 use Rattle.wb_tree.proofs.Branching.Edits.{none-boxes, none-entries, unknown-sound}
 use Rattle.wb_tree.proofs.boxes.Boxes.new.Goals as goal
 

@@ -1,4 +1,4 @@
-use Rattle.std.proofs.Common.{◌≡◌, ◌≤◌, ◌<◌, ◌∙◌, ◌+◌, ◌*◌, ◌^◌, Some, None, ap, sym, subst, arith}
+use Rattle.std.proofs.Common.{◌∙◌, Some, None, ap, sym, subst, arith}
 use Rattle.std.specs.Box.{with_value}
 use Rattle.wb_tree.specs.Branches.{AreBoxes, IsSlot, boxes_of, rewritten}
 use Rattle.wb_tree.proofs.Branching.Edits.{first_fits, inside-boxes, next-boxes, next-edit, next_new, next_set, same-edit}

@@ -1,9 +1,9 @@
-use Rattle.std.proofs.Common.{◌≡◌, ◌≤◌, ◌<◌, ◌∙◌, ◌-◌, ◌^◌, ◌+◌, ◌*◌, None, Some, ap, refl, sym, subst, get_or, set, length, arith}
+use Rattle.std.proofs.Common.{◌<◌, ◌∙◌, ◌-◌, ◌^◌, ◌+◌, ◌*◌, None, Some, ap, sym, subst, set, length, arith}
 use Rattle.std.specs.Prelude.{is_some}
 use Rattle.std.specs.List.{list_any}
 use Rattle.std.specs.Box.{with_value}
-use Rattle.wb_tree.specs.Branches.{Branch, IsNode, branch_of, known_below, rewritten}
-use Rattle.wb_tree.proofs.Branching.Branches.{IsWord, any_at, emptied_leaf, found_at, kid_at, known_none, left_above, left_leaf, long_kids, node_set, set_again, set_gone, set_kid, set_leaf, set_none, slot_rewritten}
+use Rattle.wb_tree.specs.Branches.{Branch, IsNode, branch_of, rewritten}
+use Rattle.wb_tree.proofs.Branching.Branches.{any_at, emptied_leaf, found_at, kid_at, known_none, left_above, left_leaf, long_kids, node_set, set_again, set_gone, set_kid, set_leaf, set_none, slot_rewritten}
 use Rattle.wb_tree.proofs.boxes.node.Node.+clear.Goals as goal
 
 pub returns-then-self-eq1-clause-cleared : goal.returns-then-self-eq1-clause-cleared

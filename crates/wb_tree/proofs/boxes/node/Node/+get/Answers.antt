@@ -1,4 +1,4 @@
-use Rattle.std.proofs.Common.{◌≡◌, ◌≤◌, ◌<◌, ◌∙◌, ◌-◌, ◌^◌, ◌+◌, ◌*◌, None, Some, ap, sym, subst, get_or, length, arith}
+use Rattle.std.proofs.Common.{◌<◌, ◌∙◌, ◌-◌, ◌^◌, ◌*◌, ap, sym, subst, length, arith}
 use Rattle.wb_tree.specs.Branches.{Branch}
 use Rattle.wb_tree.proofs.Branching.Branches.{got_none, got_some, kid_at, found_at, long_kids}
 use Rattle.wb_tree.proofs.boxes.node.Node.+get.Goals as goal

@@ -1,6 +1,5 @@
-use Rattle.std.proofs.Common.{◌≡◌, ◌≤◌, ◌<◌, ◌∙◌, ◌+◌, ◌-◌, ◌*◌, ◌^◌, None, Some, ap, refl, sym, subst, arith}
-use Rattle.wb_tree.specs.Branches.{sole_branch}
-use Rattle.wb_tree.proofs.Branching.Branches.{IsWord, kid_index, no_kid_at, not_one, node_empty, node_set, set_new, slot_sole, sole_inner, sole_leaf}
+use Rattle.std.proofs.Common.{◌≤◌, ◌∙◌, ◌+◌, ◌-◌, ◌*◌, None, Some, refl, arith}
+use Rattle.wb_tree.proofs.Branching.Branches.{kid_index, no_kid_at, not_one, node_empty, node_set, set_new, slot_sole, sole_inner, sole_leaf}
 use Rattle.wb_tree.proofs.boxes.node.Node.+new.Goals as goal
 
 pub returns-then-level-eq1 : goal.returns-then-level-eq1
