@@ -1,5 +1,5 @@
 -- Entries that compare equal are the same.
-use Rattle.std.proofs.Common.{◌≡◌, ℕ, Bool, true, Option, Some, None, ap, rules}
+use Rattle.std.proofs.Common.{◌≡◌, ◌∙◌, ℕ, Bool, true, false, Option, Some, None, ap, sym, subst, rules}
 use Rattle.std.specs.Option.{option_eq}
 use borrow.Author.Tests.{tests}
 use Rattle.wb_types.specs.declared.entry.Entry.{Entry}
@@ -19,3 +19,12 @@ same_entry x y h = same_fields x y (search (rules, tests)) (search (rules, tests
 pub same_option : (o : Option Entry) (e : Entry) → option_eq the_impl.eq-value.it o (Some e) ≡ true → o ≡ Some e
 same_option None e h = absurd cc
 same_option (Some x) e h = ap Some (same_entry x e h)
+
+itself : (e : Entry) → the_impl.eq-value.it e e ≡ true
+itself e = search (rules, tests)
+
+-- what does not compare equal to an entry is not that entry
+pub not_option : (o : Option Entry) (e : Entry) → option_eq the_impl.eq-value.it o (Some e) ≡ false → o ≡ Some e → ⊥
+not_option o e h same =
+    let here : option_eq the_impl.eq-value.it (Some e) (Some e) ≡ false = subst (λ (p : Option Entry). option_eq the_impl.eq-value.it p (Some e) ≡ false) same h in
+    absurd (let both : true ≡ false = sym (itself e) ∙ here in cc)

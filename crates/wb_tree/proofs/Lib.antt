@@ -4,3 +4,4 @@ pub mod Nodes
 pub mod Reading
 pub mod Stored
 pub mod TestTrees
+pub mod Branching

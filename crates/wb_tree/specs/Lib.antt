@@ -7,3 +7,5 @@ pub mod Loading
 pub mod Fields
 pub mod Loaded
 pub mod Planning
+pub mod Branches
+pub mod BranchLevels

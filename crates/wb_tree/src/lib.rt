@@ -6,6 +6,7 @@
 #![tactic(auto)]
 
 mod below;
+mod boxes;
 mod frame;
 mod frames;
 mod image;
@@ -19,6 +20,7 @@ mod reached;
 mod tests;
 mod tree;
 
+pub use boxes::Boxes;
 pub use image::Image;
 pub use law::{edit_law, mapping_law};
 pub use loader::Loader;

@@ -1,8 +1,8 @@
 -- The words of the nodes that are planned.
-use Rattle.std.proofs.Common.{◌≡◌, ◌<◌, ◌+◌, ℕ, Option, Some, None, List, length, set, slice_index, refl, sym, subst, arith, inl, inr}
+use Rattle.std.proofs.Common.{◌≡◌, ◌<◌, ℕ, Option, Some, None, List, length, slice_index, refl, sym, subst, arith, inl, inr}
 use Rattle.std.specs.Prelude.{IfSome}
 use Rattle.std.proofs.lemmas.Bool.{cases_lt}
-use Rattle.std.proofs.lemmas.List.{get_or-set_other, get_or-set_same, get_or_past}
+use Rattle.std.proofs.lemmas.List.{get_or_past}
 use Rattle.wb_types.specs.declared.entry.Entry.{Entry}
 use Rattle.wb_format.specs.NodeWords.{IsEntry, SpellsEntry, IsLeafWord, IsInnerWord, entry_word}
 

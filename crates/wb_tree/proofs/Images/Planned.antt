@@ -1,6 +1,6 @@
 -- The tree whose nodes all stand at the first of some free places.
-use Rattle.std.proofs.Common.{◌≡◌, ◌≤◌, ◌<◌, ◌+◌, ◌∙◌, ◌&&◌, ◌==◌, sym, ap, subst, refl, ℕ, Bool, true, false, cond, List, [], ◌∷◌, Option, Some, None, map, take, length, inl, inr, arith}
-use Rattle.std.specs.Prelude.{◌⊎◌, IsSome, slice_get}
+use Rattle.std.proofs.Common.{◌≡◌, ◌≤◌, ◌<◌, ◌+◌, ◌∙◌, ◌&&◌, ◌==◌, sym, ap, subst, refl, ℕ, true, List, [], ◌∷◌, Option, Some, None, map, take, length, inl, inr, arith}
+use Rattle.std.specs.Prelude.{IsSome, slice_get}
 use Rattle.std.specs.List.{AllByRecursion}
 use Rattle.std.proofs.lemmas.List.{length-map}
 use Rattle.std.proofs.lemmas.List.Elements.{All-weaker}

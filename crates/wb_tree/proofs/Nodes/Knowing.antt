@@ -14,7 +14,7 @@ use Rattle.wb_types.proofs.Truth.{and_true, yes}
 abbrev pub places : List PlacedNode → List Place
 places known = map (λ node. node.place) known
 
-same_names : (a b c d : ℕ) → ((a == b) && (c == d)) ≡ true → (a ≡ b) × (c ≡ d)
+pub same_names : (a b c d : ℕ) → ((a == b) && (c == d)) ≡ true → (a ≡ b) × (c ≡ d)
 same_names a b c d h = let both = and_true (a == b) (c == d) h in (eqb-true a b both.0, eqb-true c d both.1)
 
 pub none_or_some : (o : Option Place) (place : Place) → o ≡ None → o ≡ Some place → ⊥

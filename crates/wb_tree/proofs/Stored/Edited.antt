@@ -1,5 +1,5 @@
 -- An edit of one entry leaves what is known of the tree as it is, or unknown.
-use Rattle.std.proofs.Common.{◌≡◌, ◌≤◌, ◌<◌, ◌⊎◌, ◌+◌, ◌*◌, ◌/◌, ◌^◌, ◌∙◌, sym, ap, subst, refl, ℕ, suc, Bool, true, false, List, Option, Some, None, take, drop, set, slice_set, arith, add-one, get_or, ◌-◌, inl, inr}
+use Rattle.std.proofs.Common.{◌≡◌, ◌≤◌, ◌<◌, ◌⊎◌, ◌+◌, ◌*◌, ◌/◌, ◌^◌, ◌∙◌, sym, ap, refl, ℕ, suc, Bool, true, false, List, Option, Some, None, take, drop, set, slice_set, arith, add-one, get_or, ◌-◌, inl, inr}
 use Rattle.std.specs.Prelude.{IsSome, is_some}
 use Rattle.std.specs.List.{list_any}
 use Rattle.std.proofs.lemmas.Bool.{cases_lt, cases_Bool}
