@@ -37,7 +37,7 @@ fn three_passes_share_and_own_a_block(rt: HostRuntime) -> Result<(), Fail> {
 }
 
 #[test]
-fn a_grip_shares_or_owns_in_five_steps(rt: HostRuntime) -> Result<(), Fail> {
+fn a_grip_shares_in_five_steps_and_is_busy_in_two(rt: HostRuntime) -> Result<(), Fail> {
     let (cells, pass) = Cells::new(rt.alloc(), 2)?;
     let (mut p, mut q) = cells.split(pass);
     let mut grip = Grip::share(OBlock(1));
@@ -54,12 +54,6 @@ fn a_grip_shares_or_owns_in_five_steps(rt: HostRuntime) -> Result<(), Fail> {
             Gripped::Refused(Refusal::Busy)
         )
     );
-    let mut grip = Grip::own(OBlock(0));
-    assert!(rt; matches!(cells.grip_step(&mut q, &mut grip), Gripped::More(0)));
-    assert!(rt; matches!(cells.grip_step(&mut q, &mut grip), Gripped::More(0)));
-    assert!(rt; matches!(cells.grip_step(&mut q, &mut grip), Gripped::More(0)));
-    assert!(rt; matches!(cells.grip_step(&mut q, &mut grip), Gripped::More(0)));
-    assert!(rt; matches!(cells.grip_step(&mut q, &mut grip), Gripped::Owned(_)));
     Ok(())
 }
 
