@@ -122,7 +122,10 @@ impl<D: Disk, F: TakesContent> OwnerStage<D, F> {
             return Got::Fault;
         }
         let count = extent.count as usize;
-        match self.origin.write_extent(extent.first, &self.contents[..count]) {
+        match self
+            .origin
+            .write_extent(extent.first, &self.contents[..count])
+        {
             Ok(()) => Got::Done,
             Err(_) => Got::Fault,
         }

@@ -98,9 +98,9 @@ read_extent shape w n a card extent cut doing e left k read many gives =
     let within = s.lies.0 in
     let doing' : Doing = read_noted doing n.histories e.first read in
     let last = λ (at : ℕ) (m : e.first ≤ at) (b : at < e.first + length read).
-        subst (λ (v : ℕ). IsLastWritten (slice_get w.device at) (slice_get n.histories at) v)
-        (not_stale shape w n a card extent cut doing at (e ∷ left) k (in_block shape extent e at s.may within m (omega (arith, b, many))))
-        (k.kept.last k.standing at) in
+    subst (λ (v : ℕ). IsLastWritten (slice_get w.device at) (slice_get n.histories at) v)
+    (not_stale shape w n a card extent cut doing at (e ∷ left) k (in_block shape extent e at s.may within m (omega (arith, b, many))))
+    (k.kept.last k.standing at) in
     let latest = readings_latest w.device n.histories e.first read gives k.kept.holds last in
     let noted : device_note shape n a doing doing.job (ReadExtent Origin e) Done read ≡ record n { doings = slice_set n.doings a (Some doing') } =
     ap (λ j. device_note shape n a doing j (ReadExtent Origin e) Done read) s.job_is

@@ -181,7 +181,7 @@ failing_stale shape w n a card extent content cut doing e left k =
     let y = at_work shape card job cut (Failing (Io Origin)) in
     let one : owned_by block.0 card.hold ≡ 1 = ap (owned_by block.0) k.stands.held_is ∙ ap (λ t. cond t 1 0) (eq-eqb block.0 block.0 refl) in (
       λ at l b. let here : at / shape.block_sectors ≡ block.0 = in_block shape extent e at k.stands.may k.stands.lies.0 l b in
-      rw here (omega (arith, total_set (leaves_stale block.0) w.actors a x y k.actor, total_has (leaves_stale block.0) w.actors a x k.actor, one)),
+          rw here (omega (arith, total_set (leaves_stale block.0) w.actors a x y k.actor, total_has (leaves_stale block.0) w.actors a x k.actor, one)),
       λ other. let b = other / shape.block_sectors in omega (arith, total_set (leaves_stale b) w.actors a x y k.actor),
     )
 

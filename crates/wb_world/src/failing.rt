@@ -35,7 +35,9 @@ fn are_inside(named: &[NamedContent], sectors: u64) -> bool
 fn are_two(named: &[NamedContent]) -> bool
     ensures { IsTrue result ↔ All (λ (name : Named). named_position named.now name.sector 0 ≤ 1) named.now }
 {
-    named.iter().all(|name| position_in(named, name.sector, 0) <= 1)
+    named
+        .iter()
+        .all(|name| position_in(named, name.sector, 0) <= 1)
 }
 
 /// The number that was named last for a sector, or this one where none was.

@@ -2,7 +2,7 @@
 
 mod rows;
 
-use self::rows::{Line, ROWS};
+use self::rows::{Line, ROWS, Told};
 use super::*;
 use std::alloc::Global;
 use std::test::Fail;
@@ -24,10 +24,17 @@ fn last(world: &World) -> What {
     }
 }
 
+fn job(told: Told) -> Job {
+    match told {
+        Told::Read(extent) => Job::Read(extent),
+        Told::Write(extent, byte) => Job::Write(extent, [byte; 512]),
+    }
+}
+
 /// Lets a line happen.
 fn play_line(alloc: Global, world: &mut World, line: &Line) -> Result<(), Refusal> {
     match *line {
-        Line::Start(actor, job) => world.event(Event::Start(actor, job)),
+        Line::Start(actor, told) => world.event(Event::Start(actor, job(told))),
         Line::Steps(actor, count) => {
             for _ in 0..count {
                 world.event(Event::Step(actor))?;
@@ -68,10 +75,7 @@ fn interleavings_answer_as_their_rows_say(rt: HostRuntime) -> Result<(), Fail> {
 
 /// A write of the first sector by actor 0, up to its answer.
 fn events_of_a_write(alloc: Global) -> Result<Vec<Event>, Refusal> {
-    let first = Extent {
-        first: 0,
-        count: 1,
-    };
+    let first = Extent { first: 0, count: 1 };
     let mut events = Vec::new(alloc);
     events
         .push(Event::Start(0, Job::Write(first, [0x11; 512])))
@@ -152,7 +156,12 @@ fn write_and_read(alloc: Global, longest: u64) -> Result<(What, usize), Refusal>
 fn one_extent_and_single_sectors_are_alike(rt: HostRuntime) -> Result<(), Fail> {
     for longest in [1, 2, 3, 64] {
         let (answer, same) = write_and_read(rt.alloc(), longest)?;
-        assert!(rt; matches!(answer, What::Stepped(Want::End(wb_tasks::Answer::Done), Got::Done)));
+        assert!(rt;
+            matches!(
+                answer,
+                What::Stepped(Want::End(wb_tasks::Answer::Done), Got::Done)
+            )
+        );
         assert_eq!(rt; same, 3, "by {longest}");
     }
     Ok(())

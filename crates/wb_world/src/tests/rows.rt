@@ -1,14 +1,21 @@
 //! What happens line by line, and what the last event of each line did.
 
-use crate::{Job, What};
+use crate::What;
 use wb_tasks::{Answer, CellStep, DeviceStep, Got, Want};
 use wb_types::{Dev, Extent, OBlock, Refusal};
 use wb_words::{Access, Kind, Word};
 
+/// What an actor is told to do; a write is full of this byte.
+#[derive(Clone, Copy)]
+pub enum Told {
+    Read(Extent),
+    Write(Extent, u8),
+}
+
 /// What is to happen.
 #[derive(Clone, Copy)]
 pub enum Line {
-    Start(usize, Job),
+    Start(usize, Told),
     /// So many steps of an actor.
     Steps(usize, u64),
     /// The actor's next step fails; the flag says whether what it writes has landed.
@@ -31,7 +38,10 @@ const SECTOR_0: Extent = Extent { first: 0, count: 1 };
 
 const SECTOR_1: Extent = Extent { first: 1, count: 1 };
 
-const SECTOR_65: Extent = Extent { first: 65, count: 1 };
+const SECTOR_65: Extent = Extent {
+    first: 65,
+    count: 1,
+};
 
 const DONE: What = What::Stepped(Want::End(Answer::Done), Got::Done);
 
@@ -44,9 +54,15 @@ const IO: What = What::Stepped(
     Got::Done,
 );
 
-const FAULT: What = What::Stepped(Want::Device(DeviceStep::Write(Dev::Origin, SECTOR_0)), Got::Fault);
+const FAULT: What = What::Stepped(
+    Want::Device(DeviceStep::Write(Dev::Origin, SECTOR_0)),
+    Got::Fault,
+);
 
-const READ_FAULT: What = What::Stepped(Want::Device(DeviceStep::Read(Dev::Origin, SECTOR_0)), Got::Fault);
+const READ_FAULT: What = What::Stepped(
+    Want::Device(DeviceStep::Read(Dev::Origin, SECTOR_0)),
+    Got::Fault,
+);
 
 const KNOWN: What = What::Stepped(Want::Cell(CellStep::Look(Word::Number(B0))), Got::Word(0));
 
@@ -55,46 +71,22 @@ const OWNED: What = What::Stepped(Want::Cell(CellStep::Take(Access::Owned, B0, 0
 const FREE: What = What::Stepped(Want::Cell(CellStep::Look(Word::Cell(B0))), Got::Word(0));
 
 /// Jobs over the first sector, the second, one of the next block, and two.
-const FIRST: Job = Job::Read(Extent {
-    first: 0,
-    count: 1,
-});
+const FIRST: Told = Told::Read(Extent { first: 0, count: 1 });
 
-const SECOND: Job = Job::Read(Extent {
-    first: 1,
-    count: 1,
-});
+const SECOND: Told = Told::Read(Extent { first: 1, count: 1 });
 
-const WRITE_FIRST: Job = Job::Write(
-    Extent {
-        first: 0,
-        count: 1,
-    },
-    [0x11; 512],
-);
+const WRITE_FIRST: Told = Told::Write(Extent { first: 0, count: 1 }, 0x11);
 
-const WRITE_AGAIN: Job = Job::Write(
-    Extent {
-        first: 0,
-        count: 1,
-    },
-    [0x22; 512],
-);
+const WRITE_AGAIN: Told = Told::Write(Extent { first: 0, count: 1 }, 0x22);
 
-const WRITE_TWO: Job = Job::Write(
-    Extent {
-        first: 0,
-        count: 2,
-    },
-    [0x11; 512],
-);
+const WRITE_TWO: Told = Told::Write(Extent { first: 0, count: 2 }, 0x11);
 
-const WRITE_NEXT: Job = Job::Write(
+const WRITE_NEXT: Told = Told::Write(
     Extent {
         first: 65,
         count: 1,
     },
-    [0x22; 512],
+    0x22,
 );
 
 pub const ROWS: [Row; 9] = [
@@ -124,7 +116,10 @@ pub const ROWS: [Row; 9] = [
             ),
             (
                 Line::Steps(0, 1),
-                What::Stepped(Want::Device(DeviceStep::Write(Dev::Origin, SECTOR_65)), Got::Done),
+                What::Stepped(
+                    Want::Device(DeviceStep::Write(Dev::Origin, SECTOR_65)),
+                    Got::Done,
+                ),
             ),
             (
                 Line::Steps(0, 1),
@@ -196,19 +191,13 @@ pub const ROWS: [Row; 9] = [
         name: "starts outside the origin, over two blocks or that do not apply",
         lines: &[
             (
-                Line::Start(
-                    0,
-                    Job::Read(Extent {
-                        first: 0,
-                        count: 0,
-                    }),
-                ),
+                Line::Start(0, Told::Read(Extent { first: 0, count: 0 })),
                 What::Refused(Refusal::Range),
             ),
             (
                 Line::Start(
                     0,
-                    Job::Read(Extent {
+                    Told::Read(Extent {
                         first: 640,
                         count: 1,
                     }),
@@ -218,7 +207,7 @@ pub const ROWS: [Row; 9] = [
             (
                 Line::Start(
                     0,
-                    Job::Read(Extent {
+                    Told::Read(Extent {
                         first: 639,
                         count: 2,
                     }),
@@ -228,7 +217,7 @@ pub const ROWS: [Row; 9] = [
             (
                 Line::Start(
                     0,
-                    Job::Read(Extent {
+                    Told::Read(Extent {
                         first: 18_446_744_073_709_551_615,
                         count: 2,
                     }),
@@ -238,7 +227,7 @@ pub const ROWS: [Row; 9] = [
             (
                 Line::Start(
                     0,
-                    Job::Read(Extent {
+                    Told::Read(Extent {
                         first: 63,
                         count: 2,
                     }),
@@ -249,7 +238,7 @@ pub const ROWS: [Row; 9] = [
             (
                 Line::Start(
                     0,
-                    Job::Read(Extent {
+                    Told::Read(Extent {
                         first: 639,
                         count: 1,
                     }),

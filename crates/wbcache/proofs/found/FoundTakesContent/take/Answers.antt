@@ -19,6 +19,6 @@ loop-k-preserved c =
           let at : (c.args.first + k) - c.loop-k.self.first ≡ place + length so_far.0 = omega (arith, l, many, c.loop-k.invariant.first) in
           let later : c.loop-k.self.first ≤ c.args.first + k = omega (arith, l, c.loop-k.invariant.first) in
           let set = c.note.ensures.noted later ∙ ap (λ items. slice_set items ((c.args.first + k) - c.loop-k.self.first) c.of.result) so_far.2
-              ∙ ap (λ p. slice_set (set_each c.args.self.now.fills.items place so_far.0) p c.of.result) at ∙ sym (set_more c.args.self.now.fills.items place so_far.0 c.of.result) in
+          ∙ ap (λ p. slice_set (set_each c.args.self.now.fills.items place so_far.0) p c.of.result) at ∙ sym (set_more c.args.self.now.fills.items place so_far.0 c.of.result) in
           (so_far.0 ++ c.of.result ∷ [], rw add-one (show_more so_far.0 cs k c.of.result content here so_far.1 c.of.ensures), set);
     }
