@@ -94,6 +94,8 @@ module _ (access : Access) (block : OBlock) (c d e : Card) (x : ℕ) where
         number_is = ap (λ (z : Card). z.number) is ∙ (ap (λ (h : Hold). cond (is_own_number h (Number block)) (Some x) d.number) hold ∙ ap (λ (t : Bool). cond t (Some x) d.number) (eq-eqb block.0 block.0 refl));
         kept = ap (λ (z : Card). z.kept) is ∙ ap (λ (z : Card). z.kept) was;
         added = ap (λ (z : Card). z.added) is ∙ ap (λ (z : Card). z.added) was;
+        took = ap (λ (z : Card). z.took) is ∙ ap (λ (z : Card). z.took) was;
+        set = ap (λ (z : Card). z.set) is ∙ ap (λ (z : Card). z.set) was;
         lost = ap (λ (z : Card). z.lost) is ∙ ap (λ (z : Card). z.lost) was;
         saw = (w, ap (λ (z : Card). z.saw) is ∙ ap (λ (l : List (WordName × ℕ)). (Number block, x) ∷ l) saw);
         least = least.1.1.1;
@@ -129,7 +131,7 @@ module _ (access : Access) (block : OBlock) (c d e : Card) (x : ℕ) where
       told_of Owned h = (refl, refl, h)
 
 -- the way of a grip through one step
-pub on_the_way : (access : Access) (block : OBlock) (card : Card) (grip next : Grip) (now after : Card) (result : Gripped) → OnTheWay access block card grip now → GripStep grip now result next after
+pub on_the_way : {blocks : ℕ} {alone : Type 0} (access : Access) (block : OBlock) (card : Card) (grip next : Grip) (now after : Card) (result : Gripped) → OnTheWay access block card grip now → GripStep blocks alone grip now result next after
     → IsMore result → IsReadyAt next.access next.block next.stage after → OnTheWay access block card next after
 on_the_way access block card grip next now after result way s more fits =
     let stage : next.stage ≡ stage_after grip.access grip.stage s.found = ap (λ (g : Grip). g.stage) s.next_is in
@@ -143,12 +145,12 @@ on_the_way access block card grip next now after result way s more fits =
       reached = subst (λ (z : GripStage). Reached access block z card after) (sym stage_now) (goes_on access block card now after s.found grip.stage way.reached is went);
     }
 
-pub nearer : (grip next : Grip) (now after : Card) (result : Gripped) → GripStep grip now result next after → IsMore result → stages_left next.stage < stages_left grip.stage
+pub nearer : {blocks : ℕ} {alone : Type 0} (grip next : Grip) (now after : Card) (result : Gripped) → GripStep blocks alone grip now result next after → IsMore result → stages_left next.stage < stages_left grip.stage
 nearer grip next now after result s more = subst (λ (z : GripStage). stages_left z < stages_left grip.stage) (sym (ap (λ (g : Grip). g.stage) s.next_is))
     (fewer grip.access grip.block now now now s.found grip.stage (subst IsMore s.told more))
 
 -- where it ends
-pub way_ends : (access : Access) (block : OBlock) (card : Card) (grip next : Grip) (now after : Card) (result : Gripped) → OnTheWay access block card grip now → GripStep grip now result next after
+pub way_ends : {blocks : ℕ} {alone : Type 0} (access : Access) (block : OBlock) (card : Card) (grip next : Grip) (now after : Card) (result : Gripped) → OnTheWay access block card grip now → GripStep blocks alone grip now result next after
     → (IsMore result → ⊥) → EndsAs access block result card after
 way_ends access block card grip next now after result way s ends =
     let told : result ≡ told_at access block grip.stage s.found = s.told ∙ (λ i. told_at (way.access_is i) (way.block_is i) grip.stage s.found) in

@@ -98,3 +98,15 @@ join_parts vs id v both other w spent at apart there b none flat m = let d : ℕ
           (λ (q : (j ≢ id) × (get_elem? vs j ≡ some u)). m.deep j u q.1) (at_set vs id j both u t.1)) (at_set (set vs id both) other j spent u e);
       sum = let a = total-set (view_pieces d) vs id v both at in let c = total-set (view_pieces d) (set vs id both) other w spent there in let sum = m.sum in omega arith;
     }
+
+-- two parts that were put together are parted again
+pub part_again : (vs : List View) (id : ℕ) (v left right : View) → get_elem? vs id ≡ some v → v.fraction ≡ together left.fraction right.fraction → MakeWhole vs → MakeWhole (set vs id left ++ right ∷ [])
+part_again vs id v left right at is m = let d : ℕ = m.depth in let low = m.deep id v at in
+    let high : v.fraction.halvings ≡ left.fraction.halvings + (right.fraction.halvings - left.fraction.halvings) = ap (λ (p : Fraction). p.halvings) is in
+    let pieces : view_pieces d v ≡ view_pieces d left + view_pieces d right = ap (pieces_at d) is ∙ together_is d left.fraction right.fraction (omega arith) (omega arith) in record {
+      depth = d;
+      deep = λ j u e. ⊎_elim (λ g. ⊎_elim (λ (t : (j ≡ id) × (left ≡ u)). let h : left.fraction.halvings ≡ u.fraction.halvings = ap (λ (y : View). y.fraction.halvings) t.1 in omega arith)
+          (λ (t : (j ≢ id) × (get_elem? vs j ≡ some u)). m.deep j u t.1) (at_set vs id j left u g))
+          (λ (t : right ≡ u). let h : right.fraction.halvings ≡ u.fraction.halvings = ap (λ (y : View). y.fraction.halvings) t in omega arith) (at_snoc (set vs id left) right u j e);
+      sum = let a = total-set (view_pieces d) vs id v left at in let b = total-append (view_pieces d) (set vs id left) (right ∷ []) in let sum = m.sum in omega arith;
+    }

@@ -4,4 +4,7 @@ pub mod Flatten
 pub mod Core
 pub mod Allowed
 pub mod Passing
+pub mod Pairs
 pub mod Gripping
+pub mod Alone
+pub mod Stepping

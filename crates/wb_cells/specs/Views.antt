@@ -1,11 +1,12 @@
 -- The words and all views: what holds between any two steps.
-use Rattle.std.specs.Prelude.{◌≡◌, ℕ, ◌+◌, ◌*◌, ◌≤◌, max, List, [], ◌∷◌, ◌++◌, length, replicate, Option, Some, None}
+use Rattle.std.specs.Prelude.{◌≡◌, ◌≢◌, ℕ, ◌+◌, ◌*◌, ◌≤◌, List, [], ◌∷◌, ◌++◌, length, replicate, slice_index_or, Option, Some, None}
 use mathlib.Core.Option.{some}
 use lib.ListN.{get_elem?}
 use Rattle.atomic_table.specs.Table.{State}
-use Rattle.wb_words.specs.SharedWords.{Words}
+use Rattle.wb_words.specs.SharedWords.{Words, HasBits}
 use Rattle.wb_words.specs.declared.card.Card.{Card}
 use Rattle.wb_cells.specs.declared.view.View.{View}
+use Rattle.wb_cells.specs.declared.view.Side.{Side}
 use Rattle.wb_cells.specs.Flat.{decode}
 use Rattle.wb_words.specs.Cards.{blank_card, total, merged}
 use Rattle.wb_words.specs.Rule.{LockRule}
@@ -24,18 +25,24 @@ pub record MakeWhole (views : List View) : Type 0 where
   pub deep : (j : ℕ) (v : View) → get_elem? views j ≡ some v → v.fraction.halvings ≤ depth
   pub sum : total (view_pieces depth) views ≡ doubled 1 depth
 
+-- each side of a seat that sits for two passes has a part
+abbrev pub AllHaveParts : List Side → Type 0
+AllHaveParts [] = Unit {0}
+AllHaveParts (side ∷ sides) = (side.fraction.pieces ≢ 0) × AllHaveParts sides
+
 pub record Ruled (n : ℕ) (s : State ℕ View) : Type 0 where
   pub wide : length s.words ≡ 3 * n + 5
   pub rule : LockRule n (decode s.words) (all_cards s.views)
   pub parts : MakeWhole s.views
   pub bare : (j : ℕ) (v : View) → get_elem? s.views j ≡ some v → v.fraction.pieces ≡ 0 → v.cards ≡ []
   pub sized : (j : ℕ) (v : View) → get_elem? s.views j ≡ some v → (v.fraction.pieces ≡ 0 → ⊥) → v.blocks ≡ n
-  pub floor : (j : ℕ) (v : View) → get_elem? s.views j ≡ some v → v.fail ≤ (decode s.words).fail
+  pub floor : (j : ℕ) (v : View) → get_elem? s.views j ≡ some v → HasBits (decode s.words).fail v.fail
+  pub sides : (j : ℕ) (v : View) → get_elem? s.views j ≡ some v → AllHaveParts v.sides
   pub known : (j : ℕ) (v : View) (ws : List ℕ) → get_elem? s.views j ≡ some v → v.words ≡ Some ws → (ws ≡ s.words) × IsWhole v.fraction
 
 -- the first view, which has the whole and knows that all words are 0
 abbrev pub first_view : ℕ → ℕ → View
-first_view n actors = record { fraction = the_whole; blocks = n; cards = replicate actors blank_card; fail = 0; words = Some (replicate (3 * n + 5) 0) }
+first_view n actors = record { fraction = the_whole; blocks = n; cards = replicate actors blank_card; fail = []; words = Some (replicate (3 * n + 5) 0); sides = [] }
 
 abbrev pub words_or : Option (List ℕ) → List ℕ
 words_or None = []
@@ -50,7 +57,7 @@ abbrev pub cut_left : View → View
 cut_left v = record v { fraction = half v.fraction; words = None }
 
 abbrev pub cut_right : View → View
-cut_right v = record { fraction = half v.fraction; blocks = v.blocks; cards = blank_card ∷ []; fail = v.fail; words = None }
+cut_right v = record { fraction = half v.fraction; blocks = v.blocks; cards = blank_card ∷ []; fail = v.fail; words = None; sides = [] }
 
 abbrev pub merged_cards : List Card → List Card → List Card
 merged_cards (c ∷ cs) (d ∷ ds) = merged c d ∷ []
@@ -58,7 +65,21 @@ merged_cards [] ds = ds
 merged_cards (c ∷ cs) [] = c ∷ cs
 
 abbrev pub joined : View → View → View
-joined v w = record { fraction = together v.fraction w.fraction; blocks = v.blocks; cards = merged_cards v.cards w.cards; fail = max v.fail w.fail; words = None }
+joined v w = record { fraction = together v.fraction w.fraction; blocks = v.blocks; cards = merged_cards v.cards w.cards; fail = v.fail ++ w.fail; words = None; sides = [] }
 
 abbrev pub spent : View
-spent = record { fraction = no_fraction; blocks = 0; cards = []; fail = 0; words = None }
+spent = record { fraction = no_fraction; blocks = 0; cards = []; fail = []; words = None; sides = [] }
+
+-- Two views in one seat, which sits for both with both their cards; and each of them again.
+
+abbrev pub side_of : View → Side
+side_of v = record { fraction = v.fraction; fail = v.fail }
+
+abbrev pub seated : View → View → View
+seated v w = record { fraction = together v.fraction w.fraction; blocks = v.blocks; cards = v.cards ++ w.cards; fail = v.fail ++ w.fail; words = None; sides = side_of v ∷ side_of w ∷ [] }
+
+abbrev pub side_at : ℕ → View → Side
+side_at k v = slice_index_or v.sides k (record { fraction = no_fraction; fail = [] })
+
+abbrev pub side_view : ℕ → View → View
+side_view k v = record { fraction = (side_at k v).fraction; blocks = v.blocks; cards = slice_index_or v.cards k blank_card ∷ []; fail = (side_at k v).fail; words = None; sides = [] }

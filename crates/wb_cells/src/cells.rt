@@ -1,26 +1,28 @@
 //! The shared words as their users see them: each call makes its steps by a pass.
 
-ghost use Rattle.std.specs.Prelude.{◌≡◌, ℕ, ◌+◌, ◌-◌, ◌^◌, ◌<◌, ◌≤◌, max, ◌==◌, true, Some, if◌then◌else◌, IfOk, IfErr};
+ghost use Rattle.std.specs.Prelude.{◌≡◌, ℕ, ◌+◌, ◌-◌, ◌^◌, ◌<◌, ◌==◌, [], ◌∷◌, ◌++◌, true, Some, if◌then◌else◌, IfOk, IfErr};
 ghost use Rattle.wb_types.specs.declared.refusal.Refusal.TheVariants.{Memory};
 ghost use Rattle.wb_words.specs.declared.word.Access.TheVariants.{Shared, Owned};
 ghost use Rattle.wb_words.specs.declared.word.Kind.{Kind as KindName};
 ghost use Rattle.wb_words.specs.declared.word.Word.TheVariants.{Fail as FailWord};
-ghost use Rattle.wb_words.specs.SharedWords.{can_take, seal_word as seal_of};
+ghost use Rattle.wb_words.specs.declared.word.FailBit.TheVariants.{Failed as FailedBit, Suspended as SuspendedBit};
+ghost use Rattle.wb_words.specs.SharedWords.{can_take, seal_word as seal_of, value_of, word_at, HasBits};
+ghost use Rattle.wb_words.specs.Moments.{Moment};
 ghost use Rattle.wb_words.specs.declared.card.Hold.TheVariants.{Nothing, Held};
 ghost use Rattle.wb_words.specs.SharedWords.{IsWord};
 ghost use Rattle.wb_words.specs.Cards.{blank_card, looked, losing, holding, sealing, finishing, counting, failing, merged, counts_of, writes_on};
 ghost use Rattle.wb_cells.specs.Fractions.{IsWhole, the_whole, half, together};
 ghost use Rattle.wb_words.specs.Looks.{Finds};
-ghost use Rattle.wb_cells.specs.Passes.{IsSum};
+ghost use Rattle.wb_cells.specs.Passes.{IsSum, Excludes};
 
 use crate::pass::Pass;
-use crate::table::{FAILED, SUSPENDED, WordTable};
+use crate::table::WordTable;
 use crate::view::View;
 use atomic_table::{Join, Split};
 use std::alloc::Global;
 use std::marker::Model;
 use wb_types::{CBlock, OBlock, Refusal};
-use wb_words::{Access, Kind, Own, Share, Word, seal_word};
+use wb_words::{Access, FailBit, Kind, Own, Share, Word, seal_word};
 
 /// How a seat's view is cut in two.
 pub(crate) struct Halving;
@@ -44,6 +46,28 @@ impl Join<View> for Merging {
     ghost spent = { spent };
 }
 
+/// How one seat sits for two.
+pub(crate) struct Seating;
+
+impl Join<View> for Seating {
+    ghost use Rattle.wb_cells.specs.Views.{seated, spent};
+
+    ghost both = { seated };
+
+    ghost spent = { spent };
+}
+
+/// How the two stand up again.
+pub(crate) struct Parting;
+
+impl Split<View> for Parting {
+    ghost use Rattle.wb_cells.specs.Views.{side_view};
+
+    ghost left = { side_view 0 };
+
+    ghost right = { side_view 1 };
+}
+
 /// The words that all threads share. Contracts see which words they are, and of how many blocks.
 #[derive(Drop)]
 pub struct Cells {
@@ -63,7 +87,7 @@ impl Cells {
     /// they find no room.
     pub fn new(alloc: Global, origin_blocks: u32) -> Result<(Cells, Pass), Refusal>
         ensures cells { IfOk result (λ r. r.0.blocks ≡ origin_blocks) }
-        ensures pass { IfOk result (λ r. r.1 ≡ record { table = r.0.table; fraction = the_whole; card = blank_card; failed = 0 }) }
+        ensures pass { IfOk result (λ r. r.1 ≡ record { table = r.0.table; fraction = the_whole; card = blank_card; failed = [] }) }
         ensures refused { IfErr result (λ r. r ≡ Memory) }
     {
         let (words, seat) = WordTable::new(alloc, origin_blocks, 1)?;
@@ -87,7 +111,7 @@ impl Cells {
     pub fn join(&self, pass: Pass, other: Pass) -> Pass
         requires at { (pass.table ≡ self.now.table) × (other.table ≡ self.now.table) }
         requires idle { (pass.card.hold ≡ Nothing) × (other.card.hold ≡ Nothing) }
-        ensures pass { result ≡ record { table = pass.table; fraction = together pass.fraction other.fraction; card = merged pass.card other.card; failed = max pass.failed other.failed } }
+        ensures pass { result ≡ record { table = pass.table; fraction = together pass.fraction other.fraction; card = merged pass.card other.card; failed = pass.failed ++ other.failed } }
         ensures counts { (kind : KindName) → counts_of kind result.card ≡ counts_of kind pass.card + counts_of kind other.card }
         ensures writes { (b : ℕ) → writes_on b result.card ≡ writes_on b pass.card + writes_on b other.card }
     {
@@ -100,15 +124,37 @@ impl Cells {
         Pass { seat }
     }
 
-    /// One look at a word. Who has the whole finds at a lock word what its card has of that block, at a statistics
-    /// word what it counted, and at a number word the writes that it finished; who has failed finds at the fail
-    /// word no less than its bit.
+    /// Gives two passes back as they are, whatever they hold, and tells that they exclude each other: what one owns, or
+    /// kept at a failure, the other neither owns, nor kept, nor shares. So who has two passes of the same cells need
+    /// not fear that both own a block, or that one shares what the other owns.
+    pub fn apart(&self, pass: Pass, other: Pass) -> (Pass, Pass)
+        requires at { (pass.table ≡ self.now.table) × (other.table ≡ self.now.table) }
+        ensures first { result.0 ≡ pass }
+        ensures second { result.1 ≡ other }
+        ensures apart { Excludes self.now.blocks pass.card other.card × Excludes self.now.blocks other.card pass.card }
+    {
+        let Pass { mut seat } = pass;
+        let Pass { seat: other } = other;
+        let shared = &self.words.table.shared;
+        shared.join_seat::<Seating>(&mut seat, other);
+        self.words.tell_apart(&mut seat);
+        let second = shared.split_seat::<Parting>(&mut seat);
+        (Pass { seat }, Pass { seat: second })
+    }
+
+    /// One look at a word, which it notes: the word of a moment at which the rule of all words held. At the fail word
+    /// it finds each bit that it, or a pass that it came from, has set.
+    ///
+    /// Who has the whole finds at a lock word what its card has of that block, at a statistics word what it counted, at
+    /// a number word the writes that it finished, at the fail word just the bits that it set, and at a seal word 0 where
+    /// it never sealed that block, else the newest seal on it in one of its logs.
     pub fn look(&self, pass: &mut Pass, word: Word) -> u64
         requires at { pass.old.table ≡ self.now.table }
         requires word { IsWord self.now.blocks word }
         ensures pass { pass.new ≡ record pass.old { card = looked word result pass.old.card } }
         ensures known { Finds word result pass.old.card }
-        ensures failed { word ≡ FailWord → pass.old.failed ≤ result }
+        ensures failed { word ≡ FailWord → HasBits result pass.old.failed }
+        ensures found { (at : Moment self.now.blocks (IsWhole pass.old.fraction) pass.old.card) × (result ≡ value_of at.words word) }
         ensures sums { IsWhole pass.old.fraction → IsSum word result pass.old.card }
     {
         self.words.look(&mut pass.seat, 0, word)
@@ -120,7 +166,8 @@ impl Cells {
         requires block { block.0 < self.now.blocks }
         requires idle { pass.old.card.hold ≡ Nothing }
         requires free { can_take access seen ≡ true }
-        ensures { pass.new ≡ record pass.old { card = (if result == seen then holding (Held access block) pass.old.card else losing block result pass.old.card) } }
+        ensures pass { pass.new ≡ record pass.old { card = (if result == seen then holding (Held access block) pass.old.card else losing block result pass.old.card) } }
+        ensures found { (at : Moment self.now.blocks (IsWhole pass.old.fraction) pass.old.card) × (result ≡ word_at at.words.cells block) }
     {
         self.words.take(&mut pass.seat, 0, access, block, seen)
     }
@@ -183,20 +230,21 @@ impl Cells {
         self.words.count(&mut pass.seat, 0, kind);
     }
 
-    /// Tells of a failure: from now on no block is taken. A block that the pass owns stays owned for good.
+    /// Tells of a failure, by the failed bit alone: from now on this pass, and each that is split from it or joined with
+    /// it, is refused every block. A block that the pass owns stays owned for good.
     pub fn fail(&self, pass: &mut Pass)
         requires { pass.old.table ≡ self.now.table }
-        ensures { pass.new ≡ record pass.old { card = failing pass.old.card; failed = max pass.old.failed 1 } }
+        ensures { pass.new ≡ record pass.old { card = failing FailedBit pass.old.card; failed = FailedBit ∷ pass.old.failed } }
     {
-        self.words.fail(&mut pass.seat, 0, FAILED);
+        self.words.fail(&mut pass.seat, 0, FailBit::Failed);
     }
 
-    /// Tells of a suspension: from now on no block is taken. A block that the pass owns stays owned for
-    /// good.
+    /// Tells of a suspension, by the suspended bit alone, and refuses blocks as a failure does. A block that the pass
+    /// owns stays owned for good.
     pub fn suspended(&self, pass: &mut Pass)
         requires { pass.old.table ≡ self.now.table }
-        ensures { pass.new ≡ record pass.old { card = failing pass.old.card; failed = max pass.old.failed 2 } }
+        ensures { pass.new ≡ record pass.old { card = failing SuspendedBit pass.old.card; failed = SuspendedBit ∷ pass.old.failed } }
     {
-        self.words.fail(&mut pass.seat, 0, SUSPENDED);
+        self.words.fail(&mut pass.seat, 0, FailBit::Suspended);
     }
 }

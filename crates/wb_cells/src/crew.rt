@@ -4,6 +4,7 @@
 ghost use Rattle.std.specs.Prelude.{◌≡◌, ◌≢◌, ℕ, ◌-◌, ◌^◌, ◌<◌, ◌==◌, true, [], length, replicate, slice_set, slice_index_or, bit_or, Some, IfOk, IfErr, if◌then◌else◌};
 ghost use Rattle.wb_types.specs.declared.refusal.Refusal.TheVariants.{Memory};
 ghost use Rattle.wb_words.specs.declared.word.Access.TheVariants.{Owned};
+ghost use Rattle.wb_words.specs.declared.word.FailBit.TheVariants.{Failed as FailedBit, Suspended as SuspendedBit};
 ghost use Rattle.wb_words.specs.declared.card.Hold.TheVariants.{Nothing, Held};
 ghost use Rattle.wb_words.specs.SharedWords.{IsWord, fresh_words, value_of, word_at, with_cell, can_take, taken, given_back, seal_word as seal_of, one_more, counted};
 ghost use Rattle.wb_words.specs.Cards.{blank_card, looked, losing, holding, sealing, finishing, counting, failing};
@@ -12,13 +13,13 @@ ghost use Rattle.wb_words.specs.Ready.{IsReady};
 ghost use Rattle.wb_words.specs.Rule.{LockRule};
 ghost use Rattle.wb_cells.specs.Crews.{card_of, crew_after};
 
-use crate::table::{FAILED, SUSPENDED, WordTable};
+use crate::table::WordTable;
 use crate::view::View;
 use atomic_table::Seat;
 use std::alloc::Global;
 use std::marker::Model;
 use wb_types::{CBlock, OBlock, Refusal};
-use wb_words::{Access, CellResult, CellStep, Kind, Word, seal_word};
+use wb_words::{Access, CellResult, CellStep, FailBit, Kind, Word, seal_word};
 
 /// Contracts see all words, and each actor's card.
 #[derive(Drop)]
@@ -166,9 +167,9 @@ impl Crew {
         requires actor { actor < length self.old.cards }
         ensures blocks { self.new.blocks ≡ self.old.blocks }
         ensures words { self.new.words ≡ record self.old.words { fail = bit_or self.old.words.fail 1 } }
-        ensures cards { self.new.cards ≡ slice_set self.old.cards actor (failing (slice_index_or self.old.cards actor blank_card)) }
+        ensures cards { self.new.cards ≡ slice_set self.old.cards actor (failing FailedBit (slice_index_or self.old.cards actor blank_card)) }
     {
-        self.words.fail(&mut self.seat, actor, FAILED);
+        self.words.fail(&mut self.seat, actor, FailBit::Failed);
     }
 
     /// An actor tells of a suspension. A block that it owns stays owned for good.
@@ -176,8 +177,8 @@ impl Crew {
         requires actor { actor < length self.old.cards }
         ensures blocks { self.new.blocks ≡ self.old.blocks }
         ensures words { self.new.words ≡ record self.old.words { fail = bit_or self.old.words.fail 2 } }
-        ensures cards { self.new.cards ≡ slice_set self.old.cards actor (failing (slice_index_or self.old.cards actor blank_card)) }
+        ensures cards { self.new.cards ≡ slice_set self.old.cards actor (failing SuspendedBit (slice_index_or self.old.cards actor blank_card)) }
     {
-        self.words.fail(&mut self.seat, actor, SUSPENDED);
+        self.words.fail(&mut self.seat, actor, FailBit::Suspended);
     }
 }

@@ -18,4 +18,4 @@ pub use cells::Cells;
 pub use crew::Crew;
 pub use pass::Pass;
 pub use view::Fraction;
-pub use wb_words::{Card, Grip, GripStage, Gripped, Hold, Kind, Own, Share, Word};
+pub use wb_words::{Card, FailBit, Grip, GripStage, Gripped, Hold, Kind, Own, Share, Word};

@@ -1,6 +1,6 @@
 //! The table of words, and each kind of step that an actor makes on it.
 
-ghost use Rattle.std.specs.Prelude.{◌≡◌, ◌≢◌, ℕ, ◌+◌, ◌-◌, ◌*◌, ◌%◌, ◌^◌, ◌<◌, ◌≤◌, ◌==◌, true, [], ◌∷◌, length, bit_or, Some, IfOk, if◌then◌else◌};
+ghost use Rattle.std.specs.Prelude.{◌≡◌, ◌≢◌, ℕ, ◌+◌, ◌-◌, ◌*◌, ◌%◌, ◌^◌, ◌<◌, ◌==◌, true, [], ◌∷◌, length, bit_or, Some, IfOk, if◌then◌else◌};
 ghost use prog.Atomic.{either};
 ghost use mathlib.Core.Option.{none};
 ghost use Rattle.atomic_table.specs.Table.{Allows, step};
@@ -8,25 +8,20 @@ ghost use Rattle.wb_words.specs.declared.word.Access.TheVariants.{Owned};
 ghost use Rattle.wb_words.specs.declared.word.Word.TheVariants.{Cell as LockWord, Seal as SealWord, Number, Count as CountWord, Fail};
 ghost use Rattle.wb_words.specs.SharedWords.{word_at, value_of, with_cell, can_take, taken, given_back, one_more, counted};
 ghost use Rattle.wb_words.specs.declared.card.Hold.TheVariants.{Nothing, Held};
-ghost use Rattle.wb_words.specs.SharedWords.{IsWord, put};
+ghost use Rattle.wb_words.specs.SharedWords.{IsWord, HasBits, put, bit_word};
 ghost use Rattle.wb_cells.specs.Flat.{index_of};
 ghost use Rattle.wb_words.specs.Cards.{looked, losing, holding, sealing, finishing, counting, failing};
 ghost use Rattle.wb_cells.specs.Views.{Ruled, first_view};
 ghost use Rattle.wb_words.specs.Looks.{Finds};
 ghost use Rattle.wb_cells.specs.Moves.{SeatMoves, card_at};
+ghost use Rattle.wb_cells.specs.Passes.{Excludes};
 
 use crate::view::{Sizes, View};
 use atomic_table::{Play, Seat, Table, TableRule};
 use std::alloc::{AllocError, Global};
 use std::marker::Brand;
 use wb_types::OBlock;
-use wb_words::{Access, Kind, Word};
-
-/// The bit of the fail word that tells of a failure.
-pub(crate) const FAILED: u64 = 1;
-
-/// The bit of the fail word that tells of a suspension.
-pub(crate) const SUSPENDED: u64 = 2;
+use wb_words::{Access, FailBit, Kind, Word};
 
 /// The rule of the words.
 pub(crate) struct WordRule;
@@ -79,6 +74,16 @@ fn weight(access: Access) -> u64
     }
 }
 
+/// What a bit of the fail word is worth.
+fn value(bit: FailBit) -> u64
+    ensures { result ≡ bit_word bit }
+{
+    match bit {
+        FailBit::Failed => 1,
+        FailBit::Suspended => 2,
+    }
+}
+
 impl WordTable {
     /// Words that are all 0, and a seat that has the whole, with a card for each actor.
     pub(crate) fn new(
@@ -99,9 +104,20 @@ impl WordTable {
         requires actor { actor < length seat.old.me.0.cards }
         requires word { IsWord self.now.blocks word }
         ensures at { (seat.new.table_id ≡ seat.old.table_id) × (seat.new.id ≡ seat.old.id) }
-        ensures step { SeatMoves 0 actor (λ c d. (d ≡ looked word result c) × Finds word result c × (word ≡ Fail → seat.old.me.0.fail ≤ result)) (λ was now. (result ≡ value_of was word) × (now ≡ was)) seat.old.me seat.new.me }
+        ensures step { SeatMoves [] actor (λ c d. (d ≡ looked word result c) × Finds word result c × (word ≡ Fail → HasBits result seat.old.me.0.fail)) (λ was now. (result ≡ value_of was word) × (now ≡ was)) seat.old.me seat.new.me }
     {
         self.load::<Brand>(seat, actor, word)
+    }
+
+    /// A look by a seat that sits for two, which tells that their cards exclude each other.
+    pub(crate) fn tell_apart(&self, seat: &mut Seat<u64, View>)
+        requires at { seat.old.table_id ≡ self.now.table.shared.table_id }
+        requires two { seat.old.me.0.cards ≡ card_at 0 seat.old.me.0 ∷ card_at 1 seat.old.me.0 ∷ [] }
+        requires sized { seat.old.me.0.blocks ≡ self.now.blocks }
+        ensures at { (seat.new.table_id ≡ seat.old.table_id) × (seat.new.id ≡ seat.old.id) × (seat.new.me ≡ seat.old.me) }
+        ensures apart { Excludes self.now.blocks (card_at 0 seat.old.me.0) (card_at 1 seat.old.me.0) × Excludes self.now.blocks (card_at 1 seat.old.me.0) (card_at 0 seat.old.me.0) }
+    {
+        self.load::<Brand>(seat, 0, Word::Fail);
     }
 
     /// The exchange that takes a block, at the lock word that was seen, and what it found.
@@ -119,7 +135,7 @@ impl WordTable {
         requires idle { (card_at actor seat.old.me.0).hold ≡ Nothing }
         requires free { can_take access seen ≡ true }
         ensures at { (seat.new.table_id ≡ seat.old.table_id) × (seat.new.id ≡ seat.old.id) }
-        ensures step { SeatMoves 0 actor (λ c d. d ≡ (if result == seen then holding (Held access block) c else losing block result c)) (λ was now. (result ≡ word_at was.cells block) × (now ≡ (if result == seen then with_cell was block (taken access seen) else was))) seat.old.me seat.new.me }
+        ensures step { SeatMoves [] actor (λ c d. d ≡ (if result == seen then holding (Held access block) c else losing block result c)) (λ was now. (result ≡ word_at was.cells block) × (now ≡ (if result == seen then with_cell was block (taken access seen) else was))) seat.old.me seat.new.me }
     {
         self.exchange::<Brand>(seat, actor, access, block, seen, seen + weight(access))
     }
@@ -137,7 +153,7 @@ impl WordTable {
         requires block { block.0 < self.now.blocks }
         requires holds { (card_at actor seat.old.me.0).hold ≡ Held access block }
         ensures at { (seat.new.table_id ≡ seat.old.table_id) × (seat.new.id ≡ seat.old.id) }
-        ensures step { SeatMoves 0 actor (λ c d. d ≡ holding Nothing c) (λ was now. now ≡ with_cell was block (given_back access (word_at was.cells block))) seat.old.me seat.new.me }
+        ensures step { SeatMoves [] actor (λ c d. d ≡ holding Nothing c) (λ was now. now ≡ with_cell was block (given_back access (word_at was.cells block))) seat.old.me seat.new.me }
     {
         self.subtract::<Brand>(seat, actor, access, block, weight(access));
     }
@@ -149,7 +165,7 @@ impl WordTable {
         requires block { block.0 < self.now.blocks }
         requires owns { (card_at actor seat.old.me.0).hold ≡ Held Owned block }
         ensures at { (seat.new.table_id ≡ seat.old.table_id) × (seat.new.id ≡ seat.old.id) }
-        ensures step { SeatMoves 0 actor (λ c d. d ≡ sealing block seal c) (λ was now. now ≡ put was (SealWord block) seal) seat.old.me seat.new.me }
+        ensures step { SeatMoves [] actor (λ c d. d ≡ sealing block seal c) (λ was now. now ≡ put was (SealWord block) seal) seat.old.me seat.new.me }
     {
         self.store::<Brand>(seat, actor, block, seal);
     }
@@ -162,7 +178,7 @@ impl WordTable {
         requires owns { (card_at actor seat.old.me.0).hold ≡ Held Owned block }
         requires room { (n : ℕ) × ((card_at actor seat.old.me.0).number ≡ Some n) × (n ≢ 2 ^ 64 - 1) }
         ensures at { (seat.new.table_id ≡ seat.old.table_id) × (seat.new.id ≡ seat.old.id) }
-        ensures step { SeatMoves 0 actor (λ c d. d ≡ finishing block c) (λ was now. now ≡ put was (Number block) (one_more (word_at was.numbers block))) seat.old.me seat.new.me }
+        ensures step { SeatMoves [] actor (λ c d. d ≡ finishing block c) (λ was now. now ≡ put was (Number block) (one_more (word_at was.numbers block))) seat.old.me seat.new.me }
     {
         self.add_write::<Brand>(seat, actor, block);
     }
@@ -172,19 +188,19 @@ impl WordTable {
         requires at { seat.old.table_id ≡ self.now.table.shared.table_id }
         requires actor { actor < length seat.old.me.0.cards }
         ensures at { (seat.new.table_id ≡ seat.old.table_id) × (seat.new.id ≡ seat.old.id) }
-        ensures step { SeatMoves 0 actor (λ c d. d ≡ counting kind c) (λ was now. now ≡ counted was kind) seat.old.me seat.new.me }
+        ensures step { SeatMoves [] actor (λ c d. d ≡ counting kind c) (λ was now. now ≡ counted was kind) seat.old.me seat.new.me }
     {
         self.add_count::<Brand>(seat, actor, kind);
     }
 
-    /// Sets bits of the fail word. Who owns a block keeps it.
-    pub(crate) fn fail(&self, seat: &mut Seat<u64, View>, actor: usize, bits: u64)
+    /// Sets a bit of the fail word. Who owns a block keeps it.
+    pub(crate) fn fail(&self, seat: &mut Seat<u64, View>, actor: usize, bit: FailBit)
         requires at { seat.old.table_id ≡ self.now.table.shared.table_id }
         requires actor { actor < length seat.old.me.0.cards }
         ensures at { (seat.new.table_id ≡ seat.old.table_id) × (seat.new.id ≡ seat.old.id) }
-        ensures step { SeatMoves bits actor (λ c d. d ≡ failing c) (λ was now. now ≡ put was Fail (bit_or was.fail bits)) seat.old.me seat.new.me }
+        ensures step { SeatMoves (bit ∷ []) actor (λ c d. d ≡ failing bit c) (λ was now. now ≡ put was Fail (bit_or was.fail (bit_word bit))) seat.old.me seat.new.me }
     {
-        self.set_bits::<Brand>(seat, actor, bits);
+        self.set_bit::<Brand>(seat, actor, bit, value(bit));
     }
 
     // What is passed on beside the operands is for the proof alone: what a step tells may name the
@@ -272,7 +288,13 @@ impl WordTable {
         self.table.shared.fetch_add::<M>(seat, word, 1);
     }
 
-    fn set_bits<M: Play<u64, View>>(&self, seat: &mut Seat<u64, View>, _actor: usize, bits: u64)
+    fn set_bit<M: Play<u64, View>>(
+        &self,
+        seat: &mut Seat<u64, View>,
+        _actor: usize,
+        _bit: FailBit,
+        bits: u64,
+    )
         requires at { seat.old.table_id ≡ self.now.table.shared.table_id }
         requires rule { Allows (Ruled self.now.blocks) self.now.table.shared.table_id.slots seat.old.id seat.old.me 0 (λ n. bit_or n bits) (M.then (step self.now.table.shared.table_id.slots 0 bits 0 none) seat.old.me) }
         ensures { (seat.new.table_id ≡ seat.old.table_id) × (seat.new.id ≡ seat.old.id) × ((found : ℕ) × M.then (step self.now.table.shared.table_id.slots 0 bits 0 none) seat.old.me found seat.new.me) }

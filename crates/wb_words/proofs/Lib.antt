@@ -1,3 +1,4 @@
 pub mod Totals
 pub mod Values
+pub mod LogsKept
 pub mod RuleKept

@@ -14,18 +14,21 @@ use Rattle.wb_words.specs.declared.word.Kind.{Kind}
 use Rattle.wb_words.specs.declared.word.Kind.TheVariants.{ReadHit, ReadMiss, WriteHit, WriteMiss}
 use Rattle.wb_words.specs.declared.word.Word.{Word as WordName}
 use Rattle.wb_words.specs.declared.word.Word.TheVariants.{Cell as LockWord, Seal as SealWord, Number, Count as CountWord, Fail}
-use Rattle.wb_words.specs.SharedWords.{Words, word_at, value_of, count_in, with_cell, can_take, taken, given_back, one_more, put, kind_number, seal_word, fresh_words}
+use Rattle.wb_words.specs.SharedWords.{Words, word_at, value_of, count_in, with_cell, can_take, taken, given_back, one_more, put, kind_number, seal_word, fresh_words, fail_word, bit_word, IsWord}
 use Rattle.wb_words.specs.declared.card.Hold.{Hold}
 use Rattle.wb_words.specs.declared.card.Hold.TheVariants.{Nothing, Held}
 use Rattle.wb_words.specs.declared.card.Card.{Card}
-use Rattle.wb_words.specs.Cards.{blank_card, total, is_block, is_write, is_count, shares, owns, sharers, owners, writes_on, counts_of, is_own_seal, is_own_number, looked, losing, holding, sealing, finishing, counting, failing_at, failing}
-use Rattle.wb_words.specs.Rule.{block, IsLock, SawNoMore, AllSawNoMore, Knows, LockRule}
+use Rattle.wb_words.specs.declared.word.FailBit.{FailBit}
+use Rattle.wb_words.specs.declared.word.FailBit.TheVariants.{Failed, Suspended}
+use Rattle.wb_words.specs.Cards.{blank_card, total, is_block, is_write, is_count, shares, owns, sharers, owners, writes_on, counts_of, seals_on, times_set, is_own_seal, is_own_number, looked, losing, holding, sealing, finishing, counting, failing_at, failing}
+use Rattle.wb_words.specs.Rule.{block, IsLock, SawNoMore, AllSawNoMore, Knows, Notes, LogRule, LockRule}
 use Rattle.wb_words.specs.declared.step.CellStep.{CellStep}
 use Rattle.wb_words.specs.declared.step.CellStep.TheVariants.{Look, Take, Release, Seal, Finish, Count, SetFailed, SetSuspended}
 use Rattle.wb_words.specs.Looks.{SawAtMost, Finds}
 use Rattle.wb_words.specs.Effects.{words_after, card_after}
 use Rattle.wb_words.specs.Ready.{IsReady}
 use Rattle.wb_words.proofs.Totals.{total-set, total_at, total_two, total-same, total-replicate, at_set}
+use Rattle.wb_words.proofs.LogsKept.{look_logs, loss_logs, hold_logs, seal_logs, finish_logs, count_logs, fail_logs, blank_notes}
 use Rattle.wb_words.proofs.Values.{word_at_is, word_at_set, word_at_else, put_count}
 
 is_same : (a : OBlock) → is_block a.0 a ≡ 1
@@ -158,8 +161,8 @@ module _ (n : ℕ) (w : Words) (cs : List Card) (p : ℕ) (c : Card) (r : LockRu
   known_after u d own others q e h = ⊎_elim (λ (t : (q ≡ p) × (d ≡ e)). subst (Knows u) t.1 own) (λ (t : (q ≢ p) × (get_elem? cs q ≡ some e)). others q e t.0 t.1) (at_set cs p q d e h)
 
   -- a step that changes no word
-  unmoved : (d : Card) → d.hold ≡ c.hold → d.kept ≡ c.kept → d.added ≡ c.added → Knows w d → LockRule n w (set cs p d)
-  unmoved d hold kept added known = record {
+  unmoved : (d : Card) → d.hold ≡ c.hold → d.kept ≡ c.kept → d.added ≡ c.added → Knows w d → LogRule n w (set cs p d) → LockRule n w (set cs p d)
+  unmoved d hold kept added known logs = record {
     cells_are = r.cells_are;
     seals_are = r.seals_are;
     numbers_are = r.numbers_are;
@@ -168,13 +171,14 @@ module _ (n : ℕ) (w : Words) (cs : List Card) (p : ℕ) (c : Card) (r : LockRu
     fits = r.fits;
     counts = counted_so d (λ kind. ap (total (is_count kind)) added);
     knows = known_after w d known (λ q e _ g. r.knows q e g);
+    logs = logs;
   }
 
-  pub look_keeps : (word : WordName) → LockRule n w (set cs p (looked word (value_of w word) c))
-  look_keeps word = unmoved (looked word (value_of w word) c) refl refl refl (knows_look w word c mine)
+  pub look_keeps : (word : WordName) → IsWord n word → LockRule n w (set cs p (looked word (value_of w word) c))
+  look_keeps word inside = unmoved (looked word (value_of w word) c) refl refl refl (knows_look w word c mine) (look_logs n w cs p c r at word inside)
 
-  pub loss_keeps : (b : OBlock) (x : ℕ) → LockRule n w (set cs p (losing b x c))
-  loss_keeps b x = unmoved (losing b x c) refl refl refl record { seal = mine.seal; number = mine.number; saw = mine.saw }
+  pub loss_keeps : (b : OBlock) → b.0 < n → LockRule n w (set cs p (losing b (word_at w.cells b) c))
+  loss_keeps b inside = unmoved (losing b (word_at w.cells b) c) refl refl refl record { seal = mine.seal; number = mine.number; saw = mine.saw } (loss_logs n w cs p c r at b inside)
 
   -- a step on the lock word of b
   lock_step : (b : OBlock) (x : ℕ) (h : Hold) → b.0 < n → ((a : ℕ) → a ≢ b.0 → (shares a h ≡ shares a c.hold) × (owns a h ≡ owns a c.hold))
@@ -195,6 +199,7 @@ module _ (n : ℕ) (w : Words) (cs : List Card) (p : ℕ) (c : Card) (r : LockRu
     fits = r.fits;
     counts = counted_so d (λ kind. refl);
     knows = known_after u d (knows_none w u c d refl refl refl (λ b. omega arith) mine) (λ q e _ g. still w u e (λ b. refl) (λ b. refl) (r.knows q e g));
+    logs = hold_logs n w cs p c r at u h refl refl;
   }
 
   share_keeps : (b : OBlock) (x : ℕ) → b.0 < n → c.hold ≡ Nothing → word_at w.cells b ≡ x → x % 2 ≡ 0 → x < 2097150 → LockRule n (with_cell w b (x + 2)) (set cs p (holding (Held Shared b) c))
@@ -276,6 +281,7 @@ module _ (n : ℕ) (w : Words) (cs : List Card) (p : ℕ) (c : Card) (r : LockRu
       number = k.number;
       saw = saw_on w u e.saw (λ b. omega arith) k.saw;
     });
+    logs = seal_logs n w cs p c r at b x (omega arith) own;
   }
 
   pub finish_keeps : (b : OBlock) (x : ℕ) → b.0 < n → c.hold ≡ Held Owned b → c.number ≡ Some x → x < 18446744073709551615
@@ -307,12 +313,13 @@ module _ (n : ℕ) (w : Words) (cs : List Card) (p : ℕ) (c : Card) (r : LockRu
           number = λ access a z held is. dite (ℕ_discrete a.0 b.0) (λ same. absurd (sole b q e access a inside own ne g held same)) (λ other. others a other ∙ k.number access a z held is);
           saw = saw_on w u e.saw up k.saw;
         });
+        logs = finish_logs n w cs p c r at u b refl refl;
       }
 
   -- a step on the fail word or on a statistics word
   low_step : (u : Words) (d : Card) → u.cells ≡ w.cells → u.seals ≡ w.seals → u.numbers ≡ w.numbers → ((a : ℕ) → sharers a d ≡ sharers a c) → ((a : ℕ) → owners a d ≡ owners a c) → ((a : ℕ) → writes_on a d ≡ writes_on a c)
-      → ((kind : Kind) → count_in u kind ≡ total (counts_of kind) (set cs p d) % 2 ^ 64) → Knows u d → LockRule n u (set cs p d)
-  low_step u d ce se nu sh ow wr counts known = record {
+      → ((kind : Kind) → count_in u kind ≡ total (counts_of kind) (set cs p d) % 2 ^ 64) → Knows u d → LogRule n u (set cs p d) → LockRule n u (set cs p d)
+  low_step u d ce se nu sh ow wr counts known logs = record {
     cells_are = ap length ce ∙ r.cells_are;
     seals_are = ap length se ∙ r.seals_are;
     numbers_are = ap length nu ∙ r.numbers_are;
@@ -321,16 +328,18 @@ module _ (n : ℕ) (w : Words) (cs : List Card) (p : ℕ) (c : Card) (r : LockRu
     fits = λ b l. subst (λ (z : List ℕ). word_at z (block b) < 2 ^ 64) (sym nu) (r.fits b l);
     counts = counts;
     knows = known_after u d known (λ q e _ g. still w u e (λ b. ap (λ (z : List ℕ). word_at z b) se) (λ b. ap (λ (z : List ℕ). word_at z b) nu) (r.knows q e g));
+    logs = logs;
   }
 
-  pub fail_keeps : (x : ℕ) → LockRule n (put w Fail x) (set cs p (failing c))
-  fail_keeps x = let d : Card = failing c in low_step (put w Fail x) d refl refl refl (λ a. (fail_at c.hold a c refl).0) (λ a. (fail_at c.hold a c refl).1) (λ a. ap (total (is_write a)) (fail_at c.hold a c refl).2)
-      counts_stay (fail_knows_at w (put w Fail x) c.hold c (λ b. refl) (λ b. refl) mine)
+  pub fail_keeps : (bit : FailBit) → LockRule n (put w Fail (bit_or w.fail (bit_word bit))) (set cs p (failing bit c))
+  fail_keeps bit = let d : Card = failing bit c in let u : Words = put w Fail (bit_or w.fail (bit_word bit)) in let known = fail_knows_at w u c.hold c (λ b. refl) (λ b. refl) mine in
+      low_step u d refl refl refl (λ a. (fail_at c.hold a c refl).0) (λ a. (fail_at c.hold a c refl).1) (λ a. ap (total (is_write a)) (fail_at c.hold a c refl).2)
+      counts_stay record { seal = known.seal; number = known.number; saw = known.saw } (fail_logs n w cs p c r at bit)
     where
-      still_counted : (kind : Kind) → count_in w kind ≡ total (counts_of kind) (set cs p (failing c)) % 2 ^ 64
-      still_counted = counted_so (failing c) (λ kind. ap (total (is_count kind)) (fail_at c.hold 0 c refl).2)
+      still_counted : (kind : Kind) → count_in w kind ≡ total (counts_of kind) (set cs p (failing bit c)) % 2 ^ 64
+      still_counted = counted_so (failing bit c) (λ kind. ap (total (is_count kind)) (fail_at c.hold 0 c refl).2)
 
-      counts_stay : (kind : Kind) → count_in (put w Fail x) kind ≡ total (counts_of kind) (set cs p (failing c)) % 2 ^ 64
+      counts_stay : (kind : Kind) → count_in w kind ≡ total (counts_of kind) (set cs p (failing bit c)) % 2 ^ 64
       counts_stay ReadHit = still_counted ReadHit
       counts_stay ReadMiss = still_counted ReadMiss
       counts_stay WriteHit = still_counted WriteHit
@@ -368,16 +377,17 @@ module _ (n : ℕ) (w : Words) (cs : List Card) (p : ℕ) (c : Card) (r : LockRu
   counts_on WriteMiss WriteHit = stays WriteMiss WriteHit (λ e. omega arith)
   counts_on WriteMiss WriteMiss = risen WriteMiss _ refl
 
-  kept_by_count : (kind : Kind) (x : ℕ) → ((put w (CountWord kind) x).cells ≡ w.cells) × ((put w (CountWord kind) x).seals ≡ w.seals) × ((put w (CountWord kind) x).numbers ≡ w.numbers)
-  kept_by_count ReadHit x = (refl, refl, refl)
-  kept_by_count ReadMiss x = (refl, refl, refl)
-  kept_by_count WriteHit x = (refl, refl, refl)
-  kept_by_count WriteMiss x = (refl, refl, refl)
+  kept_by_count : (kind : Kind) (x : ℕ) → ((put w (CountWord kind) x).cells ≡ w.cells) × ((put w (CountWord kind) x).seals ≡ w.seals) × ((put w (CountWord kind) x).numbers ≡ w.numbers) × ((put w (CountWord kind) x).fail ≡ w.fail)
+  kept_by_count ReadHit x = (refl, refl, refl, refl)
+  kept_by_count ReadMiss x = (refl, refl, refl, refl)
+  kept_by_count WriteHit x = (refl, refl, refl, refl)
+  kept_by_count WriteMiss x = (refl, refl, refl, refl)
 
   pub count_keeps : (kind : Kind) → LockRule n (put w (CountWord kind) (one_more (count_in w kind))) (set cs p (counting kind c))
   count_keeps kind = let u : Words = put w (CountWord kind) (one_more (count_in w kind)) in let k = kept_by_count kind (one_more (count_in w kind)) in
       let known = still w u c (λ b. ap (λ (z : List ℕ). word_at z b) k.1) (λ b. ap (λ (z : List ℕ). word_at z b) k.2) mine in
       low_step u (counting kind c) k.0 k.1 k.2 (λ a. refl) (λ a. refl) (λ a. omega arith) (counts_on kind) record { seal = known.seal; number = known.number; saw = known.saw }
+      (count_logs n w cs p c r at u kind k.1 k.3)
 
 -- a number that is known and not the greatest has room for one more
 pub has_room : (n : ℕ) (w : Words) (cs : List Card) (p : ℕ) (c : Card) → LockRule n w cs → get_elem? cs p ≡ some c → (b : OBlock) (x : ℕ) → b.0 < n → c.hold ≡ Held Owned b → c.number ≡ Some x → x ≢ 18446744073709551615 → x < 18446744073709551615
@@ -386,18 +396,18 @@ has_room n w cs p c r at b x inside own known other = let is : word_at w.numbers
 
 -- any step that its actor is ready for keeps the rule
 pub step_keeps : (n : ℕ) (w : Words) (cs : List Card) (p : ℕ) (c : Card) (step : CellStep) → LockRule n w cs → get_elem? cs p ≡ some c → IsReady n c step → LockRule n (words_after w step) (set cs p (card_after w step c))
-step_keeps n w cs p c (Look word) r at ready = look_keeps n w cs p c r at word
+step_keeps n w cs p c (Look word) r at ready = look_keeps n w cs p c r at word ready
 step_keeps n w cs p c (Take access b seen) r at ready = by_test (eqb (word_at w.cells b) seen) refl
   where
     by_test : (t : Bool) → eqb (word_at w.cells b) seen ≡ t → LockRule n (if t then with_cell w b (taken access seen) else w) (set cs p (if t then holding (Held access b) c else losing b (word_at w.cells b) c))
     by_test true e = take_keeps n w cs p c r at access b seen ready.0 ready.1 (eqb-true (word_at w.cells b) seen e) ready.2
-    by_test false e = loss_keeps n w cs p c r at b (word_at w.cells b)
+    by_test false e = loss_keeps n w cs p c r at b ready.0
 step_keeps n w cs p c (Release access b) r at ready = (release_keeps n w cs p c r at access b ready.0 ready.1).0
 step_keeps n w cs p c (Seal b place dirty) r at ready = seal_keeps n w cs p c r at b (seal_word place dirty) ready.0 ready.1
 step_keeps n w cs p c (Finish b) r at ready = let known = ready.2 in finish_keeps n w cs p c r at b known.0 ready.0 ready.1 known.1 (has_room n w cs p c r at b known.0 ready.0 ready.1 known.1 known.2)
 step_keeps n w cs p c (Count kind) r at ready = subst (λ (u : Words). LockRule n u (set cs p (counting kind c))) (put_count w kind) (count_keeps n w cs p c r at kind)
-step_keeps n w cs p c SetFailed r at ready = fail_keeps n w cs p c r at (bit_or w.fail 1)
-step_keeps n w cs p c SetSuspended r at ready = fail_keeps n w cs p c r at (bit_or w.fail 2)
+step_keeps n w cs p c SetFailed r at ready = fail_keeps n w cs p c r at Failed
+step_keeps n w cs p c SetSuspended r at ready = fail_keeps n w cs p c r at Suspended
 
 -- With all words 0 and nobody holding anything, the rule holds.
 all_blank : (m p : ℕ) (c : Card) → get_elem? (replicate m blank_card) p ≡ some c → c ≡ blank_card
@@ -419,6 +429,11 @@ fresh_rule n m = let zero_at : (b : ℕ) → b < n → word_at (replicate n 0) (
   fits = λ b l. let z = zero_at b l in omega arith;
   counts = none_counted;
   knows = λ p c e. subst (Knows (fresh_words n)) (sym (all_blank m p c e)) (blank_knows (fresh_words n));
+  logs = record {
+    seals = λ b l. inl (zero_at b l, total-replicate (seals_on b) m blank_card refl);
+    fail = λ j. fail_word (sym (total-replicate (times_set Failed) m blank_card refl) j) (sym (total-replicate (times_set Suspended) m blank_card refl) j);
+    notes = λ p c e. subst (Notes (replicate m blank_card)) (sym (all_blank m p c e)) (blank_notes (replicate m blank_card));
+  };
 }
   where
     none_at : (kind : Kind) → 0 ≡ total (counts_of kind) (replicate m blank_card) % 2 ^ 64

@@ -15,6 +15,10 @@ module _ {A : Type 0} (f : A → ℕ) where
   total_at (x ∷ xs) zero a e = let is : f x ≡ f a = ap f (some-injective x a e) in omega arith
   total_at (x ∷ xs) (suc i) a e = let r = total_at xs i a e in omega arith
 
+  pub total_most : (g : A → ℕ) (l : List A) → ((i : ℕ) (a : A) → get_elem? l i ≡ some a → f a ≤ g a) → total f l ≤ total g l
+  total_most g [] le = omega arith
+  total_most g (x ∷ xs) le = let r = total_most g xs (λ i. le (suc i)) in let h = le 0 x refl in omega arith
+
   pub total_two : (l : List A) (i j : ℕ) (a b : A) → i ≢ j → get_elem? l i ≡ some a → get_elem? l j ≡ some b → f a + f b ≤ total f l
   total_two [] i j a b n e g = absurd (some-ne-none a (sym e))
   total_two (x ∷ xs) zero zero a b n e g = absurd (n refl)

@@ -1,6 +1,7 @@
 -- What a step gives, and what it makes of the words and of its actor's card.
-use Rattle.std.specs.Prelude.{◌==◌, if◌then◌else◌}
+use Rattle.std.specs.Prelude.{ℕ, ◌==◌, if◌then◌else◌}
 use Rattle.std.specs.Int.Bits.{bit_or}
+use Rattle.wb_words.specs.declared.word.FailBit.TheVariants.{Failed, Suspended}
 use Rattle.wb_words.specs.declared.word.Word.TheVariants.{Seal as SealWord, Number, Fail}
 use Rattle.wb_words.specs.declared.card.Hold.TheVariants.{Nothing, Held}
 use Rattle.wb_words.specs.declared.card.Card.{Card}
@@ -16,6 +17,12 @@ abbrev pub result_of : Words → CellStep → CellResult
 result_of words (Look word) = Found (value_of words word)
 result_of words (Take access block seen) = if word_at words.cells block == seen then Done else Lost
 result_of words step = Done
+
+-- the word that a look or an exchange finds
+abbrev pub found_by : Words → CellStep → ℕ
+found_by words (Look word) = value_of words word
+found_by words (Take access block seen) = word_at words.cells block
+found_by words step = 0
 
 abbrev pub words_after : Words → CellStep → Words
 words_after words (Look word) = words
@@ -34,5 +41,5 @@ card_after words (Release access block) card = holding Nothing card
 card_after words (Seal block place dirty) card = sealing block (seal_word place dirty) card
 card_after words (Finish block) card = finishing block card
 card_after words (Count kind) card = counting kind card
-card_after words SetFailed card = failing card
-card_after words SetSuspended card = failing card
+card_after words SetFailed card = failing Failed card
+card_after words SetSuspended card = failing Suspended card

@@ -1,6 +1,6 @@
 -- The five steps by which a block is taken: a look at the fail word, a look at the lock word, the exchange, a look
 -- at the seal, a look at the number.
-use Rattle.std.specs.Prelude.{◌≡◌, ◌≢◌, ◌⊎◌, ℕ, ◌==◌, Bool, true, false, cond, ◌∷◌, Option, Some, if◌then◌else◌}
+use Rattle.std.specs.Prelude.{◌≡◌, ◌≢◌, ◌⊎◌, ℕ, ◌==◌, Bool, true, false, cond, [], ◌∷◌, Option, Some, if◌then◌else◌}
 use Rattle.wb_types.specs.declared.number.OBlock.{OBlock}
 use Rattle.wb_types.specs.declared.number.CBlock.{CBlock}
 use Rattle.wb_types.specs.declared.refusal.Refusal.{Refusal}
@@ -19,6 +19,8 @@ use Rattle.wb_words.specs.declared.grip.Grip.{Grip}
 use Rattle.wb_words.specs.declared.grip.Gripped.{Gripped}
 use Rattle.wb_words.specs.declared.grip.Gripped.TheVariants.{More, Shared as GrippedShared, Owned as GrippedOwned, Refused}
 use Rattle.wb_words.specs.Cards.{looked, losing, holding}
+use Rattle.wb_words.specs.Effects.{found_by, card_after}
+use Rattle.wb_words.specs.Moments.{Moment}
 use Rattle.wb_words.specs.Looks.{Finds, SawAtMost}
 
 -- the next step
@@ -77,9 +79,13 @@ IsReadyAt access block (LookNumber seal) card = (card.hold ≡ Held access block
 abbrev pub IsReadyToGrip : Grip → Card → Type 0
 IsReadyToGrip grip card = IsReadyAt grip.access grip.block grip.stage card
 
--- One step of a grip: it found a word.
-pub record GripStep (grip : Grip) (card : Card) (result : Gripped) (next : Grip) (after : Card) : Type 0 where
+-- One step of a grip: it is the step that the grip makes next, it found what the words of a moment give, and it made of
+-- the card what such a step makes.
+pub record GripStep (blocks : ℕ) (alone : Type 0) (grip : Grip) (card : Card) (result : Gripped) (next : Grip) (after : Card) : Type 0 where
+  pub at : Moment blocks alone card
   pub found : ℕ
+  pub found_is : found ≡ found_by at.words (step_at grip.access grip.block grip.stage)
+  pub made : after ≡ card_after at.words (step_at grip.access grip.block grip.stage) card
   pub told : result ≡ told_at grip.access grip.block grip.stage found
   pub next_is : next ≡ record grip { stage = stage_after grip.access grip.stage found }
   pub after_is : after ≡ card_having_found grip.access grip.block grip.stage found card
@@ -111,6 +117,8 @@ pub record TellsHeld (access : Access) (block : OBlock) (place : Option CBlock) 
   pub kept : after.kept ≡ card.kept
   pub added : after.added ≡ card.added
   pub stored : after.stored ≡ card.stored
+  pub took : after.took ≡ (access, block) ∷ card.took
+  pub set : after.set ≡ card.set
   pub lost : after.lost ≡ card.lost
   pub saw : (w : ℕ) × (after.saw ≡ (Number block, number) ∷ ((SealWord block, found) ∷ ((LockWord block, w) ∷ ((Fail, 0) ∷ card.saw))))
   pub least : SawAtMost block number card.saw
@@ -133,6 +141,13 @@ pub record Stays (card after : Card) : Type 0 where
 -- A refusal, and its cause.
 abbrev pub IsRefusal : Access → OBlock → Refusal → Card → Card → Type 0
 IsRefusal access block refusal card after = Stays card after × (((refusal ≡ Busy) × IsLost access block card after) ⊎ ((refusal ≡ Failed) × IsFailed card after))
+
+-- What comes of a grip of who is alone and held nothing: it has the block, or a bit of the fail word was set.
+abbrev pub EndsAlone : Gripped → Card → Type 0
+EndsAlone (More x) card = ⊥
+EndsAlone (GrippedShared share) card = card.set ≡ []
+EndsAlone (GrippedOwned own) card = card.set ≡ []
+EndsAlone (Refused refusal) card = (refusal ≡ Failed) × (card.set ≢ [])
 
 -- where a grip ends
 abbrev pub EndsAs : Access → OBlock → Gripped → Card → Card → Type 0

@@ -1,11 +1,14 @@
 -- The shared words: what there are, and what a lock word and a seal tell.
-use Rattle.std.specs.Prelude.{◌+◌, ◌-◌, ◌*◌, ◌/◌, ◌^◌, ◌%◌, ◌&&◌, ◌==◌, ◌<◌, ℕ, zero, suc, Bool, true, false, List, Option, Some, None, slice_get, slice_set, unwrap_or, if◌then◌else◌, cond, nat_lt, replicate}
+use Rattle.std.specs.Prelude.{◌≡◌, ◌+◌, ◌-◌, ◌*◌, ◌/◌, ◌^◌, ◌%◌, ◌&&◌, ◌==◌, ◌<◌, ℕ, zero, suc, Bool, true, false, List, [], ◌∷◌, Option, Some, None, slice_get, slice_set, unwrap_or, if◌then◌else◌, cond, nat_lt, replicate}
+use Rattle.std.specs.Int.{bit_at}
 use Rattle.wb_types.specs.declared.number.OBlock.{OBlock}
 use Rattle.wb_types.specs.declared.number.CBlock.{CBlock}
 use Rattle.wb_words.specs.declared.word.Access.{Access}
 use Rattle.wb_words.specs.declared.word.Access.TheVariants.{Shared, Owned}
 use Rattle.wb_words.specs.declared.word.Kind.{Kind}
 use Rattle.wb_words.specs.declared.word.Kind.TheVariants.{ReadHit, ReadMiss, WriteHit, WriteMiss}
+use Rattle.wb_words.specs.declared.word.FailBit.{FailBit}
+use Rattle.wb_words.specs.declared.word.FailBit.TheVariants.{Failed, Suspended}
 use Rattle.wb_words.specs.declared.word.Word.{Word as WordName}
 use Rattle.wb_words.specs.declared.word.Word.TheVariants.{Cell as LockWord, Seal as SealWord, Number, Count as CountWord, Fail}
 
@@ -131,3 +134,20 @@ flag (suc n) = true
 
 abbrev pub dirty_in : ℕ → Bool
 dirty_in seal = flag (seal % 2)
+
+-- The fail word after so many failures and suspensions were told: bit 0 failed, bit 1 suspended.
+abbrev pub fail_word : ℕ → ℕ → ℕ
+fail_word failures suspensions = cond (flag failures) 1 0 + cond (flag suspensions) 2 0
+
+abbrev pub bit_word : FailBit → ℕ
+bit_word Failed = 1
+bit_word Suspended = 2
+
+abbrev pub bit_number : FailBit → ℕ
+bit_number Failed = 0
+bit_number Suspended = 1
+
+-- a fail word with all these bits
+abbrev pub HasBits : ℕ → List FailBit → Type 0
+HasBits word [] = Unit {0}
+HasBits word (bit ∷ bits) = (bit_at word (bit_number bit) ≡ 1) × HasBits word bits

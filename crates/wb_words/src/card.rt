@@ -1,7 +1,7 @@
 //! What one actor knows of the shared words. No value of these types is ever made: a clause reads an array as a list
 //! of any length, and a `u64` as a number without a greatest.
 
-use crate::{Access, Word};
+use crate::{Access, FailBit, Word};
 use wb_types::OBlock;
 
 /// What an actor holds: nothing, or one block.
@@ -21,8 +21,13 @@ pub struct Card {
     pub kept: [OBlock; 0],
     /// The words to which it added one, a word for each time.
     pub added: [Word; 0],
-    /// Each seal that it stored, the newest first: the block, and the seal word.
-    pub stored: [(OBlock, u64); 0],
+    /// Each seal that it stored, the newest first: the block, and the seal word. After a join there is a log for each
+    /// of the two that had one.
+    pub stored: [[(OBlock, u64); 0]; 0],
+    /// Each block that it took, the newest first, and how.
+    pub took: [(Access, OBlock); 0],
+    /// Each bit of the fail word that it set, the newest first.
+    pub set: [FailBit; 0],
     /// Each look, the newest first: the word, and what was found.
     pub saw: [(Word, u64); 0],
     /// Each exchange that was lost, the newest first: the block, and the lock word that was found.

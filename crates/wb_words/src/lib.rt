@@ -14,4 +14,4 @@ pub use card::{Card, Hold};
 pub use grip::{Grip, GripStage, Gripped};
 pub use held_block::{Own, Share};
 pub use step::{CellResult, CellStep};
-pub use word::{Access, Kind, Word, can_take, is_dirty, place_in, seal_word};
+pub use word::{Access, FailBit, Kind, Word, can_take, is_dirty, place_in, seal_word};

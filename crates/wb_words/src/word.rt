@@ -21,6 +21,15 @@ pub enum Access {
     Owned,
 }
 
+/// A bit of the fail word.
+#[derive(Clone, Copy, Debug, PartialEq, Eq)]
+pub enum FailBit {
+    /// Bit 0: a device has failed.
+    Failed,
+    /// Bit 1: the cache is suspended.
+    Suspended,
+}
+
 /// A shared word: three for each origin block, four statistics, and one that tells of failure.
 #[derive(Clone, Copy, Debug, PartialEq, Eq)]
 pub enum Word {

@@ -8,6 +8,7 @@ use Rattle.wb_words.specs.declared.card.Card.{Card}
 use Rattle.wb_words.specs.declared.card.Hold.{Hold}
 use Rattle.wb_words.specs.declared.card.Hold.TheVariants.{Nothing, Held}
 use Rattle.wb_words.specs.declared.step.CellStep.TheVariants.{Release, SetFailed}
+use Rattle.wb_words.specs.declared.word.FailBit.TheVariants.{Failed as FailedBit}
 use Rattle.wb_words.specs.Cards.{total, is_block, owns as owned_by, holding, failing, failing_at}
 use Rattle.wb_words.specs.Effects.{words_after}
 use Rattle.wb_tasks.specs.Tables.{access_of}
@@ -58,7 +59,7 @@ failing_write shape w n a card job cut doing refusal k =
     let s = k.stands in
     let block = block_of tj in
     let held : card.hold ≡ Held Owned block = s.held_is ∙ ap (λ access. Held access block) s.owns in
-    let card' : Card = failing card in
+    let card' : Card = failing FailedBit card in
     let x = at_work shape card job cut (Failing refusal) in
     let y = at_work shape card' job cut (Ending (Refuses refusal)) in
     let words = words_after w.words SetFailed in

@@ -100,6 +100,20 @@ fn who_fails_keeps_what_it_owns(rt: HostRuntime) -> Result<(), Fail> {
     Ok(())
 }
 
+#[test]
+fn two_passes_are_told_that_they_exclude_each_other(rt: HostRuntime) -> Result<(), Fail> {
+    let (cells, pass) = Cells::new(rt.alloc(), 2)?;
+    let (mut p, mut q) = cells.split(pass);
+    let own = cells.try_own(&mut p, OBlock(1))?;
+    let share = cells.try_share(&mut q, OBlock(0))?;
+    let (mut p, mut q) = cells.apart(p, q);
+    cells.disown(&mut p, own);
+    cells.leave(&mut q, share);
+    let mut all = cells.join(p, q);
+    assert!(rt; cells.try_own(&mut all, OBlock(0)).is_ok());
+    Ok(())
+}
+
 /// Shares block 0 by so many passes that are split off and dropped: whether each could.
 fn crowd(cells: &Cells, mut pass: Pass, many: u32) -> (Pass, bool)
     requires at { pass.table ≡ cells.now.table }

@@ -1,7 +1,9 @@
-use Rattle.std.proofs.Common.{◌≡◌, ◌⊎◌}
+use Rattle.std.proofs.Common.{◌≡◌, ◌⊎◌, []}
 use Rattle.wb_words.specs.declared.grip.GripStage.TheVariants.{LookFail}
 use Rattle.wb_words.specs.Grips.{stages_left}
+use Rattle.wb_cells.specs.Fractions.{IsWhole}
 use Rattle.wb_cells.proofs.Gripping.{OnTheWay}
+use Rattle.wb_cells.proofs.Alone.{AloneAt}
 use Rattle.wb_cells.proofs.cells.Cells.grip.Given as goal
 
 abbrev pub invariant-loop-ended : goal.invariant-loop-ended
@@ -10,7 +12,8 @@ invariant-loop-ended l = record {
   table : l.pass.table ≡ l.initial.pass.table;
   fraction : l.pass.fraction ≡ l.initial.pass.fraction;
   failed : l.pass.failed ≡ l.initial.pass.failed;
-  sound : (l.grip.stage ≡ LookFail) ⊎ (l.initial.pass.failed ≡ 0);
+  sound : (l.grip.stage ≡ LookFail) ⊎ (l.initial.pass.failed ≡ []);
+  alone : IsWhole l.initial.pass.fraction → AloneAt l.grip.stage l.initial.pass.card;
 }
 
 abbrev pub decreases-loop-ended : goal.decreases-loop-ended
