@@ -145,7 +145,7 @@ fn write_and_read(alloc: Global, longest: u64) -> Result<(What, usize), Refusal>
         for content in record.read.as_slice() {
             let written: Content = [0x11; 512];
             if *content == written {
-                same += 1;
+                same = same.saturating_add(1);
             }
         }
     }
