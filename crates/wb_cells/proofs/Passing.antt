@@ -16,7 +16,7 @@ use Rattle.wb_cells.specs.declared.view.View.{View}
 use Rattle.wb_words.specs.SharedWords.{IsWord, HasBits, fail_word}
 use Rattle.wb_cells.specs.Flat.{decode}
 use Rattle.wb_words.specs.Cards.{blank_card, total, is_block, is_write, is_count, is_share, is_own, seal_times, seal_count, is_newest, is_bit, shares, owns, sharers, owners, writes_on, counts_of, shared_of, owned_of, stores, seals_on, ends, times_set, looked, merged}
-use Rattle.wb_words.specs.Rule.{block, AllSawNoMore, Knows, LooksAllowed, LossesAllowed, Notes, LockRule, IsLock}
+use Rattle.wb_words.specs.Rule.{block, AllSawNoMore, Knows, LooksAllowed, LossesAllowed, NotesWhatWas, LockRule, IsLock}
 use Rattle.wb_words.specs.Moments.{Moment}
 use Rattle.wb_types.specs.declared.number.OBlock.{OBlock}
 use Rattle.wb_words.specs.declared.word.FailBit.{FailBit}
@@ -94,7 +94,7 @@ no_less_same cs ds same counts = record {
 
 -- the rule reads sums over the cards, and what each one knows and notes
 pub rule_from : (n : ℕ) (w : Words) (cs ds : List Card) → LockRule n w cs → ((b : ℕ) → total (sharers b) ds ≡ total (sharers b) cs) → ((b : ℕ) → total (owners b) ds ≡ total (owners b) cs)
-    → ((b : ℕ) → total (writes_on b) ds ≡ total (writes_on b) cs) → ((kind : Kind) → total (counts_of kind) ds ≡ total (counts_of kind) cs) → AllSame cs ds → ((p : ℕ) (c : Card) → get_elem? ds p ≡ some c → Knows w c) → ((p : ℕ) (c : Card) → get_elem? ds p ≡ some c → Notes ds c) → LockRule n w ds
+    → ((b : ℕ) → total (writes_on b) ds ≡ total (writes_on b) cs) → ((kind : Kind) → total (counts_of kind) ds ≡ total (counts_of kind) cs) → AllSame cs ds → ((p : ℕ) (c : Card) → get_elem? ds p ≡ some c → Knows w c) → ((p : ℕ) (c : Card) → get_elem? ds p ≡ some c → NotesWhatWas ds c) → LockRule n w ds
 rule_from n w cs ds r sh ow wr co same knows notes = record {
   cells_are = r.cells_are;
   seals_are = r.seals_are;
@@ -115,8 +115,8 @@ knows_blank : (w : Words) (q : ℕ) (c : Card) → get_elem? (blank_card ∷ [])
 knows_blank w zero c e = subst (Knows w) (some-injective blank_card c e) (blank_knows w)
 knows_blank w (suc q) c e = absurd (some-ne-none c (sym e))
 
-notes_blank : (cs : List Card) (q : ℕ) (c : Card) → get_elem? (blank_card ∷ []) q ≡ some c → Notes cs c
-notes_blank cs zero c e = subst (Notes cs) (some-injective blank_card c e) (blank_notes cs)
+notes_blank : (cs : List Card) (q : ℕ) (c : Card) → get_elem? (blank_card ∷ []) q ≡ some c → NotesWhatWas cs c
+notes_blank cs zero c e = subst (NotesWhatWas cs) (some-injective blank_card c e) (blank_notes cs)
 notes_blank cs (suc q) c e = absurd (some-ne-none c (sym e))
 
 first_has : (l : List Card) (c : Card) → l ≡ c ∷ [] → get_elem? l 0 ≡ some c
@@ -179,7 +179,7 @@ losses-append : (cs : List Card) (l m : List (OBlock × ℕ)) → LossesAllowed 
 losses-append cs [] m a b = b
 losses-append cs (q ∷ qs) m a b = (a.0, losses-append cs qs m a.1 b)
 
-notes_merged : (cs : List Card) (c d : Card) → Notes cs c → Notes cs d → Notes cs (merged c d)
+notes_merged : (cs : List Card) (c d : Card) → NotesWhatWas cs c → NotesWhatWas cs d → NotesWhatWas cs (merged c d)
 notes_merged cs c d k l = record {
   looks = looks-append cs c.saw d.saw k.looks l.looks;
   losses = losses-append cs c.lost d.lost k.losses l.losses;
@@ -247,8 +247,8 @@ joins n id v other w c d vc wc ch dh s r at apart there =
       bits = λ bit. same (times_set bit) (total-append (is_bit bit) c.set d.set);
     } in
     let up : AllNoLess (all_cards s.views) (all_cards us) = no_less_same (all_cards s.views) (all_cards us) all (λ kind. same (counts_of kind) (merged_counts c d kind)) in
-    let cn : Notes (all_cards us) c = notes_on (all_cards s.views) (all_cards us) up c (let q = in_all s.views id v 0 c at (first_has v.cards c vc) in r.rule.logs.notes q.0 c q.1) in
-    let dn : Notes (all_cards us) d = notes_on (all_cards s.views) (all_cards us) up d (let q = in_all s.views other w 0 d stood (first_has w.cards d wc) in r.rule.logs.notes q.0 d q.1) in
+    let cn : NotesWhatWas (all_cards us) c = notes_on (all_cards s.views) (all_cards us) up c (let q = in_all s.views id v 0 c at (first_has v.cards c vc) in r.rule.logs.notes q.0 c q.1) in
+    let dn : NotesWhatWas (all_cards us) d = notes_on (all_cards s.views) (all_cards us) up d (let q = in_all s.views other w 0 d stood (first_has w.cards d wc) in r.rule.logs.notes q.0 d q.1) in
     joined_ruled n id v other w both s r at apart there some_part refl refl refl tt refl
     (rule_from n (decode s.words) (all_cards s.views) (all_cards us) r.rule
     (λ b. same (sharers b) (let x : shares b c.hold ≡ 0 = ap (shares b) ch in let y : shares b d.hold ≡ 0 = ap (shares b) dh in omega arith))
@@ -259,8 +259,8 @@ joins n id v other w c d vc wc ch dh s r at apart there =
     (λ p e g. ⊎_elim (λ t. absurd (some-ne-none e (sym t.1)))
     (λ t. ⊎_elim (λ u. notes_at u.0 e (subst (λ (l : List Card). get_elem? l u.0 ≡ some e) cards u.1) cn dn) (λ u. notes_on (all_cards s.views) (all_cards us) up e (r.rule.logs.notes u.0 e u.1)) (card_of_set s.views id both t.0 e t.1)) (card_of_set vs other spent p e g)))
   where
-    notes_at : (q : ℕ) (e : Card) → get_elem? (merged c d ∷ []) q ≡ some e → Notes (all_cards (set (set s.views id (joined v w)) other spent)) c → Notes (all_cards (set (set s.views id (joined v w)) other spent)) d → Notes (all_cards (set (set s.views id (joined v w)) other spent)) e
-    notes_at zero e g k l = subst (Notes (all_cards (set (set s.views id (joined v w)) other spent))) (some-injective (merged c d) e g) (notes_merged (all_cards (set (set s.views id (joined v w)) other spent)) c d k l)
+    notes_at : (q : ℕ) (e : Card) → get_elem? (merged c d ∷ []) q ≡ some e → NotesWhatWas (all_cards (set (set s.views id (joined v w)) other spent)) c → NotesWhatWas (all_cards (set (set s.views id (joined v w)) other spent)) d → NotesWhatWas (all_cards (set (set s.views id (joined v w)) other spent)) e
+    notes_at zero e g k l = subst (NotesWhatWas (all_cards (set (set s.views id (joined v w)) other spent))) (some-injective (merged c d) e g) (notes_merged (all_cards (set (set s.views id (joined v w)) other spent)) c d k l)
     notes_at (suc q) e g k l = absurd (some-ne-none e (sym g))
 
     merged_at : (q : ℕ) (e : Card) → get_elem? (merged c d ∷ []) q ≡ some e → Knows (decode s.words) c → Knows (decode s.words) d → Knows (decode s.words) e

@@ -15,8 +15,8 @@ use Rattle.wb_words.specs.SharedWords.{Words, word_at, value_of, put, fail_word,
 use Rattle.wb_words.specs.declared.card.Hold.{Hold}
 use Rattle.wb_words.specs.declared.card.Hold.TheVariants.{Nothing, Held}
 use Rattle.wb_words.specs.declared.card.Card.{Card}
-use Rattle.wb_words.specs.Cards.{blank_card, total, is_block, is_seal, seal_times, seal_count, newest, is_there, is_newest, with_seal, is_share, is_own, is_bit, is_count, shares, owns, sharers, owners, counts_of, stores, seals_on, ends, shared_of, owned_of, times_set, looked, losing, holding, sealing, finishing, counting, failing_at, failing}
-use Rattle.wb_words.specs.Rule.{block, WasLock, WasSeal, IsLast, MayHaveFound, LooksAllowed, LossesAllowed, Notes, LogRule, LockRule}
+use Rattle.wb_words.specs.Cards.{blank_card, total, is_block, is_seal, seal_times, seal_count, newest_seal, is_there, is_newest, with_seal, is_share, is_own, is_bit, is_count, shares, owns, sharers, owners, counts_of, stores, seals_on, ends, shared_of, owned_of, times_set, looked, losing, holding, sealing, finishing, counting, failing_at, failing}
+use Rattle.wb_words.specs.Rule.{block, WasLock, WasSeal, IsLast, MayHaveFound, LooksAllowed, LossesAllowed, NotesWhatWas, LogRule, LockRule}
 use Rattle.wb_words.proofs.Totals.{total-set, total-same, total_at, at_set, total_most}
 use Rattle.wb_words.proofs.Values.{word_at_set, word_at_else}
 
@@ -71,15 +71,15 @@ module _ (cs ds : List Card) (l : AllNoLess cs ds) where
   losses_on [] w = tt
   losses_on (loss ∷ losses) w = (lock_on loss.0.0 loss.1 w.0, losses_on losses w.1)
 
-  pub notes_on : (c : Card) → Notes cs c → Notes ds c
+  pub notes_on : (c : Card) → NotesWhatWas cs c → NotesWhatWas ds c
   notes_on c k = record { looks = looks_on c.saw k.looks; losses = losses_on c.lost k.losses; shared = k.shared; owned = k.owned; sealed = k.sealed; kept = k.kept }
 
 -- a log with the seal of another block has the same newest one
-newest_else : (a : ℕ) (b : OBlock) (x : ℕ) (log : List (OBlock × ℕ)) → b.0 ≢ a → newest a ((b, x) ∷ log) ≡ newest a log
-newest_else a b x log ne = ap (λ (t : Bool). cond t (Some x) (newest a log)) (ne_eqb b.0 a ne)
+newest_else : (a : ℕ) (b : OBlock) (x : ℕ) (log : List (OBlock × ℕ)) → b.0 ≢ a → newest_seal a ((b, x) ∷ log) ≡ newest_seal a log
+newest_else a b x log ne = ap (λ (t : Bool). cond t (Some x) (newest_seal a log)) (ne_eqb b.0 a ne)
 
 newest_own : (b : OBlock) (x : ℕ) (log : List (OBlock × ℕ)) → is_newest b.0 x ((b, x) ∷ log) ≡ 1
-newest_own b x log = ap (λ (t : Bool). is_there x (cond t (Some x) (newest b.0 log))) (eq-eqb b.0 b.0 refl) ∙ ap (λ (t : Bool). cond t 1 0) (eq-eqb x x refl)
+newest_own b x log = ap (λ (t : Bool). is_there x (cond t (Some x) (newest_seal b.0 log))) (eq-eqb b.0 b.0 refl) ∙ ap (λ (t : Bool). cond t 1 0) (eq-eqb x x refl)
 
 -- what one seal more makes of the logs
 seal_adds : (g : List (OBlock × ℕ) → ℕ) (one : ℕ) (b : OBlock) (x : ℕ) (logs : List (List (OBlock × ℕ))) → ((log : List (OBlock × ℕ)) → g ((b, x) ∷ log) ≡ one + g log) → g [] ≡ 0 → total g (with_seal b x logs) ≡ one + total g logs
@@ -95,7 +95,7 @@ newest_stored : (b x : ℕ) (log : List (OBlock × ℕ)) → is_newest b x log �
 newest_stored b x [] = omega arith
 newest_stored b x (s ∷ log) = by_test (eqb s.0.0 b) (newest_stored b x log)
   where
-    by_test : (t : Bool) → is_newest b x log ≤ seal_times b x log → is_there x (cond t (Some s.1) (newest b log)) ≤ cond t (cond (eqb s.1 x) 1 0) 0 + seal_times b x log
+    by_test : (t : Bool) → is_newest b x log ≤ seal_times b x log → is_there x (cond t (Some s.1) (newest_seal b log)) ≤ cond t (cond (eqb s.1 x) 1 0) 0 + seal_times b x log
     by_test true r = omega arith
     by_test false r = omega arith
 
@@ -152,19 +152,19 @@ failed_sums (Held Owned a) c b is = (sym (ap (shares b) is), (let e : owns b c.h
     at_most false = omega arith
 
 module _ (n : ℕ) (w : Words) (cs : List Card) (p : ℕ) (c : Card) (r : LockRule n w cs) (at : get_elem? cs p ≡ some c) where
-  mine : Notes cs c
+  mine : NotesWhatWas cs c
   mine = r.logs.notes p c at
 
   -- the notes of all cards where one is replaced
-  notes_set : (d : Card) → NoLess c d → Notes (set cs p d) d → (q : ℕ) (e : Card) → get_elem? (set cs p d) q ≡ some e → Notes (set cs p d) e
-  notes_set d l new q e h = ⊎_elim (λ (t : (q ≡ p) × (d ≡ e)). subst (Notes (set cs p d)) t.1 new)
+  notes_set : (d : Card) → NoLess c d → NotesWhatWas (set cs p d) d → (q : ℕ) (e : Card) → get_elem? (set cs p d) q ≡ some e → NotesWhatWas (set cs p d) e
+  notes_set d l new q e h = ⊎_elim (λ (t : (q ≡ p) × (d ≡ e)). subst (NotesWhatWas (set cs p d)) t.1 new)
       (λ (t : (q ≢ p) × (get_elem? cs q ≡ some e)). notes_on cs (set cs p d) (no_less_set cs p c d at l) e (r.logs.notes q e t.1)) (at_set cs p q d e h)
 
   last_still : (d : Card) → d.stored ≡ c.stored → (b x : ℕ) → IsLast cs b x → IsLast (set cs p d) b x
   last_still d stored b x = last_same cs (set cs p d) b x (total-same (seals_on b) cs p c d at (ap (total (seal_count b)) stored)) (total-same (ends b x) cs p c d at (ap (total (is_newest b x)) stored))
 
   -- a step that neither seals nor sets a bit
-  quiet : (u : Words) (d : Card) → u.seals ≡ w.seals → u.fail ≡ w.fail → d.set ≡ c.set → d.stored ≡ c.stored → NoLess c d → Notes (set cs p d) d → LogRule n u (set cs p d)
+  quiet : (u : Words) (d : Card) → u.seals ≡ w.seals → u.fail ≡ w.fail → d.set ≡ c.set → d.stored ≡ c.stored → NoLess c d → NotesWhatWas (set cs p d) d → LogRule n u (set cs p d)
   quiet u d seals fail same stored l new = record {
     seals = λ b inside. subst (λ (z : List ℕ). IsLast (set cs p d) b (word_at z (block b))) (sym seals) (last_still d stored b (word_at w.seals (block b)) (r.logs.seals b inside));
     fail = fail ∙ (r.logs.fail ∙ (λ j. fail_word (sym (bits Failed) j) (sym (bits Suspended) j)));
@@ -176,7 +176,7 @@ module _ (n : ℕ) (w : Words) (cs : List Card) (p : ℕ) (c : Card) (r : LockRu
 
   -- the notes of the card that made the step
   notes_so : (d : Card) → NoLess c d → LooksAllowed cs d.saw → LossesAllowed cs d.lost → ((b : ℕ) → sharers b d ≤ shared_of b d) → ((b : ℕ) → owners b d ≤ owned_of b d) → ((b : ℕ) → 0 < seals_on b d → 0 < owned_of b d)
-      → ((b : ℕ) → total (is_block b) d.kept ≤ times_set Failed d + times_set Suspended d) → Notes (set cs p d) d
+      → ((b : ℕ) → total (is_block b) d.kept ≤ times_set Failed d + times_set Suspended d) → NotesWhatWas (set cs p d) d
   notes_so d l looks losses shared owned sealed kept = let up = no_less_set cs p c d at l in
       record { looks = looks_on cs (set cs p d) up d.saw looks; losses = losses_on cs (set cs p d) up d.lost losses; shared = shared; owned = owned; sealed = sealed; kept = kept }
 
@@ -266,5 +266,5 @@ module _ (n : ℕ) (w : Words) (cs : List Card) (p : ℕ) (c : Card) (r : LockRu
           ap (λ (z : ℕ). bit_or z 2) r.logs.fail ∙ ((or_bit _ _).1 ∙ (λ j. fail_word (sym (total-same (times_set Failed) cs p c d at (omega arith)) j) (sym up j)))
 
 -- who has noted nothing
-pub blank_notes : (cs : List Card) → Notes cs blank_card
+pub blank_notes : (cs : List Card) → NotesWhatWas cs blank_card
 blank_notes cs = record { looks = tt; losses = tt; shared = λ b. omega arith; owned = λ b. omega arith; sealed = λ b h. h; kept = λ b. omega arith }

@@ -21,7 +21,7 @@ use Rattle.wb_words.specs.declared.card.Card.{Card}
 use Rattle.wb_words.specs.declared.word.FailBit.{FailBit}
 use Rattle.wb_words.specs.declared.word.FailBit.TheVariants.{Failed, Suspended}
 use Rattle.wb_words.specs.Cards.{blank_card, total, is_block, is_write, is_count, shares, owns, sharers, owners, writes_on, counts_of, seals_on, times_set, is_own_seal, is_own_number, looked, losing, holding, sealing, finishing, counting, failing_at, failing}
-use Rattle.wb_words.specs.Rule.{block, IsLock, SawNoMore, AllSawNoMore, Knows, Notes, LogRule, LockRule}
+use Rattle.wb_words.specs.Rule.{block, IsLock, SawNoMore, AllSawNoMore, Knows, NotesWhatWas, LogRule, LockRule}
 use Rattle.wb_words.specs.declared.step.CellStep.{CellStep}
 use Rattle.wb_words.specs.declared.step.CellStep.TheVariants.{Look, Take, Release, Seal, Finish, Count, SetFailed, SetSuspended}
 use Rattle.wb_words.specs.Looks.{SawAtMost, Finds}
@@ -432,7 +432,7 @@ fresh_rule n m = let zero_at : (b : ℕ) → b < n → word_at (replicate n 0) (
   logs = record {
     seals = λ b l. inl (zero_at b l, total-replicate (seals_on b) m blank_card refl);
     fail = λ j. fail_word (sym (total-replicate (times_set Failed) m blank_card refl) j) (sym (total-replicate (times_set Suspended) m blank_card refl) j);
-    notes = λ p c e. subst (Notes (replicate m blank_card)) (sym (all_blank m p c e)) (blank_notes (replicate m blank_card));
+    notes = λ p c e. subst (NotesWhatWas (replicate m blank_card)) (sym (all_blank m p c e)) (blank_notes (replicate m blank_card));
   };
 }
   where

@@ -78,9 +78,9 @@ abbrev pub seal_count : ℕ → List (OBlock × ℕ) → ℕ
 seal_count b log = total (λ (stored : OBlock × ℕ). is_block b stored.0) log
 
 -- the newest seal on the block b in a log
-abbrev pub newest : ℕ → List (OBlock × ℕ) → Option ℕ
-newest b [] = None
-newest b (stored ∷ log) = cond (stored.0.0 == b) (Some stored.1) (newest b log)
+abbrev pub newest_seal : ℕ → List (OBlock × ℕ) → Option ℕ
+newest_seal b [] = None
+newest_seal b (stored ∷ log) = cond (stored.0.0 == b) (Some stored.1) (newest_seal b log)
 
 -- 1 where x is there, else 0
 abbrev pub is_there : ℕ → Option ℕ → ℕ
@@ -88,7 +88,7 @@ is_there x None = 0
 is_there x (Some y) = cond (y == x) 1 0
 
 abbrev pub is_newest : ℕ → ℕ → List (OBlock × ℕ) → ℕ
-is_newest b x log = is_there x (newest b log)
+is_newest b x log = is_there x (newest_seal b log)
 
 -- how often a card stored this seal on the block b
 abbrev pub stores : ℕ → ℕ → Card → ℕ

@@ -82,7 +82,7 @@ LossesAllowed cards [] = Unit {0}
 LossesAllowed cards (loss ∷ losses) = WasLock cards loss.0.0 loss.1 × LossesAllowed cards losses
 
 -- What a card notes: looks and losses as there can have been, what it holds taken, a seal on no block but one that it took to own, and a block kept only where it set a bit.
-pub record Notes (cards : List Card) (card : Card) : Type 0 where
+pub record NotesWhatWas (cards : List Card) (card : Card) : Type 0 where
   pub looks : LooksAllowed cards card.saw
   pub losses : LossesAllowed cards card.lost
   pub shared : (b : ℕ) → sharers b card ≤ shared_of b card
@@ -94,7 +94,7 @@ pub record Notes (cards : List Card) (card : Card) : Type 0 where
 pub record LogRule (n : ℕ) (words : Words) (cards : List Card) : Type 0 where
   pub seals : (b : ℕ) → b < n → IsLast cards b (word_at words.seals (block b))
   pub fail : words.fail ≡ fail_word (total (times_set Failed) cards) (total (times_set Suspended) cards)
-  pub notes : (p : ℕ) (card : Card) → get_elem? cards p ≡ some card → Notes cards card
+  pub notes : (p : ℕ) (card : Card) → get_elem? cards p ≡ some card → NotesWhatWas cards card
 
 -- The words of n blocks and all cards. Each lock word counts its sharers and its owner, those that kept it at a failure
 -- among them; each number is the sum of the writes finished on its block, each statistics word that of the counts.
