@@ -140,7 +140,7 @@ fn write_and_read(alloc: Global, longest: u64) -> Result<(What, usize), Refusal>
     steps(&mut world, 0, 12)?;
     world.event(Event::Start(1, Job::Read(THREE)))?;
     steps(&mut world, 1, 8 + THREE.count.div_ceil(longest.max(1)))?;
-    let mut same = 0;
+    let mut same: usize = 0;
     for record in world.trace().records() {
         for content in record.read.as_slice() {
             let written: Content = [0x11; 512];
