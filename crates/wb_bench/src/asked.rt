@@ -112,10 +112,10 @@ fn read_direction(word: &str) -> Option<Direction> {
 }
 
 fn read_crowd(word: &str) -> Option<Crowd> {
-    match word {
-        "1" => Some(Crowd::One),
-        "2" => Some(Crowd::Two),
-        "4" => Some(Crowd::Four),
+    match word.parse::<u32>().ok()? {
+        1 => Some(Crowd::One),
+        2 => Some(Crowd::Two),
+        4 => Some(Crowd::Four),
         _ => None,
     }
 }

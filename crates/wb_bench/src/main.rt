@@ -46,6 +46,10 @@ const STREAM_FAILED: u8 = 4;
 /// The most blocks that a run goes over.
 const MOST_BLOCKS: u64 = 1_048_576;
 
+/// What it can be asked, on one line.
+const USAGE: &str =
+    "usage: wb_bench FILE read|write SECTORS REQUESTS | sketch CACHE_BLOCKS ADDS|reset | settles CACHE_BLOCKS ACCESSES | ticks CACHE_BLOCKS TICKS | space CACHE_BLOCKS ROUNDS REMOVED | shares same|apart 1|2|4 ROUNDS | FILE mapping CACHE_BLOCKS | FILE state";
+
 fn main(rt: HostRuntime) -> ExitCode {
     // Before any file is opened.
     let Ok(_held) = hold_streams(&rt) else {
@@ -168,9 +172,7 @@ fn drive_all(asked: &Requests<'_>, blocks: u64, owner: &mut Owner<FileDisk, Unno
 }
 
 fn usage(rt: &HostRuntime) -> ExitCode {
-    let _ = eprintln!(rt;
-        "usage: wb_bench FILE read|write SECTORS REQUESTS | sketch CACHE_BLOCKS ADDS|reset | settles CACHE_BLOCKS ACCESSES | ticks CACHE_BLOCKS TICKS | space CACHE_BLOCKS ROUNDS REMOVED | shares same|apart 1|2|4 ROUNDS | FILE mapping CACHE_BLOCKS | FILE state"
-    );
+    let _ = eprintln!(rt; "{USAGE}");
     ExitCode::from(2)
 }
 

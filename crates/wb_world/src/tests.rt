@@ -10,10 +10,25 @@ use wb_disk::{Base, CrashChoice, NamedContent};
 use wb_tasks::{Got, Want};
 use wb_types::{Content, Extent, Geometry, Refusal};
 
+/// Blocks of 64 sectors in these numbers, on the cache, the origin, and the metadata device.
+fn setup_of(cache: u64, origin: u64, metadata: u64) -> Result<Setup, Refusal> {
+    let geometry = Geometry::new(64, cache, origin, metadata)?;
+    Ok(Setup { geometry })
+}
+
 /// Ten blocks of 64 sectors, and a cache of four.
 fn small_setup() -> Result<Setup, Refusal> {
-    let geometry = Geometry::new(64, 4, 10, 4)?;
-    Ok(Setup { geometry })
+    setup_of(4, 10, 4)
+}
+
+/// A sector of one byte.
+fn filled(byte: u8) -> Content {
+    [byte; 512]
+}
+
+/// Whether a sector has one byte alone.
+fn is_filled(content: &Content, byte: u8) -> bool {
+    content.iter().all(|here| *here == byte)
 }
 
 /// What the last event did.
@@ -24,17 +39,15 @@ fn last(world: &World) -> What {
     }
 }
 
-fn job(told: Told) -> Job {
-    match told {
-        Told::Read(extent) => Job::Read(extent),
-        Told::Write(extent, byte) => Job::Write(extent, [byte; 512]),
-    }
-}
-
 /// Lets a line happen.
 fn play_line(alloc: Global, world: &mut World, line: &Line) -> Result<(), Refusal> {
     match *line {
-        Line::Start(actor, told) => world.event(Event::Start(actor, job(told))),
+        Line::Start(actor, Told::Read(extent)) => {
+            world.event(Event::Start(actor, Job::Read(extent)))
+        }
+        Line::Start(actor, Told::Write(extent, byte)) => {
+            world.event(Event::Start(actor, Job::Write(extent, filled(byte))))
+        }
         Line::Steps(actor, count) => {
             for _ in 0..count {
                 world.event(Event::Step(actor))?;
@@ -76,12 +89,15 @@ fn interleavings_answer_as_their_rows_say(rt: HostRuntime) -> Result<(), Fail> {
 /// A write of the first sector by actor 0, up to its answer.
 fn events_of_a_write(alloc: Global) -> Result<Vec<Event>, Refusal> {
     let first = Extent { first: 0, count: 1 };
+    let start = Event::Start(0, Job::Write(first, filled(0x11)));
     let mut events = Vec::new(alloc);
-    events
-        .push(Event::Start(0, Job::Write(first, [0x11; 512])))
-        .map_err(|_| Refusal::Memory)?;
+    if events.push(start).is_err() {
+        return Err(Refusal::Memory);
+    }
     for _ in 0..10 {
-        events.push(Event::Step(0)).map_err(|_| Refusal::Memory)?;
+        if events.push(Event::Step(0)).is_err() {
+            return Err(Refusal::Memory);
+        }
     }
     Ok(events)
 }
@@ -132,37 +148,43 @@ fn steps(world: &mut World, actor: usize, count: u64) -> Result<(), Refusal> {
     Ok(())
 }
 
-/// The three sectors are written, and then read by another, by steps of at most so many sectors: what was answered
-/// last, and how many contents were read that are those that were written.
-fn write_and_read(alloc: Global, longest: u64) -> Result<(What, usize), Refusal> {
-    let mut world = World::cutting(alloc, small_setup()?, longest.max(1))?;
-    world.event(Event::Start(0, Job::Write(THREE, [0x11; 512])))?;
-    steps(&mut world, 0, 12)?;
-    world.event(Event::Start(1, Job::Read(THREE)))?;
-    steps(&mut world, 1, 8 + THREE.count.div_ceil(longest.max(1)))?;
+/// How many contents were read that have the written byte alone.
+fn contents_read(records: &[Record]) -> usize {
     let mut same: usize = 0;
-    for record in world.trace().records() {
+    for record in records {
         for content in record.read.as_slice() {
-            let written: Content = [0x11; 512];
-            if *content == written {
+            if is_filled(content, 0x11) {
                 same = same.saturating_add(1);
             }
         }
     }
-    Ok((last(&world), same))
+    same
+}
+
+/// A world, cut into extents of at most so many sectors, in which the three sectors are written.
+fn written_by(alloc: Global, longest: u64) -> Result<World, Refusal> {
+    if longest < 1 {
+        return Err(Refusal::Range);
+    }
+    let mut world = World::cutting(alloc, small_setup()?, longest)?;
+    world.event(Event::Start(0, Job::Write(THREE, filled(0x11))))?;
+    steps(&mut world, 0, 12)?;
+    Ok(world)
 }
 
 #[test]
 fn one_extent_and_single_sectors_are_alike(rt: HostRuntime) -> Result<(), Fail> {
-    for longest in [1, 2, 3, 64] {
-        let (answer, same) = write_and_read(rt.alloc(), longest)?;
+    for (longest, reading) in [(1, 11), (2, 10), (3, 9), (64, 9)] {
+        let mut world = written_by(rt.alloc(), longest)?;
+        world.event(Event::Start(1, Job::Read(THREE)))?;
+        steps(&mut world, 1, reading)?;
         assert!(rt;
             matches!(
-                answer,
+                last(&world),
                 What::Stepped(Want::End(wb_tasks::Answer::Done), Got::Done)
             )
         );
-        assert_eq!(rt; same, 3, "by {longest}");
+        assert_eq!(rt; contents_read(world.trace().records()), 3, "by {longest}");
     }
     Ok(())
 }
@@ -175,7 +197,7 @@ fn crash_after_the_write(
     kept: [u64; 3],
 ) -> Result<What, Refusal> {
     let mut world = World::cutting(alloc, small_setup()?, 3)?;
-    world.event(Event::Start(0, Job::Write(THREE, [0x11; 512])))?;
+    world.event(Event::Start(0, Job::Write(THREE, filled(0x11))))?;
     steps(&mut world, 0, 5)?;
     match fails {
         Some(numbers) => world.event(Event::FaultStep(0, choice(alloc, numbers)?))?,
