@@ -312,11 +312,73 @@ check 'a line without an end takes no memory' "$(
 )" 'bad line 1
 1'
 
+# A dialogue: lines go in one at a time, each once the answer of the one before is out.
+open_dialogue() { # what the program runs with: the program begins, its input is descriptor 3 and its output 4
+  rm -f to from told
+  mkfifo to from
+  (trap '' PIPE; "$cache" "$@" <to >from 2>told; echo $? >>told) &
+  exec 3>to 4<from
+}
+ask() { # line, number of answer lines: the answers, or nothing after 10 seconds
+  printf '%s\n' "$1" >&3
+  lines=$2
+  while test "$lines" -gt 0; do
+    timeout 10 sh -c 'IFS= read -r line && printf "%s\n" "$line"' <&4
+    lines=$((lines - 1))
+  done
+}
+close_dialogue() {
+  exec 3>&- 4<&-
+  wait
+}
+fresh
+open_dialogue -v run "$table"
+said=$(ask 'w 60 8 ab' 1; ask 'r 63 2' 2; ask 'r 640 1' 1; ask 'r 67 2' 2)
+close_dialogue
+check 'an answer is out before the next line is read' "$said" 'ok
+63 ab
+64 ab
+refused 1 Range
+67 ab
+68 00'
+check 'a dialogue that ends' "$(cat told)" 'wbcache: 1 line was refused, the first at line 3: 1 Range
+1'
+fresh
+open_dialogue -v run "$table"
+said=$(ask 'w 60 8 ab' 1; ask 'r 640 1' 1)
+exec 4<&-
+printf 'r 63 2\n' >&3 2>/dev/null
+close_dialogue
+check 'a writer that fails after two answers' "$said $(cat told)" 'ok
+refused 1 Range wbcache: an answer cannot be written
+4'
+check 'a reader that fails' "$( ("$cache" -v run "$table" <.) 2>&1; echo $?)" 'wbcache: the script cannot be read further
+4'
+
+# A device that fails: a file cut short while it is open no longer has the sector, and has it once it is written.
+fresh
+open_dialogue -v run "$table"
+said=$(ask 'r 63 1' 1; truncate -s 35840 o.img; for line in 'r 63 9' 'r 70 1' 'r 69 1' 'w 70 1 11' 'r 70 1' 'r 71 1'; do ask "$line" 1; done)
+close_dialogue
+check 'a read that fails is answered, and the script goes on' "$said" '63 00
+refused 5 Io origin
+refused 5 Io origin
+69 00
+ok
+70 11
+refused 5 Io origin'
+check 'reads that failed' "$(cat told)" 'wbcache: 3 lines were refused, the first at line 2: 5 Io origin
+3'
+
 # Past the limit of the file size: the kit cannot ignore the signal, a shell can (docs/DECISIONS.md).
 fresh
-said=$( (trap '' XFSZ; ulimit -f 100; printf 'w 0 1 11\nw 400 1 22\n' | "$cache" run "$table") 2>&1)
-check 'past the limit of the file size, the signal ignored' "$? $said" '3 ok
-refused 5 Io origin'
+said=$( (trap '' XFSZ; ulimit -f 100; printf 'w 0 1 11\nw 390 20 22\nr 0 1\nw 0 1 33\nr 640 1\n' | "$cache" -v run "$table") 2>&1)
+check 'a write that fails leaves the target failed' "$? $said" '3 ok
+refused 5 Io origin
+refused 6 Failed
+refused 6 Failed
+refused 1 Range
+wbcache: 4 lines were refused, the first at line 2: 5 Io origin'
 
 # Help, version and what is not read.
 for words in -h --help 'run --help' 'format -h'; do

@@ -32,18 +32,45 @@ fn got(disk: &mut impl Disk, at: u64) -> Result<u8, DiskFault> {
 
 /// Writes an extent; a fault too where the disk has not all its sectors.
 fn put_extent(disk: &mut impl Disk, first: u64, from: &[Content]) -> Result<(), DiskFault> {
-    let (total, count) = (disk.sectors(), from.len() as u64);
-    if count > total || first > total - count {
+    let Some(end) = first.checked_add(from.len() as u64) else {
+        return Err(DiskFault);
+    };
+    if end > disk.sectors() {
         return Err(DiskFault);
     }
     disk.write_extent(first, from)
 }
 
-/// Reads an extent; a fault too where the disk has not all its sectors.
+/// Reads an extent: a fault too where the disk has not all its sectors.
 fn get_extent(disk: &mut impl Disk, first: u64, out: &mut [Content]) -> Result<(), DiskFault> {
-    let (total, count) = (disk.sectors(), out.len() as u64);
-    if count > total || first > total - count {
+    let Some(end) = first.checked_add(out.len() as u64) else {
+        return Err(DiskFault);
+    };
+    if end > disk.sectors() {
         return Err(DiskFault);
     }
     disk.read_extent(first, out)
+}
+
+/// A step of a test: a sector is filled with a byte, is found full of one, or all sectors are synced.
+#[derive(Clone, Copy)]
+enum Step {
+    Put(u64, u8),
+    Got(u64, u8),
+    Synced,
+}
+
+/// Whether each of these steps is done, and finds what it says.
+fn are_done(disk: &mut impl Disk, steps: &[Step]) -> bool {
+    for step in steps {
+        let is_done = match *step {
+            Step::Put(at, byte) => put(disk, at, byte).is_ok(),
+            Step::Got(at, byte) => matches!(got(disk, at), Ok(found) if found == byte),
+            Step::Synced => disk.sync().is_ok(),
+        };
+        if !is_done {
+            return false;
+        }
+    }
+    true
 }

@@ -5,7 +5,7 @@ use clap::{Arg, ArgAction, Command, Error};
 use std::alloc::Global;
 
 /// What the program is asked to do.
-#[derive(Clone, Copy, Debug)]
+#[derive(Clone, Copy)]
 pub enum Asked<'a> {
     /// To format the metadata over the files of a table.
     Format(&'a str),

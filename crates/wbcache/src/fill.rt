@@ -4,7 +4,7 @@ use std::fmt;
 use wb_types::{Content, SECTOR_BYTES};
 
 /// What fills a sector. Shown, it is two hexadecimal digits, or `mixed`.
-#[derive(Clone, Copy, Debug, PartialEq, Eq)]
+#[derive(Clone, Copy)]
 pub enum Fill {
     /// Each byte is this one.
     Uniform(u8),

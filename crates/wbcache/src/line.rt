@@ -11,7 +11,7 @@ use std::str;
 use wb_types::Sector;
 
 /// What a line asks.
-#[derive(Clone, Copy, Debug, PartialEq, Eq)]
+#[derive(Clone, Copy)]
 pub enum Line {
     /// An empty line, or a comment.
     Nothing,

@@ -19,8 +19,6 @@ mod sizes;
 mod status;
 mod table;
 mod tally;
-#[cfg(test)]
-mod tests;
 mod words;
 
 use crate::arguments::{Asked, read_arguments};

@@ -13,7 +13,7 @@ use wb_types::Refusal;
 const OUT_OF_MEMORY: &[u8] = b"refused 7 Memory\n";
 
 /// The reader or the writer of a script failed.
-#[derive(Clone, Copy, Debug, PartialEq, Eq)]
+#[derive(Clone, Copy)]
 pub enum StreamFailed {
     Reader,
     Writer,

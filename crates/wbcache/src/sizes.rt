@@ -10,7 +10,7 @@ use wb_types::{Dev, Geometry};
 const MOST_METADATA: u64 = 4_294_967_295;
 
 /// A size outside the limits, and the limit.
-#[derive(Clone, Copy, Debug, PartialEq, Eq)]
+#[derive(Clone, Copy)]
 pub enum SizeFault {
     /// The sectors are no whole number of blocks of this many.
     PartOfABlock {

@@ -11,7 +11,7 @@ use std::fmt::{Display, Formatter};
 use wb_types::Refusal;
 
 /// The files of a target, and the size of its blocks.
-#[derive(Clone, Copy, Debug)]
+#[derive(Clone, Copy)]
 pub struct Table<'a> {
     pub metadata: &'a str,
     pub cache: &'a str,
@@ -77,7 +77,7 @@ const WORDS: [&str; 8] = [
 ];
 
 /// Where a text is no table.
-#[derive(Clone, Copy, Debug)]
+#[derive(Clone, Copy)]
 pub enum TableFault<'a> {
     /// A word that is none of a table's at its place: what is wanted there.
     Word {

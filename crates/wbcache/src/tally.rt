@@ -5,7 +5,7 @@ use std::fmt::{Display, Formatter};
 use wb_types::Refusal;
 
 /// What a line was answered that was not done.
-#[derive(Clone, Copy, Debug, PartialEq, Eq)]
+#[derive(Clone, Copy)]
 pub enum Said {
     Refused(Refusal),
     /// It is no line of a script.
@@ -13,7 +13,7 @@ pub enum Said {
 }
 
 /// How many lines were refused, and the first of them: its number from 1 on, and what it was answered.
-#[derive(Clone, Copy, Debug, PartialEq, Eq)]
+#[derive(Clone, Copy)]
 pub struct Tally {
     pub count: u64,
     pub first: Option<(u64, Said)>,

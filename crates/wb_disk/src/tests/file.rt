@@ -1,7 +1,7 @@
 //! Disks over files, real and fake.
 
 use super::fake_file::FakeFile;
-use super::{get_extent, got, put, put_extent};
+use super::{Step, are_done, get_extent, got, put, put_extent};
 use crate::{Disk, DiskFault, FileDisk};
 use std::cell::Cell;
 use std::test::Fail;
@@ -14,10 +14,13 @@ fn a_file_keeps_what_was_written(rt: HostRuntime) -> Result<(), Fail> {
     fs::write(&rt, name, zeros.as_slice())?;
     let mut disk = FileDisk::open(&rt, name)?;
     assert_eq!(rt; disk.sectors(), 3);
-    assert_eq!(rt; put(&mut disk, 2, 7), Ok(()));
-    assert_eq!(rt; disk.sync(), Ok(()));
-    assert_eq!(rt; got(&mut disk, 2), Ok(7));
-    assert_eq!(rt; got(&mut disk, 1), Ok(0));
+    let steps = [
+        Step::Put(2, 7),
+        Step::Synced,
+        Step::Got(2, 7),
+        Step::Got(1, 0),
+    ];
+    assert!(rt; are_done(&mut disk, &steps));
     let mut other = FileDisk::open(&rt, name)?;
     assert_eq!(rt; got(&mut other, 2), Ok(7));
 
@@ -50,9 +53,8 @@ fn pieces_are_put_together(rt: HostRuntime) -> Result<(), Fail> {
     for piece in [1, 100, 512] {
         let mut disk = FileDisk::over(fake(piece, 0, io::ErrorKind::Other))?;
         assert_eq!(rt; disk.sectors(), 2);
-        assert_eq!(rt; put(&mut disk, 1, 9), Ok(()));
-        assert_eq!(rt; got(&mut disk, 0), Ok(0));
-        assert_eq!(rt; got(&mut disk, 1), Ok(9));
+        let steps = [Step::Put(1, 9), Step::Got(0, 0), Step::Got(1, 9)];
+        assert!(rt; are_done(&mut disk, &steps));
     }
     Ok(())
 }
@@ -62,8 +64,7 @@ fn an_extent_is_its_sectors_in_order(rt: HostRuntime) -> Result<(), Fail> {
     for piece in [1, 100, 512, 700, 1024] {
         let mut disk = FileDisk::over(fake(piece, 0, io::ErrorKind::Other))?;
         assert_eq!(rt; put_extent(&mut disk, 0, &[[5; 512], [6; 512]]), Ok(()));
-        assert_eq!(rt; got(&mut disk, 0), Ok(5));
-        assert_eq!(rt; got(&mut disk, 1), Ok(6));
+        assert!(rt; are_done(&mut disk, &[Step::Got(0, 5), Step::Got(1, 6)]));
         assert_eq!(rt; put_extent(&mut disk, 1, &[[7; 512]]), Ok(()));
         let mut out = [[0; 512]; 2];
         assert_eq!(rt; get_extent(&mut disk, 0, &mut out), Ok(()));
@@ -124,8 +125,7 @@ fn a_file_that_moves_nothing_is_a_fault(rt: HostRuntime) -> Result<(), Fail> {
 fn an_interrupted_step_is_tried_again(rt: HostRuntime) -> Result<(), Fail> {
     for fails_at in [2, 4] {
         let mut disk = FileDisk::over(fake(300, fails_at, io::ErrorKind::Interrupted))?;
-        assert_eq!(rt; put(&mut disk, 0, 9), Ok(()));
-        assert_eq!(rt; got(&mut disk, 0), Ok(9));
+        assert!(rt; are_done(&mut disk, &[Step::Put(0, 9), Step::Got(0, 9)]));
     }
     Ok(())
 }
