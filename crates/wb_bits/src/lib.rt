@@ -3,7 +3,5 @@
 #![tactic(auto)]
 
 mod bit_set;
-#[cfg(test)]
-mod tests;
 
 pub use bit_set::BitSet;

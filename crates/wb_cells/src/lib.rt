@@ -10,8 +10,6 @@ mod crew;
 mod grip;
 mod pass;
 mod table;
-#[cfg(test)]
-mod tests;
 mod view;
 
 pub use cells::Cells;

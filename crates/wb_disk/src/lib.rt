@@ -11,8 +11,6 @@ mod disk;
 mod file;
 mod memory;
 mod pending;
-#[cfg(test)]
-mod tests;
 
 pub use crash_choice::{Base, CrashChoice, NamedContent};
 pub use disk::{Disk, DiskFault};

@@ -8,8 +8,6 @@ mod bytes;
 mod law;
 mod node;
 mod root;
-#[cfg(test)]
-mod tests;
 mod version;
 mod word;
 

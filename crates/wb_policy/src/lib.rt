@@ -11,8 +11,6 @@ mod policy;
 mod quiet;
 mod recency;
 mod situation;
-#[cfg(test)]
-mod tests;
 mod tiny_lfu;
 
 pub use cleaner::Cleaner;

@@ -8,8 +8,6 @@ mod blocks;
 mod holding;
 mod places;
 mod space;
-#[cfg(test)]
-mod tests;
 
 pub use block::Block;
 pub use blocks::Blocks;

@@ -11,8 +11,6 @@ mod message;
 mod mode;
 mod number;
 mod refusal;
-#[cfg(test)]
-mod tests;
 
 pub use entry::Entry;
 pub use extent::Extent;

@@ -12,8 +12,6 @@ mod law;
 mod member;
 mod room;
 mod start;
-#[cfg(test)]
-mod tests;
 mod trace;
 mod world;
 

@@ -70,7 +70,7 @@ impl World {
     }
 
     /// One in which a step on the device takes at most so many sectors.
-    pub(crate) fn cutting(alloc: Global, setup: Setup, longest: u64) -> Result<World, Refusal>
+    pub fn cutting(alloc: Global, setup: Setup, longest: u64) -> Result<World, Refusal>
         requires { 1 ≤ longest }
         ensures shape { IfOk result (λ w. w.shape ≡ shape_of setup.geometry ACTORS) }
         ensures longest { IfOk result (λ w. w.longest ≡ longest) }

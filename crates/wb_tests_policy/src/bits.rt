@@ -1,0 +1,74 @@
+//! Sets of numbers, of use alone.
+
+ghost use Rattle.std.specs.Prelude.{◌<◌};
+
+use std::alloc::Global;
+use std::test::Fail;
+use wb_bits::BitSet;
+
+/// Makes a number below the bound a member or none, which then is to be seen.
+fn set(members: &mut BitSet, i: usize, member: bool) -> bool {
+    if i >= members.size() {
+        return false;
+    }
+    if member {
+        members.insert(i);
+    } else {
+        members.remove(i);
+    }
+    members.contains(i) == member && members.has(i) == member
+}
+
+/// Puts in numbers that fall: each is the least then.
+fn fills(members: &mut BitSet, falling: &[usize]) -> bool {
+    for i in falling {
+        if !set(members, *i, true) || members.least() != Some(*i) {
+            return false;
+        }
+    }
+    true
+}
+
+/// Takes members out from the least on, till there is none.
+fn empties(members: &mut BitSet, rising: &[usize]) -> bool {
+    for i in rising {
+        if members.least() != Some(*i) || !set(members, *i, false) {
+            return false;
+        }
+    }
+    members.least() == None
+}
+
+/// Whether a set below a bound serves from its greatest number to its least.
+fn serves(alloc: Global, bound: u32) -> bool
+    requires { 0 < bound }
+{
+    let bound = bound as usize;
+    let Ok(mut members) = BitSet::new(alloc, bound) else {
+        return false;
+    };
+    let size = members.size();
+    let filled = fills(&mut members, &[bound - 1, bound / 2, 0]);
+    let emptied = empties(&mut members, &[0, bound / 2, bound - 1]);
+    size == bound && filled && emptied && !members.has(bound)
+}
+
+#[test]
+fn the_least_member_of_one_word_and_of_many(rt: HostRuntime) {
+    for bound in [
+        3, 63, 64, 65, 127, 128, 129, 4_096, 4_097, 262_145, 16_777_217,
+    ] {
+        assert!(rt; serves(rt.alloc(), bound), "below {bound}");
+    }
+}
+
+#[test]
+fn a_cleared_set_has_no_member(rt: HostRuntime) -> Result<(), Fail> {
+    let mut members = BitSet::new(rt.alloc(), 200)?;
+    assert!(rt; fills(&mut members, &[199, 64, 63, 0]));
+    members.clear();
+    assert!(rt; members.least() == None);
+    assert!(rt; !members.has(64));
+    assert!(rt; fills(&mut members, &[130]));
+    Ok(())
+}

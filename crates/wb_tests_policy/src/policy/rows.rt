@@ -1,0 +1,219 @@
+//! Decisions that were worked by hand, as tables.
+
+use super::{policy, tick};
+use std::alloc::{AllocError, Global};
+use std::test::Fail;
+use wb_policy::{Cleaner, Order, Policy, Quiet, Settled, TinyLfu};
+use wb_types::{CBlock, Key, Mode, OBlock, Refusal};
+
+/// Settles one access in write-back mode.
+fn settle(
+    policy: &mut TinyLfu,
+    block: u32,
+    free: Option<CBlock>,
+    room: u64,
+    busy: &[bool],
+) -> Option<Order> {
+    policy.settle(&Settled {
+        block: OBlock(block),
+        mode: Mode::Writeback,
+        least_free: free,
+        room,
+        busy,
+    })
+}
+
+/// Origin block and hint of each cache block: the recency from the least recent is 3, 1, 0, 2.
+const PLACED: [Option<(u32, u8)>; 4] = [Some((0, 5)), Some((1, 2)), Some((2, 5)), Some((3, 0))];
+
+const NO_ENTRIES: [Option<(u32, u8)>; 4] = [None, None, None, None];
+
+#[test]
+fn mapped_blocks_are_placed_by_hint_then_by_cache_block(rt: HostRuntime) -> Result<(), Fail> {
+    let mut tiny = policy::<TinyLfu>(rt.alloc(), PLACED)?;
+    let mut busy = vec![in rt.alloc(); false; 10]?;
+    let _first = settle(&mut tiny, 9, None, 128, busy.as_slice());
+    for at in [3, 1, 0, 2] {
+        let order = settle(&mut tiny, 9, None, 128, busy.as_slice());
+        let want = Order::Replace(OBlock(at), OBlock(9), CBlock(at));
+        assert_eq!(rt; order, Some(want));
+        if let Some(bit) = busy.get_mut(at as usize) {
+            *bit = true;
+        }
+    }
+    Ok(())
+}
+
+/// Block, least free cache block, room, order.
+const SETTLED: [(u32, Option<CBlock>, u64, Option<Order>); 14] = [
+    (0, Some(CBlock(0)), 64, None),
+    (
+        0,
+        Some(CBlock(0)),
+        64,
+        Some(Order::Promote(OBlock(0), CBlock(0))),
+    ),
+    (1, Some(CBlock(1)), 64, None),
+    (
+        1,
+        Some(CBlock(1)),
+        64,
+        Some(Order::Promote(OBlock(1), CBlock(1))),
+    ),
+    (2, Some(CBlock(2)), 64, None),
+    (2, Some(CBlock(2)), 63, None),
+    (
+        2,
+        Some(CBlock(2)),
+        64,
+        Some(Order::Promote(OBlock(2), CBlock(2))),
+    ),
+    (3, Some(CBlock(3)), 64, None),
+    (
+        3,
+        Some(CBlock(3)),
+        64,
+        Some(Order::Promote(OBlock(3), CBlock(3))),
+    ),
+    (4, None, 128, None),
+    (4, None, 128, None),
+    (4, None, 127, None),
+    (
+        4,
+        None,
+        128,
+        Some(Order::Replace(OBlock(0), OBlock(4), CBlock(0))),
+    ),
+    (0, None, 128, None),
+];
+
+#[test]
+fn a_full_cache_replaces_only_by_a_greater_estimate(rt: HostRuntime) -> Result<(), Fail> {
+    let mut tiny = policy::<TinyLfu>(rt.alloc(), NO_ENTRIES)?;
+    for (line, (block, free, room, want)) in SETTLED.iter().enumerate() {
+        let order = settle(&mut tiny, *block, *free, *room, &[]);
+        assert_eq!(rt; order, *want, "in line {line}");
+        if let Some(Order::Promote(b, c)) = order {
+            tiny.mapped(b, c)?;
+        }
+    }
+    Ok(())
+}
+
+/// A setting, whether it is taken, and the value of `promote_min` then.
+const SETTINGS: [(Key, u64, bool, u64); 7] = [
+    (Key::PromoteMin, 0, false, 2),
+    (Key::PromoteMin, 18, false, 2),
+    (Key::PromoteMin, 258, false, 2),
+    (Key::MigrationThreshold, 3, false, 2),
+    (Key::PromoteMin, 17, true, 17),
+    (Key::PromoteMin, 0, false, 17),
+    (Key::PromoteMin, 1, true, 1),
+];
+
+#[test]
+fn the_least_estimate_of_a_promotion_is_a_setting(rt: HostRuntime) -> Result<(), Fail> {
+    let mut tiny = policy::<TinyLfu>(rt.alloc(), NO_ENTRIES)?;
+    for (key, value, is_taken, then) in &SETTINGS {
+        let answer = tiny.set(*key, *value);
+        let want = if *is_taken {
+            Ok(())
+        } else {
+            Err(Refusal::BadMessage)
+        };
+        assert_eq!(rt; answer, want);
+        assert_eq!(rt; tiny.shown(), ("tinylfu", Some(*then)));
+    }
+    let order = settle(&mut tiny, 0, Some(CBlock(0)), 64, &[]);
+    assert_eq!(rt; order, Some(Order::Promote(OBlock(0), CBlock(0))));
+    Ok(())
+}
+
+#[test]
+fn other_policies_have_no_setting(rt: HostRuntime) -> Result<(), Fail> {
+    let mut cleaner = policy::<Cleaner>(rt.alloc(), NO_ENTRIES)?;
+    let mut quiet = policy::<Quiet>(rt.alloc(), NO_ENTRIES)?;
+    assert_eq!(rt; cleaner.set(Key::PromoteMin, 2), Err(Refusal::BadMessage));
+    assert_eq!(rt; quiet.set(Key::PromoteMin, 2), Err(Refusal::BadMessage));
+    assert_eq!(rt;
+        (cleaner.shown(), quiet.shown()),
+        (("cleaner", None), ("quiet", None))
+    );
+    Ok(())
+}
+
+/// Blocks seen dirty, blocks with a live order, room, how many orders the tick has given, and the block that is written
+/// back. Block c stands in cache block c.
+type Line = (&'static str, &'static str, u64, u32, Option<u32>);
+
+const TINY_TICKS: [Line; 8] = [
+    ("0123", "", 64, 0, Some(3)),
+    ("0123", "", 64, 1, None),
+    ("0123", "", 63, 0, None),
+    ("0123", "13", 64, 0, Some(0)),
+    ("21", "", 64, 0, Some(1)),
+    ("2", "", 64, 0, Some(2)),
+    ("2", "2", 64, 0, None),
+    ("", "", 64, 0, None),
+];
+
+const CLEANER_TICKS: [Line; 10] = [
+    ("", "", 64, 0, None),
+    ("023", "", 64, 0, Some(0)),
+    ("023", "0", 64, 1, Some(2)),
+    ("023", "02", 63, 2, None),
+    ("023", "02", 64, 2, Some(3)),
+    ("023", "023", 64, 3, None),
+    ("01", "", 64, 0, Some(0)),
+    ("0", "", 64, 0, Some(0)),
+    ("10", "1", 64, 0, Some(0)),
+    ("321", "", 64, 0, Some(1)),
+];
+
+const NO_TICKS: [Line; 1] = [("0123", "", 64, 0, None)];
+
+/// The blocks that a text names by their digits, each in the cache block of its number.
+fn blocks(alloc: Global, text: &str) -> Result<Vec<(CBlock, OBlock)>, AllocError> {
+    let mut blocks = Vec::new(alloc);
+    for digit in text.as_bytes() {
+        let number = u32::from(digit.wrapping_sub(b'0'));
+        blocks.push((CBlock(number), OBlock(number)))?;
+    }
+    Ok(blocks)
+}
+
+/// The origin blocks, those of a text with a live order.
+fn with_orders(alloc: Global, text: &str) -> Result<Vec<bool>, AllocError> {
+    let mut busy = vec![in alloc; false; 10]?;
+    for digit in text.as_bytes() {
+        if let Some(bit) = busy.get_mut(usize::from(digit.wrapping_sub(b'0'))) {
+            *bit = true;
+        }
+    }
+    Ok(busy)
+}
+
+/// Whether a policy gives what these lines say.
+fn gives<P: Policy>(alloc: Global, mode: Mode, lines: &[Line]) -> Result<bool, Refusal> {
+    let mut policy = policy::<P>(alloc, PLACED)?;
+    for (dirty, live, room, given, want) in lines {
+        let mut seen = blocks(alloc, dirty)?;
+        let busy = with_orders(alloc, live)?;
+        let order = tick(&mut policy, mode, *room, busy.as_slice(), &mut seen, *given)?;
+        if order != want.map(|b| Order::Clean(OBlock(b))) {
+            return Ok(false);
+        }
+    }
+    Ok(true)
+}
+
+#[test]
+fn ticks(rt: HostRuntime) -> Result<(), Fail> {
+    let alloc = rt.alloc();
+    assert!(rt; gives::<TinyLfu>(alloc, Mode::Writeback, &TINY_TICKS)?);
+    assert!(rt; gives::<TinyLfu>(alloc, Mode::Passthrough, &NO_TICKS)?);
+    assert!(rt; gives::<Cleaner>(alloc, Mode::Writethrough, &CLEANER_TICKS)?);
+    assert!(rt; gives::<Cleaner>(alloc, Mode::Passthrough, &NO_TICKS)?);
+    assert!(rt; gives::<Quiet>(alloc, Mode::Writeback, &NO_TICKS)?);
+    Ok(())
+}

@@ -1,0 +1,97 @@
+//! Which metadata places are free.
+
+use super::{begin, end, space_of};
+use std::alloc::Global;
+use std::test::Fail;
+use wb_space::Space;
+use wb_types::{Place, Refusal};
+
+/// Whether the so many least free places are these.
+fn finds(alloc: Global, space: &Space, n: usize, want: &[Place]) -> bool {
+    match space.free_places(alloc, n) {
+        Ok(found) => found.as_slice() == want,
+        Err(_) => false,
+    }
+}
+
+#[test]
+fn the_least_free_places_rise(rt: HostRuntime) -> Result<(), Fail> {
+    let space = space_of(rt.alloc(), 33, false, &[Place(3), Place(4)])?;
+    let want = [Place(2), Place(5), Place(6), Place(7)];
+    for n in 0..4 {
+        assert!(rt; finds(rt.alloc(), &space, n, &want[..n]), "{n} places");
+    }
+    assert!(rt; finds(rt.alloc(), &space, 100, &want));
+    Ok(())
+}
+
+// A cache of 33 blocks has a tree of three nodes, so places up to 7 can ever be handed out. Each row is a commit:
+// the places of its image, and what is free while it runs and after its end.
+#[test]
+fn places_are_free_where_no_image_uses_them(rt: HostRuntime) -> Result<(), Fail> {
+    let table: [(&[Place], &[Place], &[Place]); 4] = [
+        (
+            &[Place(2), Place(4), Place(8)],
+            &[Place(5), Place(7)],
+            &[Place(3), Place(5), Place(6), Place(7)],
+        ),
+        (
+            &[Place(3), Place(4)],
+            &[Place(5), Place(6), Place(7)],
+            &[Place(2), Place(5), Place(6), Place(7)],
+        ),
+        (
+            &[Place(7)],
+            &[Place(2), Place(5), Place(6)],
+            &[Place(2), Place(3), Place(4), Place(5), Place(6)],
+        ),
+        (
+            &[],
+            &[Place(2), Place(3), Place(4), Place(5), Place(6)],
+            &[Place(2), Place(3), Place(4), Place(5), Place(6), Place(7)],
+        ),
+    ];
+    let mut space = space_of(rt.alloc(), 33, false, &[Place(3), Place(6), Place(9)])?;
+    for (used, running, after) in table {
+        assert!(rt; begin(&mut space, used));
+        assert!(rt; finds(rt.alloc(), &space, 9, running));
+        assert!(rt; end(&mut space));
+        assert!(rt; finds(rt.alloc(), &space, 9, after));
+    }
+    Ok(())
+}
+
+/// How many places are free.
+fn count(alloc: Global, space: &Space) -> Result<usize, Refusal> {
+    let free = space.free_places(alloc, usize::MAX)?;
+    Ok(free.len())
+}
+
+// The nodes of the largest cache: 32,768, 1,024, 32 and the top.
+#[test]
+fn places_of_the_largest_cache(rt: HostRuntime) -> Result<(), Fail> {
+    let space = space_of(rt.alloc(), 1_048_575, false, &[Place(2), Place(67_651)])?;
+    assert!(rt; finds(rt.alloc(), &space, 1, &[Place(3)]));
+    let count = count(rt.alloc(), &space)?;
+    assert!(rt; count == 2 * (32_768 + 1_024 + 32 + 1) - 2);
+    Ok(())
+}
+
+/// Whether each call that takes memory gets it or tells that there is none, the second leaving the places as they
+/// were.
+fn gets_or_tells(alloc: Global) -> bool {
+    let space = match space_of(alloc, 65, false, &[]) {
+        Ok(space) => space,
+        Err(refusal) => return refusal == Refusal::Memory,
+    };
+    match count(alloc, &space) {
+        Ok(count) => count == 8,
+        Err(refusal) => refusal == Refusal::Memory && finds(alloc, &space, 1, &[Place(2)]),
+    }
+}
+
+// Run with each allocation failing in turn.
+#[test]
+fn refused_memory_is_told(rt: HostRuntime) {
+    assert!(rt; gets_or_tells(rt.alloc()));
+}

@@ -1,0 +1,105 @@
+//! The least free block, up to where words of bits and the words above them are full.
+
+use super::{begin, end, is_held, map, remove, reserve, space_of};
+use std::alloc::Global;
+use wb_space::{Holding, Space};
+use wb_types::CBlock;
+
+/// Reserves and maps the least free block, which has to be this one.
+fn takes(space: &mut Space, c: u32) -> bool {
+    space.least_free() == Some(CBlock(c)) && reserve(space, c) && map(space, c)
+}
+
+/// Takes all blocks, the least first.
+fn takes_all(space: &mut Space) -> bool {
+    for c in 0..space.cache_blocks() {
+        if !takes(space, c) {
+            return false;
+        }
+    }
+    space.least_free() == None
+}
+
+/// Removes all blocks, every third one kept.
+fn removes_all(space: &mut Space) -> bool {
+    for c in 0..space.cache_blocks() {
+        if !remove(space, c, c % 3 == 1) {
+            return false;
+        }
+    }
+    space.least_free() == None
+}
+
+/// Every third block is reserved, any other free.
+fn is_freed(space: &Space) -> bool {
+    for c in 0..space.cache_blocks() {
+        let shown = if c % 3 == 1 {
+            Holding::Reserved
+        } else {
+            Holding::Free
+        };
+        if !is_held(space, c, shown) {
+            return false;
+        }
+    }
+    true
+}
+
+/// Whether all of so many blocks can be taken, removed and freed.
+fn serves(alloc: Global, blocks: u32) -> bool {
+    let Ok(mut space) = space_of(alloc, blocks, false, &[]) else {
+        return false;
+    };
+    let taken = takes_all(&mut space) && removes_all(&mut space);
+    taken && begin(&mut space, &[]) && end(&mut space) && is_freed(&space)
+}
+
+#[test]
+fn every_block_is_found_in_turn(rt: HostRuntime) {
+    for blocks in [1, 2, 63, 64, 65, 4_095, 4_096, 4_097] {
+        assert!(rt; serves(rt.alloc(), blocks), "of {blocks} blocks");
+    }
+}
+
+#[test]
+fn every_block_of_the_largest_cache_is_found_in_turn(rt: HostRuntime) {
+    assert!(rt; serves(rt.alloc(), 1_048_575));
+}
+
+/// Whether blocks of a full cache that are freed one after the other are the least free ones by turns.
+fn frees(alloc: Global, blocks: u32, freed: &[(u32, u32)]) -> bool {
+    let Ok(mut space) = space_of(alloc, blocks, true, &[]) else {
+        return false;
+    };
+    for (c, least) in freed {
+        let freed = remove(&mut space, *c, false) && begin(&mut space, &[]) && end(&mut space);
+        if !freed || space.least_free() != Some(CBlock(*least)) {
+            return false;
+        }
+    }
+    true
+}
+
+// Each row frees a block, and names the least free one then.
+#[test]
+fn the_least_free_block_after_a_mixed_run(rt: HostRuntime) {
+    let table: [(u32, &[(u32, u32)]); 5] = [
+        (1, &[(0, 0)]),
+        (63, &[(62, 62), (0, 0)]),
+        (64, &[(63, 63), (1, 1), (62, 1), (0, 0)]),
+        (65, &[(64, 64), (63, 63), (0, 0)]),
+        (
+            1_048_575,
+            &[
+                (1_048_574, 1_048_574),
+                (4_096, 4_096),
+                (262_144, 4_096),
+                (64, 64),
+                (4_095, 64),
+            ],
+        ),
+    ];
+    for (blocks, freed) in table {
+        assert!(rt; frees(rt.alloc(), blocks, freed), "of {blocks} blocks");
+    }
+}
