@@ -1,9 +1,9 @@
--- A read or write takes no more steps than its sectors allow, however they are cut.
+-- A read, write or migration takes no more steps than its sectors allow, however they are cut.
 use Rattle.std.proofs.Common.{◌+◌, ◌*◌, ◌≤◌, length, arith}
 use Rattle.wb_types.specs.declared.extent.Extent.{Extent}
 use Rattle.wb_types.specs.Extents.{IsCutInto}
 use Rattle.wb_types.proofs.Cutting.{cut_short}
-use Rattle.wb_tasks.specs.Tables.{BlockJob, Reading, Writing, OnBlock, range_of}
+use Rattle.wb_tasks.specs.Tables.{BlockJob, Reading, Writing, Migrating, OnBlock, range_of}
 use Rattle.wb_tasks.specs.Plan.{table}
 use Rattle.wb_tasks.specs.Length.{longest}
 
@@ -11,6 +11,7 @@ use Rattle.wb_tasks.specs.Length.{longest}
 pub longest_is : (job : BlockJob) → longest (table (OnBlock job)) ≤ 2 * length (range_of job).extents + 11
 longest_is (Reading part) = omega arith
 longest_is (Writing part) = omega arith
+longest_is (Migrating migration part) = omega arith
 
 -- and by that of sectors
 pub longest_cut : (job : BlockJob) (whole : Extent) → IsCutInto whole (range_of job).extents → longest (table (OnBlock job)) ≤ 2 * whole.count + 11

@@ -1,16 +1,17 @@
-use Rattle.std.specs.Prelude.{◌-◌, ◌^◌, ◌==◌, ℕ, Bool, false, List, [], ◌∷◌, if◌then◌else◌}
+use Rattle.std.specs.Prelude.{◌-◌, ◌^◌, ◌==◌, ◌&&◌, ℕ, Bool, false, List, [], ◌∷◌, if◌then◌else◌}
 use Rattle.wb_types.specs.declared.mode.Dev.{Dev}
 use Rattle.wb_types.specs.declared.refusal.Refusal.{Refusal}
-use Rattle.wb_types.specs.declared.refusal.Refusal.TheVariants.{Busy, Failed, Worn, Io}
+use Rattle.wb_types.specs.declared.refusal.Refusal.TheVariants.{Busy, Failed, Memory, Worn, GenerationEnd, Io}
 use Rattle.wb_words.specs.declared.word.Word.TheVariants.{Cell as LockWord, Seal as SealWord, Number, Fail}
 use Rattle.wb_words.specs.SharedWords.{can_take, place_in, dirty_in}
-use Rattle.wb_tasks.specs.Tables.{BlockJob, Reading, Writing, TaskJob, OnBlock, range_of, access_of, acquire, taking, work}
+use Rattle.wb_tasks.specs.Tables.{BlockJob, Reading, Writing, Migrating, TaskJob, OnBlock, is_write, range_of, access_of, acquire, taking, work}
 use Rattle.wb_words.specs.declared.step.CellResult.{CellResult}
 use Rattle.wb_words.specs.declared.step.CellResult.TheVariants.{Done as CellDone, Word as Found, Lost as CellLost}
 use Rattle.wb_words.specs.declared.step.CellStep.TheVariants.{Look, Take, Release, Seal, Finish, Count, SetFailed, SetSuspended}
 use Rattle.wb_tasks.specs.declared.step.DeviceStep.{DeviceStep}
 use Rattle.wb_tasks.specs.declared.step.DeviceStep.TheVariants.{Read, Write, Sync}
-use Rattle.wb_tasks.specs.declared.step.DeskStep.TheVariants.{Map, BeginCommit}
+use Rattle.wb_tasks.specs.declared.step.DeskStep.{DeskStep}
+use Rattle.wb_tasks.specs.declared.step.DeskStep.TheVariants.{Map, ReleaseOrder, BeginCommit}
 use Rattle.wb_tasks.specs.declared.step.Answer.{Answer}
 use Rattle.wb_tasks.specs.declared.step.Answer.TheVariants.{Done as Finished, Refused as Refuses}
 use Rattle.wb_tasks.specs.declared.step.Want.{Want}
@@ -58,9 +59,19 @@ refused s steps refusal = record { job = s.job; steps = steps; answer = Refuses 
 abbrev pub release : BlockJob → Want
 release job = Cell (Release (access_of job) (range_of job).block)
 
--- what a job lets go once it is refused, or a step of it that changes nothing has failed
+-- a job without an order, as a write whose number is worn, gives back its block alone
+abbrev pub gives_back : TaskJob → List Want
+gives_back (OnBlock job) = release job ∷ []
+
+-- a migration gives up its order; a read or write has none
+abbrev pub gives_up : BlockJob → List Want
+gives_up (Reading part) = []
+gives_up (Writing part) = []
+gives_up (Migrating migration part) = Desk (ReleaseOrder part.block) ∷ []
+
+-- what a job lets go once the desk has refused, or a step of it that changes nothing has failed: its block, then its order
 abbrev pub lets_go : TaskJob → List Want
-lets_go (OnBlock job) = release job ∷ []
+lets_go (OnBlock job) = release job ∷ gives_up job
 
 -- a job that takes a block may find that it can't
 abbrev pub may_take : TaskJob → ℕ → Bool
@@ -76,15 +87,14 @@ work_of (OnBlock job) seal = work job (place_in seal) (dirty_in seal)
 
 -- a write needs a number for itself
 abbrev pub is_worn : TaskJob → ℕ → Bool
-is_worn (OnBlock (Reading part)) number = false
-is_worn (OnBlock (Writing part)) number = number == 2 ^ 64 - 1
+is_worn (OnBlock job) number = is_write job && (number == 2 ^ 64 - 1)
 
 -- what is left after a word was looked at
 abbrev pub after_look : Plan → Want → ℕ → Plan
 after_look s (Cell (Look Fail)) word = if word == 0 then onward s else refused s [] Failed
 after_look s (Cell (Look (LockWord block))) word = if may_take s.job word then record s { steps = exchange s.job word } else refused s [] Busy
 after_look s (Cell (Look (SealWord block))) word = record s { steps = Cell (Look (Number block)) ∷ work_of s.job word }
-after_look s (Cell (Look (Number block))) word = if is_worn s.job word then refused s (lets_go s.job) Worn else onward s
+after_look s (Cell (Look (Number block))) word = if is_worn s.job word then refused s (gives_back s.job) Worn else onward s
 after_look s w word = onward s
 
 -- the device that a step is on
@@ -123,7 +133,16 @@ got_of CellDone = Done
 got_of (Found word) = Word word
 got_of CellLost = Lost
 
--- A result of the kind that a step asks for. Of the desk's calls an entry of the mapping and a commit may be refused.
+-- Why the desk refuses: an entry of the mapping for want of memory; a commit also where another one runs, or where no
+-- generation is left.
+abbrev pub MayRefuse : DeskStep → Refusal → Type 0
+MayRefuse (Map block place) Memory = Unit {0}
+MayRefuse (BeginCommit clean most) Busy = Unit {0}
+MayRefuse (BeginCommit clean most) Memory = Unit {0}
+MayRefuse (BeginCommit clean most) GenerationEnd = Unit {0}
+MayRefuse step refusal = ⊥
+
+-- A result of the kind that a step asks for.
 abbrev pub Fits : Want → Got → Type 0
 Fits (Cell (Look word)) (Word value) = Unit {0}
 Fits (Cell (Take access block seen)) Done = Unit {0}
@@ -137,8 +156,7 @@ Fits (Cell SetSuspended) Done = Unit {0}
 Fits (Device step) Done = Unit {0}
 Fits (Device step) Fault = Unit {0}
 Fits (Desk step) Done = Unit {0}
-Fits (Desk (Map block place)) (Refused refusal) = Unit {0}
-Fits (Desk (BeginCommit clean most)) (Refused refusal) = Unit {0}
+Fits (Desk step) (Refused refusal) = MayRefuse step refusal
 Fits want got = ⊥
 
 -- a want that is a step, and no answer

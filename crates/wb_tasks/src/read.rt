@@ -102,7 +102,7 @@ impl ReadTask {
         ensures { self.new ≡ after self.old (Got.Word word) }
     {
         if let Phase::Acquires(stage) = self.phase {
-            match acquire::after_look(Access::Shared, self.block, stage, word) {
+            match acquire::after_look(Access::Shared, false, self.block, stage, word) {
                 Seen::Next(next) => self.phase = Phase::Acquires(next),
                 Seen::Holds(place, _) => {
                     self.phase = Phase::Reads(place);

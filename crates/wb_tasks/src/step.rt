@@ -3,6 +3,17 @@
 use wb_types::{CBlock, Dev, Extent, OBlock, Refusal};
 use wb_words::{CellResult, CellStep};
 
+/// A migration of a block.
+#[derive(Clone, Copy, Debug, PartialEq, Eq)]
+pub enum Migration {
+    /// Brings the block into this cache block.
+    Promote(CBlock),
+    /// Takes the block out of the cache.
+    Demote,
+    /// Writes the block's dirty copy in the cache back, and keeps it there.
+    Clean,
+}
+
 /// A step on one device. Sectors are counted from 0 on each device. What a read gives, and what a write writes, is
 /// with the performer.
 #[derive(Clone, Copy, Debug, PartialEq, Eq)]

@@ -115,7 +115,7 @@ impl WriteTask {
     {
         if let Phase::Acquires(stage) = self.phase {
             self.left = self.sectors;
-            match acquire::after_look(Access::Owned, self.block, stage, word) {
+            match acquire::after_look(Access::Owned, true, self.block, stage, word) {
                 Seen::Next(next) => self.phase = Phase::Acquires(next),
                 Seen::Holds(Some(c), false) => self.phase = Phase::Dirties(c),
                 Seen::Holds(place, _) => self.phase = Phase::Writes(place),
