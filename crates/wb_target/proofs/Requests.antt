@@ -23,7 +23,7 @@ use Rattle.wb_tasks.proofs.Readiness.{begins_ready, keeps_ready, is_ready, is_ow
 use Rattle.wb_target.specs.Steps.{DoneOnCrew, IsRequest, IsOffDesk}
 
 -- no step gives cause for a refusal of the range
-no_range : (job : BlockJob) (steps : List (Want × Got)) → GaveCause job Range steps → ⊥
+no_range : (job : TaskJob) (steps : List (Want × Got)) → GaveCause job Range steps → ⊥
 no_range job [] h = h
 no_range job (step ∷ steps) h = elim h [ inl now ↦ now | inr later ↦ no_range job steps later ]
 
@@ -32,7 +32,7 @@ pub refused-not_range : {A : Type 0} (s : Plan) (job : BlockJob) (steps : List (
 refused-not_range s job steps answer (Ok x) begun run e = tt
 refused-not_range s job steps answer (Err refusal) begun run e =
     let whole : IsRunOf (table (OnBlock job)) steps (Refuses refusal) = subst (λ (t : Plan). IsRunOf t steps (Refuses refusal)) begun (subst (λ (x : Answer). IsRunOf s steps x) e run) in
-    λ range. no_range job steps (subst (λ (x : Refusal). GaveCause job x steps) range (refuses_for_cause job steps refusal whole))
+    λ range. no_range (OnBlock job) steps (subst (λ (x : Refusal). GaveCause (OnBlock job) x steps) range (refuses_for_cause (OnBlock job) steps refusal whole))
 
 -- a read or write asks nothing of the desk
 off_desk : (job : BlockJob) (w : Want) → IsRequest job → IsOwnStep (OnBlock job) w → IsOffDesk w

@@ -1,4 +1,5 @@
 -- What an actor has where so much of its task is left, and that it is ready for the next step then.
+use Rattle.std.specs.List.{Contains}
 use Rattle.std.specs.Prelude.{◌≡◌, ◌<◌, ℕ, Bool, true, false, List, [], ◌∷◌, Option}
 use Rattle.wb_types.specs.declared.mode.Dev.{Dev}
 use Rattle.wb_types.specs.declared.mode.Dev.TheVariants.{Metadata, Cache, Origin}
@@ -11,17 +12,17 @@ use Rattle.wb_words.specs.declared.step.CellStep.TheVariants.{Look, Take, Releas
 use Rattle.wb_words.specs.SharedWords.{Words, can_take}
 use Rattle.wb_words.specs.Effects.{result_of, card_after}
 use Rattle.wb_words.specs.Ready.{IsReady, HasNext}
-use Rattle.wb_tasks.specs.Tables.{BlockJob, Reading, Writing, Migrating, TaskJob, OnBlock, is_write, range_of, access_of}
+use Rattle.wb_tasks.specs.Tables.{BlockJob, Reading, Writing, Migrating, TaskJob, OnBlock, Flushing, Opening, is_write, range_of, access_of}
 use Rattle.wb_tasks.specs.Plan.{Plan, want, after, Fits, IsStep, got_of}
 use Rattle.wb_tasks.specs.Run.{Leads}
 use Rattle.wb_tasks.specs.declared.step.DeviceStep.{DeviceStep}
-use Rattle.wb_tasks.specs.declared.step.DeviceStep.TheVariants.{Read, Write, Sync}
+use Rattle.wb_tasks.specs.declared.step.DeviceStep.TheVariants.{Read, Write, Sync, ReadMetadata, WriteNode, WriteRoot}
 use Rattle.wb_tasks.specs.declared.step.DeskStep.{DeskStep}
-use Rattle.wb_tasks.specs.declared.step.DeskStep.TheVariants.{Map, Unmap, ReleaseOrder}
+use Rattle.wb_tasks.specs.declared.step.DeskStep.TheVariants.{Map, Unmap, ReleaseOrder, BeginCommit, EndCommit}
 use Rattle.wb_tasks.specs.declared.step.Migration.{Migration}
 use Rattle.wb_tasks.specs.declared.step.Migration.TheVariants.{Promote, Demote, Clean}
 use Rattle.wb_tasks.specs.declared.step.Want.{Want}
-use Rattle.wb_tasks.specs.declared.step.Want.TheVariants.{Cell, Device, Desk}
+use Rattle.wb_tasks.specs.declared.step.Want.TheVariants.{Cell, Device, Desk, End}
 use Rattle.wb_tasks.specs.declared.step.Got.{Got}
 
 -- who enters or removes a block of the mapping owns it; of all else the desk is asked by who holds no block
@@ -89,11 +90,40 @@ IsAsked (Migrating migration part) (Map block place) = (block ≡ part.block) ×
 IsAsked (Migrating migration part) (Unmap block) = (block ≡ part.block) × (migration ≡ Demote)
 IsAsked job step = ⊥
 
+-- A flush looks at the fail word, syncs each device, writes nodes and a root, and asks the desk for a commit; what it serves
+-- it may give up.
+abbrev pub IsFlushs : List OBlock → ℕ → Want → Type 0
+IsFlushs serves most (Cell (Look Fail)) = Unit {0}
+IsFlushs serves most (Cell SetFailed) = Unit {0}
+IsFlushs serves most (Device (Sync device)) = Unit {0}
+IsFlushs serves most (Device (WriteNode number)) = number < most
+IsFlushs serves most (Device WriteRoot) = Unit {0}
+IsFlushs serves most (Desk (BeginCommit clean nodes)) = (clean ≡ false) × (nodes ≡ most)
+IsFlushs serves most (Desk EndCommit) = Unit {0}
+IsFlushs serves most (Desk (ReleaseOrder block)) = Contains serves block
+IsFlushs serves most (End answer) = Unit {0}
+IsFlushs serves most next = ⊥
+
+-- An opening syncs each device, reads metadata and writes a root; it touches no word and asks nothing of a desk, which
+-- is not there yet.
+abbrev pub IsOpenings : Want → Type 0
+IsOpenings (Device (Sync device)) = Unit {0}
+IsOpenings (Device (ReadMetadata left)) = Unit {0}
+IsOpenings (Device WriteRoot) = Unit {0}
+IsOpenings (End answer) = Unit {0}
+IsOpenings next = ⊥
+
 -- a step on a device or the desk is one of the job's own
 abbrev pub IsOwnStep : TaskJob → Want → Type 0
 IsOwnStep (OnBlock job) (Device step) = IsJobs job step
 IsOwnStep (OnBlock job) (Desk step) = IsAsked job step
-IsOwnStep job next = Unit {0}
+IsOwnStep (OnBlock job) next = Unit {0}
+IsOwnStep (Flushing serves most) next = IsFlushs serves most next
+IsOwnStep (Opening left) next = IsOpenings next
+
+abbrev pub AreOwnSteps : TaskJob → List Want → Type 0
+AreOwnSteps job [] = Unit {0}
+AreOwnSteps job (next ∷ ws) = IsOwnStep job next × AreOwnSteps job ws
 
 -- with the block given back, an order may be given up
 abbrev pub IsParting : BlockJob → List Want → Type 0
@@ -124,9 +154,12 @@ Has job card (Desk (ReleaseOrder block) ∷ ws) = (card.hold ≡ Nothing) × IsA
 Has job card (Cell SetFailed ∷ ws) = (card.hold ≡ Held Owned (block_of job)) × (ws ≡ [])
 Has job card ws = HasBlock job card × ((next : Bool) × IsRest job next ws × KnowsNext job next card.number)
 
--- An actor with this card has what it needs for what is left of its task, where there are so many blocks.
+-- An actor with this card has what it needs for what is left of its task, where there are so many blocks. A flush or an
+-- opening holds no block.
 abbrev pub SuitsJob : ℕ → TaskJob → Card → List Want → Type 0
 SuitsJob blocks (OnBlock job) card steps = ((block_of job).0 < blocks) × Has job card steps
+SuitsJob blocks (Flushing serves most) card steps = (card.hold ≡ Nothing) × AreOwnSteps (Flushing serves most) steps
+SuitsJob blocks (Opening left) card steps = (card.hold ≡ Nothing) × AreOwnSteps (Opening left) steps
 
 abbrev pub Suits : ℕ → Plan → Card → Type 0
 Suits blocks s card = SuitsJob blocks s.job card s.steps

@@ -33,9 +33,12 @@ pub data BlockJob : Type 0 where
   Writing : BlockRange → BlockJob
   Migrating : Migration → BlockRange → BlockJob
 
--- What a task is to do. So far each has a block.
+-- What a task is to do. A flush may serve replacements, whose orders are those of these blocks, and its image has at most
+-- so many nodes. An opening reads a metadata sector, and at most so many more.
 pub data TaskJob : Type 0 where
   OnBlock : BlockJob → TaskJob
+  Flushing : (serves : List OBlock) → (most : ℕ) → TaskJob
+  Opening : (left : ℕ) → TaskJob
 
 abbrev pub range_of : BlockJob → BlockRange
 range_of (Reading part) = part

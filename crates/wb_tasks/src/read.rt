@@ -170,6 +170,15 @@ impl Task for ReadTask {
             Got::Fault => self.after_fault(),
             Got::Lost => self.refuse(Refusal::Busy),
             Got::Refused(refusal) => self.after_refusal(refusal),
+            // None of its steps, wherever it stands, begins a commit or reads metadata.
+            Got::Began(_) => {
+                let _phase = self.phase;
+                unreachable!()
+            }
+            Got::More => {
+                let _phase = self.phase;
+                unreachable!()
+            }
         }
         self.want()
     }

@@ -21,6 +21,12 @@ pub enum DeviceStep {
     Read(Dev, Extent),
     Write(Dev, Extent),
     Sync(Dev),
+    /// Reads the next sector that an opening wants of the metadata; at most so many more follow.
+    ReadMetadata(u32),
+    /// Writes the node of this number of the image of a commit.
+    WriteNode(u32),
+    /// Writes the root of a commit or of an opening.
+    WriteRoot,
 }
 
 /// A call on the desk, under its lock.
@@ -66,8 +72,12 @@ pub enum Got {
     Lost,
     /// The device failed.
     Fault,
-    /// The desk refused.
+    /// The desk refused, or what was read of the metadata is no mapping.
     Refused(Refusal),
+    /// A commit began, whose image has so many nodes.
+    Began(u32),
+    /// There is more of the metadata to read.
+    More,
 }
 
 impl From<CellResult> for Got {

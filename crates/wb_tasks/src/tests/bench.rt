@@ -105,7 +105,7 @@ impl Bench {
         match step {
             DeviceStep::Read(device, extent) => self.read(device, extent),
             DeviceStep::Write(device, extent) => self.write(device, extent),
-            DeviceStep::Sync(_) => {}
+            _ => {}
         }
         Got::Done
     }
@@ -179,7 +179,8 @@ impl Bench {
                 self.has_order = false;
             }
             DeskStep::ReleaseOrder(_) => self.has_order = false,
-            DeskStep::BeginCommit(_, _) | DeskStep::EndCommit => {}
+            DeskStep::BeginCommit(_, _) => return Got::Began(0),
+            DeskStep::EndCommit => {}
         }
         Got::Done
     }

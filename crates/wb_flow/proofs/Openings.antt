@@ -1,0 +1,2 @@
+-- An opening in its phases.
+use Rattle.std.proofs.Common.{◌≡◌, ℕ, refl}
