@@ -1,6 +1,6 @@
 -- A flush in its phases.
 use Rattle.std.proofs.lemmas.Bool.{eqb-true}
-use Rattle.std.proofs.Common.{◌==◌, Bool, true, false, if◌then◌else◌, ◌≡◌, ◌≢◌, ◌+◌, ◌<◌, ℕ, zero, suc, List, [], ◌∷◌, refl, arith}
+use Rattle.std.proofs.Common.{◌==◌, Bool, true, false, if◌then◌else◌, ◌≡◌, ◌≢◌, ℕ, zero, suc, List, [], ◌∷◌, refl}
 use Rattle.wb_types.specs.declared.mode.Dev.TheVariants.{Metadata}
 use Rattle.wb_types.specs.declared.number.OBlock.{OBlock}
 use Rattle.wb_types.specs.declared.refusal.Refusal.{Refusal}
@@ -8,7 +8,7 @@ use Rattle.wb_types.specs.declared.refusal.Refusal.TheVariants.{Busy, Failed, Me
 use Rattle.wb_tasks.specs.Plan.{Plan, want, after, onward, Fits}
 use Rattle.wb_tasks.specs.declared.step.Answer.TheVariants.{Refused as Refuses}
 use Rattle.wb_tasks.specs.declared.step.Got.{Got}
-use Rattle.wb_tasks.specs.declared.step.Got.TheVariants.{Begin, Done, Word, Lost, Fault, Refused, Began, More}
+use Rattle.wb_tasks.specs.declared.step.Got.TheVariants.{Word, Lost, Fault, Refused, Began, More}
 use Rattle.wb_flow.specs.Phases.{flush_left, IsOther}
 use Rattle.wb_flow.specs.declared.flush.Phase.{Phase}
 use Rattle.wb_flow.specs.declared.flush.Phase.TheVariants.{LooksAtFail, Begins, SyncsCache, SyncsOrigin, WritesNodes, WritesRoot, SyncsRoot, EndsCommit, GivesUp, SetsFailed, Ended}

@@ -1,2 +1,1 @@
 pub mod Flushes
-pub mod Openings

@@ -1,9 +1,6 @@
-use Rattle.std.proofs.Common.{List, length, ◌∙◌, ◌+◌, ◌<◌, sym, ap, subst, drop, slice_index_or}
+use Rattle.std.proofs.Common.{List, length, ◌∙◌, ◌+◌, ◌<◌, ap, subst, drop}
 use Rattle.wb_types.specs.declared.number.OBlock.{OBlock}
-use Rattle.wb_tasks.specs.Plan.{Plan, want, onward, Fits}
-use Rattle.wb_tasks.specs.declared.step.Got.TheVariants.{Word, Fault, Refused, Began}
-use Rattle.wb_types.specs.declared.refusal.Refusal.TheVariants.{Busy}
-use Rattle.wb_tasks.proofs.Views.{by_view}
+use Rattle.wb_tasks.specs.Plan.{onward}
 use Rattle.std.proofs.lemmas.List.{drop_more}
 use Rattle.wb_flow.proofs.Flushes.{gave_up}
 use Rattle.wb_flow.proofs.flush.FlushTask.after_done.Goals as goal

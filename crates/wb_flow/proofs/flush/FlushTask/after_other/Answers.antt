@@ -1,10 +1,5 @@
-use Rattle.std.proofs.Common.{◌∙◌, sym, ap, subst, drop, slice_index_or}
-use Rattle.wb_types.specs.declared.number.OBlock.{OBlock}
-use Rattle.wb_tasks.specs.Plan.{Plan, want, onward, Fits}
-use Rattle.wb_tasks.specs.declared.step.Got.TheVariants.{Word, Fault, Refused, Began}
-use Rattle.wb_types.specs.declared.refusal.Refusal.TheVariants.{Busy}
-use Rattle.wb_tasks.proofs.Views.{by_view}
-use Rattle.std.proofs.lemmas.List.{drop_more}
+use Rattle.std.proofs.Common.{sym, subst, drop}
+use Rattle.wb_tasks.specs.Plan.{Plan, want, Fits}
 use Rattle.wb_flow.proofs.Flushes.{never_other}
 use Rattle.wb_flow.proofs.flush.FlushTask.after_other.Goals as goal
 

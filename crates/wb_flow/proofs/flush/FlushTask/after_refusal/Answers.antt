@@ -1,5 +1,5 @@
-use Rattle.std.proofs.Common.{◌∙◌, drop}
-use Rattle.wb_tasks.specs.declared.step.Got.TheVariants.{Word, Refused}
+use Rattle.std.proofs.Common.{drop}
+use Rattle.wb_tasks.specs.declared.step.Got.TheVariants.{Refused}
 use Rattle.wb_tasks.proofs.Views.{by_view}
 use Rattle.wb_flow.proofs.Flushes.{refused_else}
 use Rattle.wb_flow.proofs.flush.FlushTask.after_refusal.Goals as goal

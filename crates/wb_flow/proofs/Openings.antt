@@ -1,2 +1,0 @@
--- An opening in its phases.
-use Rattle.std.proofs.Common.{◌≡◌, ℕ, refl}
