@@ -2,14 +2,13 @@
 use Rattle.std.proofs.Common.{◌≡◌, ◌∙◌, ◌<◌, ℕ, ap, List, [], ◌∷◌, Result, Ok, Err, IfErr, refl, sym, subst, inl, inr, arith, length, length-set, slice_set, slice_index_or}
 use Rattle.wb_types.specs.declared.refusal.Refusal.{Refusal}
 use Rattle.wb_types.specs.declared.refusal.Refusal.TheVariants.{Range}
-use Rattle.wb_words.specs.declared.word.Access.{Access}
 use Rattle.wb_words.specs.declared.card.Card.{Card}
 use Rattle.wb_words.specs.declared.card.Hold.TheVariants.{Nothing}
 use Rattle.wb_words.specs.Cards.{blank_card}
 use Rattle.wb_words.specs.Effects.{card_after}
 use Rattle.wb_cells.specs.Crews.{CrewState, card_of}
-use Rattle.wb_tasks.specs.Tables.{BlockJob, OnBlock, access_of}
-use Rattle.wb_tasks.specs.Ready.{AreFirst, MayTake, MayMake, Suits, block_of, left_by}
+use Rattle.wb_tasks.specs.Tables.{BlockJob, TaskJob, Reading, Writing, Migrating, OnBlock}
+use Rattle.wb_tasks.specs.Ready.{AreFirst, MayTake, MayMake, IsOwnStep, Suits, block_of, left_by}
 use Rattle.wb_tasks.specs.Plan.{Plan, table, want, after, Fits}
 use Rattle.wb_tasks.specs.Run.{IsRunOf, Leads}
 use Rattle.wb_tasks.specs.Causes.{GaveCause}
@@ -20,20 +19,34 @@ use Rattle.wb_tasks.specs.declared.step.Want.TheVariants.{Cell, Device, Desk, En
 use Rattle.wb_tasks.specs.declared.step.Got.{Got}
 use Rattle.wb_tasks.proofs.Causing.{refuses_for_cause}
 use Rattle.wb_tasks.proofs.Driving.{run_first}
-use Rattle.wb_tasks.proofs.Readiness.{begins_ready, keeps_ready, is_ready, ends_holding_nothing}
-use Rattle.wb_target.specs.Steps.{DoneOnCrew}
+use Rattle.wb_tasks.proofs.Readiness.{begins_ready, keeps_ready, is_ready, is_own_step, job_stays, ends_holding_nothing}
+use Rattle.wb_target.specs.Steps.{DoneOnCrew, IsRequest, IsOffDesk}
 
 -- no step gives cause for a refusal of the range
-no_range : (access : Access) (steps : List (Want × Got)) → GaveCause access Range steps → ⊥
-no_range access [] h = h
-no_range access (step ∷ steps) h = elim h [ inl now ↦ now | inr later ↦ no_range access steps later ]
+no_range : (job : TaskJob) (steps : List (Want × Got)) → GaveCause job Range steps → ⊥
+no_range job [] h = h
+no_range job (step ∷ steps) h = elim h [ inl now ↦ now | inr later ↦ no_range job steps later ]
 
 -- so no task refuses the range
 pub refused-not_range : {A : Type 0} (s : Plan) (job : BlockJob) (steps : List (Want × Got)) (answer : Answer) (r : Result A Refusal) → s ≡ table (OnBlock job) → IsRunOf s steps answer → IfErr r (λ refusal. answer ≡ Refuses refusal) → IfErr r (λ refusal. refusal ≡ Range → ⊥)
 refused-not_range s job steps answer (Ok x) begun run e = tt
 refused-not_range s job steps answer (Err refusal) begun run e =
     let whole : IsRunOf (table (OnBlock job)) steps (Refuses refusal) = subst (λ (t : Plan). IsRunOf t steps (Refuses refusal)) begun (subst (λ (x : Answer). IsRunOf s steps x) e run) in
-    λ range. no_range (access_of job) steps (subst (λ (x : Refusal). GaveCause (access_of job) x steps) range (refuses_for_cause job steps refusal whole))
+    λ range. no_range (OnBlock job) steps (subst (λ (x : Refusal). GaveCause (OnBlock job) x steps) range (refuses_for_cause (OnBlock job) steps refusal whole))
+
+-- a read or write asks nothing of the desk
+off_desk : (job : BlockJob) (w : Want) → IsRequest job → IsOwnStep (OnBlock job) w → IsOffDesk w
+off_desk job (Cell step) q o = tt
+off_desk job (Device step) q o = tt
+off_desk job (End answer) q o = tt
+off_desk (Reading part) (Desk step) q o = o
+off_desk (Writing part) (Desk step) q o = o
+off_desk (Migrating migration part) (Desk step) q o = absurd q
+
+-- a task stays on its job
+same_job : (s : Plan) (steps : List (Want × Got)) → (left_by s steps).job ≡ s.job
+same_job s [] = refl
+same_job s (step ∷ steps) = same_job (after s step.1) steps ∙ job_stays s step.1
 
 -- what no step changes is as it was
 pub Leads-kept : {S C : Type 0} (led : S → Want → Got → S → Type 0) (part : S → C) → ((s : S) (w : Want) (g : Got) (t : S) → led s w g t → part t ≡ part s) → (old : S) (steps : List (Want × Got)) (new : S) → Leads led old steps new → part new ≡ part old
@@ -67,11 +80,15 @@ module _ {S : Type 0} (led : S → Want → Got → S → Type 0) (crew : S → 
       Leads-suits (after s step.1) l.0 steps mid made.0 (keeps_ready blocks s (card_of (crew old) 0) (card_of (crew l.0) 0) step.1 h fits made_so) f.2 l.2
 
   -- who begins with no block is ready for each step of a request, and ends with none
-  pub request_ready : (s : Plan) (job : BlockJob) (old : S) (steps : List (Want × Got)) (mid : S) → s ≡ table (OnBlock job) → length (crew old).cards ≡ 1 → (block_of job).0 < blocks → (card_of (crew old) 0).hold ≡ Nothing → AreFirst s steps → Leads led old steps mid →
-      MayTake blocks (card_of (crew mid) 0) (want (left_by s steps))
-  request_ready s job old steps mid begun one l idle f e =
+  pub request_ready : (s : Plan) (job : BlockJob) (old : S) (steps : List (Want × Got)) (mid : S) → IsRequest job → s ≡ table (OnBlock job) → length (crew old).cards ≡ 1 → (block_of job).0 < blocks → (card_of (crew old) 0).hold ≡ Nothing → AreFirst s steps → Leads led old steps mid →
+      MayTake blocks (card_of (crew mid) 0) (want (left_by s steps)) × IsOffDesk (want (left_by s steps))
+  request_ready s job old steps mid q begun one l idle f e =
       let suits : Suits blocks s (card_of (crew old) 0) = subst (λ (t : Plan). Suits blocks t (card_of (crew old) 0)) (sym begun) (begins_ready blocks job (card_of (crew old) 0) l idle) in
-      is_ready blocks (left_by s steps) (card_of (crew mid) 0) (Leads-suits s old steps mid one suits f e)
+      let last : Suits blocks (left_by s steps) (card_of (crew mid) 0) = Leads-suits s old steps mid one suits f e in
+      let same : (left_by s steps).job ≡ OnBlock job = same_job s steps ∙ ap (λ (t : Plan). t.job) begun in (
+        is_ready blocks (left_by s steps) (card_of (crew mid) 0) last,
+        off_desk job (want (left_by s steps)) q (subst (λ (j : TaskJob). IsOwnStep j (want (left_by s steps))) same (is_own_step blocks (left_by s steps) (card_of (crew mid) 0) last)),
+      )
 
   pub request_ends : (s : Plan) (job : BlockJob) (old : S) (steps : List (Want × Got)) (new : S) (answer : Answer) → s ≡ table (OnBlock job) → length (crew old).cards ≡ 1 → (block_of job).0 < blocks → (card_of (crew old) 0).hold ≡ Nothing → IsRunOf s steps answer → Leads led old steps new →
       (card_of (crew new) 0).hold ≡ Nothing

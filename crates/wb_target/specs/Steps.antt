@@ -5,12 +5,23 @@ use Rattle.wb_disk.specs.Device.{History, Content as SectorContent}
 use Rattle.wb_disk.specs.Extents.{GivesEach, written_each, PartlyWritten}
 use Rattle.wb_words.specs.Effects.{result_of}
 use Rattle.wb_cells.specs.Crews.{CrewState, crew_after}
+use Rattle.wb_tasks.specs.Tables.{BlockJob, Reading, Writing}
 use Rattle.wb_tasks.specs.Plan.{got_of}
 use Rattle.wb_tasks.specs.declared.step.DeviceStep.TheVariants.{Read, Write}
 use Rattle.wb_tasks.specs.declared.step.Want.{Want}
-use Rattle.wb_tasks.specs.declared.step.Want.TheVariants.{Cell, Device}
+use Rattle.wb_tasks.specs.declared.step.Want.TheVariants.{Cell, Device, Desk}
 use Rattle.wb_tasks.specs.declared.step.Got.{Got}
 use Rattle.wb_tasks.specs.declared.step.Got.TheVariants.{Done, Fault}
+
+-- a read or write, which asks nothing of a desk; there is none yet
+abbrev pub IsRequest : BlockJob → Type 0
+IsRequest (Reading part) = Unit {0}
+IsRequest (Writing part) = Unit {0}
+IsRequest job = ⊥
+
+abbrev pub IsOffDesk : Want → Type 0
+IsOffDesk (Desk step) = ⊥
+IsOffDesk want = Unit {0}
 
 -- What a step does to the owner's crew of one.
 abbrev pub DoneOnCrew : CrewState → Want → Got → CrewState → Type 0

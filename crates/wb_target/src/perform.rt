@@ -3,13 +3,14 @@
 ghost use Rattle.wb_cells.specs.Crews.{card_of};
 ghost use Rattle.wb_tasks.specs.Ready.{MayTake};
 ghost use Rattle.wb_target.specs.Performed.{Led};
+ghost use Rattle.wb_target.specs.Steps.{IsOffDesk};
 
 use crate::stage::{OwnerStage, TakesContent};
 use wb_disk::Disk;
 use wb_tasks::{Got, Stage, Want};
 
 impl<D: Disk, F: TakesContent> Stage for OwnerStage<D, F> {
-    ghost ready = { λ stage want. MayTake stage.origin_blocks (card_of stage.crew 0) want };
+    ghost ready = { λ stage want. MayTake stage.origin_blocks (card_of stage.crew 0) want × IsOffDesk want };
 
     ghost led = { Led D.tells D.contents F.took };
 

@@ -1,17 +1,30 @@
--- A read or write takes no more steps than its sectors allow, however they are cut.
-use Rattle.std.proofs.Common.{◌+◌, ◌*◌, ◌≤◌, length, arith}
+-- A read, write or migration takes no more steps than its sectors allow, however they are cut.
+use Rattle.std.proofs.Common.{◌≡◌, ◌+◌, ◌*◌, ◌≤◌, ℕ, List, [], ◌∷◌, length, max, arith}
 use Rattle.wb_types.specs.declared.extent.Extent.{Extent}
 use Rattle.wb_types.specs.Extents.{IsCutInto}
 use Rattle.wb_types.proofs.Cutting.{cut_short}
-use Rattle.wb_tasks.specs.Tables.{BlockJob, Reading, Writing, OnBlock, range_of}
-use Rattle.wb_tasks.specs.Plan.{table}
+use Rattle.wb_tasks.specs.Tables.{BlockJob, Reading, Writing, Migrating, OnBlock, Flushing, Opening, range_of}
+use Rattle.wb_types.specs.declared.number.OBlock.{OBlock}
+use Rattle.wb_tasks.specs.Plan.{table, release_orders}
 use Rattle.wb_tasks.specs.Length.{longest}
 
 -- by the number of extents
 pub longest_is : (job : BlockJob) → longest (table (OnBlock job)) ≤ 2 * length (range_of job).extents + 11
 longest_is (Reading part) = omega arith
 longest_is (Writing part) = omega arith
+longest_is (Migrating migration part) = omega arith
 
 -- and by that of sectors
 pub longest_cut : (job : BlockJob) (whole : Extent) → IsCutInto whole (range_of job).extents → longest (table (OnBlock job)) ≤ 2 * whole.count + 11
 longest_cut job whole i = let few = cut_short whole (range_of job).extents i in let most = longest_is job in omega (arith, few, most)
+
+length_orders : (blocks : List OBlock) → length (release_orders blocks) ≡ length blocks
+length_orders [] = omega arith
+length_orders (block ∷ blocks) = omega (arith, length_orders blocks)
+
+-- a flush by the nodes of its image, or by the orders that it gives up; an opening by what it reads
+pub flush_bounded : (serves : List OBlock) (most : ℕ) → longest (table (Flushing serves most)) ≤ max (most + 9) (length serves + 3)
+flush_bounded serves most = omega (arith, length_orders serves)
+
+pub opening_bounded : (left : ℕ) → longest (table (Opening left)) ≤ left + 7
+opening_bounded left = omega arith

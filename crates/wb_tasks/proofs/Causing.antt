@@ -1,34 +1,35 @@
--- A read or write refuses for a cause alone.
-use Rattle.std.proofs.Common.{◌≡◌, ◌≢◌, ◌-◌, ◌^◌, ◌==◌, ◌⊎◌, inl, inr, ℕ, Bool, true, false, List, [], ◌∷◌, ◌++◌, Option, Some, None, map, if◌then◌else◌, refl, sym, subst}
-use Rattle.std.proofs.lemmas.Bool.{eqb-true, eq-eqb}
+-- A task refuses for a cause alone.
+use Rattle.std.proofs.Common.{◌≡◌, ◌≢◌, ◌==◌, ◌+◌, ◌⊎◌, inl, inr, ℕ, zero, suc, Bool, true, false, List, [], ◌∷◌, ◌++◌, Option, Some, None, map, if◌then◌else◌, refl, sym, subst}
+use Rattle.std.proofs.lemmas.Bool.{eq-eqb}
 use Rattle.wb_types.specs.declared.number.OBlock.{OBlock}
 use Rattle.wb_types.specs.declared.number.CBlock.{CBlock}
 use Rattle.wb_types.specs.declared.refusal.Refusal.{Refusal}
-use Rattle.wb_types.specs.declared.refusal.Refusal.TheVariants.{Busy, Failed, Worn, Io}
-use Rattle.wb_words.specs.declared.word.Access.{Access}
-use Rattle.wb_words.specs.declared.word.Access.TheVariants.{Owned}
+use Rattle.wb_types.specs.declared.refusal.Refusal.TheVariants.{Busy, Failed, Memory, Worn, NotFormatted, Damaged, Mismatch, NotClean, GenerationEnd, Io}
 use Rattle.wb_words.specs.declared.word.Word.TheVariants.{Cell as LockWord, Seal as SealWord, Number, Count as CountWord, Fail}
-use Rattle.wb_words.specs.SharedWords.{place_in, dirty_in, can_take}
+use Rattle.wb_words.specs.SharedWords.{place_in, dirty_in}
 use Rattle.wb_types.specs.declared.extent.Extent.{Extent}
-use Rattle.wb_tasks.specs.Tables.{BlockRange, BlockJob, Reading, Writing, OnBlock, range_of, access_of, work, taking, read_step, write_step}
-use Rattle.wb_tasks.specs.Plan.{Plan, after, table, first_step, refused, lets_go, is_worn, Fits}
+use Rattle.wb_tasks.specs.Tables.{BlockRange, BlockJob, Reading, Writing, Migrating, TaskJob, OnBlock, Flushing, Opening, work, copies, ending, read_step, write_step}
+use Rattle.wb_tasks.specs.Plan.{Plan, after, table, first_step, refused, gives_back, gives_up, release_orders, node_writes, root_steps, commit_steps, lets_go, after_fault_of, exchange, work_of, may_take, is_worn, Fits}
 use Rattle.wb_tasks.specs.Run.{IsRunOf}
+use Rattle.wb_tasks.proofs.Driving.{no_result}
 use Rattle.wb_tasks.specs.Causes.{Causes, GaveCause}
-use Rattle.wb_words.specs.declared.step.CellStep.{CellStep}
 use Rattle.wb_words.specs.declared.step.CellStep.TheVariants.{Look, Take, Release, Seal, Finish, Count, SetFailed, SetSuspended}
-use Rattle.wb_tasks.specs.declared.step.DeviceStep.TheVariants.{Read, Write, Sync}
+use Rattle.wb_tasks.specs.declared.step.DeviceStep.{DeviceStep}
+use Rattle.wb_tasks.specs.declared.step.DeviceStep.TheVariants.{Read, Write, Sync, ReadMetadata, WriteNode, WriteRoot}
+use Rattle.wb_tasks.specs.declared.step.DeskStep.TheVariants.{Map, Unmap, ReleaseOrder, BeginCommit, EndCommit}
+use Rattle.wb_tasks.specs.declared.step.Migration.{Migration}
+use Rattle.wb_tasks.specs.declared.step.Migration.TheVariants.{Promote, Demote, Clean}
 use Rattle.wb_tasks.specs.declared.step.Want.{Want}
 use Rattle.wb_tasks.specs.declared.step.Want.TheVariants.{Cell, Device, Desk, End}
 use Rattle.wb_tasks.specs.declared.step.Got.{Got}
-use Rattle.wb_tasks.specs.declared.step.Got.TheVariants.{Done, Word, Lost, Fault}
+use Rattle.wb_tasks.specs.declared.step.Got.TheVariants.{Done, Word, Lost, Fault, Refused, Began, More}
 use Rattle.wb_tasks.specs.declared.step.Answer.TheVariants.{Done as Finished, Refused as Refuses}
 
--- cell and device steps alone
+-- steps, and no answer among them
 abbrev AreOwn : List Want → Type 0
 AreOwn [] = Unit {0}
-AreOwn (Cell step ∷ ws) = AreOwn ws
-AreOwn (Device step ∷ ws) = AreOwn ws
-AreOwn (w ∷ ws) = ⊥
+AreOwn (End answer ∷ ws) = ⊥
+AreOwn (w ∷ ws) = AreOwn ws
 
 own_reads : (part : BlockRange) (place : Option CBlock) (extents : List Extent) (rest : List Want) → AreOwn rest → AreOwn (map (read_step part place) extents ++ rest)
 own_reads part place [] rest h = h
@@ -40,102 +41,181 @@ own_writes part place [] rest h = h
 own_writes part None (e ∷ extents) rest h = own_writes part None extents rest h
 own_writes part (Some c) (e ∷ extents) rest h = own_writes part (Some c) extents rest h
 
+own_copies : (part : BlockRange) (from to : Option CBlock) (extents : List Extent) (rest : List Want) → AreOwn rest → AreOwn (copies part from to extents ++ rest)
+own_copies part from to [] rest h = h
+own_copies part None None (e ∷ extents) rest h = own_copies part None None extents rest h
+own_copies part None (Some c) (e ∷ extents) rest h = own_copies part None (Some c) extents rest h
+own_copies part (Some c) None (e ∷ extents) rest h = own_copies part (Some c) None extents rest h
+own_copies part (Some c) (Some d) (e ∷ extents) rest h = own_copies part (Some c) (Some d) extents rest h
+
 own_work : (job : BlockJob) (place : Option CBlock) (dirty : Bool) → AreOwn (work job place dirty)
 own_work (Reading part) None dirty = own_reads part None part.extents _ tt
 own_work (Reading part) (Some c) dirty = own_reads part (Some c) part.extents _ tt
 own_work (Writing part) None dirty = own_writes part None part.extents _ tt
 own_work (Writing part) (Some c) true = own_writes part (Some c) part.extents _ tt
 own_work (Writing part) (Some c) false = own_writes part (Some c) part.extents _ tt
+own_work (Migrating (Promote c) part) place dirty = own_copies part None (Some c) part.extents (ending (Promote c) part.block place) tt
+own_work (Migrating Demote part) None dirty = tt
+own_work (Migrating Demote part) (Some c) true = own_copies part (Some c) None part.extents (ending Demote part.block (Some c)) tt
+own_work (Migrating Demote part) (Some c) false = tt
+own_work (Migrating Clean part) None dirty = tt
+own_work (Migrating Clean part) (Some c) true = own_copies part (Some c) None part.extents (ending Clean part.block (Some c)) tt
+own_work (Migrating Clean part) (Some c) false = tt
 
--- this refusal alone is answered
-abbrev Answers : Plan → Refusal → Type 0
-Answers s x = (steps : List (Want × Got)) (r : Refusal) → IsRunOf s steps (Refuses r) → x ≡ r
+own_works : (job : TaskJob) (seal : ℕ) → AreOwn (work_of job seal)
+own_works (OnBlock job) seal = own_work job (place_in seal) (dirty_in seal)
+own_works (Flushing serves most) seal = tt
+own_works (Opening left) seal = tt
 
-answers_at_once : (s : Plan) (x : Refusal) → Answers (refused s [] x) x
-answers_at_once s x [] r e = cc
-answers_at_once s x (step ∷ steps) r h = absurd (subst (λ (w : Want). Fits w step.1) h.0 h.1)
+own_exchange : (job : TaskJob) (seen : ℕ) → AreOwn (exchange job seen)
+own_exchange (OnBlock job) seen = tt
+own_exchange (Flushing serves most) seen = tt
+own_exchange (Opening left) seen = tt
 
--- a step that is done, and then the refusal
-answers_after : (s : Plan) (w : CellStep) (x : Refusal) → ((g : Got) → Fits (Cell w) g → g ≡ Done) → Answers (refused s (Cell w ∷ []) x) x
-answers_after s w x only [] r e = cc
-answers_after s w x only (step ∷ steps) r h =
-    let done : step.1 ≡ Done = only step.1 (subst (λ (v : Want). Fits v step.1) h.0 h.1) in
-    answers_at_once s x steps r (subst (λ (g : Got). IsRunOf (after (refused s (Cell w ∷ []) x) g) steps (Refuses r)) done h.2)
+own_nodes : (nodes first : ℕ) → AreOwn (node_writes nodes first ++ root_steps)
+own_nodes zero first = tt
+own_nodes (suc nodes) first = own_nodes nodes (first + 1)
 
-only_released : (a : Access) (block : OBlock) (g : Got) → Fits (Cell (Release a block)) g → g ≡ Done
-only_released a block Done h = refl
-only_released a block g h = absurd h
+own_table : (job : TaskJob) → AreOwn ((table job).steps)
+own_table (OnBlock job) = tt
+own_table (Flushing serves most) = tt
+own_table (Opening left) = tt
 
-only_set : (g : Got) → Fits (Cell SetFailed) g → g ≡ Done
-only_set Done h = refl
-only_set g h = absurd h
+-- steps that can only be done: what a refused task lets go
+abbrev AreCalm : List Want → Type 0
+AreCalm [] = Unit {0}
+AreCalm (Cell (Release access block) ∷ ws) = AreCalm ws
+AreCalm (Cell SetFailed ∷ ws) = AreCalm ws
+AreCalm (Desk (ReleaseOrder block) ∷ ws) = AreCalm ws
+AreCalm (w ∷ ws) = ⊥
+
+calm_orders : (blocks : List OBlock) → AreCalm (release_orders blocks)
+calm_orders [] = tt
+calm_orders (block ∷ blocks) = calm_orders blocks
+
+calm_parting : (job : BlockJob) → AreCalm (gives_up job)
+calm_parting (Reading part) = tt
+calm_parting (Writing part) = tt
+calm_parting (Migrating migration part) = tt
+
+calm_lets_go : (job : TaskJob) → AreCalm (lets_go job)
+calm_lets_go (OnBlock job) = calm_parting job
+calm_lets_go (Flushing serves most) = calm_orders serves
+calm_lets_go (Opening left) = tt
+
+calm_gives_back : (job : TaskJob) → AreCalm (gives_back job)
+calm_gives_back (OnBlock job) = tt
+calm_gives_back (Flushing serves most) = tt
+calm_gives_back (Opening left) = tt
+
+calm_fault : (job : TaskJob) (step : DeviceStep) → AreCalm (after_fault_of job step)
+calm_fault (OnBlock job) (Read device e) = calm_parting job
+calm_fault (OnBlock job) (Write device e) = tt
+calm_fault (OnBlock job) (Sync device) = tt
+calm_fault (OnBlock job) (ReadMetadata left) = tt
+calm_fault (OnBlock job) (WriteNode number) = tt
+calm_fault (OnBlock job) WriteRoot = tt
+calm_fault (Flushing serves most) step = tt
+calm_fault (Opening left) step = tt
+
+only_done : (w : Want) (ws : List Want) (g : Got) → AreCalm (w ∷ ws) → Fits w g → (g ≡ Done) × AreCalm ws
+only_done (Cell (Release access block)) ws Done calm f = (refl, calm)
+only_done (Cell SetFailed) ws Done calm f = (refl, calm)
+only_done (Desk (ReleaseOrder block)) ws Done calm f = (refl, calm)
+only_done (Cell (Release access block)) ws g calm f = absurd f
+only_done (Cell SetFailed) ws g calm f = absurd f
+only_done (Desk (ReleaseOrder block)) ws g calm f = absurd f
+only_done w ws g calm f = absurd calm
+
+no_answer : (w : Want) (ws : List Want) (x : Refusal) → AreCalm (w ∷ ws) → w ≢ End (Refuses x)
+no_answer (Cell step) ws x calm e = cc
+no_answer (Device step) ws x calm e = cc
+no_answer (Desk step) ws x calm e = cc
+no_answer (End answer) ws x calm e = calm
+
+-- after them this refusal alone is answered
+answers : (s : Plan) (ws : List Want) (x : Refusal) → AreCalm ws → (steps : List (Want × Got)) (r : Refusal) → IsRunOf (refused s ws x) steps (Refuses r) → x ≡ r
+answers s [] x calm [] r e = cc
+answers s [] x calm (step ∷ steps) r h = absurd (no_result (Refuses x) step.1 (subst (λ (w : Want). Fits w step.1) h.0 h.1))
+answers s (w ∷ ws) x calm [] r e = absurd (no_answer w ws r calm e)
+answers s (w ∷ ws) x calm (step ∷ steps) r h =
+    let done = only_done w ws step.1 calm (subst (λ (v : Want). Fits v step.1) h.0 h.1) in
+    answers s ws x done.1 steps r (subst (λ (g : Got). IsRunOf (after (refused s (w ∷ ws) x) g) steps (Refuses r)) done.0 h.2)
+
+abbrev going : TaskJob → List Want → Plan
+going job ws = record { job = job; steps = ws; answer = Finished }
 
 -- a step gives the cause of a refusal, or the job goes on
-abbrev Outcome : BlockJob → Want → Got → Plan → Type 0
+abbrev Outcome : TaskJob → Want → Got → Plan → Type 0
 Outcome job w g s =
-    ((x : Refusal) × Causes (access_of job) x w g × Answers s x)
-    ⊎ ((ws : List Want) × AreOwn ws × (s ≡ record { job = OnBlock job; steps = ws; answer = Finished }))
+    ((x : Refusal) × Causes job x w g × ((steps : List (Want × Got)) (r : Refusal) → IsRunOf s steps (Refuses r) → x ≡ r))
+    ⊎ ((ws : List Want) × AreOwn ws × (s ≡ going job ws))
 
-abbrev going : BlockJob → List Want → Plan
-going job ws = record { job = OnBlock job; steps = ws; answer = Finished }
+by_fail_word : (job : TaskJob) (ws : List Want) (value : ℕ) → AreOwn ws → (b : Bool) → (value == 0) ≡ b → Outcome job (Cell (Look Fail)) (Word value) (if b then going job ws else refused (going job ws) [] Failed)
+by_fail_word job ws value own true e = inr (ws, own, refl)
+by_fail_word job ws value own false e = inl (Failed, λ zero. absurd (let yes = eq-eqb value 0 zero in cc), answers (going job ws) [] Failed tt)
 
-after_fail_word : (job : BlockJob) (ws : List Want) (value : ℕ) → AreOwn ws → (b : Bool) → (value == 0) ≡ b → Outcome job (Cell (Look Fail)) (Word value) (if b then going job ws else refused (going job ws) [] Failed)
-after_fail_word job ws value own true e = inr (ws, own, refl)
-after_fail_word job ws value own false e = inl (Failed, λ zero. absurd (let yes = eq-eqb value 0 zero in cc), answers_at_once (going job ws) Failed)
+by_lock_word : (job : TaskJob) (block : OBlock) (ws : List Want) (value : ℕ) → (b : Bool) → may_take job value ≡ b → Outcome job (Cell (Look (LockWord block))) (Word value) (if b then going job (exchange job value) else refused (going job ws) [] Busy)
+by_lock_word job block ws value true e = inr (exchange job value, own_exchange job value, refl)
+by_lock_word job block ws value false e = inl (Busy, e, answers (going job ws) [] Busy tt)
 
-after_lock_word : (job : BlockJob) (block : OBlock) (ws : List Want) (value : ℕ) → AreOwn ws → (b : Bool) → can_take (access_of job) value ≡ b → Outcome job (Cell (Look (LockWord block))) (Word value) (if b then going job (taking (access_of job) (range_of job).block value) else refused (going job ws) [] Busy)
-after_lock_word job block ws value own true e = inr (taking (access_of job) (range_of job).block value, tt, refl)
-after_lock_word job block ws value own false e = inl (Busy, e, answers_at_once (going job ws) Busy)
+by_number : (job : TaskJob) (block : OBlock) (ws : List Want) (value : ℕ) → AreOwn ws → (b : Bool) → is_worn job value ≡ b → Outcome job (Cell (Look (Number block))) (Word value) (if b then refused (going job ws) (gives_back job) Worn else going job ws)
+by_number job block ws value own false e = inr (ws, own, refl)
+by_number job block ws value own true e = inl (Worn, e, answers (going job ws) (gives_back job) Worn (calm_gives_back job))
 
-worn_owned : (job : BlockJob) (value : ℕ) → is_worn (OnBlock job) value ≡ true → (access_of job ≡ Owned) × (value ≡ 2 ^ 64 - 1)
-worn_owned (Reading part) value e = cc
-worn_owned (Writing part) value e = (refl, eqb-true value (2 ^ 64 - 1) e)
-
-after_number : (job : BlockJob) (block : OBlock) (ws : List Want) (value : ℕ) → AreOwn ws → (b : Bool) → is_worn (OnBlock job) value ≡ b → Outcome job (Cell (Look (Number block))) (Word value) (if b then refused (going job ws) (lets_go (OnBlock job)) Worn else going job ws)
-after_number job block ws value own false e = inr (ws, own, refl)
-after_number job block ws value own true e = inl (Worn, worn_owned job value e, answers_after (going job ws) (Release (access_of job) (range_of job).block) Worn (only_released (access_of job) (range_of job).block))
-
-outcome : (job : BlockJob) (ws : List Want) (g : Got) → AreOwn ws → Fits (first_step ws Finished) g → Outcome job (first_step ws Finished) g (after (going job ws) g)
-outcome job [] g own h = absurd h
-outcome job (Cell (Look Fail) ∷ ws) (Word value) own h = after_fail_word job ws value own (value == 0) refl
-outcome job (Cell (Look (LockWord block)) ∷ ws) (Word value) own h = after_lock_word job block ws value own (can_take (access_of job) value) refl
-outcome job (Cell (Look (SealWord block)) ∷ ws) (Word value) own h = inr (Cell (Look (Number block)) ∷ work job (place_in value) (dirty_in value), own_work job (place_in value) (dirty_in value), refl)
-outcome job (Cell (Look (Number block)) ∷ ws) (Word value) own h = after_number job block ws value own (is_worn (OnBlock job) value) refl
+outcome : (job : TaskJob) (ws : List Want) (g : Got) → AreOwn ws → Fits (first_step ws Finished) g → Outcome job (first_step ws Finished) g (after (going job ws) g)
+outcome job [] g own h = absurd (no_result Finished g h)
+outcome job (Cell (Look Fail) ∷ ws) (Word value) own h = by_fail_word job ws value own (value == 0) refl
+outcome job (Cell (Look (LockWord block)) ∷ ws) (Word value) own h = by_lock_word job block ws value (may_take job value) refl
+outcome job (Cell (Look (SealWord block)) ∷ ws) (Word value) own h = inr (Cell (Look (Number block)) ∷ work_of job value, own_works job value, refl)
+outcome job (Cell (Look (Number block)) ∷ ws) (Word value) own h = by_number job block ws value own (is_worn job value) refl
 outcome job (Cell (Look (CountWord kind)) ∷ ws) (Word value) own h = inr (ws, own, refl)
 outcome job (Cell (Take access block seen) ∷ ws) Done own h = inr (ws, own, refl)
-outcome job (Cell (Take access block seen) ∷ ws) Lost own h = inl (Busy, tt, answers_at_once (going job ws) Busy)
+outcome job (Cell (Take access block seen) ∷ ws) Lost own h = inl (Busy, tt, answers (going job ws) [] Busy tt)
 outcome job (Cell (Release access block) ∷ ws) Done own h = inr (ws, own, refl)
 outcome job (Cell (Seal block place dirty) ∷ ws) Done own h = inr (ws, own, refl)
 outcome job (Cell (Finish block) ∷ ws) Done own h = inr (ws, own, refl)
 outcome job (Cell (Count kind) ∷ ws) Done own h = inr (ws, own, refl)
 outcome job (Cell SetFailed ∷ ws) Done own h = inr (ws, own, refl)
 outcome job (Cell SetSuspended ∷ ws) Done own h = inr (ws, own, refl)
-outcome job (Device (Read device e) ∷ ws) Done own h = inr (ws, own, refl)
-outcome job (Device (Read device e) ∷ ws) Fault own h = inl (Io device, refl, answers_after (going job ws) (Release (access_of job) (range_of job).block) (Io device) (only_released (access_of job) (range_of job).block))
-outcome job (Device (Write device e) ∷ ws) Done own h = inr (ws, own, refl)
-outcome job (Device (Write device e) ∷ ws) Fault own h = inl (Io device, refl, answers_after (going job ws) SetFailed (Io device) only_set)
-outcome job (Device (Sync device) ∷ ws) Done own h = inr (ws, own, refl)
-outcome job (Device (Sync device) ∷ ws) Fault own h = inl (Io device, refl, answers_after (going job ws) SetFailed (Io device) only_set)
-outcome job (Desk step ∷ ws) g own h = absurd own
+outcome job (Device step ∷ ws) Done own h = inr (ws, own, refl)
+outcome job (Device step ∷ ws) Fault own h = inl (Io _, refl, answers (going job ws) (after_fault_of job step) _ (calm_fault job step))
+outcome job (Device (ReadMetadata left) ∷ ws) More own h = inr (Device (ReadMetadata _) ∷ ws, own, refl)
+outcome job (Device (ReadMetadata left) ∷ ws) (Refused Memory) own h = inl (Memory, refl, answers (going job ws) [] Memory tt)
+outcome job (Device (ReadMetadata left) ∷ ws) (Refused NotFormatted) own h = inl (NotFormatted, refl, answers (going job ws) [] NotFormatted tt)
+outcome job (Device (ReadMetadata left) ∷ ws) (Refused (Damaged place)) own h = inl (Damaged place, refl, answers (going job ws) [] (Damaged place) tt)
+outcome job (Device (ReadMetadata left) ∷ ws) (Refused Mismatch) own h = inl (Mismatch, refl, answers (going job ws) [] Mismatch tt)
+outcome job (Device (ReadMetadata left) ∷ ws) (Refused NotClean) own h = inl (NotClean, refl, answers (going job ws) [] NotClean tt)
+outcome job (Device (ReadMetadata left) ∷ ws) (Refused GenerationEnd) own h = inl (GenerationEnd, refl, answers (going job ws) [] GenerationEnd tt)
+outcome job (Desk (Map block place) ∷ ws) Done own h = inr (ws, own, refl)
+outcome job (Desk (Map block place) ∷ ws) (Refused Memory) own h = inl (Memory, refl, answers (going job ws) (lets_go job) Memory (calm_lets_go job))
+outcome job (Desk (Unmap block) ∷ ws) Done own h = inr (ws, own, refl)
+outcome job (Desk (ReleaseOrder block) ∷ ws) Done own h = inr (ws, own, refl)
+outcome job (Desk (BeginCommit clean most) ∷ ws) (Refused Busy) own h = inl (Busy, refl, answers (going job ws) [] Busy tt)
+outcome job (Desk (BeginCommit clean most) ∷ ws) (Refused Memory) own h = inl (Memory, refl, answers (going job ws) (lets_go job) Memory (calm_lets_go job))
+outcome job (Desk (BeginCommit clean most) ∷ ws) (Refused GenerationEnd) own h = inl (GenerationEnd, refl, answers (going job ws) (lets_go job) GenerationEnd (calm_lets_go job))
+outcome job (Desk (BeginCommit clean most) ∷ ws) (Began nodes) own h = inr (commit_steps nodes, own_nodes nodes 0, refl)
+outcome job (Desk EndCommit ∷ ws) Done own h = inr (ws, own, refl)
+outcome job (End b ∷ ws) g own h = absurd own
 outcome job (w ∷ ws) g own h = absurd h
 
 no_refusal : (ws : List Want) (r : Refusal) → AreOwn ws → first_step ws Finished ≢ End (Refuses r)
 no_refusal [] r own e = cc
 no_refusal (Cell step ∷ ws) r own e = cc
 no_refusal (Device step ∷ ws) r own e = cc
-no_refusal (Desk step ∷ ws) r own e = own
+no_refusal (Desk step ∷ ws) r own e = cc
 no_refusal (End a ∷ ws) r own e = own
 
-caused : (job : BlockJob) (ws : List Want) (steps : List (Want × Got)) (r : Refusal) → AreOwn ws → IsRunOf (going job ws) steps (Refuses r) → GaveCause (access_of job) r steps
+caused : (job : TaskJob) (ws : List Want) (steps : List (Want × Got)) (r : Refusal) → AreOwn ws → IsRunOf (going job ws) steps (Refuses r) → GaveCause job r steps
 caused job ws [] r own e = no_refusal ws r own e
 caused job ws (step ∷ steps) r own h =
     let w = first_step ws Finished in
     let fits : Fits w step.1 = subst (λ (v : Want). Fits v step.1) h.0 h.1 in
     elim (outcome job ws step.1 own fits) [
-      | inl o ↦ inl (subst (λ (v : Want). Causes (access_of job) r v step.1) (sym h.0) (subst (λ (x : Refusal). Causes (access_of job) x w step.1) (o.2 steps r h.2) o.1))
+      | inl o ↦ inl (subst (λ (v : Want). Causes job r v step.1) (sym h.0) (subst (λ (x : Refusal). Causes job x w step.1) (o.2 steps r h.2) o.1))
       | inr o ↦ inr (caused job o.0 steps r o.1 (subst (λ (s : Plan). IsRunOf s steps (Refuses r)) o.2 h.2))
     ]
 
--- a read or write refuses for a cause alone
-pub refuses_for_cause : (job : BlockJob) (steps : List (Want × Got)) (r : Refusal) → IsRunOf (table (OnBlock job)) steps (Refuses r) → GaveCause (access_of job) r steps
-refuses_for_cause job steps r h = caused job _ steps r tt h
+-- a task refuses for a cause alone
+pub refuses_for_cause : (job : TaskJob) (steps : List (Want × Got)) (r : Refusal) → IsRunOf (table job) steps (Refuses r) → GaveCause job r steps
+refuses_for_cause job steps r h = caused job _ steps r (own_table job) h

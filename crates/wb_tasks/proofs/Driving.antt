@@ -1,24 +1,29 @@
 -- A run of a task, step by step, and how long it can be.
-use Rattle.std.proofs.Common.{◌≡◌, ◌≢◌, ◌+◌, ◌<◌, ◌≤◌, ℕ, Bool, true, false, List, [], ◌∷◌, ◌++◌, Option, Some, None, length, map, max, ◌==◌, if◌then◌else◌, refl, sym, subst, arith, append_assoc}
+use Rattle.std.proofs.Common.{◌≡◌, ◌≢◌, ◌+◌, ◌*◌, ◌<◌, ◌≤◌, ℕ, zero, suc, Bool, true, false, List, [], ◌∷◌, ◌++◌, Option, Some, None, length, map, max, ◌==◌, if◌then◌else◌, refl, sym, subst, arith, append_assoc}
 use Rattle.wb_types.specs.declared.number.CBlock.{CBlock}
 use Rattle.wb_words.specs.declared.word.Access.TheVariants.{Shared, Owned}
-use Rattle.wb_types.specs.declared.refusal.Refusal.TheVariants.{Busy, Failed, Worn}
+use Rattle.wb_types.specs.declared.number.OBlock.{OBlock}
+use Rattle.wb_types.specs.declared.refusal.Refusal.{Refusal}
+use Rattle.wb_types.specs.declared.refusal.Refusal.TheVariants.{Busy, Failed, Memory, Worn, GenerationEnd}
 use Rattle.wb_words.specs.declared.word.Word.{Word as WordName}
 use Rattle.wb_words.specs.declared.word.Word.TheVariants.{Cell as LockWord, Seal as SealWord, Number, Count as CountWord, Fail}
 use Rattle.wb_words.specs.SharedWords.{place_in, dirty_in}
 use Rattle.wb_types.specs.declared.extent.Extent.{Extent}
-use Rattle.wb_tasks.specs.Tables.{BlockRange, BlockJob, TaskJob, OnBlock, Reading, Writing, work, read_step, write_step, read_count, write_count}
-use Rattle.wb_tasks.specs.Plan.{Plan, want, after, after_look, lets_go, exchange, may_take, Fits, IsStep, first_step, is_worn}
+use Rattle.wb_tasks.specs.Tables.{BlockRange, BlockJob, TaskJob, OnBlock, Flushing, Opening, Reading, Writing, Migrating, work, copies, copying, ending, read_step, write_step, read_count, write_count}
+use Rattle.wb_tasks.specs.Plan.{Plan, want, after, after_look, gives_back, gives_up, release_orders, lets_go, after_fault_of, exchange, may_take, node_writes, root_steps, commit_steps, Fits, IsStep, first_step, is_worn}
 use Rattle.wb_tasks.specs.Ready.{AreFirst, left_by}
 use Rattle.wb_tasks.specs.Run.{IsRunOf, Leads}
-use Rattle.wb_tasks.specs.Length.{longest_work, longest_of, longest}
+use Rattle.wb_tasks.specs.Length.{longest_work, longest_failing, longest_commit, longest_of, longest}
 use Rattle.wb_words.specs.declared.step.CellStep.TheVariants.{Look, Take, Release, Seal, Finish, Count, SetFailed, SetSuspended}
-use Rattle.wb_tasks.specs.declared.step.DeviceStep.TheVariants.{Read, Write, Sync}
-use Rattle.wb_tasks.specs.declared.step.DeskStep.TheVariants.{Map, BeginCommit}
+use Rattle.wb_tasks.specs.declared.step.DeviceStep.{DeviceStep}
+use Rattle.wb_tasks.specs.declared.step.DeviceStep.TheVariants.{Read, Write, Sync, ReadMetadata, WriteNode, WriteRoot}
+use Rattle.wb_tasks.specs.declared.step.DeskStep.TheVariants.{Map, Unmap, ReleaseOrder, BeginCommit, EndCommit}
+use Rattle.wb_tasks.specs.declared.step.Migration.{Migration}
+use Rattle.wb_tasks.specs.declared.step.Migration.TheVariants.{Promote, Demote, Clean}
 use Rattle.wb_tasks.specs.declared.step.Want.{Want}
 use Rattle.wb_tasks.specs.declared.step.Want.TheVariants.{Cell, Device, Desk, End}
 use Rattle.wb_tasks.specs.declared.step.Got.{Got}
-use Rattle.wb_tasks.specs.declared.step.Got.TheVariants.{Done, Word, Lost, Fault, Refused}
+use Rattle.wb_tasks.specs.declared.step.Got.TheVariants.{Begin, Done, Word, Lost, Fault, Refused, Began, More}
 use Rattle.wb_tasks.specs.declared.step.Answer.{Answer}
 use Rattle.wb_tasks.specs.declared.step.Answer.TheVariants.{Refused as Refuses}
 
@@ -28,6 +33,17 @@ IsStep-no_answer (Cell step) h = tt
 IsStep-no_answer (Device step) h = tt
 IsStep-no_answer (Desk step) h = tt
 IsStep-no_answer (End answer) h = absurd (h answer refl)
+
+-- and an answer gives nothing
+pub no_result : (a : Answer) (g : Got) → Fits (End a) g → ⊥
+no_result a Begin h = h
+no_result a Done h = h
+no_result a (Word value) h = h
+no_result a Lost h = h
+no_result a Fault h = h
+no_result a (Refused refusal) h = h
+no_result a (Began nodes) h = h
+no_result a More h = h
 
 -- the answer is a step too
 pub longest_of-some : (job : TaskJob) (ws : List Want) → 1 ≤ longest_of job ws
@@ -44,20 +60,37 @@ longest_of-some job (Cell (Finish b) ∷ ws) = omega arith
 longest_of-some job (Cell (Count k) ∷ ws) = omega arith
 longest_of-some job (Cell SetFailed ∷ ws) = omega arith
 longest_of-some job (Cell SetSuspended ∷ ws) = omega arith
-longest_of-some job (Device s ∷ ws) = omega arith
-longest_of-some job (Desk s ∷ ws) = omega arith
+longest_of-some job (Device (Read d e) ∷ ws) = omega arith
+longest_of-some job (Device (Write d e) ∷ ws) = omega arith
+longest_of-some job (Device (Sync d) ∷ ws) = omega arith
+longest_of-some job (Device (ReadMetadata left) ∷ ws) = omega arith
+longest_of-some job (Device (WriteNode number) ∷ ws) = omega arith
+longest_of-some job (Device WriteRoot ∷ ws) = omega arith
+longest_of-some job (Desk (Map b c) ∷ ws) = omega arith
+longest_of-some job (Desk (Unmap b) ∷ ws) = omega arith
+longest_of-some job (Desk (ReleaseOrder b) ∷ ws) = omega arith
+longest_of-some job (Desk (BeginCommit clean most) ∷ ws) = omega arith
+longest_of-some job (Desk EndCommit ∷ ws) = omega arith
 longest_of-some job (End a ∷ ws) = omega arith
 
--- a step for each extent, before others that take two or more with the answer
-longest_of-reads : (job : BlockJob) (part : BlockRange) (place : Option CBlock) (extents : List Extent) (ws : List Want) → 2 ≤ longest_of (OnBlock job) ws → longest_of (OnBlock job) (map (read_step part place) extents ++ ws) ≡ length extents + longest_of (OnBlock job) ws
+-- a step for each extent, before others that take as long as a failure
+longest_of-reads : (job : BlockJob) (part : BlockRange) (place : Option CBlock) (extents : List Extent) (ws : List Want) → longest_failing (OnBlock job) ≤ longest_of (OnBlock job) ws → longest_of (OnBlock job) (map (read_step part place) extents ++ ws) ≡ length extents + longest_of (OnBlock job) ws
 longest_of-reads job part place [] ws h = omega arith
-longest_of-reads job part None (e ∷ extents) ws h = omega (arith, longest_of-reads job part None extents ws h)
-longest_of-reads job part (Some c) (e ∷ extents) ws h = omega (arith, longest_of-reads job part (Some c) extents ws h)
+longest_of-reads job part None (e ∷ extents) ws h = omega (arith, h, longest_of-reads job part None extents ws h)
+longest_of-reads job part (Some c) (e ∷ extents) ws h = omega (arith, h, longest_of-reads job part (Some c) extents ws h)
 
-longest_of-writes : (job : BlockJob) (part : BlockRange) (place : Option CBlock) (extents : List Extent) (ws : List Want) → 2 ≤ longest_of (OnBlock job) ws → longest_of (OnBlock job) (map (write_step part place) extents ++ ws) ≡ length extents + longest_of (OnBlock job) ws
+longest_of-writes : (job : BlockJob) (part : BlockRange) (place : Option CBlock) (extents : List Extent) (ws : List Want) → longest_failing (OnBlock job) ≤ longest_of (OnBlock job) ws → longest_of (OnBlock job) (map (write_step part place) extents ++ ws) ≡ length extents + longest_of (OnBlock job) ws
 longest_of-writes job part place [] ws h = omega arith
-longest_of-writes job part None (e ∷ extents) ws h = omega (arith, longest_of-writes job part None extents ws h)
-longest_of-writes job part (Some c) (e ∷ extents) ws h = omega (arith, longest_of-writes job part (Some c) extents ws h)
+longest_of-writes job part None (e ∷ extents) ws h = omega (arith, h, longest_of-writes job part None extents ws h)
+longest_of-writes job part (Some c) (e ∷ extents) ws h = omega (arith, h, longest_of-writes job part (Some c) extents ws h)
+
+-- and two for each that is copied
+longest_of-copies : (job : BlockJob) (part : BlockRange) (from to : Option CBlock) (extents : List Extent) (ws : List Want) → longest_failing (OnBlock job) ≤ longest_of (OnBlock job) ws → longest_of (OnBlock job) (copies part from to extents ++ ws) ≡ 2 * length extents + longest_of (OnBlock job) ws
+longest_of-copies job part from to [] ws h = omega arith
+longest_of-copies job part None None (e ∷ extents) ws h = omega (arith, h, longest_of-copies job part None None extents ws h)
+longest_of-copies job part None (Some c) (e ∷ extents) ws h = omega (arith, h, longest_of-copies job part None (Some c) extents ws h)
+longest_of-copies job part (Some c) None (e ∷ extents) ws h = omega (arith, h, longest_of-copies job part (Some c) None extents ws h)
+longest_of-copies job part (Some c) (Some d) (e ∷ extents) ws h = omega (arith, h, longest_of-copies job part (Some c) (Some d) extents ws h)
 
 -- what a job does takes no longer than it says, wherever its block stands
 longest_of-work : (job : BlockJob) (place : Option CBlock) (dirty : Bool) → longest_of (OnBlock job) (work job place dirty) ≤ longest_work job
@@ -66,22 +99,78 @@ longest_of-work (Reading part) (Some c) dirty = omega (arith, longest_of-reads (
 longest_of-work (Writing part) None dirty = omega (arith, longest_of-writes (Writing part) part None part.extents (Cell (Finish part.block) ∷ write_count None ∷ Cell (Release Owned part.block) ∷ []) (omega arith))
 longest_of-work (Writing part) (Some c) true = omega (arith, longest_of-writes (Writing part) part (Some c) part.extents (Cell (Finish part.block) ∷ write_count (Some c) ∷ Cell (Release Owned part.block) ∷ []) (omega arith))
 longest_of-work (Writing part) (Some c) false = omega (arith, longest_of-writes (Writing part) part (Some c) part.extents (Cell (Finish part.block) ∷ write_count (Some c) ∷ Cell (Release Owned part.block) ∷ []) (omega arith))
+longest_of-work (Migrating (Promote c) part) place dirty = omega (arith, longest_of-copies (Migrating (Promote c) part) part None (Some c) part.extents (ending (Promote c) part.block place) (omega arith))
+longest_of-work (Migrating Demote part) None dirty = omega arith
+longest_of-work (Migrating Demote part) (Some c) true = omega (arith, longest_of-copies (Migrating Demote part) part (Some c) None part.extents (ending Demote part.block (Some c)) (omega arith))
+longest_of-work (Migrating Demote part) (Some c) false = omega arith
+longest_of-work (Migrating Clean part) None dirty = omega arith
+longest_of-work (Migrating Clean part) (Some c) true = omega (arith, longest_of-copies (Migrating Clean part) part (Some c) None part.extents (ending Clean part.block (Some c)) (omega arith))
+longest_of-work (Migrating Clean part) (Some c) false = omega arith
 
 some_work : (job : BlockJob) → 2 ≤ longest_work job
 some_work (Reading part) = omega arith
 some_work (Writing part) = omega arith
+some_work (Migrating migration part) = omega arith
+
+-- a failure leaves a step and the answer, or the block, the order and the answer
+some_failing : (job : BlockJob) → 2 ≤ longest_failing (OnBlock job)
+some_failing (Reading part) = omega arith
+some_failing (Writing part) = omega arith
+some_failing (Migrating migration part) = omega arith
+
+longest_of-parting : (job : BlockJob) → 1 + longest_of (OnBlock job) (gives_up job) ≤ longest_failing (OnBlock job)
+longest_of-parting (Reading part) = omega arith
+longest_of-parting (Writing part) = omega arith
+longest_of-parting (Migrating migration part) = omega arith
+
+longest_of-orders : (job : TaskJob) (blocks : List OBlock) → longest_of job (release_orders blocks) ≡ length (release_orders blocks) + 1
+longest_of-orders job [] = omega arith
+longest_of-orders job (block ∷ blocks) = omega (arith, longest_of-orders job blocks)
+
+-- what is let go takes a step each, and the answer
+longest_of-let_go : (job : TaskJob) → longest_of job (lets_go job) ≤ length (lets_go job) + 1
+longest_of-let_go (OnBlock (Reading part)) = omega arith
+longest_of-let_go (OnBlock (Writing part)) = omega arith
+longest_of-let_go (OnBlock (Migrating migration part)) = omega arith
+longest_of-let_go (Flushing serves most) = omega (arith, longest_of-orders (Flushing serves most) serves)
+longest_of-let_go (Opening left) = omega arith
+
+-- what is left after a fault on a device
+longest_of-fault : (job : TaskJob) (step : DeviceStep) → longest_of job (after_fault_of job step) ≤ longest_failing job
+longest_of-fault (OnBlock job) (Read device e) = omega (arith, longest_of-parting job)
+longest_of-fault (OnBlock job) (Write device e) = omega (arith, some_failing job)
+longest_of-fault (OnBlock job) (Sync device) = omega (arith, some_failing job)
+longest_of-fault (OnBlock job) (ReadMetadata left) = omega (arith, some_failing job)
+longest_of-fault (OnBlock job) (WriteNode number) = omega (arith, some_failing job)
+longest_of-fault (OnBlock job) WriteRoot = omega (arith, some_failing job)
+longest_of-fault (Flushing serves most) step = omega arith
+longest_of-fault (Opening left) step = omega arith
+
+-- a commit, once it began
+longest_of-nodes : (job : TaskJob) (nodes first : ℕ) (ws : List Want) → longest_failing job ≤ longest_of job ws → longest_of job (node_writes nodes first ++ ws) ≡ nodes + longest_of job ws
+longest_of-nodes job zero first ws h = omega arith
+longest_of-nodes job (suc nodes) first ws h = let more = longest_of-nodes job nodes (first + 1) ws h in omega (arith, more, h)
+
+longest_of-commit : (job : TaskJob) (nodes : ℕ) → longest_of job (commit_steps nodes) ≡ longest_commit job nodes
+longest_of-commit job nodes = let more = longest_of-nodes job nodes 0 root_steps (omega arith) in omega (arith, more)
 
 -- a look leaves less
 falls_look : (job : TaskJob) (word : WordName) (ws : List Want) (a : Answer) (value : ℕ) → longest (after_look (record { job = job; steps = Cell (Look word) ∷ ws; answer = a }) (Cell (Look word)) value) < longest_of job (Cell (Look word) ∷ ws)
 falls_look job Fail ws a value = elim (value == 0) as (λ (b : Bool). longest (if b then (record { job = job; steps = ws; answer = a }) else (record { job = job; steps = []; answer = Refuses Failed })) < 1 + longest_of job ws) [ true ↦ omega arith | false ↦ omega (arith, longest_of-some job ws) ]
+falls_look (Flushing serves most) (LockWord block) ws a value = omega arith
+falls_look (Opening left) (LockWord block) ws a value = omega arith
+falls_look (Flushing serves most) (SealWord block) ws a value = omega arith
+falls_look (Opening left) (SealWord block) ws a value = omega arith
+falls_look (Flushing serves most) (Number block) ws a value = omega arith
+falls_look (Opening left) (Number block) ws a value = omega arith
 falls_look (OnBlock job) (LockWord block) ws a value = elim (may_take (OnBlock job) value) as (λ (b : Bool). longest (if b then (record { job = OnBlock job; steps = exchange (OnBlock job) value; answer = a }) else (record { job = OnBlock job; steps = []; answer = Refuses Busy })) < 4 + longest_work job) [ true ↦ omega arith | false ↦ omega arith ]
 falls_look (OnBlock job) (SealWord block) ws a value = omega (arith, longest_of-work job (place_in value) (dirty_in value), some_work job)
-falls_look (OnBlock job) (Number block) ws a value = elim (is_worn (OnBlock job) value) as (λ (b : Bool). longest (if b then (record { job = OnBlock job; steps = lets_go (OnBlock job); answer = Refuses Worn }) else (record { job = OnBlock job; steps = ws; answer = a })) < 1 + max 2 (longest_of (OnBlock job) ws)) [ true ↦ omega arith | false ↦ omega arith ]
+falls_look (OnBlock job) (Number block) ws a value = elim (is_worn (OnBlock job) value) as (λ (b : Bool). longest (if b then (record { job = OnBlock job; steps = gives_back (OnBlock job); answer = Refuses Worn }) else (record { job = OnBlock job; steps = ws; answer = a })) < 1 + max 2 (longest_of (OnBlock job) ws)) [ true ↦ omega arith | false ↦ omega arith ]
 falls_look job (CountWord kind) ws a value = omega arith
 
 -- a step leaves less
 pub falls : (job : TaskJob) (ws : List Want) (a : Answer) (g : Got) → Fits (first_step ws a) g → longest (after (record { job = job; steps = ws; answer = a }) g) < longest_of job ws
-falls job [] a g h = absurd h
+falls job [] a g h = absurd (no_result a g h)
 falls job (Cell (Look word) ∷ ws) a (Word value) h = falls_look job word ws a value
 falls job (Cell (Take access block seen) ∷ ws) a Done h = omega arith
 falls job (Cell (Take access block seen) ∷ ws) a Lost h = omega (arith, longest_of-some job ws)
@@ -92,14 +181,29 @@ falls job (Cell (Count kind) ∷ ws) a Done h = omega arith
 falls job (Cell SetFailed ∷ ws) a Done h = omega arith
 falls job (Cell SetSuspended ∷ ws) a Done h = omega arith
 falls job (Device (Read device e) ∷ ws) a Done h = omega arith
-falls (OnBlock job) (Device (Read device e) ∷ ws) a Fault h = omega arith
 falls job (Device (Write device e) ∷ ws) a Done h = omega arith
-falls (OnBlock job) (Device (Write device e) ∷ ws) a Fault h = omega arith
 falls job (Device (Sync device) ∷ ws) a Done h = omega arith
-falls (OnBlock job) (Device (Sync device) ∷ ws) a Fault h = omega arith
-falls job (Desk step ∷ ws) a Done h = omega arith
-falls (OnBlock job) (Desk (Map block place) ∷ ws) a (Refused refusal) h = omega arith
-falls (OnBlock job) (Desk (BeginCommit clean most) ∷ ws) a (Refused refusal) h = omega arith
+falls job (Device (ReadMetadata left) ∷ ws) a Done h = omega arith
+falls job (Device (WriteNode number) ∷ ws) a Done h = omega arith
+falls job (Device WriteRoot ∷ ws) a Done h = omega arith
+falls job (Device (Read device e) ∷ ws) a Fault h = omega (arith, longest_of-fault job (Read device e))
+falls job (Device (Write device e) ∷ ws) a Fault h = omega (arith, longest_of-fault job (Write device e))
+falls job (Device (Sync device) ∷ ws) a Fault h = omega (arith, longest_of-fault job (Sync device))
+falls job (Device (ReadMetadata left) ∷ ws) a Fault h = omega (arith, longest_of-fault job (ReadMetadata left))
+falls job (Device (WriteNode number) ∷ ws) a Fault h = omega (arith, longest_of-fault job (WriteNode number))
+falls job (Device WriteRoot ∷ ws) a Fault h = omega (arith, longest_of-fault job WriteRoot)
+falls job (Device (ReadMetadata left) ∷ ws) a (Refused refusal) h = omega (arith, longest_of-some job ws)
+falls job (Device (ReadMetadata left) ∷ ws) a More h = omega (arith, h)
+falls job (Desk (Map block place) ∷ ws) a Done h = omega arith
+falls job (Desk (Unmap block) ∷ ws) a Done h = omega arith
+falls job (Desk (ReleaseOrder block) ∷ ws) a Done h = omega arith
+falls job (Desk EndCommit ∷ ws) a Done h = omega arith
+falls job (Desk (Map block place) ∷ ws) a (Refused refusal) h = omega (arith, longest_of-let_go job)
+falls job (Desk (BeginCommit clean most) ∷ ws) a (Refused Busy) h = omega arith
+falls job (Desk (BeginCommit clean most) ∷ ws) a (Refused Memory) h = omega (arith, longest_of-let_go job)
+falls job (Desk (BeginCommit clean most) ∷ ws) a (Refused GenerationEnd) h = omega (arith, longest_of-let_go job)
+falls job (Desk (BeginCommit clean most) ∷ ws) a (Began nodes) h = omega (arith, longest_of-commit job nodes, h)
+falls job (End b ∷ ws) a g h = absurd (no_result b g h)
 falls job (w ∷ ws) a g h = absurd h
 
 -- one step more

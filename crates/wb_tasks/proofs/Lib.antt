@@ -1,6 +1,7 @@
 pub mod Views
 pub mod Reading
 pub mod Writing
+pub mod Migrating
 pub mod Driving
 pub mod Causing
 pub mod Readiness

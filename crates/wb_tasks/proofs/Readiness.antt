@@ -1,9 +1,13 @@
 -- An actor has what the next step of its task needs, and each step keeps it so; after the answer it holds nothing.
-use Rattle.std.proofs.Common.{◌≡◌, ◌∙◌, ◌==◌, ◌<◌, ◌-◌, ◌^◌, ◌++◌, ℕ, Bool, true, false, cond, eqb, List, [], ◌∷◌, Option, Some, None, refl, sym, ap, subst, map, if◌then◌else◌}
+use Rattle.std.specs.List.{Contains}
+use Rattle.wb_types.proofs.Lists.{Contains-first, Contains-behind}
+use Rattle.std.proofs.Common.{◌≡◌, ◌∙◌, ◌==◌, ◌+◌, ◌<◌, ◌≤◌, arith, inl, inr, zero, suc, ◌-◌, ◌^◌, ◌++◌, ℕ, Bool, true, false, cond, eqb, List, [], ◌∷◌, Option, Some, None, refl, sym, ap, subst, map, if◌then◌else◌}
 use Rattle.std.proofs.lemmas.Bool.{eq-eqb, true≢false}
+use Rattle.wb_types.specs.declared.mode.Dev.{Dev}
+use Rattle.wb_types.specs.declared.mode.Dev.TheVariants.{Cache, Origin}
 use Rattle.wb_types.specs.declared.number.OBlock.{OBlock}
 use Rattle.wb_types.specs.declared.number.CBlock.{CBlock}
-use Rattle.wb_types.specs.declared.refusal.Refusal.TheVariants.{Busy, Failed, Worn, Io}
+use Rattle.wb_types.specs.declared.refusal.Refusal.TheVariants.{Busy, Failed, Memory, Worn, GenerationEnd, Io}
 use Rattle.wb_words.specs.declared.word.Access.{Access}
 use Rattle.wb_words.specs.declared.word.Access.TheVariants.{Owned}
 use Rattle.wb_words.specs.declared.word.Word.{Word as WordName}
@@ -16,16 +20,22 @@ use Rattle.wb_words.specs.SharedWords.{word_at, value_of, place_in, dirty_in}
 use Rattle.wb_words.specs.Cards.{losing, holding, failing_at, is_own_number}
 use Rattle.wb_words.specs.Ready.{HasNext}
 use Rattle.wb_types.specs.declared.extent.Extent.{Extent}
-use Rattle.wb_tasks.specs.Tables.{BlockRange, BlockJob, Reading, Writing, TaskJob, OnBlock, access_of, work, read_step, write_step}
-use Rattle.wb_tasks.specs.Ready.{MayTake, MayMake, block_of, HasBlock, KnowsNext, IsRest, Has, SuitsJob, Suits}
-use Rattle.wb_tasks.specs.Plan.{Plan, table, want, after, first_step, lets_go, exchange, may_take, is_worn, Fits, got_of}
+use Rattle.wb_tasks.specs.Tables.{BlockRange, BlockJob, Reading, Writing, Migrating, TaskJob, OnBlock, Flushing, Opening, is_write, access_of, work, copies, ending, read_step, write_step}
+use Rattle.wb_tasks.proofs.Driving.{no_result}
+use Rattle.wb_tasks.specs.Ready.{MayTake, MayMake, block_of, HasBlock, KnowsNext, source_of, target_of, IsJobs, IsAsked, IsOwnStep, AreOwnSteps, IsParting, IsRest, Has, SuitsJob, Suits}
+use Rattle.wb_tasks.specs.Plan.{Plan, table, want, after, first_step, gives_back, gives_up, release_orders, node_writes, root_steps, commit_steps, lets_go, exchange, may_take, is_worn, Fits, got_of}
 use Rattle.wb_tasks.specs.declared.step.Answer.{Answer}
 use Rattle.wb_tasks.specs.declared.step.Answer.TheVariants.{Refused as Refuses}
-use Rattle.wb_tasks.specs.declared.step.DeviceStep.TheVariants.{Read, Write, Sync}
+use Rattle.wb_tasks.specs.declared.step.DeskStep.{DeskStep}
+use Rattle.wb_tasks.specs.declared.step.DeskStep.TheVariants.{Map, Unmap, ReleaseOrder, BeginCommit, EndCommit}
+use Rattle.wb_tasks.specs.declared.step.DeviceStep.{DeviceStep}
+use Rattle.wb_tasks.specs.declared.step.DeviceStep.TheVariants.{Read, Write, Sync, ReadMetadata, WriteNode, WriteRoot}
+use Rattle.wb_tasks.specs.declared.step.Migration.{Migration}
+use Rattle.wb_tasks.specs.declared.step.Migration.TheVariants.{Promote, Demote, Clean}
 use Rattle.wb_tasks.specs.declared.step.Want.{Want}
 use Rattle.wb_tasks.specs.declared.step.Want.TheVariants.{Cell, Device, Desk, End}
 use Rattle.wb_tasks.specs.declared.step.Got.{Got}
-use Rattle.wb_tasks.specs.declared.step.Got.TheVariants.{Done, Word, Fault}
+use Rattle.wb_tasks.specs.declared.step.Got.TheVariants.{Begin, Done, Word, Lost, Fault, Refused, Began, More}
 
 rest_reads : (part : BlockRange) (place : Option CBlock) (extents : List Extent) (ws : List Want) → IsRest (Reading part) true ws → IsRest (Reading part) true (map (read_step part place) extents ++ ws)
 rest_reads part place [] ws r = r
@@ -34,15 +44,32 @@ rest_reads part (Some c) (e ∷ extents) ws r = (tt, rest_reads part (Some c) ex
 
 rest_writes : (part : BlockRange) (place : Option CBlock) (extents : List Extent) (ws : List Want) → IsRest (Writing part) true ws → IsRest (Writing part) true (map (write_step part place) extents ++ ws)
 rest_writes part place [] ws r = r
-rest_writes part None (e ∷ extents) ws r = (refl, rest_writes part None extents ws r)
-rest_writes part (Some c) (e ∷ extents) ws r = (refl, rest_writes part (Some c) extents ws r)
+rest_writes part None (e ∷ extents) ws r = (tt, rest_writes part None extents ws r)
+rest_writes part (Some c) (e ∷ extents) ws r = (tt, rest_writes part (Some c) extents ws r)
+
+rest_inward : (part : BlockRange) (c : CBlock) (extents : List Extent) (ws : List Want) → IsRest (Migrating (Promote c) part) true ws → IsRest (Migrating (Promote c) part) true (copies part None (Some c) extents ++ ws)
+rest_inward part c [] ws r = r
+rest_inward part c (e ∷ extents) ws r = (refl, (refl, rest_inward part c extents ws r))
+
+-- what copies from the cache to the origin
+rest_outward : (migration : Migration) (part : BlockRange) (c : CBlock) (extents : List Extent) (ws : List Want) → Cache ≡ source_of migration → Origin ≡ target_of migration → IsRest (Migrating migration part) true ws →
+    IsRest (Migrating migration part) true (copies part (Some c) None extents ++ ws)
+rest_outward migration part c [] ws s t r = r
+rest_outward migration part c (e ∷ extents) ws s t r = (s, (t, rest_outward migration part c extents ws s t r))
 
 rest_work : (job : BlockJob) (place : Option CBlock) (dirty : Bool) → IsRest job true (work job place dirty)
-rest_work (Reading part) None dirty = rest_reads part None part.extents _ (refl, refl)
-rest_work (Reading part) (Some c) dirty = rest_reads part (Some c) part.extents _ (refl, refl)
-rest_work (Writing part) None dirty = rest_writes part None part.extents _ (refl, refl, refl, (refl, refl))
-rest_work (Writing part) (Some c) true = rest_writes part (Some c) part.extents _ (refl, refl, refl, (refl, refl))
-rest_work (Writing part) (Some c) false = (refl, refl, rest_writes part (Some c) part.extents _ (refl, refl, refl, (refl, refl)))
+rest_work (Reading part) None dirty = rest_reads part None part.extents _ (refl, refl, tt)
+rest_work (Reading part) (Some c) dirty = rest_reads part (Some c) part.extents _ (refl, refl, tt)
+rest_work (Writing part) None dirty = rest_writes part None part.extents _ (refl, refl, refl, (refl, refl, tt))
+rest_work (Writing part) (Some c) true = rest_writes part (Some c) part.extents _ (refl, refl, refl, (refl, refl, tt))
+rest_work (Writing part) (Some c) false = (refl, refl, rest_writes part (Some c) part.extents _ (refl, refl, refl, (refl, refl, tt)))
+rest_work (Migrating (Promote c) part) place dirty = rest_inward part c part.extents (ending (Promote c) part.block place) ((refl, refl), (refl, refl, (refl, refl, tt)))
+rest_work (Migrating Demote part) None dirty = ((refl, refl), (refl, refl, (refl, refl, tt)))
+rest_work (Migrating Demote part) (Some c) true = rest_outward Demote part c part.extents (ending Demote part.block (Some c)) refl refl ((refl, refl), (refl, refl, (refl, refl, tt)))
+rest_work (Migrating Demote part) (Some c) false = ((refl, refl), (refl, refl, (refl, refl, tt)))
+rest_work (Migrating Clean part) None dirty = (refl, refl, (refl, refl, refl))
+rest_work (Migrating Clean part) (Some c) true = rest_outward Clean part c part.extents (ending Clean part.block (Some c)) refl refl (refl, refl, (refl, refl, refl))
+rest_work (Migrating Clean part) (Some c) false = (refl, refl, (refl, refl, refl))
 
 -- what is left of the work is all that is left
 has_rest : (job : BlockJob) (card : Card) (next : Bool) (ws : List Want) → IsRest job next ws → HasBlock job card → KnowsNext job next card.number → Has job card ws
@@ -50,8 +77,9 @@ has_rest job card next (Device step ∷ ws) r h k = (h, (next, r, k))
 has_rest job card next (Cell (Seal block place dirty) ∷ ws) r h k = (h, (next, r, k))
 has_rest job card next (Cell (Finish block) ∷ ws) r h k = (h, (next, r, k))
 has_rest job card next (Cell (Count kind) ∷ ws) r h k = (h, (next, r, k))
-has_rest job card next (Cell (Release access block) ∷ []) r h k = (h, (next, r, k))
-has_rest job card next (Cell (Release access block) ∷ (w ∷ ws)) r h k = absurd r
+has_rest job card next (Cell (Release access block) ∷ ws) r h k = (h, (next, r, k))
+has_rest job card next (Desk (Map block place) ∷ ws) r h k = (h, (next, r, k))
+has_rest job card next (Desk (Unmap block) ∷ ws) r h k = (h, (next, r, k))
 has_rest job card next [] r h k = absurd r
 has_rest job card next (Cell (Look word) ∷ ws) r h k = absurd r
 has_rest job card next (Cell (Take access block seen) ∷ ws) r h k = absurd r
@@ -68,17 +96,70 @@ either P false s t p q = q refl
 -- a number that is not worn has a next one
 known : (job : BlockJob) (value : ℕ) → is_worn (OnBlock job) value ≡ false → KnowsNext job true (Some value)
 known (Reading part) value e = tt
+known (Migrating migration part) value e = tt
 known (Writing part) value e = (value, refl, λ worn. absurd (true≢false (sym (eq-eqb value (2 ^ 64 - 1) worn) ∙ e)))
 
 knows_less : (job : BlockJob) (known : Option ℕ) → KnowsNext job false known
 knows_less (Reading part) known = tt
 knows_less (Writing part) known = tt
+knows_less (Migrating migration part) known = tt
 
 suits : (blocks : ℕ) (job : BlockJob) (card : Card) (ws : List Want) (answer : Answer) → (block_of job).0 < blocks → Has job card ws → Suits blocks (record { job = OnBlock job; steps = ws; answer = answer }) card
 suits blocks job card ws answer l h = (l, h)
 
-give_back : (blocks : ℕ) (job : BlockJob) (card : Card) (answer : Answer) → (block_of job).0 < blocks → HasBlock job card → Suits blocks (record { job = OnBlock job; steps = lets_go (OnBlock job); answer = answer }) card
-give_back blocks job card answer l h = suits blocks job card (lets_go (OnBlock job)) answer l (h, (false, (refl, refl), knows_less job card.number))
+give_back : (blocks : ℕ) (job : BlockJob) (card : Card) (answer : Answer) → (block_of job).0 < blocks → HasBlock job card → Suits blocks (record { job = OnBlock job; steps = gives_back (OnBlock job); answer = answer }) card
+give_back blocks job card answer l h = suits blocks job card (gives_back (OnBlock job)) answer l (h, (false, (refl, refl, tt), knows_less job card.number))
+
+parting : (job : BlockJob) → IsParting job (gives_up job)
+parting (Reading part) = tt
+parting (Writing part) = tt
+parting (Migrating migration part) = refl
+
+let_go : (blocks : ℕ) (job : BlockJob) (card : Card) (answer : Answer) → (block_of job).0 < blocks → HasBlock job card → Suits blocks (record { job = OnBlock job; steps = lets_go (OnBlock job); answer = answer }) card
+let_go blocks job card answer l h = suits blocks job card (lets_go (OnBlock job)) answer l (h, (false, (refl, refl, parting job), knows_less job card.number))
+
+-- with the block given back there may be an order to give up
+parted : (job : BlockJob) (card : Card) (ws : List Want) → IsParting job ws → card.hold ≡ Nothing → Has job card ws
+parted job card [] p h = h
+parted job card (Desk (ReleaseOrder block) ∷ []) p h = (h, p, refl)
+parted job card (Desk (ReleaseOrder block) ∷ (w ∷ ws)) p h = absurd p
+parted job card (Desk (Map block place) ∷ ws) p h = absurd p
+parted job card (Desk (Unmap block) ∷ ws) p h = absurd p
+parted job card (Desk (BeginCommit clean most) ∷ ws) p h = absurd p
+parted job card (Desk EndCommit ∷ ws) p h = absurd p
+parted job card (Cell step ∷ ws) p h = absurd p
+parted job card (Device step ∷ ws) p h = absurd p
+parted job card (End answer ∷ ws) p h = absurd p
+
+-- who writes owns its block
+writes_owned : (job : BlockJob) (device : Dev) (e : Extent) → IsJobs job (Write device e) → access_of job ≡ Owned
+writes_owned (Writing part) device e i = refl
+writes_owned (Migrating migration part) device e i = refl
+writes_owned (Reading part) device e i = absurd i
+
+abbrev IsExtentStep : DeviceStep → Type 0
+IsExtentStep (Read device e) = Unit {0}
+IsExtentStep (Write device e) = Unit {0}
+IsExtentStep step = ⊥
+
+-- on the devices a job on a block reads and writes extents
+reads_or_writes : (job : BlockJob) (step : DeviceStep) → IsJobs job step → IsExtentStep step
+reads_or_writes job (Read device e) i = tt
+reads_or_writes job (Write device e) i = tt
+reads_or_writes (Reading part) step i = absurd i
+reads_or_writes (Writing part) step i = absurd i
+reads_or_writes (Migrating migration part) step i = absurd i
+
+-- and so does who enters or removes its block
+maps_owned : (job : BlockJob) (block : OBlock) (place : CBlock) → IsAsked job (Map block place) → (access_of job ≡ Owned) × (block ≡ block_of job)
+maps_owned (Migrating migration part) block place i = (refl, i.0)
+maps_owned (Reading part) block place i = absurd i
+maps_owned (Writing part) block place i = absurd i
+
+unmaps_owned : (job : BlockJob) (block : OBlock) → IsAsked job (Unmap block) → (access_of job ≡ Owned) × (block ≡ block_of job)
+unmaps_owned (Migrating migration part) block i = (refl, i.0)
+unmaps_owned (Reading part) block i = absurd i
+unmaps_owned (Writing part) block i = absurd i
 
 -- who looks at a number of its own block knows it then
 own_number : (access : Access) (a b : OBlock) (hold : Hold) → hold ≡ Held access a → b ≡ a → is_own_number hold (Number b) ≡ true
@@ -132,7 +213,7 @@ module _ (blocks : ℕ) (job : BlockJob) (card card' : Card) (answer : Answer) (
   kept_number next e k = subst (KnowsNext job next) (sym e) k
 
   pub keeps_on : (ws : List Want) (got : Got) → Has job card ws → Fits (first_step ws answer) got → MayMake (first_step ws answer) got card card' → Suits blocks (after (record { job = OnBlock job; steps = ws; answer = answer }) got) card'
-  keeps_on [] got h f made = absurd f
+  keeps_on [] got h f made = absurd (no_result answer got f)
   keeps_on (Cell (Look word) ∷ ws) (Word value) h f made = saw word ws value h made
   keeps_on (Cell (Take access b seen) ∷ ws) got h f made = took access b seen ws got h f made
   keeps_on (Cell SetFailed ∷ ws) Done h f made =
@@ -140,36 +221,123 @@ module _ (blocks : ℕ) (job : BlockJob) (card card' : Card) (answer : Answer) (
       suits blocks job card' ws answer inside (subst (λ (z : List Want). Has job card' z) (sym h.1) gone)
   keeps_on (Device (Read device e) ∷ ws) Done h f made = let r = h.1 in
       suits blocks job card' ws answer inside (has_rest job card' r.0 ws r.1.1 (kept_hold h.0 made) (kept_number r.0 (ap (λ (c : Card). c.number) made) r.2))
-  keeps_on (Device (Read device e) ∷ ws) Fault h f made = give_back blocks job card' (Refuses (Io device)) inside (kept_hold h.0 made)
+  keeps_on (Device (Read device e) ∷ ws) Fault h f made = let_go blocks job card' (Refuses (Io device)) inside (kept_hold h.0 made)
   keeps_on (Device (Write device e) ∷ ws) Done h f made = let r = h.1 in
       suits blocks job card' ws answer inside (has_rest job card' r.0 ws r.1.1 (kept_hold h.0 made) (kept_number r.0 (ap (λ (c : Card). c.number) made) r.2))
   keeps_on (Device (Write device e) ∷ ws) Fault h f made =
-      suits blocks job card' (Cell SetFailed ∷ []) (Refuses (Io device)) inside (kept_hold h.0 made ∙ ap (λ access. Held access (block_of job)) h.1.1.0, refl)
+      suits blocks job card' (Cell SetFailed ∷ []) (Refuses (Io device)) inside (kept_hold h.0 made ∙ ap (λ access. Held access (block_of job)) (writes_owned job device e h.1.1.0), refl)
   keeps_on (Cell (Seal b place dirty) ∷ ws) Done h f made = let r = h.1 in
       suits blocks job card' ws answer inside (has_rest job card' r.0 ws r.1.2 (ap (λ (c : Card). c.hold) made.2 ∙ h.0) (kept_number r.0 (ap (λ (c : Card). c.number) made.2) r.2))
   keeps_on (Cell (Finish b) ∷ ws) Done h f made = let r = h.1 in
       suits blocks job card' ws answer inside (has_rest job card' false ws r.1.3 (ap (λ (c : Card). c.hold) made.2 ∙ h.0) (knows_less job card'.number))
   keeps_on (Cell (Count kind) ∷ ws) Done h f made = let r = h.1 in
       suits blocks job card' ws answer inside (has_rest job card' r.0 ws r.1 (ap (λ (c : Card). c.hold) made.2 ∙ h.0) (kept_number r.0 (ap (λ (c : Card). c.number) made.2) r.2))
-  keeps_on (Cell (Release access b) ∷ []) Done h f made = suits blocks job card' [] answer inside (ap (λ (c : Card). c.hold) made.2)
-  keeps_on (Cell (Release access b) ∷ (w ∷ ws)) got h f made = absurd h.1.1
+  keeps_on (Cell (Release access b) ∷ ws) Done h f made = suits blocks job card' ws answer inside (parted job card' ws h.1.1.2 (ap (λ (c : Card). c.hold) made.2))
+  keeps_on (Desk (Map b place) ∷ ws) Done h f made = let r = h.1 in
+      suits blocks job card' ws answer inside (has_rest job card' r.0 ws r.1.1 (kept_hold h.0 made) (kept_number r.0 (ap (λ (c : Card). c.number) made) r.2))
+  keeps_on (Desk (Map b place) ∷ ws) (Refused Memory) h f made = let_go blocks job card' (Refuses Memory) inside (kept_hold h.0 made)
+  keeps_on (Desk (Unmap b) ∷ ws) Done h f made = let r = h.1 in
+      suits blocks job card' ws answer inside (has_rest job card' r.0 ws r.1.1 (kept_hold h.0 made) (kept_number r.0 (ap (λ (c : Card). c.number) made) r.2))
+  keeps_on (Desk (ReleaseOrder b) ∷ ws) Done h f made =
+      suits blocks job card' ws answer inside (subst (λ (z : List Want). Has job card' z) (sym h.2) (ap (λ (c : Card). c.hold) made ∙ h.0))
+  keeps_on (Desk (BeginCommit clean most) ∷ ws) got h f made = absurd h.1.1
+  keeps_on (Desk EndCommit ∷ ws) got h f made = absurd h.1.1
   keeps_on (Cell SetSuspended ∷ ws) got h f made = absurd h.1.1
-  keeps_on (Desk step ∷ ws) got h f made = absurd h.1.1
-  keeps_on (Device (Sync device) ∷ ws) got h f made = absurd h.1.1.0
+  keeps_on (Device (Sync device) ∷ ws) got h f made = absurd (reads_or_writes job (Sync device) h.1.1.0)
+  keeps_on (Device (ReadMetadata left) ∷ ws) got h f made = absurd (reads_or_writes job (ReadMetadata left) h.1.1.0)
+  keeps_on (Device (WriteNode number) ∷ ws) got h f made = absurd (reads_or_writes job (WriteNode number) h.1.1.0)
+  keeps_on (Device WriteRoot ∷ ws) got h f made = absurd (reads_or_writes job WriteRoot h.1.1.0)
+  keeps_on (End b ∷ ws) got h f made = absurd (no_result b got f)
   keeps_on (w ∷ ws) got h f made = absurd f
+
+-- A flush and an opening hold no block, and have their own steps alone.
+orders_own : (serves : List OBlock) (most : ℕ) (blocks : List OBlock) → ((b : OBlock) → Contains blocks b → Contains serves b) → AreOwnSteps (Flushing serves most) (release_orders blocks)
+orders_own serves most [] each = tt
+orders_own serves most (b ∷ blocks) each = (each b (Contains-first b blocks), orders_own serves most blocks (λ x c. each x (Contains-behind b blocks x c)))
+
+nodes_own : (serves : List OBlock) (most nodes first : ℕ) (ws : List Want) → first + nodes ≤ most → AreOwnSteps (Flushing serves most) ws → AreOwnSteps (Flushing serves most) (node_writes nodes first ++ ws)
+nodes_own serves most zero first ws l o = o
+nodes_own serves most (suc nodes) first ws l o = (omega (arith, l), nodes_own serves most nodes (first + 1) ws (omega (arith, l)) o)
+
+commit_own : (serves : List OBlock) (most nodes : ℕ) → nodes ≤ most → AreOwnSteps (Flushing serves most) (commit_steps nodes)
+commit_own serves most nodes l = (tt, (tt, nodes_own serves most nodes 0 root_steps (omega (arith, l)) (tt, (tt, (tt, (tt, tt))))))
+
+-- one of two plans of a job without a block
+one_of : (blocks : ℕ) (job : TaskJob) (card : Card) (b : Bool) (ws : List Want) (answer refusal : Answer) → SuitsJob blocks job card ws → SuitsJob blocks job card [] →
+    Suits blocks (if b then (record { job = job; steps = ws; answer = answer }) else (record { job = job; steps = []; answer = refusal })) card
+one_of blocks job card true ws answer refusal s t = s
+one_of blocks job card false ws answer refusal s t = t
+
+flush_keeps : (blocks : ℕ) (serves : List OBlock) (most : ℕ) (card card' : Card) (answer : Answer) (ws : List Want) (got : Got) → card.hold ≡ Nothing → AreOwnSteps (Flushing serves most) ws → Fits (first_step ws answer) got →
+    MayMake (first_step ws answer) got card card' → Suits blocks (after (record { job = Flushing serves most; steps = ws; answer = answer }) got) card'
+flush_keeps blocks serves most card card' answer (Cell (Look Fail) ∷ ws) (Word value) h o f made = let free : card'.hold ≡ Nothing = ap (λ (c : Card). c.hold) made.2 ∙ h in
+    one_of blocks (Flushing serves most) card' (value == 0) ws answer (Refuses Failed) (free, o.1) (free, tt)
+flush_keeps blocks serves most card card' answer (Cell SetFailed ∷ ws) Done h o f made = (ap (λ (c : Card). c.hold) made.2 ∙ (ap (λ (z : Hold). (failing_at z card).hold) h ∙ h), o.1)
+flush_keeps blocks serves most card card' answer (Device (Sync device) ∷ ws) Done h o f made = (ap (λ (c : Card). c.hold) made ∙ h, o.1)
+flush_keeps blocks serves most card card' answer (Device (Sync device) ∷ ws) Fault h o f made = (ap (λ (c : Card). c.hold) made ∙ h, (tt, tt))
+flush_keeps blocks serves most card card' answer (Device (WriteNode number) ∷ ws) Done h o f made = (ap (λ (c : Card). c.hold) made ∙ h, o.1)
+flush_keeps blocks serves most card card' answer (Device (WriteNode number) ∷ ws) Fault h o f made = (ap (λ (c : Card). c.hold) made ∙ h, (tt, tt))
+flush_keeps blocks serves most card card' answer (Device WriteRoot ∷ ws) Done h o f made = (ap (λ (c : Card). c.hold) made ∙ h, o.1)
+flush_keeps blocks serves most card card' answer (Device WriteRoot ∷ ws) Fault h o f made = (ap (λ (c : Card). c.hold) made ∙ h, (tt, tt))
+flush_keeps blocks serves most card card' answer (Desk (BeginCommit clean nodes) ∷ ws) (Began n) h o f made = (ap (λ (c : Card). c.hold) made ∙ h, commit_own serves most n (subst (λ (m : ℕ). n ≤ m) o.0.1 f))
+flush_keeps blocks serves most card card' answer (Desk (BeginCommit clean nodes) ∷ ws) (Refused Busy) h o f made = (ap (λ (c : Card). c.hold) made ∙ h, tt)
+flush_keeps blocks serves most card card' answer (Desk (BeginCommit clean nodes) ∷ ws) (Refused Memory) h o f made = (ap (λ (c : Card). c.hold) made ∙ h, orders_own serves most serves (λ b c. c))
+flush_keeps blocks serves most card card' answer (Desk (BeginCommit clean nodes) ∷ ws) (Refused GenerationEnd) h o f made = (ap (λ (c : Card). c.hold) made ∙ h, orders_own serves most serves (λ b c. c))
+flush_keeps blocks serves most card card' answer (Desk EndCommit ∷ ws) Done h o f made = (ap (λ (c : Card). c.hold) made ∙ h, o.1)
+flush_keeps blocks serves most card card' answer (Desk (ReleaseOrder b) ∷ ws) Done h o f made = (ap (λ (c : Card). c.hold) made ∙ h, o.1)
+flush_keeps blocks serves most card card' answer [] got h o f made = absurd (no_result answer got f)
+flush_keeps blocks serves most card card' answer (Cell (Look (LockWord b)) ∷ ws) got h o f made = absurd o.0
+flush_keeps blocks serves most card card' answer (Cell (Look (SealWord b)) ∷ ws) got h o f made = absurd o.0
+flush_keeps blocks serves most card card' answer (Cell (Look (Number b)) ∷ ws) got h o f made = absurd o.0
+flush_keeps blocks serves most card card' answer (Cell (Look (CountWord kind)) ∷ ws) got h o f made = absurd o.0
+flush_keeps blocks serves most card card' answer (Cell (Take access b seen) ∷ ws) got h o f made = absurd o.0
+flush_keeps blocks serves most card card' answer (Cell (Release access b) ∷ ws) got h o f made = absurd o.0
+flush_keeps blocks serves most card card' answer (Cell (Seal b place dirty) ∷ ws) got h o f made = absurd o.0
+flush_keeps blocks serves most card card' answer (Cell (Finish b) ∷ ws) got h o f made = absurd o.0
+flush_keeps blocks serves most card card' answer (Cell (Count kind) ∷ ws) got h o f made = absurd o.0
+flush_keeps blocks serves most card card' answer (Cell SetSuspended ∷ ws) got h o f made = absurd o.0
+flush_keeps blocks serves most card card' answer (Device (Read device e) ∷ ws) got h o f made = absurd o.0
+flush_keeps blocks serves most card card' answer (Device (Write device e) ∷ ws) got h o f made = absurd o.0
+flush_keeps blocks serves most card card' answer (Device (ReadMetadata left) ∷ ws) got h o f made = absurd o.0
+flush_keeps blocks serves most card card' answer (Desk (Map b place) ∷ ws) got h o f made = absurd o.0
+flush_keeps blocks serves most card card' answer (Desk (Unmap b) ∷ ws) got h o f made = absurd o.0
+flush_keeps blocks serves most card card' answer (End b ∷ ws) got h o f made = absurd (no_result b got f)
+flush_keeps blocks serves most card card' answer (w ∷ ws) got h o f made = absurd f
+
+opening_keeps : (blocks left : ℕ) (card card' : Card) (answer : Answer) (ws : List Want) (got : Got) → card.hold ≡ Nothing → AreOwnSteps (Opening left) ws → Fits (first_step ws answer) got →
+    MayMake (first_step ws answer) got card card' → Suits blocks (after (record { job = Opening left; steps = ws; answer = answer }) got) card'
+opening_keeps blocks left card card' answer (Device (Sync device) ∷ ws) Done h o f made = (ap (λ (c : Card). c.hold) made ∙ h, o.1)
+opening_keeps blocks left card card' answer (Device (Sync device) ∷ ws) Fault h o f made = (ap (λ (c : Card). c.hold) made ∙ h, tt)
+opening_keeps blocks left card card' answer (Device WriteRoot ∷ ws) Done h o f made = (ap (λ (c : Card). c.hold) made ∙ h, o.1)
+opening_keeps blocks left card card' answer (Device WriteRoot ∷ ws) Fault h o f made = (ap (λ (c : Card). c.hold) made ∙ h, tt)
+opening_keeps blocks left card card' answer (Device (ReadMetadata more) ∷ ws) Done h o f made = (ap (λ (c : Card). c.hold) made ∙ h, o.1)
+opening_keeps blocks left card card' answer (Device (ReadMetadata more) ∷ ws) Fault h o f made = (ap (λ (c : Card). c.hold) made ∙ h, tt)
+opening_keeps blocks left card card' answer (Device (ReadMetadata more) ∷ ws) (Refused refusal) h o f made = (ap (λ (c : Card). c.hold) made ∙ h, tt)
+opening_keeps blocks left card card' answer (Device (ReadMetadata more) ∷ ws) More h o f made = (ap (λ (c : Card). c.hold) made ∙ h, (tt, o.1))
+opening_keeps blocks left card card' answer [] got h o f made = absurd (no_result answer got f)
+opening_keeps blocks left card card' answer (Cell step ∷ ws) got h o f made = absurd o.0
+opening_keeps blocks left card card' answer (Desk step ∷ ws) got h o f made = absurd o.0
+opening_keeps blocks left card card' answer (Device (Read device e) ∷ ws) got h o f made = absurd o.0
+opening_keeps blocks left card card' answer (Device (Write device e) ∷ ws) got h o f made = absurd o.0
+opening_keeps blocks left card card' answer (Device (WriteNode number) ∷ ws) got h o f made = absurd o.0
+opening_keeps blocks left card card' answer (End b ∷ ws) got h o f made = absurd (no_result b got f)
+opening_keeps blocks left card card' answer (w ∷ ws) got h o f made = absurd f
 
 pub keeps_ready : (blocks : ℕ) (s : Plan) (card card' : Card) (got : Got) → Suits blocks s card → Fits (want s) got → MayMake (want s) got card card' → Suits blocks (after s got) card'
 keeps_ready blocks s card card' got h f made = by_job s.job s.steps s.answer h f made
   where
     by_job : (job : TaskJob) (ws : List Want) (answer : Answer) → SuitsJob blocks job card ws → Fits (first_step ws answer) got → MayMake (first_step ws answer) got card card' → Suits blocks (after (record { job = job; steps = ws; answer = answer }) got) card'
     by_job (OnBlock job) ws answer h f made = keeps_on blocks job card card' answer h.0 ws got h.1 f made
+    by_job (Flushing serves most) ws answer h f made = flush_keeps blocks serves most card card' answer ws got h.0 h.1 f made
+    by_job (Opening left) ws answer h f made = opening_keeps blocks left card card' answer ws got h.0 h.1 f made
 
 -- What comes next.
 
-knows_next : (job : BlockJob) (next : Bool) (number : Option ℕ) → access_of job ≡ Owned → next ≡ true → KnowsNext job next number → HasNext number
-knows_next (Reading part) next number o n k = absurd (cc)
-knows_next (Writing part) true number o n k = k
-knows_next (Writing part) false number o n k = absurd (cc)
+knows_next : (job : BlockJob) (next : Bool) (number : Option ℕ) → is_write job ≡ true → next ≡ true → KnowsNext job next number → (access_of job ≡ Owned) × HasNext number
+knows_next (Writing part) true number i n k = (refl, k)
+knows_next (Writing part) false number i n k = absurd (cc)
+knows_next (Reading part) next number i n k = absurd (cc)
+knows_next (Migrating migration part) next number i n k = absurd (cc)
 
 owned : (job : BlockJob) (card : Card) → HasBlock job card → access_of job ≡ Owned → card.hold ≡ Held Owned (block_of job)
 owned job card h o = h ∙ ap (λ access. Held access (block_of job)) o
@@ -185,22 +353,123 @@ ready_for blocks job card (Cell (Look (SealWord b)) ∷ ws) answer l h = below b
 ready_for blocks job card (Cell (Look (Number b)) ∷ ws) answer l h = below blocks b (block_of job) h.1 l
 ready_for blocks job card (Cell (Look (CountWord kind)) ∷ ws) answer l h = tt
 ready_for blocks job card (Cell (Take access b seen) ∷ ws) answer l h = (below blocks b (block_of job) h.2 l, h.0, h.3)
-ready_for blocks job card (Cell (Release access b) ∷ []) answer l h = rw (h.1.1.0, h.1.1.1) (l, h.0)
-ready_for blocks job card (Cell (Release access b) ∷ (w ∷ ws)) answer l h = absurd h.1.1
+ready_for blocks job card (Cell (Release access b) ∷ ws) answer l h = rw (h.1.1.0, h.1.1.1) (l, h.0)
 ready_for blocks job card (Cell (Seal b place dirty) ∷ ws) answer l h = rw h.1.1.0 (l, owned job card h.0 h.1.1.1)
-ready_for blocks job card (Cell (Finish b) ∷ ws) answer l h = rw h.1.1.0 (l, owned job card h.0 h.1.1.1, knows_next job h.1.0 card.number h.1.1.1 h.1.1.2 h.1.2)
+ready_for blocks job card (Cell (Finish b) ∷ ws) answer l h = let k = knows_next job h.1.0 card.number h.1.1.1 h.1.1.2 h.1.2 in rw h.1.1.0 (l, owned job card h.0 k.0, k.1)
 ready_for blocks job card (Cell (Count kind) ∷ ws) answer l h = tt
 ready_for blocks job card (Cell SetFailed ∷ ws) answer l h = tt
 ready_for blocks job card (Cell SetSuspended ∷ ws) answer l h = tt
 ready_for blocks job card (Device step ∷ ws) answer l h = tt
-ready_for blocks job card (Desk step ∷ ws) answer l h = h.1.1
+ready_for blocks job card (Desk (Map b place) ∷ ws) answer l h = let m = maps_owned job b place h.1.1.0 in rw m.1 (owned job card h.0 m.0)
+ready_for blocks job card (Desk (Unmap b) ∷ ws) answer l h = let m = unmaps_owned job b h.1.1.0 in rw m.1 (owned job card h.0 m.0)
+ready_for blocks job card (Desk (ReleaseOrder b) ∷ ws) answer l h = h.0
+ready_for blocks job card (Desk (BeginCommit clean most) ∷ ws) answer l h = absurd h.1.1
+ready_for blocks job card (Desk EndCommit ∷ ws) answer l h = absurd h.1.1
 ready_for blocks job card (End a ∷ ws) answer l h = tt
+
+free_for : (blocks : ℕ) (serves : List OBlock) (most : ℕ) (card : Card) (ws : List Want) (answer : Answer) → card.hold ≡ Nothing → AreOwnSteps (Flushing serves most) ws → MayTake blocks card (first_step ws answer)
+free_for blocks serves most card [] answer h o = tt
+free_for blocks serves most card (Cell (Look Fail) ∷ ws) answer h o = tt
+free_for blocks serves most card (Cell SetFailed ∷ ws) answer h o = tt
+free_for blocks serves most card (Device step ∷ ws) answer h o = tt
+free_for blocks serves most card (Desk (BeginCommit clean nodes) ∷ ws) answer h o = h
+free_for blocks serves most card (Desk EndCommit ∷ ws) answer h o = h
+free_for blocks serves most card (Desk (ReleaseOrder b) ∷ ws) answer h o = h
+free_for blocks serves most card (End a ∷ ws) answer h o = tt
+free_for blocks serves most card (w ∷ ws) answer h o = absurd o.0
+
+opens_for : (blocks left : ℕ) (card : Card) (ws : List Want) (answer : Answer) → AreOwnSteps (Opening left) ws → MayTake blocks card (first_step ws answer)
+opens_for blocks left card [] answer o = tt
+opens_for blocks left card (Device step ∷ ws) answer o = tt
+opens_for blocks left card (End a ∷ ws) answer o = tt
+opens_for blocks left card (Cell step ∷ ws) answer o = absurd o.0
+opens_for blocks left card (Desk step ∷ ws) answer o = absurd o.0
 
 pub is_ready : (blocks : ℕ) (s : Plan) (card : Card) → Suits blocks s card → MayTake blocks card (want s)
 is_ready blocks s card h = by_job s.job h
   where
     by_job : (job : TaskJob) → SuitsJob blocks job card s.steps → MayTake blocks card (first_step s.steps s.answer)
     by_job (OnBlock job) h = ready_for blocks job card s.steps s.answer h.0 h.1
+    by_job (Flushing serves most) h = free_for blocks serves most card s.steps s.answer h.0 h.1
+    by_job (Opening left) h = opens_for blocks left card s.steps s.answer h.1
+
+-- each step on a device or the desk is one of the job's own
+own_step : (job : BlockJob) (card : Card) (ws : List Want) (answer : Answer) → Has job card ws → IsOwnStep (OnBlock job) (first_step ws answer)
+own_step job card [] answer h = tt
+own_step job card (Cell step ∷ ws) answer h = tt
+own_step job card (Device step ∷ ws) answer h = h.1.1.0
+own_step job card (Desk (Map b place) ∷ ws) answer h = h.1.1.0
+own_step job card (Desk (Unmap b) ∷ ws) answer h = h.1.1.0
+own_step job card (Desk (ReleaseOrder b) ∷ ws) answer h = h.1
+own_step job card (Desk (BeginCommit clean most) ∷ ws) answer h = absurd h.1.1
+own_step job card (Desk EndCommit ∷ ws) answer h = absurd h.1.1
+own_step job card (End a ∷ ws) answer h = tt
+
+own_first : (job : TaskJob) (ws : List Want) (answer : Answer) → IsOwnStep job (End answer) → AreOwnSteps job ws → IsOwnStep job (first_step ws answer)
+own_first job [] answer e o = e
+own_first job (w ∷ ws) answer e o = o.0
+
+pub is_own_step : (blocks : ℕ) (s : Plan) (card : Card) → Suits blocks s card → IsOwnStep s.job (want s)
+is_own_step blocks s card h = by_job s.job h
+  where
+    by_job : (job : TaskJob) → SuitsJob blocks job card s.steps → IsOwnStep job (first_step s.steps s.answer)
+    by_job (OnBlock job) h = own_step job card s.steps s.answer h.1
+    by_job (Flushing serves most) h = own_first (Flushing serves most) s.steps s.answer tt h.1
+    by_job (Opening left) h = own_first (Opening left) s.steps s.answer tt h.1
+
+-- no result turns a task to another job
+by_either : (job : TaskJob) (b : Bool) (s t : Plan) → s.job ≡ job → t.job ≡ job → (if b then s else t).job ≡ job
+by_either job true s t p q = p
+by_either job false s t p q = q
+
+job_stays_on : (job : TaskJob) (ws : List Want) (answer : Answer) (got : Got) → (after (record { job = job; steps = ws; answer = answer }) got).job ≡ job
+job_stays_on job ws answer Begin = refl
+job_stays_on job ws answer Done = refl
+job_stays_on job ws answer Lost = refl
+job_stays_on job ws answer (Began nodes) = refl
+job_stays_on job [] answer More = refl
+job_stays_on job (Cell step ∷ ws) answer More = refl
+job_stays_on job (Device (Read device e) ∷ ws) answer More = refl
+job_stays_on job (Device (Write device e) ∷ ws) answer More = refl
+job_stays_on job (Device (Sync device) ∷ ws) answer More = refl
+job_stays_on job (Device (ReadMetadata left) ∷ ws) answer More = refl
+job_stays_on job (Device (WriteNode number) ∷ ws) answer More = refl
+job_stays_on job (Device WriteRoot ∷ ws) answer More = refl
+job_stays_on job (Desk step ∷ ws) answer More = refl
+job_stays_on job (End a ∷ ws) answer More = refl
+job_stays_on job [] answer (Word value) = refl
+job_stays_on job (Cell (Look Fail) ∷ ws) answer (Word value) = by_either job (value == 0) _ _ refl refl
+job_stays_on job (Cell (Look (LockWord b)) ∷ ws) answer (Word value) = by_either job (may_take job value) _ _ refl refl
+job_stays_on job (Cell (Look (SealWord b)) ∷ ws) answer (Word value) = refl
+job_stays_on job (Cell (Look (Number b)) ∷ ws) answer (Word value) = by_either job (is_worn job value) _ _ refl refl
+job_stays_on job (Cell (Look (CountWord kind)) ∷ ws) answer (Word value) = refl
+job_stays_on job (Cell step ∷ ws) answer (Word value) = refl
+job_stays_on job (Device step ∷ ws) answer (Word value) = refl
+job_stays_on job (Desk step ∷ ws) answer (Word value) = refl
+job_stays_on job (End a ∷ ws) answer (Word value) = refl
+job_stays_on job [] answer Fault = refl
+job_stays_on job (Cell step ∷ ws) answer Fault = refl
+job_stays_on job (Device step ∷ ws) answer Fault = refl
+job_stays_on job (Desk step ∷ ws) answer Fault = refl
+job_stays_on job (End a ∷ ws) answer Fault = refl
+job_stays_on job [] answer (Refused refusal) = refl
+job_stays_on job (Cell step ∷ ws) answer (Refused refusal) = refl
+job_stays_on job (Device step ∷ ws) answer (Refused refusal) = refl
+job_stays_on job (Desk (Map b place) ∷ ws) answer (Refused refusal) = refl
+job_stays_on job (Desk (Unmap b) ∷ ws) answer (Refused refusal) = refl
+job_stays_on job (Desk (ReleaseOrder b) ∷ ws) answer (Refused refusal) = refl
+job_stays_on job (Desk (BeginCommit clean most) ∷ ws) answer (Refused refusal) = refl
+job_stays_on job (Desk EndCommit ∷ ws) answer (Refused refusal) = refl
+job_stays_on job (End a ∷ ws) answer (Refused refusal) = refl
+
+pub job_stays : (s : Plan) (got : Got) → (after s got).job ≡ s.job
+job_stays s got = job_stays_on s.job s.steps s.answer got
+
+pub flush_begins : (blocks : ℕ) (serves : List OBlock) (most : ℕ) (card : Card) → card.hold ≡ Nothing → Suits blocks (table (Flushing serves most)) card
+flush_begins blocks serves most card h = (h, (tt, ((refl, refl), tt)))
+
+pub opening_begins : (blocks left : ℕ) (card : Card) → card.hold ≡ Nothing → Suits blocks (table (Opening left)) card
+opening_begins blocks left card h = (h, (tt, (tt, (tt, (tt, (tt, (tt, tt)))))))
 
 pub begins_ready : (blocks : ℕ) (job : BlockJob) (card : Card) → (block_of job).0 < blocks → card.hold ≡ Nothing → Suits blocks (table (OnBlock job)) card
 begins_ready blocks job card l h = (l, (h, refl))
@@ -210,7 +479,7 @@ ended : (job : BlockJob) (card : Card) (ws : List Want) (answer end : Answer) �
 ended job card [] answer end h e = h
 ended job card (Cell step ∷ ws) answer end h e = absurd (cc)
 ended job card (Device step ∷ ws) answer end h e = absurd (cc)
-ended job card (Desk step ∷ ws) answer end h e = absurd h.1.1
+ended job card (Desk step ∷ ws) answer end h e = absurd (cc)
 ended job card (End a ∷ ws) answer end h e = absurd h.1.1
 
 pub ends_holding_nothing : (blocks : ℕ) (s : Plan) (card : Card) (end : Answer) → Suits blocks s card → want s ≡ End end → card.hold ≡ Nothing
@@ -218,3 +487,5 @@ ends_holding_nothing blocks s card end h e = by_job s.job h
   where
     by_job : (job : TaskJob) → SuitsJob blocks job card s.steps → card.hold ≡ Nothing
     by_job (OnBlock job) h = ended job card s.steps s.answer end h.1 e
+    by_job (Flushing serves most) h = h.0
+    by_job (Opening left) h = h.0

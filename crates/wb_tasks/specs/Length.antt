@@ -1,8 +1,10 @@
-use Rattle.std.specs.Prelude.{◌+◌, ℕ, List, [], ◌∷◌, length, max}
+use Rattle.std.specs.Prelude.{◌+◌, ◌*◌, ℕ, List, [], ◌∷◌, length, max}
 use Rattle.wb_words.specs.declared.word.Word.TheVariants.{Cell as LockWord, Seal as SealWord, Number}
-use Rattle.wb_tasks.specs.Tables.{BlockJob, Reading, Writing, TaskJob, OnBlock}
-use Rattle.wb_tasks.specs.Plan.{Plan}
+use Rattle.wb_tasks.specs.Tables.{BlockJob, Reading, Writing, Migrating, TaskJob, OnBlock, Flushing, Opening}
+use Rattle.wb_tasks.specs.Plan.{Plan, lets_go}
 use Rattle.wb_words.specs.declared.step.CellStep.TheVariants.{Look}
+use Rattle.wb_tasks.specs.declared.step.DeviceStep.TheVariants.{ReadMetadata}
+use Rattle.wb_tasks.specs.declared.step.DeskStep.TheVariants.{Map, BeginCommit}
 use Rattle.wb_tasks.specs.declared.step.Want.{Want}
 use Rattle.wb_tasks.specs.declared.step.Want.TheVariants.{Cell, Device, Desk}
 
@@ -10,13 +12,26 @@ use Rattle.wb_tasks.specs.declared.step.Want.TheVariants.{Cell, Device, Desk}
 abbrev pub longest_work : BlockJob → ℕ
 longest_work (Reading part) = length part.extents + 3
 longest_work (Writing part) = length part.extents + 5
+longest_work (Migrating migration part) = 2 * length part.extents + 4
 
 abbrev pub longest_work_of : TaskJob → ℕ
 longest_work_of (OnBlock job) = longest_work job
+longest_work_of job = 2
 
--- once a device step has failed, the desk has refused, or a number is worn: one step, and the answer
+-- once a device step has failed, the desk has refused, or a number is worn: the block, an order, and the answer
+abbrev pub longest_failing_on : BlockJob → ℕ
+longest_failing_on (Reading part) = 2
+longest_failing_on (Writing part) = 2
+longest_failing_on (Migrating migration part) = 3
+
 abbrev pub longest_failing : TaskJob → ℕ
-longest_failing (OnBlock job) = 2
+longest_failing (OnBlock job) = longest_failing_on job
+longest_failing (Flushing serves most) = 2
+longest_failing (Opening left) = 1
+
+-- a commit of an image of so many nodes
+abbrev pub longest_commit : TaskJob → ℕ → ℕ
+longest_commit job most = most + 5 + max (longest_failing job) 2
 
 -- The most steps of a job with these steps to come, its answer counted. The lock word leaves the exchange and the
 -- seal, the seal the number and the work.
@@ -24,9 +39,11 @@ abbrev pub longest_of : TaskJob → List Want → ℕ
 longest_of job [] = 1
 longest_of job (Cell (Look (LockWord block)) ∷ ws) = 4 + longest_work_of job
 longest_of job (Cell (Look (SealWord block)) ∷ ws) = 2 + longest_work_of job
-longest_of job (Cell (Look (Number block)) ∷ ws) = 1 + max (longest_failing job) (longest_of job ws)
+longest_of job (Cell (Look (Number block)) ∷ ws) = 1 + max 2 (longest_of job ws)
+longest_of job (Device (ReadMetadata left) ∷ ws) = left + 1 + max (longest_failing job) (longest_of job ws)
 longest_of job (Device step ∷ ws) = 1 + max (longest_failing job) (longest_of job ws)
-longest_of job (Desk step ∷ ws) = 1 + max (longest_failing job) (longest_of job ws)
+longest_of job (Desk (Map block place) ∷ ws) = 1 + max (length (lets_go job) + 1) (longest_of job ws)
+longest_of job (Desk (BeginCommit clean most) ∷ ws) = 1 + max (longest_commit job most) (length (lets_go job) + 1)
 longest_of job (w ∷ ws) = 1 + longest_of job ws
 
 -- the most steps that a task may still take, its answer counted

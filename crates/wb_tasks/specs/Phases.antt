@@ -1,10 +1,10 @@
 -- What is left of a task, by the phase that it is in.
-use Rattle.std.specs.Prelude.{◌++◌, true, List, [], ◌∷◌, Some, map}
+use Rattle.std.specs.Prelude.{◌++◌, Bool, true, false, List, [], ◌∷◌, Option, Some, map}
 use Rattle.wb_types.specs.declared.refusal.Refusal.TheVariants.{Worn, Io}
 use Rattle.wb_words.specs.declared.word.Access.TheVariants.{Shared, Owned}
 use Rattle.wb_words.specs.declared.word.Word.TheVariants.{Cell as LockWord, Seal as SealWord, Number as NumberWord}
 use Rattle.wb_types.specs.declared.extent.Extent.{Extent}
-use Rattle.wb_tasks.specs.Tables.{BlockRange, BlockJob, Reading, Writing, OnBlock, range_of, access_of, acquire, taking, work, read_step, write_step, read_count, write_count}
+use Rattle.wb_tasks.specs.Tables.{BlockRange, BlockJob, Reading, Writing, Migrating, OnBlock, range_of, access_of, acquire, taking, work, copies, ending, read_step, write_step, read_count, write_count}
 use Rattle.wb_tasks.specs.Plan.{Plan, release}
 use Rattle.wb_words.specs.declared.grip.GripStage.{GripStage}
 use Rattle.wb_words.specs.declared.grip.GripStage.TheVariants.{LookFail, LookLock, Exchange, LookSeal, LookNumber}
@@ -15,10 +15,15 @@ use Rattle.wb_tasks.specs.declared.read.Phase.{Phase as ReadPhase}
 use Rattle.wb_tasks.specs.declared.read.Phase.TheVariants.{Acquires as ReadAcquires, Reads, Releases as ReadReleases, Ended as ReadEnded}
 use Rattle.wb_tasks.specs.declared.write.Phase.{Phase as WritePhase}
 use Rattle.wb_tasks.specs.declared.write.Phase.TheVariants.{Acquires as WriteAcquires, Dirties, Writes, Counts, Releases as WriteReleases, SetsFailed, Ended as WriteEnded}
+use Rattle.wb_tasks.specs.declared.migrate.Phase.{Phase as MigrationPhase}
+use Rattle.wb_tasks.specs.declared.migrate.Phase.TheVariants.{Acquires as MigrationAcquires, Reads as ReadsFrom, Writes as WritesTo, Seals, Releases as MigrationReleases, GivesUp, SetsFailed as MigrationFails, Ended as MigrationEnded}
+use Rattle.wb_tasks.specs.declared.step.Migration.{Migration}
 use Rattle.wb_words.specs.declared.step.CellStep.TheVariants.{Look, Release, Seal as SealStep, Finish, SetFailed}
+use Rattle.wb_tasks.specs.declared.step.DeskStep.TheVariants.{ReleaseOrder}
+use Rattle.wb_tasks.specs.declared.step.Answer.{Answer}
 use Rattle.wb_tasks.specs.declared.step.Answer.TheVariants.{Done as Finished, Refused as Refuses}
 use Rattle.wb_tasks.specs.declared.step.Want.{Want}
-use Rattle.wb_tasks.specs.declared.step.Want.TheVariants.{Cell}
+use Rattle.wb_tasks.specs.declared.step.Want.TheVariants.{Cell, Desk}
 
 -- the steps to come of a job that has not got its block
 abbrev pub steps_from : BlockJob → GripStage → List Want
@@ -55,3 +60,28 @@ write_left part (Counts place) extents = record { job = OnBlock (Writing part); 
 write_left part (WriteReleases answer) extents = record { job = OnBlock (Writing part); steps = Cell (Release Owned part.block) ∷ []; answer = answer }
 write_left part (SetsFailed device) extents = record { job = OnBlock (Writing part); steps = Cell SetFailed ∷ []; answer = Refuses (Io device) }
 write_left part (WriteEnded answer) extents = record { job = OnBlock (Writing part); steps = []; answer = answer }
+
+-- what is left of a migration in a phase, with these extents still to read
+abbrev pub order_left : BlockRange → Bool → List Want
+order_left part true = Desk (ReleaseOrder part.block) ∷ []
+order_left part false = []
+
+abbrev pub migration_steps : Migration → BlockRange → MigrationPhase → List Extent → List Want
+migration_steps migration part (MigrationAcquires stage) extents = steps_from (Migrating migration part) stage
+migration_steps migration part (ReadsFrom from to) extents = copies part from to extents ++ ending migration part.block from
+migration_steps migration part (WritesTo from to e) extents = write_step part to e ∷ (copies part from to extents ++ ending migration part.block from)
+migration_steps migration part (Seals place) extents = Cell (SealStep part.block place false) ∷ Cell (Release Owned part.block) ∷ []
+migration_steps migration part (MigrationReleases order answer) extents = Cell (Release Owned part.block) ∷ order_left part order
+migration_steps migration part (GivesUp answer) extents = Desk (ReleaseOrder part.block) ∷ []
+migration_steps migration part (MigrationFails device) extents = Cell SetFailed ∷ []
+migration_steps migration part (MigrationEnded answer) extents = []
+
+abbrev pub migration_answer : MigrationPhase → Answer
+migration_answer (MigrationReleases order answer) = answer
+migration_answer (GivesUp answer) = answer
+migration_answer (MigrationFails device) = Refuses (Io device)
+migration_answer (MigrationEnded answer) = answer
+migration_answer phase = Finished
+
+abbrev pub migration_left : Migration → BlockRange → MigrationPhase → List Extent → Plan
+migration_left migration part phase extents = record { job = OnBlock (Migrating migration part); steps = migration_steps migration part phase extents; answer = migration_answer phase }

@@ -1,22 +1,25 @@
-use Rattle.std.specs.Prelude.{◌-◌, ◌^◌, ◌==◌, ℕ, Bool, false, List, [], ◌∷◌, if◌then◌else◌}
+use Rattle.std.specs.Prelude.{◌+◌, ◌-◌, ◌^◌, ◌≤◌, ◌==◌, ◌&&◌, ℕ, zero, suc, Bool, false, List, [], ◌∷◌, ◌++◌, if◌then◌else◌}
 use Rattle.wb_types.specs.declared.mode.Dev.{Dev}
+use Rattle.wb_types.specs.declared.mode.Dev.TheVariants.{Metadata, Cache, Origin}
+use Rattle.wb_types.specs.declared.number.OBlock.{OBlock}
 use Rattle.wb_types.specs.declared.refusal.Refusal.{Refusal}
-use Rattle.wb_types.specs.declared.refusal.Refusal.TheVariants.{Busy, Failed, Worn, Io}
+use Rattle.wb_types.specs.declared.refusal.Refusal.TheVariants.{Busy, Failed, Memory, Worn, NotFormatted, Damaged, Mismatch, NotClean, GenerationEnd, Io}
 use Rattle.wb_words.specs.declared.word.Word.TheVariants.{Cell as LockWord, Seal as SealWord, Number, Fail}
 use Rattle.wb_words.specs.SharedWords.{can_take, place_in, dirty_in}
-use Rattle.wb_tasks.specs.Tables.{BlockJob, Reading, Writing, TaskJob, OnBlock, range_of, access_of, acquire, taking, work}
+use Rattle.wb_tasks.specs.Tables.{BlockJob, Reading, Writing, Migrating, TaskJob, OnBlock, Flushing, Opening, is_write, range_of, access_of, acquire, taking, work}
 use Rattle.wb_words.specs.declared.step.CellResult.{CellResult}
 use Rattle.wb_words.specs.declared.step.CellResult.TheVariants.{Done as CellDone, Word as Found, Lost as CellLost}
 use Rattle.wb_words.specs.declared.step.CellStep.TheVariants.{Look, Take, Release, Seal, Finish, Count, SetFailed, SetSuspended}
 use Rattle.wb_tasks.specs.declared.step.DeviceStep.{DeviceStep}
-use Rattle.wb_tasks.specs.declared.step.DeviceStep.TheVariants.{Read, Write, Sync}
-use Rattle.wb_tasks.specs.declared.step.DeskStep.TheVariants.{Map, BeginCommit}
+use Rattle.wb_tasks.specs.declared.step.DeviceStep.TheVariants.{Read, Write, Sync, ReadMetadata, WriteNode, WriteRoot}
+use Rattle.wb_tasks.specs.declared.step.DeskStep.{DeskStep}
+use Rattle.wb_tasks.specs.declared.step.DeskStep.TheVariants.{Map, ReleaseOrder, BeginCommit, EndCommit}
 use Rattle.wb_tasks.specs.declared.step.Answer.{Answer}
 use Rattle.wb_tasks.specs.declared.step.Answer.TheVariants.{Done as Finished, Refused as Refuses}
 use Rattle.wb_tasks.specs.declared.step.Want.{Want}
 use Rattle.wb_tasks.specs.declared.step.Want.TheVariants.{Cell, Device, Desk, End}
 use Rattle.wb_tasks.specs.declared.step.Got.{Got}
-use Rattle.wb_tasks.specs.declared.step.Got.TheVariants.{Begin, Done, Word, Lost, Fault, Refused}
+use Rattle.wb_tasks.specs.declared.step.Got.TheVariants.{Begin, Done, Word, Lost, Fault, Refused, Began, More}
 
 -- What is left of a task: the job that it is on, the steps to come, as far as they are known, and the answer
 -- after them. The exchange is known once
@@ -26,9 +29,25 @@ pub record Plan : Type 0 where
   pub steps : List Want
   pub answer : Answer
 
--- the steps of a job, as far as they are known before it begins
+-- the nodes of an image, so many from this one on
+abbrev pub node_writes : ℕ → ℕ → List Want
+node_writes zero first = []
+node_writes (suc count) first = Device (WriteNode first) ∷ node_writes count (first + 1)
+
+-- After the nodes are durable the root is written, and durable before the commit ends.
+abbrev pub root_steps : List Want
+root_steps = Device (Sync Metadata) ∷ Device WriteRoot ∷ Device (Sync Metadata) ∷ Desk EndCommit ∷ []
+
+-- a commit whose image has so many nodes, once it began: what was written to cache and origin is durable before its nodes are written
+abbrev pub commit_steps : ℕ → List Want
+commit_steps nodes = Device (Sync Cache) ∷ Device (Sync Origin) ∷ (node_writes nodes 0 ++ root_steps)
+
+-- The steps of a job, as far as they are known before it begins. An opening makes everything durable, reads the metadata,
+-- and writes a root that no longer says that the metadata are clean.
 abbrev pub first_steps : TaskJob → List Want
 first_steps (OnBlock job) = acquire (range_of job).block
+first_steps (Flushing serves most) = Cell (Look Fail) ∷ Desk (BeginCommit false most) ∷ []
+first_steps (Opening left) = Device (Sync Metadata) ∷ Device (Sync Cache) ∷ Device (Sync Origin) ∷ Device (ReadMetadata left) ∷ Device WriteRoot ∷ Device (Sync Metadata) ∷ []
 
 -- a job that has not begun
 abbrev pub table : TaskJob → Plan
@@ -58,33 +77,55 @@ refused s steps refusal = record { job = s.job; steps = steps; answer = Refuses 
 abbrev pub release : BlockJob → Want
 release job = Cell (Release (access_of job) (range_of job).block)
 
--- what a job lets go once it is refused, or a step of it that changes nothing has failed
+-- a job without an order, as a write whose number is worn, gives back its block alone
+abbrev pub gives_back : TaskJob → List Want
+gives_back (OnBlock job) = release job ∷ []
+gives_back job = []
+
+-- a migration gives up its order; a read or write has none
+abbrev pub gives_up : BlockJob → List Want
+gives_up (Reading part) = []
+gives_up (Writing part) = []
+gives_up (Migrating migration part) = Desk (ReleaseOrder part.block) ∷ []
+
+-- the orders of these blocks
+abbrev pub release_orders : List OBlock → List Want
+release_orders [] = []
+release_orders (block ∷ blocks) = Desk (ReleaseOrder block) ∷ release_orders blocks
+
+-- What a job lets go once the desk has refused, or a step of it that changes nothing has failed: its block, then its order;
+-- a flush the orders of the replacements that it serves.
 abbrev pub lets_go : TaskJob → List Want
-lets_go (OnBlock job) = release job ∷ []
+lets_go (OnBlock job) = release job ∷ gives_up job
+lets_go (Flushing serves most) = release_orders serves
+lets_go (Opening left) = []
 
 -- a job that takes a block may find that it can't
 abbrev pub may_take : TaskJob → ℕ → Bool
 may_take (OnBlock job) word = can_take (access_of job) word
+may_take job word = false
 
 -- its exchange, at the lock word that was seen
 abbrev pub exchange : TaskJob → ℕ → List Want
 exchange (OnBlock job) seen = taking (access_of job) (range_of job).block seen
+exchange job seen = []
 
 -- what it does where its block has this seal, once it knows the block's number
 abbrev pub work_of : TaskJob → ℕ → List Want
 work_of (OnBlock job) seal = work job (place_in seal) (dirty_in seal)
+work_of job seal = []
 
 -- a write needs a number for itself
 abbrev pub is_worn : TaskJob → ℕ → Bool
-is_worn (OnBlock (Reading part)) number = false
-is_worn (OnBlock (Writing part)) number = number == 2 ^ 64 - 1
+is_worn (OnBlock job) number = is_write job && (number == 2 ^ 64 - 1)
+is_worn job number = false
 
 -- what is left after a word was looked at
 abbrev pub after_look : Plan → Want → ℕ → Plan
 after_look s (Cell (Look Fail)) word = if word == 0 then onward s else refused s [] Failed
 after_look s (Cell (Look (LockWord block))) word = if may_take s.job word then record s { steps = exchange s.job word } else refused s [] Busy
 after_look s (Cell (Look (SealWord block))) word = record s { steps = Cell (Look (Number block)) ∷ work_of s.job word }
-after_look s (Cell (Look (Number block))) word = if is_worn s.job word then refused s (lets_go s.job) Worn else onward s
+after_look s (Cell (Look (Number block))) word = if is_worn s.job word then refused s (gives_back s.job) Worn else onward s
 after_look s w word = onward s
 
 -- the device that a step is on
@@ -92,21 +133,37 @@ abbrev pub device_of : DeviceStep → Dev
 device_of (Read device e) = device
 device_of (Write device e) = device
 device_of (Sync device) = device
+device_of (ReadMetadata left) = Metadata
+device_of (WriteNode number) = Metadata
+device_of WriteRoot = Metadata
 
--- After a fault on a read a job lets go what it has; after one on a write or sync the failed bit is set, and what is
--- owned is kept.
+-- After a fault on a read a job on a block lets go what it has; after one on a write or sync the failed bit is set, and
+-- what is owned is kept. An opening has nothing and sets nothing.
 abbrev pub after_fault_of : TaskJob → DeviceStep → List Want
-after_fault_of job (Read device e) = lets_go job
-after_fault_of job step = Cell SetFailed ∷ []
+after_fault_of (OnBlock job) (Read device e) = release job ∷ gives_up job
+after_fault_of (OnBlock job) step = Cell SetFailed ∷ []
+after_fault_of (Flushing serves most) step = Cell SetFailed ∷ []
+after_fault_of (Opening left) step = []
 
 abbrev pub after_fault : Plan → Want → Plan
 after_fault s (Device step) = refused s (after_fault_of s.job step) (Io (device_of step))
 after_fault s w = s
 
--- after the desk refused, a job lets go what it has
+-- After the desk refused, a job lets go what it has; but a flush that another commit keeps from beginning may be tried
+-- again, under the orders that it serves.
+abbrev pub lets_go_unless_busy : TaskJob → Refusal → List Want
+lets_go_unless_busy job Busy = []
+lets_go_unless_busy job refusal = lets_go job
+
 abbrev pub after_refusal : Plan → Want → Refusal → Plan
+after_refusal s (Desk (BeginCommit clean most)) refusal = refused s (lets_go_unless_busy s.job refusal) refusal
 after_refusal s (Desk step) refusal = refused s (lets_go s.job) refusal
 after_refusal s w refusal = refused s [] refusal
+
+-- a metadata sector was read, and more is to be read
+abbrev pub after_more : Plan → Want → Plan
+after_more s (Device (ReadMetadata left)) = record s { steps = Device (ReadMetadata (left - 1)) ∷ later_steps s.steps }
+after_more s w = onward s
 
 -- what is left after the result of a step
 abbrev pub after : Plan → Got → Plan
@@ -116,6 +173,8 @@ after s (Word word) = after_look s (want s) word
 after s Lost = refused s [] Busy
 after s Fault = after_fault s (want s)
 after s (Refused refusal) = after_refusal s (want s) refusal
+after s (Began nodes) = record s { steps = commit_steps nodes }
+after s More = after_more s (want s)
 
 -- what a step on a shared word gave, as a task is told it
 abbrev pub got_of : CellResult → Got
@@ -123,23 +182,61 @@ got_of CellDone = Done
 got_of (Found word) = Word word
 got_of CellLost = Lost
 
--- A result of the kind that a step asks for. Of the desk's calls an entry of the mapping and a commit may be refused.
+-- What comes of a step is of the kind that it asks for.
+
+abbrev pub MayBeDone : Want → Type 0
+MayBeDone (Cell (Look word)) = ⊥
+MayBeDone (Desk (BeginCommit clean most)) = ⊥
+MayBeDone (End answer) = ⊥
+MayBeDone want = Unit {0}
+
+abbrev pub IsLook : Want → Type 0
+IsLook (Cell (Look word)) = Unit {0}
+IsLook want = ⊥
+
+abbrev pub IsExchange : Want → Type 0
+IsExchange (Cell (Take access block seen)) = Unit {0}
+IsExchange want = ⊥
+
+abbrev pub MayFail : Want → Type 0
+MayFail (Device step) = Unit {0}
+MayFail want = ⊥
+
+-- The desk refuses an entry of the mapping for want of memory, a commit also where another one runs or no generation is
+-- left. What was read of the metadata is refused where it has no root, or a root of another geometry or one that cannot be
+-- opened in this mode, where its tree is damaged, where no generation is left, or for want of memory.
+abbrev pub MayBeRefused : Want → Refusal → Type 0
+MayBeRefused (Desk (Map block place)) Memory = Unit {0}
+MayBeRefused (Desk (BeginCommit clean most)) Busy = Unit {0}
+MayBeRefused (Desk (BeginCommit clean most)) Memory = Unit {0}
+MayBeRefused (Desk (BeginCommit clean most)) GenerationEnd = Unit {0}
+MayBeRefused (Device (ReadMetadata left)) Memory = Unit {0}
+MayBeRefused (Device (ReadMetadata left)) NotFormatted = Unit {0}
+MayBeRefused (Device (ReadMetadata left)) (Damaged place) = Unit {0}
+MayBeRefused (Device (ReadMetadata left)) Mismatch = Unit {0}
+MayBeRefused (Device (ReadMetadata left)) NotClean = Unit {0}
+MayBeRefused (Device (ReadMetadata left)) GenerationEnd = Unit {0}
+MayBeRefused want refusal = ⊥
+
+-- an image has no more nodes than were allowed
+abbrev pub MayBegin : Want → ℕ → Type 0
+MayBegin (Desk (BeginCommit clean most)) nodes = nodes ≤ most
+MayBegin want nodes = ⊥
+
+-- nor has a reading more sectors
+abbrev pub MayGoOn : Want → Type 0
+MayGoOn (Device (ReadMetadata left)) = 1 ≤ left
+MayGoOn want = ⊥
+
 abbrev pub Fits : Want → Got → Type 0
-Fits (Cell (Look word)) (Word value) = Unit {0}
-Fits (Cell (Take access block seen)) Done = Unit {0}
-Fits (Cell (Take access block seen)) Lost = Unit {0}
-Fits (Cell (Release access block)) Done = Unit {0}
-Fits (Cell (Seal block place dirty)) Done = Unit {0}
-Fits (Cell (Finish block)) Done = Unit {0}
-Fits (Cell (Count kind)) Done = Unit {0}
-Fits (Cell SetFailed) Done = Unit {0}
-Fits (Cell SetSuspended) Done = Unit {0}
-Fits (Device step) Done = Unit {0}
-Fits (Device step) Fault = Unit {0}
-Fits (Desk step) Done = Unit {0}
-Fits (Desk (Map block place)) (Refused refusal) = Unit {0}
-Fits (Desk (BeginCommit clean most)) (Refused refusal) = Unit {0}
-Fits want got = ⊥
+Fits want Begin = ⊥
+Fits want Done = MayBeDone want
+Fits want (Word value) = IsLook want
+Fits want Lost = IsExchange want
+Fits want Fault = MayFail want
+Fits want (Refused refusal) = MayBeRefused want refusal
+Fits want (Began nodes) = MayBegin want nodes
+Fits want More = MayGoOn want
 
 -- a want that is a step, and no answer
 abbrev pub IsStep : Want → Type 0
@@ -151,8 +248,4 @@ IsStep (End answer) = ⊥
 -- a result that a task may be handed: none yet, or one of its next step
 abbrev pub MayCome : Plan → Got → Type 0
 MayCome s Begin = Unit {0}
-MayCome s Done = Fits (want s) Done
-MayCome s (Word value) = Fits (want s) (Word value)
-MayCome s Lost = Fits (want s) Lost
-MayCome s Fault = Fits (want s) Fault
-MayCome s (Refused refusal) = Fits (want s) (Refused refusal)
+MayCome s got = Fits (want s) got

@@ -1,5 +1,8 @@
 -- What an actor has where so much of its task is left, and that it is ready for the next step then.
+use Rattle.std.specs.List.{Contains}
 use Rattle.std.specs.Prelude.{◌≡◌, ◌<◌, ℕ, Bool, true, false, List, [], ◌∷◌, Option}
+use Rattle.wb_types.specs.declared.mode.Dev.{Dev}
+use Rattle.wb_types.specs.declared.mode.Dev.TheVariants.{Metadata, Cache, Origin}
 use Rattle.wb_types.specs.declared.number.OBlock.{OBlock}
 use Rattle.wb_words.specs.declared.word.Access.TheVariants.{Owned}
 use Rattle.wb_words.specs.declared.word.Word.TheVariants.{Cell as LockWord, Seal as SealWord, Number, Fail}
@@ -9,19 +12,29 @@ use Rattle.wb_words.specs.declared.step.CellStep.TheVariants.{Look, Take, Releas
 use Rattle.wb_words.specs.SharedWords.{Words, can_take}
 use Rattle.wb_words.specs.Effects.{result_of, card_after}
 use Rattle.wb_words.specs.Ready.{IsReady, HasNext}
-use Rattle.wb_tasks.specs.Tables.{BlockJob, Reading, Writing, TaskJob, OnBlock, range_of, access_of}
+use Rattle.wb_tasks.specs.Tables.{BlockJob, Reading, Writing, Migrating, TaskJob, OnBlock, Flushing, Opening, is_write, range_of, access_of}
 use Rattle.wb_tasks.specs.Plan.{Plan, want, after, Fits, IsStep, got_of}
 use Rattle.wb_tasks.specs.Run.{Leads}
 use Rattle.wb_tasks.specs.declared.step.DeviceStep.{DeviceStep}
-use Rattle.wb_tasks.specs.declared.step.DeviceStep.TheVariants.{Read, Write, Sync}
+use Rattle.wb_tasks.specs.declared.step.DeviceStep.TheVariants.{Read, Write, Sync, ReadMetadata, WriteNode, WriteRoot}
+use Rattle.wb_tasks.specs.declared.step.DeskStep.{DeskStep}
+use Rattle.wb_tasks.specs.declared.step.DeskStep.TheVariants.{Map, Unmap, ReleaseOrder, BeginCommit, EndCommit}
+use Rattle.wb_tasks.specs.declared.step.Migration.{Migration}
+use Rattle.wb_tasks.specs.declared.step.Migration.TheVariants.{Promote, Demote, Clean}
 use Rattle.wb_tasks.specs.declared.step.Want.{Want}
-use Rattle.wb_tasks.specs.declared.step.Want.TheVariants.{Cell, Device, Desk}
+use Rattle.wb_tasks.specs.declared.step.Want.TheVariants.{Cell, Device, Desk, End}
 use Rattle.wb_tasks.specs.declared.step.Got.{Got}
 
--- a step of any kind: of those on the words one that the actor is ready for, and none of a desk, which there is not yet
+-- who enters or removes a block of the mapping owns it; of all else the desk is asked by who holds no block
+abbrev pub MayAsk : Card → DeskStep → Type 0
+MayAsk card (Map block place) = card.hold ≡ Held Owned block
+MayAsk card (Unmap block) = card.hold ≡ Held Owned block
+MayAsk card step = card.hold ≡ Nothing
+
+-- a step of any kind: of those on the words one that the actor is ready for
 abbrev pub MayTake : ℕ → Card → Want → Type 0
 MayTake blocks card (Cell step) = IsReady blocks card step
-MayTake blocks card (Desk step) = ⊥
+MayTake blocks card (Desk step) = MayAsk card step
 MayTake blocks card next = Unit {0}
 
 -- A card that a step with this result makes of its actor's, whatever the words were.
@@ -41,20 +54,92 @@ abbrev pub KnowsNext : BlockJob → Bool → Option ℕ → Type 0
 KnowsNext (Reading part) next known = Unit {0}
 KnowsNext (Writing part) true known = HasNext known
 KnowsNext (Writing part) false known = Unit {0}
+KnowsNext job next known = Unit {0}
 
--- A step on a device that a job may take: only a write writes.
+-- where blocks stand
+abbrev pub HoldsBlocks : Dev → Type 0
+HoldsBlocks Metadata = ⊥
+HoldsBlocks Cache = Unit {0}
+HoldsBlocks Origin = Unit {0}
+
+-- the devices that a migration copies from and to
+abbrev pub source_of : Migration → Dev
+source_of (Promote c) = Origin
+source_of Demote = Cache
+source_of Clean = Cache
+
+abbrev pub target_of : Migration → Dev
+target_of (Promote c) = Cache
+target_of Demote = Origin
+target_of Clean = Origin
+
+-- A step on a device that a job may take: a read reads and a write writes, where the block stands; a promotion copies from
+-- the origin to the cache, a demotion or write-back from the cache to the origin.
 abbrev pub IsJobs : BlockJob → DeviceStep → Type 0
-IsJobs job (Read device e) = Unit {0}
-IsJobs job (Write device e) = access_of job ≡ Owned
-IsJobs job (Sync device) = ⊥
+IsJobs (Reading part) (Read device e) = HoldsBlocks device
+IsJobs (Writing part) (Write device e) = HoldsBlocks device
+IsJobs (Migrating migration part) (Read device e) = device ≡ source_of migration
+IsJobs (Migrating migration part) (Write device e) = device ≡ target_of migration
+IsJobs job step = ⊥
+
+-- What a job may ask of the desk: a promotion maps its block, a demotion unmaps it, and each migration may give up its
+-- order; a read or write asks nothing.
+abbrev pub IsAsked : BlockJob → DeskStep → Type 0
+IsAsked (Migrating migration part) (ReleaseOrder block) = block ≡ part.block
+IsAsked (Migrating migration part) (Map block place) = (block ≡ part.block) × (migration ≡ Promote place)
+IsAsked (Migrating migration part) (Unmap block) = (block ≡ part.block) × (migration ≡ Demote)
+IsAsked job step = ⊥
+
+-- A flush looks at the fail word, syncs each device, writes nodes and a root, and asks the desk for a commit; what it serves
+-- it may give up.
+abbrev pub IsFlushs : List OBlock → ℕ → Want → Type 0
+IsFlushs serves most (Cell (Look Fail)) = Unit {0}
+IsFlushs serves most (Cell SetFailed) = Unit {0}
+IsFlushs serves most (Device (Sync device)) = Unit {0}
+IsFlushs serves most (Device (WriteNode number)) = number < most
+IsFlushs serves most (Device WriteRoot) = Unit {0}
+IsFlushs serves most (Desk (BeginCommit clean nodes)) = (clean ≡ false) × (nodes ≡ most)
+IsFlushs serves most (Desk EndCommit) = Unit {0}
+IsFlushs serves most (Desk (ReleaseOrder block)) = Contains serves block
+IsFlushs serves most (End answer) = Unit {0}
+IsFlushs serves most next = ⊥
+
+-- An opening syncs each device, reads metadata and writes a root; it touches no word and asks nothing of a desk, which
+-- is not there yet.
+abbrev pub IsOpenings : Want → Type 0
+IsOpenings (Device (Sync device)) = Unit {0}
+IsOpenings (Device (ReadMetadata left)) = Unit {0}
+IsOpenings (Device WriteRoot) = Unit {0}
+IsOpenings (End answer) = Unit {0}
+IsOpenings next = ⊥
+
+-- a step on a device or the desk is one of the job's own
+abbrev pub IsOwnStep : TaskJob → Want → Type 0
+IsOwnStep (OnBlock job) (Device step) = IsJobs job step
+IsOwnStep (OnBlock job) (Desk step) = IsAsked job step
+IsOwnStep (OnBlock job) next = Unit {0}
+IsOwnStep (Flushing serves most) next = IsFlushs serves most next
+IsOwnStep (Opening left) next = IsOpenings next
+
+abbrev pub AreOwnSteps : TaskJob → List Want → Type 0
+AreOwnSteps job [] = Unit {0}
+AreOwnSteps job (next ∷ ws) = IsOwnStep job next × AreOwnSteps job ws
+
+-- with the block given back, an order may be given up
+abbrev pub IsParting : BlockJob → List Want → Type 0
+IsParting job [] = Unit {0}
+IsParting job (Desk (ReleaseOrder block) ∷ []) = IsAsked job (ReleaseOrder block)
+IsParting job ws = ⊥
 
 -- What may be left of the work of a job that has its block; the flag says that its number is known to have a next one.
 abbrev pub IsRest : BlockJob → Bool → List Want → Type 0
 IsRest job next (Device step ∷ ws) = IsJobs job step × IsRest job next ws
 IsRest job next (Cell (Seal block place dirty) ∷ ws) = (block ≡ block_of job) × (access_of job ≡ Owned) × IsRest job next ws
-IsRest job next (Cell (Finish block) ∷ ws) = (block ≡ block_of job) × (access_of job ≡ Owned) × (next ≡ true) × IsRest job false ws
+IsRest job next (Cell (Finish block) ∷ ws) = (block ≡ block_of job) × (is_write job ≡ true) × (next ≡ true) × IsRest job false ws
 IsRest job next (Cell (Count kind) ∷ ws) = IsRest job next ws
-IsRest job next (Cell (Release access block) ∷ []) = (access ≡ access_of job) × (block ≡ block_of job)
+IsRest job next (Cell (Release access block) ∷ ws) = (access ≡ access_of job) × (block ≡ block_of job) × IsParting job ws
+IsRest job next (Desk (Map block place) ∷ ws) = IsAsked job (Map block place) × IsRest job next ws
+IsRest job next (Desk (Unmap block) ∷ ws) = IsAsked job (Unmap block) × IsRest job next ws
 IsRest job next ws = ⊥
 
 -- what an actor has, with these steps of its job to come
@@ -65,12 +150,16 @@ Has job card (Cell (Look (LockWord block)) ∷ ws) = (card.hold ≡ Nothing) × 
 Has job card (Cell (Take access block seen) ∷ ws) = (card.hold ≡ Nothing) × (access ≡ access_of job) × (block ≡ block_of job) × (can_take access seen ≡ true) × (ws ≡ Cell (Look (SealWord block)) ∷ [])
 Has job card (Cell (Look (SealWord block)) ∷ ws) = HasBlock job card × (block ≡ block_of job)
 Has job card (Cell (Look (Number block)) ∷ ws) = HasBlock job card × (block ≡ block_of job) × IsRest job true ws
+Has job card (Desk (ReleaseOrder block) ∷ ws) = (card.hold ≡ Nothing) × IsAsked job (ReleaseOrder block) × (ws ≡ [])
 Has job card (Cell SetFailed ∷ ws) = (card.hold ≡ Held Owned (block_of job)) × (ws ≡ [])
 Has job card ws = HasBlock job card × ((next : Bool) × IsRest job next ws × KnowsNext job next card.number)
 
--- An actor with this card has what it needs for what is left of its task, where there are so many blocks.
+-- An actor with this card has what it needs for what is left of its task, where there are so many blocks. A flush or an
+-- opening holds no block.
 abbrev pub SuitsJob : ℕ → TaskJob → Card → List Want → Type 0
 SuitsJob blocks (OnBlock job) card steps = ((block_of job).0 < blocks) × Has job card steps
+SuitsJob blocks (Flushing serves most) card steps = (card.hold ≡ Nothing) × AreOwnSteps (Flushing serves most) steps
+SuitsJob blocks (Opening left) card steps = (card.hold ≡ Nothing) × AreOwnSteps (Opening left) steps
 
 abbrev pub Suits : ℕ → Plan → Card → Type 0
 Suits blocks s card = SuitsJob blocks s.job card s.steps

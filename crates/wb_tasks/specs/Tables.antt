@@ -10,8 +10,11 @@ use Rattle.wb_words.specs.declared.word.Kind.TheVariants.{ReadHit, ReadMiss, Wri
 use Rattle.wb_words.specs.declared.word.Word.TheVariants.{Cell as LockWord, Seal as SealWord, Fail}
 use Rattle.wb_words.specs.declared.step.CellStep.TheVariants.{Look, Take, Release, Seal, Finish, Count}
 use Rattle.wb_tasks.specs.declared.step.DeviceStep.TheVariants.{Read, Write}
+use Rattle.wb_tasks.specs.declared.step.DeskStep.TheVariants.{Map, Unmap, ReleaseOrder}
+use Rattle.wb_tasks.specs.declared.step.Migration.{Migration}
+use Rattle.wb_tasks.specs.declared.step.Migration.TheVariants.{Promote, Demote, Clean}
 use Rattle.wb_tasks.specs.declared.step.Want.{Want}
-use Rattle.wb_tasks.specs.declared.step.Want.TheVariants.{Cell, Device}
+use Rattle.wb_tasks.specs.declared.step.Want.TheVariants.{Cell, Device, Desk}
 
 -- Sectors of one block of the origin, as extents of the origin's address range, in the order in which they are taken. One
 -- step on a device moves one extent.
@@ -20,23 +23,38 @@ pub record BlockRange : Type 0 where
   pub block : OBlock
   pub extents : List Extent
 
--- what a task does with one block
+-- the sectors of a whole block
+abbrev pub whole_block : ℕ → OBlock → Extent
+whole_block block_sectors block = record { first = block.0 * block_sectors; count = block_sectors }
+
+-- What a task does with one block: it reads or writes sectors of it, or migrates the whole.
 pub data BlockJob : Type 0 where
   Reading : BlockRange → BlockJob
   Writing : BlockRange → BlockJob
+  Migrating : Migration → BlockRange → BlockJob
 
--- What a task is to do. So far each has a block.
+-- What a task is to do. A flush may serve replacements, whose orders are those of these blocks, and its image has at most
+-- so many nodes. An opening reads a metadata sector, and at most so many more.
 pub data TaskJob : Type 0 where
   OnBlock : BlockJob → TaskJob
+  Flushing : (serves : List OBlock) → (most : ℕ) → TaskJob
+  Opening : (left : ℕ) → TaskJob
 
 abbrev pub range_of : BlockJob → BlockRange
 range_of (Reading part) = part
 range_of (Writing part) = part
+range_of (Migrating migration part) = part
 
--- a read shares its block, a write owns it
+-- a read shares its block, a write and every migration owns it
 abbrev pub access_of : BlockJob → Access
 access_of (Reading part) = Shared
 access_of (Writing part) = Owned
+access_of (Migrating migration part) = Owned
+
+-- of all jobs a write alone is numbered
+abbrev pub is_write : BlockJob → Bool
+is_write (Writing part) = true
+is_write job = false
 
 -- The route in write-back mode: an unmapped block is read and written on the origin, a mapped one on the cache.
 
@@ -70,6 +88,11 @@ abbrev pub write_count : Option CBlock → Want
 write_count None = Cell (Count WriteMiss)
 write_count (Some c) = Cell (Count WriteHit)
 
+-- Each of these extents is read from one place of its block and written to another, before the next one is read.
+abbrev pub copies : BlockRange → Option CBlock → Option CBlock → List Extent → List Want
+copies part from to [] = []
+copies part from to (e ∷ extents) = read_step part from e ∷ write_step part to e ∷ copies part from to extents
+
 -- The step tables, for any cut of the sectors into extents.
 
 -- acquiring a block: the fail word, then the lock word; what comes after it is known once it was seen
@@ -80,7 +103,21 @@ acquire block = Cell (Look Fail) ∷ Cell (Look (LockWord block)) ∷ []
 abbrev pub taking : Access → OBlock → ℕ → List Want
 taking access block seen = Cell (Take access block seen) ∷ Cell (Look (SealWord block)) ∷ []
 
+-- What a migration of a block at this place ends with, once its extents are copied. The map ends a promotion's order, the
+-- unmap a demotion's; a write-back releases its own.
+abbrev pub ending : Migration → OBlock → Option CBlock → List Want
+ending (Promote c) block place = Desk (Map block c) ∷ Cell (Seal block (Some c) false) ∷ Cell (Release Owned block) ∷ []
+ending Demote block place = Desk (Unmap block) ∷ Cell (Seal block None false) ∷ Cell (Release Owned block) ∷ []
+ending Clean block place = Cell (Seal block place false) ∷ Cell (Release Owned block) ∷ Desk (ReleaseOrder block) ∷ []
+
+-- A promotion copies its block into the cache; a demotion or write-back copies it home where the cache's copy is dirty.
+abbrev pub copying : Migration → BlockRange → Option CBlock → Bool → List Want
+copying (Promote c) part place dirty = copies part None (Some c) part.extents
+copying migration part (Some c) true = copies part (Some c) None part.extents
+copying migration part place dirty = []
+
 -- what a job does once it has its block, which stands at this place
 abbrev pub work : BlockJob → Option CBlock → Bool → List Want
 work (Reading part) place dirty = map (read_step part place) part.extents ++ read_count place ∷ Cell (Release Shared part.block) ∷ []
 work (Writing part) place dirty = dirtying part.block place dirty ++ map (write_step part place) part.extents ++ Cell (Finish part.block) ∷ write_count place ∷ Cell (Release Owned part.block) ∷ []
+work (Migrating migration part) place dirty = copying migration part place dirty ++ ending migration part.block place

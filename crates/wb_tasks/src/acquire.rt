@@ -1,7 +1,7 @@
 //! Acquiring a block, as a task sees it: by the steps of a grip.
 
 ghost use Rattle.std.specs.Prelude.{◌≡◌};
-ghost use Rattle.wb_tasks.specs.Tables.{BlockJob, range_of, access_of};
+ghost use Rattle.wb_tasks.specs.Tables.{BlockJob, is_write, range_of, access_of};
 ghost use Rattle.wb_tasks.specs.Plan.{Plan, want, after_look, Fits};
 ghost use Rattle.wb_tasks.specs.Phases.{acquiring, after_seeing};
 
@@ -32,9 +32,15 @@ pub(crate) fn want(access: Access, block: OBlock, stage: GripStage) -> Want
     Want::Cell(grip.step())
 }
 
-/// What comes of a word that was looked at.
-pub(crate) fn after_look(access: Access, block: OBlock, stage: GripStage, word: u64) -> Seen
-    ensures { (job : BlockJob) → access_of job ≡ access → Fits (want (acquiring job stage)) (Got.Word word) → after_seeing job result ≡ after_look (acquiring job stage) (want (acquiring job stage)) word }
+/// What comes of a word that was looked at. A job that writes wants a number for itself.
+pub(crate) fn after_look(
+    access: Access,
+    writes: bool,
+    block: OBlock,
+    stage: GripStage,
+    word: u64,
+) -> Seen
+    ensures { (job : BlockJob) → access_of job ≡ access → is_write job ≡ writes → Fits (want (acquiring job stage)) (Got.Word word) → after_seeing job result ≡ after_look (acquiring job stage) (want (acquiring job stage)) word }
 {
     let mut grip = Grip {
         access,
@@ -44,7 +50,7 @@ pub(crate) fn after_look(access: Access, block: OBlock, stage: GripStage, word: 
     match grip.advance(word) {
         Gripped::More(_) => Seen::Next(grip.stage),
         Gripped::Shared(share) => Seen::Holds(share.place, share.dirty),
-        Gripped::Owned(own) if own.number == u64::MAX => Seen::Worn,
+        Gripped::Owned(own) if writes && own.number == u64::MAX => Seen::Worn,
         Gripped::Owned(own) => Seen::Holds(own.place, own.dirty),
         Gripped::Refused(refusal) => Seen::Refused(refusal),
     }

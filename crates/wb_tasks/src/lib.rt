@@ -5,8 +5,12 @@
 #![tactic(auto)]
 
 mod acquire;
+mod clean;
 mod cut;
+mod demote;
 mod law;
+mod migrate;
+mod promote;
 mod read;
 mod request;
 mod route;
@@ -17,11 +21,15 @@ mod task;
 mod tests;
 mod write;
 
+pub use clean::CleanTask;
+pub use demote::DemoteTask;
 pub use law::{refusal_causes, step_bound, steps_are_ready};
+pub use migrate::MigrationTask;
+pub use promote::PromoteTask;
 pub use read::ReadTask;
 pub use request::RequestTask;
 pub use stage::{Stage, drive};
-pub use step::{Answer, DeskStep, DeviceStep, Got, Want};
+pub use step::{Answer, DeskStep, DeviceStep, Got, Migration, Want};
 pub use task::Task;
 pub use wb_words::{CellResult, CellStep};
 pub use write::WriteTask;

@@ -102,7 +102,7 @@ impl ReadTask {
         ensures { self.new ≡ after self.old (Got.Word word) }
     {
         if let Phase::Acquires(stage) = self.phase {
-            match acquire::after_look(Access::Shared, self.block, stage, word) {
+            match acquire::after_look(Access::Shared, false, self.block, stage, word) {
                 Seen::Next(next) => self.phase = Phase::Acquires(next),
                 Seen::Holds(place, _) => {
                     self.phase = Phase::Reads(place);
@@ -170,6 +170,15 @@ impl Task for ReadTask {
             Got::Fault => self.after_fault(),
             Got::Lost => self.refuse(Refusal::Busy),
             Got::Refused(refusal) => self.after_refusal(refusal),
+            // None of its steps, wherever it stands, begins a commit or reads metadata.
+            Got::Began(_) => {
+                let _phase = self.phase;
+                unreachable!()
+            }
+            Got::More => {
+                let _phase = self.phase;
+                unreachable!()
+            }
         }
         self.want()
     }

@@ -3,6 +3,17 @@
 use wb_types::{CBlock, Dev, Extent, OBlock, Refusal};
 use wb_words::{CellResult, CellStep};
 
+/// A migration of a block.
+#[derive(Clone, Copy, Debug, PartialEq, Eq)]
+pub enum Migration {
+    /// Brings the block into this cache block.
+    Promote(CBlock),
+    /// Takes the block out of the cache.
+    Demote,
+    /// Writes the block's dirty copy in the cache back, and keeps it there.
+    Clean,
+}
+
 /// A step on one device. Sectors are counted from 0 on each device. What a read gives, and what a write writes, is
 /// with the performer.
 #[derive(Clone, Copy, Debug, PartialEq, Eq)]
@@ -10,6 +21,12 @@ pub enum DeviceStep {
     Read(Dev, Extent),
     Write(Dev, Extent),
     Sync(Dev),
+    /// Reads the next sector that an opening wants of the metadata; at most so many more follow.
+    ReadMetadata(u32),
+    /// Writes the node of this number of the image of a commit.
+    WriteNode(u32),
+    /// Writes the root of a commit or of an opening.
+    WriteRoot,
 }
 
 /// A call on the desk, under its lock.
@@ -55,8 +72,12 @@ pub enum Got {
     Lost,
     /// The device failed.
     Fault,
-    /// The desk refused.
+    /// The desk refused, or what was read of the metadata is no mapping.
     Refused(Refusal),
+    /// A commit began, whose image has so many nodes.
+    Began(u32),
+    /// There is more of the metadata to read.
+    More,
 }
 
 impl From<CellResult> for Got {

@@ -1,33 +1,47 @@
-//! Tasks driven over words and two small devices of one owner: which steps they want, and what is left.
+//! Tasks driven over words, two small devices and a desk of one owner: which steps they want, and what is left.
 
 mod bench;
-mod rows;
+mod migrations;
+mod requests;
+mod row;
 
 use self::bench::{BLOCK, BLOCK_SECTORS, Bench};
-use self::rows::{ROWS, Row};
+use self::migrations::{CACHED, COPIES, DISOWN, GIVE_UP, HOME, MIGRATIONS};
+use self::requests::{CACHED_SECTORS, REQUESTS, SECTORS};
+use self::row::{Job, Row};
 use crate::*;
 use std::alloc::Global;
+use std::process::Abort;
 use std::test::Fail;
 use wb_types::{Extent, Refusal};
 use wb_words::Word;
 
-/// Two sectors of the block, from its second on.
-const SECTORS: Extent = Extent {
-    first: 129,
-    count: 2,
-};
-
-/// Drives the two sectors as a row has it.
+/// Drives a row's task.
 fn play(alloc: Global, row: &Row) -> Result<(Answer, Bench), Refusal> {
     let mut bench = Bench::new(alloc, row)?;
     let longest = row.longest.max(1);
-    let task = if row.writes {
-        RequestTask::writes(WriteTask::new(BLOCK_SECTORS, BLOCK, SECTORS, longest))
-    } else {
-        RequestTask::reads(ReadTask::new(BLOCK_SECTORS, BLOCK, SECTORS, longest))
+    let answer = match row.job {
+        Job::Read => {
+            let task = ReadTask::new(BLOCK_SECTORS, BLOCK, SECTORS, longest);
+            drive(&mut RequestTask::reads(task), &mut bench)
+        }
+        Job::Write => {
+            let task = WriteTask::new(BLOCK_SECTORS, BLOCK, SECTORS, longest);
+            drive(&mut RequestTask::writes(task), &mut bench)
+        }
+        Job::Migrate(Migration::Promote(to)) => {
+            let mut task = PromoteTask::new(BLOCK_SECTORS, BLOCK, to, longest);
+            drive(&mut task, &mut bench)
+        }
+        Job::Migrate(Migration::Demote) => {
+            let mut task = DemoteTask::new(BLOCK_SECTORS, BLOCK, longest);
+            drive(&mut task, &mut bench)
+        }
+        Job::Migrate(Migration::Clean) => {
+            let mut task = CleanTask::new(BLOCK_SECTORS, BLOCK, longest);
+            drive(&mut task, &mut bench)
+        }
     };
-    let mut task = task;
-    let answer = drive(&mut task, &mut bench);
     Ok((answer, bench))
 }
 
@@ -36,58 +50,89 @@ fn has(bench: &Bench, words: &[(Word, u64)]) -> bool {
     words.iter().all(|pair| bench.look(pair.0) == pair.1)
 }
 
-#[test]
-fn requests_take_the_steps_of_their_tables(rt: HostRuntime) -> Result<(), Fail> {
-    for row in &ROWS {
+/// Whether these sectors of a device hold one content, and all others another.
+fn holds(device: &[u8], sectors: Extent, inside: u8, outside: u8) -> bool {
+    device.iter().enumerate().all(|pair| {
+        let at = pair.0 as u64;
+        let is_inside = at >= sectors.first && at - sectors.first < sectors.count;
+        *pair.1 == if is_inside { inside } else { outside }
+    })
+}
+
+/// Whether both devices hold what a row says.
+fn is_left(bench: &Bench, row: &Row) -> bool {
+    let Some((origin, cache)) = row.holds else {
+        return true;
+    };
+    let (there, cached) = match row.job {
+        Job::Migrate(_) => (HOME, CACHED),
+        _ => (SECTORS, CACHED_SECTORS),
+    };
+    holds(&bench.origin, there, origin, 1) && holds(&bench.cache, cached, cache, 2)
+}
+
+/// Drives each row's task, and compares.
+fn compare(rt: &impl Abort, alloc: Global, rows: &[Row]) -> Result<(), Fail> {
+    for row in rows {
         let name = row.name;
-        let (answer, bench) = play(rt.alloc(), row)?;
+        let (answer, bench) = play(alloc, row)?;
         assert_eq!(rt; answer, row.answer, "{name}");
+        let end = row.from.saturating_add(row.wants.len());
         assert_eq!(rt;
-            bench.wants.as_slice().get(row.from..),
+            bench.wants.as_slice().get(row.from..end),
             Some(row.wants),
             "{name}"
         );
+        assert_eq!(rt; bench.wants.len(), end.saturating_add(row.more), "{name}");
         assert!(rt; has(&bench, row.words), "{name}");
+        assert!(rt; is_left(&bench, row), "{name}");
+        assert_eq!(rt; bench.is_mapped, row.is_mapped, "{name}");
+        assert_eq!(rt; bench.has_order, row.has_order, "{name}");
     }
     Ok(())
 }
 
 #[test]
-fn what_is_moved_is_on_the_device_of_the_route(rt: HostRuntime) -> Result<(), Fail> {
-    for row in &ROWS {
-        let name = row.name;
-        let (answer, bench) = play(rt.alloc(), row)?;
-        if answer == Answer::Done {
-            let written = if row.writes { 3 } else { 1 };
-            let on_origin = if row.mapped.is_none() { written } else { 1 };
-            assert_eq!(rt;
-                bench.origin.as_slice().get(128..132),
-                Some([1, on_origin, on_origin, 1].as_slice()),
-                "{name}"
-            );
-            let on_cache = if row.writes && row.mapped.is_some() {
-                3
-            } else {
-                2
+fn requests_take_the_steps_of_their_tables(rt: HostRuntime) -> Result<(), Fail> {
+    compare(&rt, rt.alloc(), &REQUESTS)
+}
+
+#[test]
+fn migrations_take_the_steps_of_their_tables(rt: HostRuntime) -> Result<(), Fail> {
+    compare(&rt, rt.alloc(), &MIGRATIONS)
+}
+
+#[test]
+fn each_fault_of_a_copy_ends_it(rt: HostRuntime) -> Result<(), Fail> {
+    for (row, from, to) in &COPIES {
+        for fails in 0..4 {
+            let row = Row {
+                longest: 32,
+                fails: Some(fails),
+                ..*row
             };
+            let (answer, bench) = play(rt.alloc(), &row)?;
+            let is_read = fails % 2 == 0;
+            let device = if is_read { *from } else { *to };
+            assert_eq!(rt; answer, Answer::Refused(Refusal::Io(device)), "{fails}");
+            let parting: &[Want] = if is_read {
+                &[DISOWN, GIVE_UP]
+            } else {
+                &[Want::Cell(CellStep::SetFailed)]
+            };
+            let next = (fails as usize).saturating_add(6);
             assert_eq!(rt;
-                bench.cache.as_slice().get(64..68),
-                Some([2, on_cache, on_cache, 2].as_slice()),
-                "{name}"
+                bench.wants.as_slice().get(next..),
+                Some(parting),
+                "{fails}"
             );
-            let gave = if row.mapped.is_some() { 2 } else { 1 };
-            assert_eq!(rt; bench.gave, if row.writes { 0 } else { gave }, "{name}");
+            assert_eq!(rt; bench.has_order, !is_read, "{fails}");
+            let kept = if is_read { 0 } else { 1 };
+            assert!(rt;
+                has(&bench, &[(Word::Cell(BLOCK), kept), (Word::Fail, kept)]),
+                "{fails}"
+            );
         }
     }
-    Ok(())
-}
-
-#[test]
-fn a_request_of_either_kind_begins_at_the_fail_word(rt: HostRuntime) -> Result<(), Fail> {
-    let first = Want::Cell(CellStep::Look(Word::Fail));
-    let read = RequestTask::reads(ReadTask::new(BLOCK_SECTORS, BLOCK, SECTORS, 1));
-    assert_eq!(rt; read.want(), first);
-    let write = RequestTask::writes(WriteTask::new(BLOCK_SECTORS, BLOCK, SECTORS, 1));
-    assert_eq!(rt; write.want(), first);
     Ok(())
 }

@@ -115,7 +115,7 @@ impl WriteTask {
     {
         if let Phase::Acquires(stage) = self.phase {
             self.left = self.sectors;
-            match acquire::after_look(Access::Owned, self.block, stage, word) {
+            match acquire::after_look(Access::Owned, true, self.block, stage, word) {
                 Seen::Next(next) => self.phase = Phase::Acquires(next),
                 Seen::Holds(Some(c), false) => self.phase = Phase::Dirties(c),
                 Seen::Holds(place, _) => self.phase = Phase::Writes(place),
@@ -186,6 +186,15 @@ impl Task for WriteTask {
             Got::Fault => self.after_fault(),
             Got::Lost => self.refuse(Refusal::Busy),
             Got::Refused(refusal) => self.after_refusal(refusal),
+            // None of its steps, wherever it stands, begins a commit or reads metadata.
+            Got::Began(_) => {
+                let _phase = self.phase;
+                unreachable!()
+            }
+            Got::More => {
+                let _phase = self.phase;
+                unreachable!()
+            }
         }
         self.want()
     }

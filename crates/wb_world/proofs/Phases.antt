@@ -9,7 +9,7 @@ use Rattle.wb_types.specs.declared.refusal.Refusal.{Refusal}
 use Rattle.wb_words.specs.declared.word.Access.TheVariants.{Shared, Owned}
 use Rattle.wb_words.specs.declared.word.Kind.TheVariants.{ReadMiss, WriteMiss}
 use Rattle.wb_words.specs.declared.word.Word.TheVariants.{Cell as LockWord, Seal as SealWord, Number}
-use Rattle.wb_tasks.specs.Tables.{BlockJob, Reading, Writing, OnBlock, access_of, acquire, taking, work}
+use Rattle.wb_tasks.specs.Tables.{BlockJob, Reading, Writing, Migrating, OnBlock, access_of, acquire, taking, work}
 use Rattle.wb_tasks.specs.Plan.{Plan, release}
 use Rattle.wb_words.specs.declared.card.Card.{Card}
 use Rattle.wb_words.specs.declared.card.Hold.{Hold}
@@ -41,14 +41,16 @@ pub data Phase : Type 0 where
   Failing : (refusal : Refusal) → Phase
   Ending : (answer : Answer) → Phase
 
--- the rest of the work, with these extents to move, on the origin
+-- the rest of the work of a read or write, with these extents to move, on the origin; no migration is started here yet
 abbrev pub moves : BlockJob → List Extent → List Want
 moves (Reading part) left = map (λ e. Device (ReadExtent Origin e)) left ++ Cell (Count ReadMiss) ∷ Cell (Release Shared part.block) ∷ []
 moves (Writing part) left = map (λ e. Device (WriteExtent Origin e)) left ++ Cell (Finish part.block) ∷ Cell (Count WriteMiss) ∷ Cell (Release Owned part.block) ∷ []
+moves (Migrating migration part) left = []
 
 abbrev pub counts : BlockJob → List Want
 counts (Reading part) = Cell (Count ReadMiss) ∷ Cell (Release Shared part.block) ∷ []
 counts (Writing part) = Cell (Count WriteMiss) ∷ Cell (Release Owned part.block) ∷ []
+counts (Migrating migration part) = []
 
 abbrev pub steps_in : BlockJob → Phase → List Want
 steps_in job FailLook = acquire (block_of job)

@@ -1,9 +1,9 @@
-//! Words and two small devices of one owner.
+//! Words, two small devices and a desk of one owner.
 
 ghost use Rattle.wb_tasks.specs.Plan.{Fits};
-ghost use Rattle.wb_tasks.specs.declared.step.Want.TheVariants.{Cell, Device};
+ghost use Rattle.wb_tasks.specs.declared.step.Want.TheVariants.{Cell, Device, Desk};
 
-use super::rows::Row;
+use super::row::{Job, Row};
 use crate::*;
 use std::alloc::Global;
 use wb_types::{CBlock, Dev, Extent, OBlock, Refusal};
@@ -32,15 +32,21 @@ pub struct Bench {
     /// What all bytes of each sector are.
     pub origin: [u8; 192],
     pub cache: [u8; 192],
-    /// What the last sector that was read held.
+    /// What was read last; the next write writes it.
     pub gave: u8,
+    /// Whether the mapping has the block, and whether the migration has its order.
+    pub is_mapped: bool,
+    pub has_order: bool,
     pub wants: Vec<Want>,
-    /// The device step that fails.
-    fails: Option<DeviceStep>,
+    /// How many steps on a device there were, and the one that fails.
+    moved: u32,
+    fails: Option<u32>,
     /// A word that another has left at this value.
     shows: Option<(Word, u64)>,
     /// Another shares the block before this one's exchange.
     is_raced: bool,
+    /// The desk has no memory for an entry.
+    is_full: bool,
 }
 
 impl Bench {
@@ -60,11 +66,15 @@ impl Bench {
             },
             origin: [1; 192],
             cache: [2; 192],
-            gave: 0,
-            wants: Vec::with_capacity(alloc, 32)?,
+            gave: 3,
+            is_mapped: row.mapped.is_some(),
+            has_order: matches!(row.job, Job::Migrate(_)),
+            wants: Vec::with_capacity(alloc, 160)?,
+            moved: 0,
             fails: row.fails,
             shows: row.shows,
             is_raced: row.is_raced,
+            is_full: row.is_full,
         })
     }
 
@@ -87,13 +97,15 @@ impl Bench {
     fn device(&mut self, step: DeviceStep) -> Got
         ensures { Fits (Device step) result }
     {
-        if self.fails == Some(step) {
+        let number = self.moved;
+        self.moved = number.saturating_add(1);
+        if self.fails == Some(number) {
             return Got::Fault;
         }
         match step {
             DeviceStep::Read(device, extent) => self.read(device, extent),
             DeviceStep::Write(device, extent) => self.write(device, extent),
-            DeviceStep::Sync(_) => {}
+            _ => {}
         }
         Got::Done
     }
@@ -108,9 +120,10 @@ impl Bench {
     }
 
     fn write(&mut self, device: Dev, extent: Extent) {
+        let gave = self.gave;
         for at in extent.first..extent.first.saturating_add(extent.count) {
             if let Some(sector) = self.sectors(device).get_mut(at as usize) {
-                *sector = 3;
+                *sector = gave;
             }
         }
     }
@@ -151,6 +164,28 @@ impl Bench {
     }
 }
 
+impl Bench {
+    fn desk(&mut self, step: DeskStep) -> Got
+        ensures { Fits (Desk step) result }
+    {
+        match step {
+            DeskStep::Map(_, _) if self.is_full => return Got::Refused(Refusal::Memory),
+            DeskStep::Map(_, _) => {
+                self.is_mapped = true;
+                self.has_order = false;
+            }
+            DeskStep::Unmap(_) => {
+                self.is_mapped = false;
+                self.has_order = false;
+            }
+            DeskStep::ReleaseOrder(_) => self.has_order = false,
+            DeskStep::BeginCommit(_, _) => return Got::Began(0),
+            DeskStep::EndCommit => {}
+        }
+        Got::Done
+    }
+}
+
 impl Stage for Bench {
     ghost ready = { λ _ _. Unit {0} };
 
@@ -161,7 +196,7 @@ impl Stage for Bench {
         match *want {
             Want::Cell(step) => self.cell(step),
             Want::Device(step) => self.device(step),
-            Want::Desk(_) => Got::Done,
+            Want::Desk(step) => self.desk(step),
             Want::End(_) => unreachable!(),
         }
     }

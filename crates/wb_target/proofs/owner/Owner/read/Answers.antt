@@ -15,7 +15,7 @@ pub drive-requires : goal.drive-requires
 drive-requires g c steps mid first leads step =
     let stage = c.args.self.now.stage in
     let blocks = Leads-kept _ (λ stage. stage.origin_blocks) (λ s w got t h. h.2) stage steps mid leads in
-    rw blocks (request_ready _ (λ stage. stage.crew) (λ s w got t h. h.1) stage.origin_blocks c.new-task.result _ stage steps mid c.new-task.ensures stage.alone c.requires.block c.args.self.now.idle first leads)
+    rw blocks (request_ready _ (λ stage. stage.crew) (λ s w got t h. h.1) stage.origin_blocks c.new-task.result _ stage steps mid tt c.new-task.ensures stage.alone c.requires.block c.args.self.now.idle first leads)
 
 pub invariant_of-self : goal.invariant_of-self
 invariant_of-self g c =

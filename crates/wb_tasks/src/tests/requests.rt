@@ -1,45 +1,20 @@
-//! Requests, what they meet, and what they want then.
+//! Reads and writes, what they meet, and what they want then.
 
 use super::bench::BLOCK;
+use super::row::{Job, PLAIN, Row};
 use crate::*;
 use wb_types::{CBlock, Dev, Extent, Refusal};
 use wb_words::{Access, Kind, Word};
 
-/// A read or write of two sectors of the block, from its second on.
-#[derive(Clone, Copy)]
-pub struct Row {
-    pub name: &'static str,
-    pub writes: bool,
-    /// How many sectors a step takes at most.
-    pub longest: u64,
-    /// Whether the block is mapped, to cache block 1, and dirty there.
-    pub mapped: Option<bool>,
-    /// The device step that fails.
-    pub fails: Option<DeviceStep>,
-    /// A word that another has left at this value.
-    pub shows: Option<(Word, u64)>,
-    /// Another shares the block before the exchange.
-    pub is_raced: bool,
-    pub answer: Answer,
-    /// The wants from this one on.
-    pub from: usize,
-    pub wants: &'static [Want],
-    /// What words are afterwards.
-    pub words: &'static [(Word, u64)],
-}
+/// Two sectors of the block, from its second on.
+pub const SECTORS: Extent = BOTH;
+
+pub const CACHED_SECTORS: Extent = CACHED_BOTH;
 
 const FREE: Row = Row {
-    name: "",
-    writes: false,
-    longest: 1,
-    mapped: None,
-    fails: None,
-    shows: None,
-    is_raced: false,
-    answer: Answer::Done,
-    from: 5,
-    wants: &[],
+    job: Job::Read,
     words: &[(Word::Cell(BLOCK), 0), (Word::Fail, 0)],
+    ..PLAIN
 };
 
 /// The block's second and third sector, on the origin and in cache block 1.
@@ -79,7 +54,7 @@ const DISOWN: Want = Want::Cell(CellStep::Release(Access::Owned, BLOCK));
 
 const FINISH: Want = Want::Cell(CellStep::Finish(BLOCK));
 
-pub const ROWS: [Row; 14] = [
+pub const REQUESTS: [Row; 14] = [
     Row {
         name: "an unmapped block is read from the origin",
         from: 0,
@@ -105,6 +80,7 @@ pub const ROWS: [Row; 14] = [
             Want::Cell(CellStep::Count(Kind::ReadHit)),
             LEAVE,
         ],
+        is_mapped: true,
         ..FREE
     },
     Row {
@@ -127,14 +103,14 @@ pub const ROWS: [Row; 14] = [
     },
     Row {
         name: "a fault on a read gives the block back",
-        fails: Some(DeviceStep::Read(Dev::Origin, SECOND)),
+        fails: Some(0),
         answer: Answer::Refused(Refusal::Io(Dev::Origin)),
         wants: &[Want::Device(DeviceStep::Read(Dev::Origin, SECOND)), LEAVE],
         ..FREE
     },
     Row {
         name: "an unmapped block is written on the origin",
-        writes: true,
+        job: Job::Write,
         from: 2,
         wants: &[
             Want::Cell(CellStep::Take(Access::Owned, BLOCK, 0)),
@@ -147,11 +123,12 @@ pub const ROWS: [Row; 14] = [
             DISOWN,
         ],
         words: &[(Word::Cell(BLOCK), 0), (Word::Number(BLOCK), 1)],
+        holds: Some((3, 2)),
         ..FREE
     },
     Row {
         name: "a clean copy is sealed dirty before its first write",
-        writes: true,
+        job: Job::Write,
         mapped: Some(false),
         wants: &[
             Want::Cell(CellStep::Seal(BLOCK, Some(CBlock(1)), true)),
@@ -162,11 +139,13 @@ pub const ROWS: [Row; 14] = [
             DISOWN,
         ],
         words: &[(Word::Seal(BLOCK), 5), (Word::Number(BLOCK), 1)],
+        holds: Some((1, 3)),
+        is_mapped: true,
         ..FREE
     },
     Row {
         name: "a dirty copy is not sealed again",
-        writes: true,
+        job: Job::Write,
         mapped: Some(true),
         wants: &[
             Want::Device(DeviceStep::Write(Dev::Cache, CACHED_SECOND)),
@@ -175,11 +154,13 @@ pub const ROWS: [Row; 14] = [
             Want::Cell(CellStep::Count(Kind::WriteHit)),
             DISOWN,
         ],
+        holds: Some((1, 3)),
+        is_mapped: true,
         ..FREE
     },
     Row {
         name: "a lost exchange is busy",
-        writes: true,
+        job: Job::Write,
         is_raced: true,
         answer: Answer::Refused(Refusal::Busy),
         from: 2,
@@ -189,7 +170,7 @@ pub const ROWS: [Row; 14] = [
     },
     Row {
         name: "a block without a number left is worn",
-        writes: true,
+        job: Job::Write,
         shows: Some((Word::Number(BLOCK), u64::MAX)),
         answer: Answer::Refused(Refusal::Worn),
         from: 4,
@@ -198,8 +179,8 @@ pub const ROWS: [Row; 14] = [
     },
     Row {
         name: "a fault on a write keeps the block",
-        writes: true,
-        fails: Some(DeviceStep::Write(Dev::Origin, THIRD)),
+        job: Job::Write,
+        fails: Some(1),
         answer: Answer::Refused(Refusal::Io(Dev::Origin)),
         from: 6,
         wants: &[
@@ -207,6 +188,7 @@ pub const ROWS: [Row; 14] = [
             Want::Cell(CellStep::SetFailed),
         ],
         words: &[(Word::Cell(BLOCK), 1), (Word::Fail, 1)],
+        holds: None,
         ..FREE
     },
     Row {
@@ -221,7 +203,7 @@ pub const ROWS: [Row; 14] = [
     },
     Row {
         name: "both sectors are written by one step",
-        writes: true,
+        job: Job::Write,
         mapped: Some(true),
         longest: 256,
         wants: &[
@@ -230,13 +212,15 @@ pub const ROWS: [Row; 14] = [
             Want::Cell(CellStep::Count(Kind::WriteHit)),
             DISOWN,
         ],
+        holds: Some((1, 3)),
+        is_mapped: true,
         ..FREE
     },
     Row {
         name: "a fault on one step for both keeps the block",
-        writes: true,
+        job: Job::Write,
         longest: 2,
-        fails: Some(DeviceStep::Write(Dev::Origin, BOTH)),
+        fails: Some(0),
         answer: Answer::Refused(Refusal::Io(Dev::Origin)),
         wants: &[
             Want::Device(DeviceStep::Write(Dev::Origin, BOTH)),

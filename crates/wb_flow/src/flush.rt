@@ -1,0 +1,209 @@
+//! A flush, after which all that was finished before it is durable:
+//!
+//! 1. look at the fail word;
+//! 2. begin a commit; where another one runs, answer `Busy`; where the desk refuses it for want of memory or of
+//!    generations, give up the orders of the replacements that it serves, and answer so;
+//! 3. sync the cache, then the origin;
+//! 4. write each node of the image, and sync the metadata;
+//! 5. write the root, and sync the metadata;
+//! 6. end the commit, and answer done.
+//!
+//! After a fault: set the failed bit, and answer `Io`.
+
+ghost use Rattle.std.specs.Prelude.{◌≡◌, []};
+ghost use Rattle.wb_tasks.specs.Tables.{Flushing};
+ghost use Rattle.wb_tasks.specs.Plan.{Plan, want, after, table, Fits};
+ghost use Rattle.wb_flow.specs.Phases.{IsOther};
+
+use std::marker::Model;
+use wb_tasks::{Answer, CellStep, DeskStep, DeviceStep, Got, Task, Want};
+use wb_types::{Dev, OBlock, Refusal};
+use wb_words::Word;
+
+/// Where a flush stands.
+#[derive(Clone, Copy)]
+enum Phase {
+    LooksAtFail,
+    Begins,
+    SyncsCache,
+    SyncsOrigin,
+    /// Writes the nodes that are left, and then syncs the metadata.
+    WritesNodes,
+    WritesRoot,
+    SyncsRoot,
+    EndsCommit,
+    /// Gives up the orders that are left, and then answers this refusal.
+    GivesUp(Refusal),
+    /// A step on this device failed.
+    SetsFailed(Dev),
+    Ended(Answer),
+}
+
+/// A flush. It may serve replacements, whose demotions are done and whose promotions wait for it.
+#[derive(Drop)]
+pub struct FlushTask {
+    phase: Phase,
+    /// The blocks whose orders these replacements have.
+    serves: Vec<OBlock>,
+    /// How many of those orders it has given up.
+    given: usize,
+    /// How many nodes its image has at most.
+    most: u32,
+    /// The node that is written next, and how many are left with it.
+    node: u32,
+    left: u32,
+}
+
+impl Model for FlushTask {
+    ghost use Rattle.std.specs.Prelude.{◌+◌, ◌<◌, ◌^◌, drop};
+    ghost use Rattle.wb_tasks.specs.Plan.{Plan};
+
+    ghost Value = { Plan };
+
+    ghost use Rattle.wb_flow.specs.Phases.{flush_left};
+
+    ghost view = { λ t. flush_left t.serves.items t.most t.phase (drop t.given t.serves.items) t.node t.left };
+
+    ghost invariant = { λ t. t.node + t.left < 2 ^ 32 };
+}
+
+impl FlushTask {
+    /// A flush that serves the replacements whose orders these blocks have, if any, and whose image has at most so many
+    /// nodes.
+    pub fn new(serves: Vec<OBlock>, most: u32) -> FlushTask
+        ensures { result ≡ table (Flushing serves.items most) }
+    {
+        FlushTask {
+            phase: Phase::LooksAtFail,
+            serves,
+            given: 0,
+            most,
+            node: 0,
+            left: 0,
+        }
+    }
+
+    /// The next step, or the answer.
+    pub fn want(&self) -> Want
+        ensures { result ≡ want self.now }
+    {
+        match self.phase {
+            Phase::LooksAtFail => Want::Cell(CellStep::Look(Word::Fail)),
+            Phase::Begins => Want::Desk(DeskStep::BeginCommit(false, self.most)),
+            Phase::SyncsCache => Want::Device(DeviceStep::Sync(Dev::Cache)),
+            Phase::SyncsOrigin => Want::Device(DeviceStep::Sync(Dev::Origin)),
+            Phase::WritesNodes if self.left > 0 => {
+                Want::Device(DeviceStep::WriteNode(self.node))
+            }
+            Phase::WritesNodes | Phase::SyncsRoot => {
+                Want::Device(DeviceStep::Sync(Dev::Metadata))
+            }
+            Phase::WritesRoot => Want::Device(DeviceStep::WriteRoot),
+            Phase::EndsCommit => Want::Desk(DeskStep::EndCommit),
+            Phase::GivesUp(refusal) => match self.serves.get(self.given) {
+                Some(block) => Want::Desk(DeskStep::ReleaseOrder(*block)),
+                None => Want::End(Answer::Refused(refusal)),
+            },
+            Phase::SetsFailed(_) => Want::Cell(CellStep::SetFailed),
+            Phase::Ended(answer) => Want::End(answer),
+        }
+    }
+
+    /// What is left after the fail word was looked at.
+    fn after_look(&mut self, word: u64)
+        requires { Fits (want self.old) (Got.Word word) }
+        ensures { self.new ≡ after self.old (Got.Word word) }
+    {
+        if word == 0 {
+            self.phase = Phase::Begins;
+        } else {
+            self.phase = Phase::Ended(Answer::Refused(Refusal::Failed));
+        }
+    }
+
+    /// What is left after a step was done.
+    fn after_done(&mut self)
+        requires { Fits (want self.old) Got.Done }
+        ensures { self.new ≡ after self.old Got.Done }
+    {
+        match self.phase {
+            Phase::SyncsCache => self.phase = Phase::SyncsOrigin,
+            Phase::SyncsOrigin => self.phase = Phase::WritesNodes,
+            Phase::WritesNodes if self.left > 0 => {
+                self.node += 1;
+                self.left -= 1;
+            }
+            Phase::WritesNodes => self.phase = Phase::WritesRoot,
+            Phase::WritesRoot => self.phase = Phase::SyncsRoot,
+            Phase::SyncsRoot => self.phase = Phase::EndsCommit,
+            Phase::EndsCommit => self.phase = Phase::Ended(Answer::Done),
+            Phase::GivesUp(_) if self.given < self.serves.as_slice().len() => self.given += 1,
+            Phase::SetsFailed(device) => {
+                self.phase = Phase::Ended(Answer::Refused(Refusal::Io(device)));
+            }
+            // Nothing else can be done.
+            _ => {}
+        }
+    }
+
+    /// What is left after a fault.
+    fn after_fault(&mut self)
+        requires { Fits (want self.old) Got.Fault }
+        ensures { self.new ≡ after self.old Got.Fault }
+    {
+        match self.phase {
+            Phase::SyncsCache => self.phase = Phase::SetsFailed(Dev::Cache),
+            Phase::SyncsOrigin => self.phase = Phase::SetsFailed(Dev::Origin),
+            _ => self.phase = Phase::SetsFailed(Dev::Metadata),
+        }
+    }
+
+    /// What is left after the desk refused the commit.
+    fn after_refusal(&mut self, refusal: Refusal)
+        requires { Fits (want self.old) (Got.Refused refusal) }
+        ensures { self.new ≡ after self.old (Got.Refused refusal) }
+    {
+        self.given = 0;
+        match refusal {
+            Refusal::Busy => self.phase = Phase::Ended(Answer::Refused(Refusal::Busy)),
+            _ => self.phase = Phase::GivesUp(refusal),
+        }
+    }
+
+    /// What is left after the commit began.
+    fn after_begun(&mut self, nodes: u32)
+        requires { Fits (want self.old) (Got.Began nodes) }
+        ensures { self.new ≡ after self.old (Got.Began nodes) }
+    {
+        self.node = 0;
+        self.left = nodes;
+        self.phase = Phase::SyncsCache;
+    }
+
+    /// No step of a flush is lost or reads metadata.
+    fn after_other(&mut self, got: Got)
+        requires other { IsOther got }
+        requires fits { Fits (want self.old) got }
+        ensures { self.new ≡ after self.old got }
+    {
+        self.phase = Phase::Ended(Answer::Refused(Refusal::Busy));
+    }
+}
+
+impl Task for FlushTask {
+    ghost plan = { λ t. t };
+
+    fn next(&mut self, got: Got) -> Want {
+        match got {
+            Got::Begin => {}
+            Got::Word(word) => self.after_look(word),
+            Got::Done => self.after_done(),
+            Got::Fault => self.after_fault(),
+            Got::Refused(refusal) => self.after_refusal(refusal),
+            Got::Began(nodes) => self.after_begun(nodes),
+            Got::Lost => self.after_other(Got::Lost),
+            Got::More => self.after_other(Got::More),
+        }
+        self.want()
+    }
+}

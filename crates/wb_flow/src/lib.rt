@@ -1,0 +1,13 @@
+//! The tasks without a block, as lists of steps: flushing and opening.
+//!
+//! What an image holds and where its nodes go, what is read of the metadata and what it stands for are with the performer;
+//! a task knows how many nodes there are and whether there is more to read.
+#![tactic(auto)]
+
+mod flush;
+mod open;
+#[cfg(test)]
+mod tests;
+
+pub use flush::FlushTask;
+pub use open::OpenTask;

@@ -1,0 +1,174 @@
+//! Flushes and openings, what they meet, and what they want then.
+
+use super::stage::Task;
+use wb_tasks::{Answer, CellStep, DeskStep, DeviceStep, Want};
+use wb_types::{Dev, OBlock, Refusal};
+use wb_words::Word;
+
+#[derive(Clone, Copy)]
+pub struct Row {
+    pub name: &'static str,
+    pub task: Task,
+    /// The blocks whose orders a flush serves.
+    pub serves: &'static [OBlock],
+    /// The image's nodes, or those that an opening reads.
+    pub nodes: u32,
+    /// What the desk, or what was read, refuses.
+    pub refuses: Option<Refusal>,
+    pub fails: Option<u32>,
+    pub answer: Answer,
+    /// The wants from this one on.
+    pub from: usize,
+    pub wants: &'static [Want],
+    /// How many of the wants are on a device.
+    pub device_steps: u32,
+    /// The fail word.
+    pub fail: u64,
+}
+
+const FLUSH: Row = Row {
+    name: "",
+    task: Task::Flush,
+    serves: &[OBlock(5), OBlock(7)],
+    nodes: 0,
+    refuses: None,
+    fails: None,
+    answer: Answer::Done,
+    from: 0,
+    wants: &[],
+    device_steps: 0,
+    fail: 0,
+};
+
+const OPEN: Row = Row {
+    task: Task::Open,
+    serves: &[],
+    ..FLUSH
+};
+
+const LOOK: Want = Want::Cell(CellStep::Look(Word::Fail));
+
+const BEGIN: Want = Want::Desk(DeskStep::BeginCommit(false, 3));
+
+const SYNC_CACHE: Want = Want::Device(DeviceStep::Sync(Dev::Cache));
+
+const SYNC_ORIGIN: Want = Want::Device(DeviceStep::Sync(Dev::Origin));
+
+const SYNC_METADATA: Want = Want::Device(DeviceStep::Sync(Dev::Metadata));
+
+const WRITE_ROOT: Want = Want::Device(DeviceStep::WriteRoot);
+
+const END: Want = Want::Desk(DeskStep::EndCommit);
+
+const GIVE_UP: [Want; 2] = [
+    Want::Desk(DeskStep::ReleaseOrder(OBlock(5))),
+    Want::Desk(DeskStep::ReleaseOrder(OBlock(7))),
+];
+
+pub const ROWS: [Row; 9] = [
+    Row {
+        name: "a flush of one node writes its root at the seventh step and syncs it at the eighth",
+        nodes: 1,
+        wants: &[
+            LOOK,
+            BEGIN,
+            SYNC_CACHE,
+            SYNC_ORIGIN,
+            Want::Device(DeviceStep::WriteNode(0)),
+            SYNC_METADATA,
+            WRITE_ROOT,
+            SYNC_METADATA,
+            END,
+        ],
+        device_steps: 6,
+        ..FLUSH
+    },
+    Row {
+        name: "a flush without nodes syncs all the same",
+        from: 2,
+        wants: &[
+            SYNC_CACHE,
+            SYNC_ORIGIN,
+            SYNC_METADATA,
+            WRITE_ROOT,
+            SYNC_METADATA,
+            END,
+        ],
+        device_steps: 5,
+        ..FLUSH
+    },
+    Row {
+        name: "the nodes of a flush are written rising",
+        nodes: 3,
+        from: 4,
+        wants: &[
+            Want::Device(DeviceStep::WriteNode(0)),
+            Want::Device(DeviceStep::WriteNode(1)),
+            Want::Device(DeviceStep::WriteNode(2)),
+            SYNC_METADATA,
+            WRITE_ROOT,
+            SYNC_METADATA,
+            END,
+        ],
+        device_steps: 8,
+        ..FLUSH
+    },
+    Row {
+        name: "a failed target is not flushed",
+        answer: Answer::Refused(Refusal::Failed),
+        wants: &[LOOK],
+        fail: 1,
+        ..FLUSH
+    },
+    Row {
+        name: "a flush that meets a commit keeps the orders that it serves",
+        refuses: Some(Refusal::Busy),
+        answer: Answer::Refused(Refusal::Busy),
+        wants: &[LOOK, BEGIN],
+        ..FLUSH
+    },
+    Row {
+        name: "a flush without memory gives each order up",
+        refuses: Some(Refusal::Memory),
+        answer: Answer::Refused(Refusal::Memory),
+        from: 2,
+        wants: &GIVE_UP,
+        ..FLUSH
+    },
+    Row {
+        name: "a flush after the last generation gives each order up",
+        refuses: Some(Refusal::GenerationEnd),
+        answer: Answer::Refused(Refusal::GenerationEnd),
+        from: 2,
+        wants: &GIVE_UP,
+        ..FLUSH
+    },
+    Row {
+        name: "an opening syncs, reads both slots and a node, and writes its root",
+        nodes: 1,
+        wants: &[
+            SYNC_METADATA,
+            SYNC_CACHE,
+            SYNC_ORIGIN,
+            Want::Device(DeviceStep::ReadMetadata(3)),
+            Want::Device(DeviceStep::ReadMetadata(2)),
+            Want::Device(DeviceStep::ReadMetadata(1)),
+            WRITE_ROOT,
+            SYNC_METADATA,
+        ],
+        device_steps: 8,
+        ..OPEN
+    },
+    Row {
+        name: "an opening without a root writes none",
+        refuses: Some(Refusal::NotFormatted),
+        answer: Answer::Refused(Refusal::NotFormatted),
+        from: 3,
+        wants: &[
+            Want::Device(DeviceStep::ReadMetadata(3)),
+            Want::Device(DeviceStep::ReadMetadata(2)),
+        ],
+        device_steps: 5,
+        ..OPEN
+    },
+];

@@ -1,0 +1,12 @@
+use Rattle.wb_types.specs.Extents.{pieces}
+use Rattle.wb_tasks.specs.Tables.{BlockRange, whole_block}
+use Rattle.wb_tasks.specs.declared.step.Got.TheVariants.{Refused}
+use Rattle.wb_tasks.proofs.Views.{by_view}
+use Rattle.wb_tasks.proofs.Migrating.{after_refused_entry}
+use Rattle.wb_tasks.proofs.migrate.MigrationTask.after_refusal.Goals as goal
+
+pub returns : goal.returns
+returns c =
+    let t = c.self.inside in
+    let part : BlockRange = record { block_sectors = t.block_sectors; block = t.block; extents = pieces t.longest (whole_block t.block_sectors t.block) } in
+    by_view _ _ _ (Refused c.args.refusal) c.self.view_is c.requires (after_refused_entry t.migration part t.phase (pieces t.longest t.left) c.args.refusal)

@@ -1,0 +1,64 @@
+//! A task, what it meets, and what it wants then.
+
+use crate::*;
+use wb_words::Word;
+
+/// What is done with the block.
+#[derive(Clone, Copy)]
+pub enum Job {
+    /// A read of two of its sectors.
+    Read,
+    /// A write of two of its sectors.
+    Write,
+    Migrate(Migration),
+}
+
+#[derive(Clone, Copy)]
+pub struct Row {
+    pub name: &'static str,
+    pub job: Job,
+    /// How many sectors a step takes at most.
+    pub longest: u64,
+    /// Whether the block is mapped, to cache block 1, and dirty there.
+    pub mapped: Option<bool>,
+    /// The step on a device that fails, by its number.
+    pub fails: Option<u32>,
+    /// A word that another has left at this value.
+    pub shows: Option<(Word, u64)>,
+    /// Another shares the block before the exchange.
+    pub is_raced: bool,
+    /// The desk has no memory for an entry.
+    pub is_full: bool,
+    pub answer: Answer,
+    /// The wants from this one on.
+    pub from: usize,
+    pub wants: &'static [Want],
+    /// How many wants come after those.
+    pub more: usize,
+    /// What words are afterwards.
+    pub words: &'static [(Word, u64)],
+    /// What all of the task's sectors hold afterwards, on the origin and in the cache.
+    pub holds: Option<(u8, u8)>,
+    /// Whether the mapping has the block, and whether the migration has its order.
+    pub is_mapped: bool,
+    pub has_order: bool,
+}
+
+pub const PLAIN: Row = Row {
+    name: "",
+    job: Job::Read,
+    longest: 1,
+    mapped: None,
+    fails: None,
+    shows: None,
+    is_raced: false,
+    is_full: false,
+    answer: Answer::Done,
+    from: 5,
+    wants: &[],
+    more: 0,
+    words: &[],
+    holds: Some((1, 2)),
+    is_mapped: false,
+    has_order: false,
+};
