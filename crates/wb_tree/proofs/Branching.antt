@@ -1,3 +1,4 @@
 pub mod Slots
 pub mod Branches
 pub mod Edits
+pub mod Looks

@@ -1,8 +1,10 @@
 //! Nodes of the tree of boxes.
 
-ghost use Rattle.std.specs.Prelude.{◌≡◌, [], false, ◌≤◌, ◌<◌, ◌+◌, ◌-◌, ◌*◌, ◌/◌, ◌%◌, ◌^◌, ℕ, Some, None, is_some, true, IfOk, OnOk, OnErr, slice_index_or, replicate};
+ghost use Rattle.std.specs.Prelude.{◌≡◌, [], false, ◌≤◌, ◌<◌, ◌+◌, ◌-◌, ◌*◌, ◌/◌, ◌%◌, ◌^◌, ◌++◌, ℕ, Some, None, map, is_some, true, IfOk, OnOk, OnErr, slice_index_or, replicate};
 ghost use Rattle.std.specs.List.{list_any};
-ghost use Rattle.wb_tree.specs.Branches.{rewritten, sole_branch};
+ghost use Rattle.wb_tree.specs.Mapping.{exists, place_in};
+ghost use Rattle.wb_tree.specs.Branches.{rewritten, sole_branch, IsKid};
+ghost use Rattle.wb_tree.specs.Settling.{place_told, IsSettledAt};
 
 use std::alloc::{AllocError, Allocator};
 use std::marker::Model;
@@ -117,6 +119,71 @@ impl<A: Allocator> Node<A> {
             }
             None => has_some(&self.kids),
         }
+    }
+
+    /// Whether a node at or below this one has a box, and then where it stands, if it is known. It is named by its
+    /// level and by its index among those of its level below this node.
+    pub(crate) fn look(&self, level: u32, index: u32) -> Option<Option<Place>>
+        requires from { 1 ≤ level }
+        requires to { level ≤ self.now.level }
+        requires index { index < 32 ^ (self.now.level - level) }
+        requires kid { IsKid self.now.level self.now.index self.now }
+        ensures there { is_some result ≡ exists self.now.entries level index }
+        ensures place { place_told result
+            ≡ place_in self.now.known level (self.now.index * 32 ^ (self.now.level - level) + index) }
+    {
+        if self.level == level {
+            return Some(self.place);
+        }
+        let down = self.level - level;
+        let below = rest_of(down, index);
+        match &self.kids[word_of(down, index)] {
+            Some(kid) => kid.look(level, below),
+            None => None,
+        }
+    }
+
+    /// A node at or below this one that has a box, named as for `look`, and was not known stands at this place.
+    pub(crate) fn settle(&mut self, level: u32, index: u32, place: Place)
+        requires from { 1 ≤ level }
+        requires to { level ≤ self.old.level }
+        requires index { index < 32 ^ (self.old.level - level) }
+        requires there { exists self.old.entries level index ≡ true }
+        requires unknown { place_in self.old.known level (self.old.index * 32 ^ (self.old.level - level) + index)
+            ≡ None }
+        ensures { IsSettledAt self.old self.new (record {
+          level = level;
+          index = self.old.index * 32 ^ (self.old.level - level) + index;
+          place = place;
+        }) }
+    {
+        if self.level == level {
+            self.place = Some(place);
+            return;
+        }
+        let down = self.level - level;
+        let word = word_of(down, index);
+        let below = rest_of(down, index);
+        let Some(mut kid) = self.kids[word].take() else {
+            return;
+        };
+        kid.settle(level, below, place);
+        self.kids[word] = Some(kid);
+    }
+
+    /// Adds the places of the known nodes at and below this one. Some of them are added where memory is wanting.
+    pub(crate) fn collect(&self, places: &mut Vec<Place>) -> Result<(), AllocError>
+        ensures { OnOk result (places.new.items ≡ places.old.items ++ map (λ node. node.place) self.now.known) }
+    {
+        if let Some(place) = self.place {
+            places.push(place)?;
+        }
+        for kid in self.kids.iter() {
+            if let Some(kid) = kid {
+                kid.collect(places)?;
+            }
+        }
+        Ok(())
     }
 
     /// A node of this level and index, of which one cache block has an entry; and all boxes below it.
