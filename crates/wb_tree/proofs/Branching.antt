@@ -2,3 +2,4 @@ pub mod Slots
 pub mod Branches
 pub mod Edits
 pub mod Looks
+pub mod Settled

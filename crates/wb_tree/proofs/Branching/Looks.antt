@@ -27,7 +27,7 @@ none_in (suc n) (suc m) = none_in n m
 pub none_from : (n k m : ℕ) → list_any {X = Option Entry} is_some (take n (drop k (replicate m None))) ≡ false
 none_from n k m = ap (λ (xs : List (Option Entry)). list_any is_some (take n xs)) (drop-replicate k m None) ∙ none_in n (m - k)
 
-part_left : (xs ys : List (Option Entry)) (a n : ℕ) → a + n ≤ length xs → take n (drop a (xs ++ ys)) ≡ take n (drop a xs)
+pub part_left : (xs ys : List (Option Entry)) (a n : ℕ) → a + n ≤ length xs → take n (drop a (xs ++ ys)) ≡ take n (drop a xs)
 part_left xs ys zero zero fits = refl
 part_left [] ys zero (suc n) fits = absurd (omega arith)
 part_left (x ∷ xs) ys zero (suc n) fits = ap (λ (zs : List (Option Entry)). x ∷ zs) (part_left xs ys zero n (omega arith))
@@ -137,7 +137,7 @@ way level index l k w r from to off less word rest =
       below = s.below ∙ ap (λ n. 32 * index + n) (sym word);
     }
 
-powers : (low high : ℕ) → 32 ^ low * 32 ^ high ≡ 32 ^ (low + high)
+pub powers : (low high : ℕ) → 32 ^ low * 32 ^ high ≡ 32 ^ (low + high)
 powers low high = sym (pow-add low high)
   where
     pow-add : (low high : ℕ) → 32 ^ (low + high) ≡ 32 ^ low * 32 ^ high

@@ -1,4 +1,0 @@
-use Rattle.wb_tree.proofs.boxes.node.Node.+settle.Given as goal
-
-abbrev pub decreases-settle : goal.decreases-settle
-decreases-settle g l = goal.size-settle g l
