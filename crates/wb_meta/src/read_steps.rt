@@ -50,7 +50,7 @@ pub enum ReadSteps<A: Allocator> {
     Done(State<A>),
 }
 
-impl<A: Allocator> ReadSteps<A> {
+impl<A: Allocator + Clone> ReadSteps<A> {
     /// A reading that has read nothing.
     pub fn new(alloc: A, global: Global) -> ReadSteps<A>
         ensures on { (sectors : ℕ) → AreStepsOn sectors result }
@@ -150,7 +150,7 @@ impl<A: Allocator> ReadSteps<A> {
 }
 
 /// Goes on with the next node of a root's tree; where there is none, the reading is done.
-fn go_on<A: Allocator>(
+fn go_on<A: Allocator + Clone>(
     global: Global,
     root: Root,
     loader: Loader<A>,
@@ -176,7 +176,7 @@ fn go_on<A: Allocator>(
 
 /// Reads what a metadata device stands for: all steps of `ReadSteps`, with the refusals that they give. The older
 /// root counts for nothing, whatever the newer one's tree is.
-pub fn read_state<A: Allocator, D: Disk>(
+pub fn read_state<A: Allocator + Clone, D: Disk>(
     alloc: A,
     global: Global,
     disk: &mut D,

@@ -1,3 +1,5 @@
 pub mod Slots
 pub mod Branches
 pub mod Edits
+pub mod Looks
+pub mod Settled

@@ -7,3 +7,4 @@ pub mod Listing
 pub mod Names
 pub mod Parts
 pub mod Placing
+pub mod Alike

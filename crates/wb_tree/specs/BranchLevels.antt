@@ -3,9 +3,9 @@ use Rattle.std.specs.Prelude.{◌≡◌, ◌≤◌, ◌+◌, ◌-◌, ◌*◌, �
 use Rattle.std.proofs.Common.{arith, refl, subst}
 use Rattle.std.specs.declared.alloc.Allocator.{Ghosts}
 use denote.Param.Weighed.{most}
-use Rattle.wb_tree.specs.declared.boxes.node.Node.TheInside.{Inside}
-use Rattle.wb_tree.specs.declared.boxes.node.Node.TheDeep.{deep-Node}
-use Rattle.wb_tree.specs.declared.boxes.node.Node.TheShapes.{weighed-Node-kids, weighed-Node-kids-at-2}
+use Rattle.wb_tree.specs.declared.tree.node.Node.TheInside.{Inside}
+use Rattle.wb_tree.specs.declared.tree.node.Node.TheDeep.{deep-Node}
+use Rattle.wb_tree.specs.declared.tree.node.Node.TheShapes.{weighed-Node-kids, weighed-Node-kids-at-2}
 use Rattle.wb_tree.specs.Branches.{Branch, IsNode, IsSlot}
 
 slot_level : {A : Type 0} (μ : Option (Box Branch A) → ℕ) → μ None ≡ 0 → ((kid : Box Branch A) → μ (Some kid) ≡ kid.value.level + 1)

@@ -4,7 +4,9 @@ use Rattle.std.specs.List.{list_any, flat_map, AllByRecursion}
 use Rattle.wb_types.specs.declared.entry.Entry.{Entry}
 use Rattle.wb_types.specs.declared.number.Place.{Place}
 use Rattle.wb_tree.specs.declared.placed.PlacedNode.{PlacedNode}
+use Rattle.wb_types.specs.Limits.{depth_of}
 use Rattle.wb_tree.specs.Mapping.{Mapping, IsSound}
+use Rattle.wb_tree.specs.Fields.{AreApart}
 
 -- a node by its level and its index in that level, the entries of the 32 ^ level cache blocks below it, and the known
 -- nodes at and below it
@@ -108,8 +110,10 @@ pub record AreBoxes {A : Type 0} (cache_blocks depth : ℕ) (root : Option (Box 
   pub few : cache_blocks ≤ 1048576
   pub from : 1 ≤ depth
   pub to : depth ≤ 4
+  pub levels : depth ≡ depth_of cache_blocks
   pub enough : cache_blocks ≤ 32 ^ depth
   pub top : IsSlot depth 0 root
   pub sound : IsSound (boxes_of cache_blocks depth root)
+  pub once : AreApart (known_in root)
   -- no entry lies past the last cache block
   pub ends : drop cache_blocks (entries_in (32 ^ depth) root) ≡ replicate (32 ^ depth - cache_blocks) None

@@ -9,3 +9,4 @@ pub mod Loaded
 pub mod Planning
 pub mod Branches
 pub mod BranchLevels
+pub mod Settling

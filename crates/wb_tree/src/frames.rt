@@ -9,18 +9,17 @@ use crate::PlacedNode;
 use crate::frame::Frame;
 use crate::leaf::read_entries;
 use crate::reached::Reached;
-use std::alloc::Allocator;
 use wb_format::{Node, Root};
 use wb_types::{Entry, Refusal};
 
 /// Reads the words of a leaf, or puts a node above the leaves below those whose words are being read: what the node
 /// gives, and then what was left, is what is left now. `Damaged` with the place that the first fault of a leaf
 /// names, `Memory` where there is no room.
-pub(crate) fn take_in<A: Allocator>(
+pub(crate) fn take_in(
     root: &Root,
     wanted: PlacedNode,
     node: &Node,
-    entries: &mut Vec<Option<Entry>, A>,
+    entries: &mut Vec<Option<Entry>>,
     mapped: &mut Vec<bool>,
     frames: &mut Vec<Frame>,
 ) -> Result<(), Refusal>

@@ -6,7 +6,6 @@
 #![tactic(auto)]
 
 mod below;
-mod boxes;
 mod frame;
 mod frames;
 mod image;
@@ -20,7 +19,6 @@ mod reached;
 mod tests;
 mod tree;
 
-pub use boxes::Boxes;
 pub use image::Image;
 pub use law::{edit_law, mapping_law};
 pub use loader::Loader;

@@ -22,8 +22,10 @@ use wb_types::{Entry, Place, Refusal};
 /// twice, and each is a sector of the root's metadata device, so this ends.
 #[derive(Drop)]
 pub struct Loader<A: Allocator> {
+    /// What the tree is to be made of.
+    alloc: A,
     root: Root,
-    entries: Vec<Option<Entry>, A>,
+    entries: Vec<Option<Entry>>,
     /// Of each origin block whether it stands in an entry.
     mapped: Vec<bool>,
     reached: Reached,
@@ -42,7 +44,7 @@ impl<A: Allocator> Model for Loader<A> {
     ghost invariant = { λ l. IsLoading (loading_of l.root l.reached l.entries.items l.mapped.items l.frames.items l.wanted) };
 }
 
-impl<A: Allocator> Loader<A> {
+impl<A: Allocator + Clone> Loader<A> {
     /// Begins to read the tree of a root. `Memory` where there is no room for its entries and for a mark for each
     /// origin block.
     pub fn new(alloc: A, global: Global, root: &Root) -> Result<Loader<A>, Refusal>
@@ -51,11 +53,12 @@ impl<A: Allocator> Loader<A> {
         ensures nothing { IfOk result (λ l. l.found.reached ≡ []) }
         ensures refused { IfErr result (λ refusal. refusal ≡ OutOfMemory) }
     {
-        let mut entries = Vec::new(alloc);
+        let mut entries = Vec::new(global);
         entries.resize(root.geometry.cache_blocks as usize, None)?;
         let mut mapped = Vec::new(global);
         mapped.resize(root.geometry.origin_blocks as usize, false)?;
         Ok(Loader {
+            alloc,
             root: *root,
             entries,
             mapped,
@@ -102,7 +105,8 @@ impl<A: Allocator> Loader<A> {
 
     /// The tree, and the places of its nodes in the order in which they were read. All nodes are known to it, so that
     /// the next image writes none of them that does not change; but where a node has no entry below it, which no
-    /// image has, none is, so that the next image writes all of them. `Memory` where there is no room for the places.
+    /// image has, none is, so that the next image writes all of them. `Memory` where there is no room for the tree
+    /// or the places.
     pub fn finish(self, global: Global) -> Result<(Tree<A>, Vec<Place>), Refusal>
         requires { self.wanted ≡ None }
         ensures read { (nodes : Nodes) → outcome self nodes ≡ Ok self.found }
@@ -113,6 +117,7 @@ impl<A: Allocator> Loader<A> {
         ensures refused { IfErr result (λ refusal. refusal ≡ OutOfMemory) }
     {
         let Loader {
+            alloc,
             root,
             entries,
             reached,
@@ -121,11 +126,11 @@ impl<A: Allocator> Loader<A> {
         let nodes = reached.into_nodes();
         let places = places_of(global, &nodes)?;
         let known = if all_exist(&entries, &nodes) {
-            Some(nodes)
+            nodes
         } else {
-            None
+            Vec::new(global)
         };
-        let tree = Tree::of_entries(root.geometry.cache_blocks, entries, known);
+        let tree = Tree::of_entries(alloc, root.geometry.cache_blocks, &entries, &known)?;
         Ok((tree, places))
     }
 
@@ -141,6 +146,7 @@ impl<A: Allocator> Loader<A> {
             → FailsBy refusal (outcome self nodes)) }
     {
         let Loader {
+            alloc,
             root,
             mut entries,
             mut mapped,
@@ -152,6 +158,7 @@ impl<A: Allocator> Loader<A> {
         take_in(&root, wanted, node, &mut entries, &mut mapped, &mut frames)?;
         match next_wanted(&root, &reached, &mut frames) {
             Ok(wanted) => Ok(Loader {
+                alloc,
                 root,
                 entries,
                 mapped,

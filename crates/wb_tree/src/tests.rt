@@ -1,6 +1,6 @@
 //! Entries that come and go, and a tree of two leaves that is read, whole and with a fault in it.
 
-mod boxed;
+mod comparing;
 mod images;
 
 use super::*;

@@ -1,43 +1,51 @@
-//! The mapping.
+//! The mapping as a radix tree of boxes: 32 children or entries a node, and each node knows its place or that it
+//! changed.
 
-ghost use Rattle.std.specs.Prelude.{◌≡◌, ◌≢◌, ◌<◌, ◌≤◌, [], Some, None, IsSome, IfOk, IfErr, OnOk, OnErr, length, replicate, slice_set};
+ghost use Rattle.std.specs.Prelude.{◌≡◌, ◌≢◌, ◌<◌, ◌≤◌, ◌-◌, ◌^◌, ◌++◌, [], ℕ, Some, None, IsSome, is_some, IfOk, IfErr, OnOk, OnErr, length, map, replicate, slice_set};
+ghost use Rattle.wb_types.specs.Limits.{depth_of};
 ghost use Rattle.wb_types.specs.declared.refusal.Refusal.TheVariants.{Memory as OutOfMemory};
-ghost use Rattle.wb_tree.specs.Mapping.{entry_at, AreInside, Forgets, IsMapping, IsSound};
+ghost use Rattle.wb_tree.specs.Mapping.{entry_at, exists, place_in, place_of, AreInside, Forgets, IsMapping, IsOnPath, IsSound};
 ghost use Rattle.wb_tree.specs.Edits.{IsEdited};
 ghost use Rattle.wb_tree.specs.Images.{AreFree, IsImage};
-ghost use Rattle.wb_tree.specs.Fields.{known_nodes, AreFields};
+ghost use Rattle.wb_tree.specs.Fields.{AreApart};
+ghost use Rattle.wb_tree.specs.Settling.{place_told};
+
+mod node;
 
 use crate::image::known_of;
-use crate::planning::{Planning, plan_nodes};
+use crate::planning::{Planning, plan_node};
 use crate::{Image, PlacedNode};
+use node::{Node, boxed, settle_all};
 use std::alloc::{Allocator, Global};
 use std::marker::Model;
+use wb_format::{Root, Version};
 use wb_types::{CBlock, Entry, Geometry, Place, Refusal};
 
-/// The entries of a cache's blocks, and the places of the nodes that the last image wrote or that were read.
+/// The entries of a cache's blocks, and which nodes are known to stand where.
 ///
-/// The list is kept plainly, as far as the last cache block that was ever mapped. Any change makes every node
-/// that has an entry below it count as changed.
+/// A look-up or a change goes down one box a level, four at most. A node has a box where an entry lies below it, and
+/// no other does.
 #[derive(Drop)]
 pub struct Tree<A: Allocator> {
+    alloc: A,
     cache_blocks: u32,
-    entries: Vec<Option<Entry>, A>,
-    /// All nodes, each once; none where anything changed since the last image.
-    known: Option<Vec<PlacedNode>>,
+    /// The levels of the tree.
+    depth: u32,
+    root: Option<Box<Node<A>, A>>,
 }
 
 impl<A: Allocator> Model for Tree<A> {
     ghost use Rattle.wb_tree.specs.Mapping.{Mapping};
-    ghost use Rattle.wb_tree.specs.Fields.{mapping_of, AreFields};
+    ghost use Rattle.wb_tree.specs.Branches.{boxes_of, AreBoxes};
 
     ghost Value = { Mapping };
 
-    ghost view = { λ t. mapping_of t.cache_blocks t.entries.items t.known };
+    ghost view = { λ b. boxes_of b.cache_blocks b.depth b.root };
 
-    ghost invariant = { λ t. AreFields t.cache_blocks t.entries.items t.known };
+    ghost invariant = { λ b. AreBoxes b.cache_blocks b.depth b.root };
 }
 
-impl<A: Allocator> Tree<A> {
+impl<A: Allocator + Clone> Tree<A> {
     /// A tree of so many cache blocks, 1,048,576 at most, none of which is mapped. It takes no memory.
     pub fn new(alloc: A, cache_blocks: u32) -> Tree<A>
         requires { cache_blocks ≤ 1048576 }
@@ -45,11 +53,11 @@ impl<A: Allocator> Tree<A> {
         ensures known { result.known ≡ [] }
         ensures sound { IsSound result }
     {
-        let entries = Vec::new(alloc);
         Tree {
+            alloc,
             cache_blocks,
-            entries,
-            known: None,
+            depth: depth_for(cache_blocks),
+            root: None,
         }
     }
 
@@ -60,20 +68,22 @@ impl<A: Allocator> Tree<A> {
         ensures sound { IsSound self.now }
     {
         let CBlock(block) = c;
-        match self.entries.get(block as usize) {
-            Some(entry) => *entry,
+        match &self.root {
+            Some(root) => root.get(block),
             None => None,
         }
     }
 
     /// Gives a cache block, which is one of the tree's, an entry. Where it has that entry already, nothing changes;
-    /// else the nodes above it count as changed. `Memory` where the tree has to grow and cannot; the tree is then as
-    /// it was.
+    /// else the nodes above it count as changed, and no others. `Memory` where a box that is missing cannot be had;
+    /// the tree is then as it was.
     pub fn set(&mut self, c: CBlock, entry: Entry) -> Result<(), Refusal>
         requires { c.0 < length self.old.entries }
         ensures entries { OnOk result (self.new.entries ≡ slice_set self.old.entries c.0 (Some entry)) }
         ensures same { entry_at self.old c.0 ≡ Some entry → self.new ≡ self.old }
         ensures forgets { OnOk result (entry_at self.old c.0 ≢ Some entry → Forgets self.old self.new c.0) }
+        ensures stays_off { (level index : ℕ) → (IsOnPath c.0 level index → ⊥)
+            → place_of self.new level index ≡ place_of self.old level index }
         ensures edited { IsEdited self.old self.new }
         ensures err { OnErr result (self.new ≡ self.old) }
         ensures refused { IfErr result (λ refusal. refusal ≡ OutOfMemory) }
@@ -83,35 +93,49 @@ impl<A: Allocator> Tree<A> {
             return Ok(());
         }
         let CBlock(block) = c;
-        let at = block as usize;
-        if at >= self.entries.len() {
-            self.entries.resize(at + 1, None)?;
+        match self.root.take() {
+            Some(mut root) => {
+                let done = root.set(&self.alloc, block, entry);
+                self.root = Some(root);
+                done?;
+                Ok(())
+            }
+            None => {
+                self.root = Some(boxed(&self.alloc, self.depth, 0, block, entry)?);
+                Ok(())
+            }
         }
-        self.entries[at] = Some(entry);
-        self.known = None;
-        Ok(())
     }
 
-    /// Takes the entry of a cache block, which is one of the tree's, away. Where it has none, nothing changes; else
-    /// the nodes above it count as changed. It takes no memory.
+    /// Takes the entry of a cache block, which is one of the tree's, away, and drops the boxes that have no entry
+    /// left. Where the cache block has none, nothing changes; else the nodes above it count as changed, and no
+    /// others. It takes no memory.
     pub fn clear(&mut self, c: CBlock)
         requires { c.0 < length self.old.entries }
         ensures entries { self.new.entries ≡ slice_set self.old.entries c.0 None }
         ensures same { entry_at self.old c.0 ≡ None → self.new ≡ self.old }
         ensures forgets { IsSome (entry_at self.old c.0) → Forgets self.old self.new c.0 }
+        ensures stays_off { (level index : ℕ) → (IsOnPath c.0 level index → ⊥)
+            → place_of self.new level index ≡ place_of self.old level index }
         ensures edited { IsEdited self.old self.new }
         ensures sound { IsSound self.new }
     {
-        let CBlock(block) = c;
-        let at = block as usize;
-        if at < self.entries.len() && self.entries[at].is_some() {
-            self.entries[at] = None;
-            self.known = None;
+        if self.get(c).is_none() {
+            return;
         }
+        let CBlock(block) = c;
+        let Some(mut root) = self.root.take() else {
+            return;
+        };
+        if !root.clear(block) {
+            return;
+        }
+        self.root = Some(root);
     }
 
     /// The image of this generation: the nodes that changed since the last one, on the first of the free places, and
-    /// a root with this `clean` flag. After it no node counts as changed. It is on the caller to write it.
+    /// a root with this `clean` flag. After it no node counts as changed. It is on the caller to write it. Of the
+    /// nodes it visits those that changed and their children; the list of used places takes a look at every node.
     ///
     /// `Memory` where there is no room for the image or for what the nodes are remembered by; the tree is then as it
     /// was.
@@ -133,39 +157,125 @@ impl<A: Allocator> Tree<A> {
         ensures sound { IsSound self.new }
         ensures inside { AreInside geometry.now.meta_sectors self.new }
     {
-        if let Some(known) = &self.known {
-            let none = Vec::new(global);
-            return Image::new(global, geometry, generation, clean, none, known);
-        }
         let plan = Planning {
-            entries: &self.entries,
-            depth: geometry.depth(),
+            tree: &*self,
             generation,
             free,
         };
-        let nodes = plan_nodes(global, &plan)?;
-        let known = known_of(global, &nodes)?;
-        let image = Image::new(global, geometry, generation, clean, nodes, &known)?;
-        self.known = Some(known);
-        Ok(image)
+        let mut nodes = Vec::new(global);
+        let top = plan_node(&plan, self.depth, 0, &mut nodes)?;
+        let settled = known_of(global, &nodes)?;
+        let used = self.places(global, &settled)?;
+        self.settle(&settled);
+        let root = Root {
+            generation,
+            version: Version::One,
+            clean,
+            geometry: *geometry,
+            top,
+        };
+        Ok(Image { root, nodes, used })
     }
 
-    /// A tree of these entries, one for each cache block, with these nodes, which are all or not known.
+    /// A tree of these entries, one for each cache block, of which these nodes are known. `Memory` where there is no
+    /// room for it.
     pub(crate) fn of_entries(
+        alloc: A,
         cache_blocks: u32,
-        entries: Vec<Option<Entry>, A>,
-        known: Option<Vec<PlacedNode>>,
-    ) -> Tree<A>
-        requires size { length entries.items ≡ cache_blocks }
-        requires fields { AreFields cache_blocks entries.items known }
-        ensures entries { result.entries ≡ entries.items }
-        ensures known { result.known ≡ known_nodes known }
-        ensures sound { IsSound result }
+        entries: &[Option<Entry>],
+        known: &[PlacedNode],
+    ) -> Result<Tree<A>, Refusal>
+        requires few { cache_blocks ≤ 1048576 }
+        requires size { length entries.now ≡ cache_blocks }
+        requires apart { AreApart known.now }
+        requires sound { IsSound (record { entries = entries.now; known = known.now }) }
+        ensures entries { IfOk result (λ tree. tree.entries ≡ entries.now) }
+        ensures places { IfOk result (λ tree. (level index : ℕ)
+            → place_of tree level index ≡ place_in known.now level index) }
+        ensures sound { IfOk result (λ tree. IsSound tree) }
+        ensures refused { IfErr result (λ refusal. refusal ≡ OutOfMemory) }
     {
-        Tree {
-            cache_blocks,
-            entries,
-            known,
+        let mut tree = Tree::new(alloc, cache_blocks);
+        for block in 0..cache_blocks {
+            if let Some(entry) = entries[block as usize] {
+                tree.set(CBlock(block), entry)?;
+            }
         }
+        tree.settle(known);
+        Ok(tree)
+    }
+
+    /// How many cache blocks it has.
+    pub(crate) fn cache_blocks(&self) -> u32
+        ensures { result ≡ length self.now.entries }
+    {
+        self.cache_blocks
+    }
+
+    /// Whether the node of this level and index has an entry below it, and then where it stands, if it is known.
+    pub(crate) fn look(&self, level: u32, index: u32) -> Option<Option<Place>>
+        requires from { 1 ≤ level }
+        requires to { level ≤ depth_of (length self.now.entries) }
+        requires index { index < 32 ^ (depth_of (length self.now.entries) - level) }
+        ensures there { is_some result ≡ exists self.now.entries level index }
+        ensures place { place_told result ≡ place_of self.now level index }
+    {
+        match &self.root {
+            Some(root) => root.look(level, index),
+            None => None,
+        }
+    }
+
+    /// The places of the known nodes, and then those of these. `Memory` where there is no room for them.
+    fn places(&self, global: Global, more: &[PlacedNode]) -> Result<Vec<Place>, Refusal>
+        ensures places { IfOk result (λ places. places.items
+            ≡ map (λ node. node.place) (self.now.known ++ more.now)) }
+        ensures refused { IfErr result (λ refusal. refusal ≡ OutOfMemory) }
+    {
+        let mut places = Vec::new(global);
+        if let Some(root) = &self.root {
+            root.collect(&mut places)?;
+        }
+        places.reserve(more.len())?;
+        for node in more {
+            places.push_reserved(node.place);
+        }
+        Ok(places)
+    }
+
+    /// These nodes, none of which was known, are known from now on.
+    fn settle(&mut self, nodes: &[PlacedNode])
+        requires apart { AreApart (self.old.known ++ nodes.now) }
+        requires sound { IsSound (record { entries = self.old.entries; known = self.old.known ++ nodes.now }) }
+        ensures entries { self.new.entries ≡ self.old.entries }
+        ensures places { (level index : ℕ)
+            → place_of self.new level index ≡ place_in (self.old.known ++ nodes.now) level index }
+        ensures sound { IsSound self.new }
+    {
+        let Some(mut root) = self.root.take() else {
+            return;
+        };
+        settle_all(&mut root, nodes);
+        self.root = Some(root);
+    }
+}
+
+/// The levels of a tree of so many cache blocks.
+#[tactic(auto, unfolding(wb_types::specs::Limits::depth_of))]
+fn depth_for(cache_blocks: u32) -> u32
+    requires { cache_blocks ≤ 1048576 }
+    ensures value { result ≡ depth_of cache_blocks }
+    ensures enough { cache_blocks ≤ 32 ^ result }
+    ensures from { 1 ≤ result }
+    ensures to { result ≤ 4 }
+{
+    if cache_blocks <= 32 {
+        1
+    } else if cache_blocks <= 1024 {
+        2
+    } else if cache_blocks <= 32_768 {
+        3
+    } else {
+        4
     }
 }

@@ -64,7 +64,7 @@ higher level from off = not_same level 1 off
 leaf_is : {A : Type 0} (level index : ℕ) (place : Option Place) (words : List (Option Entry)) (kids : List (Option (Box Branch A))) → level ≡ 1 → (branch_of level index place words kids).entries ≡ words
 leaf_is level index place words kids e = rw e refl
 
-inner_is : {A : Type 0} (level index : ℕ) (place : Option Place) (words : List (Option Entry)) (kids : List (Option (Box Branch A))) → (level ≡ 1 → ⊥)
+pub inner_is : {A : Type 0} (level index : ℕ) (place : Option Place) (words : List (Option Entry)) (kids : List (Option (Box Branch A))) → (level ≡ 1 → ⊥)
     → (branch_of level index place words kids).entries ≡ entries_below (32 ^ (level - 1)) kids
 inner_is level index place words kids off = rw (not_same level 1 off) refl
 

@@ -12,6 +12,7 @@ use Rattle.wb_types.proofs.Truth.{yes}
 use Rattle.wb_tree.specs.declared.placed.PlacedNode.{PlacedNode}
 use Rattle.wb_tree.specs.Mapping.{Mapping, Forgets, IsOnPath, IsSound, place_in, place_of}
 use Rattle.wb_tree.specs.Edits.{IsEdited}
+use Rattle.wb_tree.specs.Fields.{AreApart}
 use Rattle.wb_tree.specs.Branches.{AreBoxes, Branch, IsSlot, boxes_of, entries_in, forget, known_in, rewritten, sole_branch}
 use Rattle.wb_tree.proofs.Reading.Grown.{up_block}
 use Rattle.wb_tree.proofs.Nodes.Knowing.{none_or_some, same_names}
@@ -63,6 +64,20 @@ pub still_known : (block : ℕ) (known : List PlacedNode) (level index : ℕ) (p
 still_known block known level index place h = elim (cases_eq (block / 32 ^ level) index) [
   | inl on ↦ absurd (none_or_some (place_in (forget block known) level index) place (forgot_on block known level index on) h)
   | inr off ↦ (off, sym (forgot_off block known level index off) ∙ h)
+]
+
+forget_none : (block : ℕ) (known : List PlacedNode) (level index : ℕ) → place_in known level index ≡ None → place_in (forget block known) level index ≡ None
+forget_none block known level index none = elim (cases_eq (block / 32 ^ level) index) [
+  | inl on ↦ forgot_on block known level index on
+  | inr off ↦ forgot_off block known level index off ∙ none
+]
+
+-- no node comes twice
+forget_apart : (block : ℕ) (known : List PlacedNode) → AreApart known → AreApart (forget block known)
+forget_apart block [] apart = tt
+forget_apart block (node ∷ known) apart = elim (cases_Bool (block / 32 ^ node.level == node.index)) [
+  | inl above ↦ rw above (forget_apart block known apart.1)
+  | inr off ↦ rw off (forget_none block known node.level node.index apart.0, forget_apart block known apart.1)
 ]
 
 pub changed-forgets : (m : Mapping) (block : ℕ) (v : Option Entry) → Forgets m (changed_at m block v) block
@@ -165,14 +180,18 @@ next-boxes cache_blocks depth root next block v less are is = record {
   from = are.from;
   to = are.to;
   enough = are.enough;
+  levels = are.levels;
   top = is.top;
+  once = subst AreApart (sym is.known) (forget_apart block (known_in root) are.once);
   sound = subst IsSound (sym (next-tree cache_blocks depth root next block v less is)) (changed-sound (boxes_of cache_blocks depth root) block v are.sound);
   ends = ap (λ es. drop cache_blocks es) is.entries ∙ (drop-set-lt cache_blocks (entries_in (32 ^ depth) root) block v less ∙ are.ends);
 }
 
 -- a tree without a box
-pub none-boxes : {A : Type 0} (cache_blocks depth : ℕ) → cache_blocks ≤ 1048576 → 1 ≤ depth → depth ≤ 4 → cache_blocks ≤ 32 ^ depth → AreBoxes {A = A} cache_blocks depth None
-none-boxes {A} cache_blocks depth few from to enough = record {
+pub none-boxes : {A : Type 0} (cache_blocks depth : ℕ) → depth ≡ depth_of cache_blocks → cache_blocks ≤ 1048576 → 1 ≤ depth → depth ≤ 4 → cache_blocks ≤ 32 ^ depth → AreBoxes {A = A} cache_blocks depth None
+none-boxes {A} cache_blocks depth levels few from to enough = record {
+  levels = levels;
+  once = tt;
   few = few;
   from = from;
   to = to;

@@ -1,17 +1,15 @@
 -- When a root and nodes are the image of a tree.
-use Rattle.std.proofs.Common.{◌≡◌, ◌∙◌, sym, ap, subst, refl, ℕ, Bool, List, [], Some, Ok, Err, map, take, length, arith}
-use Rattle.std.specs.Prelude.{◌↔◌, All, Contains, IfOk, Result, slice_get}
+use Rattle.std.proofs.Common.{◌≡◌, sym, ap, subst, ℕ, Bool, List, Some, map, take, length, arith}
+use Rattle.std.specs.Prelude.{◌↔◌, All, Contains, slice_get}
 use Rattle.std.proofs.lemmas.List.{length-map}
-use Rattle.std.proofs.lemmas.List.Elements.{All-nil}
 use Rattle.wb_types.specs.Limits.{depth_of}
 use Rattle.wb_types.specs.declared.geometry.Geometry.{Geometry}
 use Rattle.wb_types.specs.declared.number.Place.{Place}
-use Rattle.wb_types.specs.declared.refusal.Refusal.{Refusal}
 use Rattle.wb_format.specs.declared.node.Node.{Node}
 use Rattle.wb_format.specs.declared.version.Version.TheVariants.{One}
 use Rattle.wb_tree.specs.declared.image.Image.{Image}
 use Rattle.wb_tree.specs.declared.placed.PlacedNode.{PlacedNode}
-use Rattle.wb_tree.specs.Mapping.{Mapping, IsSound, IsPlaceOf, place_in, place_of, changed}
+use Rattle.wb_tree.specs.Mapping.{Mapping, IsSound, IsPlaceOf, place_of, changed}
 use Rattle.wb_tree.specs.Images.{HasWordsOf, IsImage, name_of}
 use Rattle.wb_tree.specs.Fields.{IsComplete}
 use Rattle.wb_tree.proofs.Nodes.Knowing.{places, used-are, used-once}
@@ -27,44 +25,25 @@ pub record WritesChanged (m n : Mapping) (geometry : Geometry) (generation : ℕ
   pub words : All (λ node. HasWordsOf n node.1) nodes
 
 -- what was made is the image
-pub image-is : (r : Result Image Refusal) (m n : Mapping) (geometry : Geometry) (generation : ℕ) (clean : Bool) (free : List Place) (nodes : List (Place × Node)) (known : List PlacedNode)
-    → WritesChanged m n geometry generation free nodes → IsSound n → IsComplete geometry.cache_blocks n → n.known ≡ known
-    → IfOk r (λ image. image.nodes.items ≡ nodes) → IfOk r (λ image. image.used.items ≡ places known) → IfOk r (λ image. image.root.generation ≡ generation) → IfOk r (λ image. image.root.version ≡ One)
-    → IfOk r (λ image. image.root.clean ≡ clean) → IfOk r (λ image. image.root.geometry ≡ geometry) → IfOk r (λ image. image.root.top ≡ place_in known (depth_of geometry.cache_blocks) 0)
-    → IfOk r (IsImage m n (record { geometry = geometry; generation = generation; clean = clean; free = free }))
-image-is (Err refusal) m n geometry generation clean free nodes known w sound complete same ns us g v c s t = tt
-image-is (Ok image) m n geometry generation clean free nodes known w sound complete same ns us g v c s t =
-    let used : places n.known ≡ image.used.items = ap places same ∙ sym us in
-    let written : WritesChanged m n geometry generation free image.nodes.items = subst (WritesChanged m n geometry generation free) (sym ns) w in
-    record {
-      same_entries = written.same_entries;
-      stays = written.stays;
-      none_changed = complete.all;
-      nodes_are = written.nodes_are;
-      places_are = written.places_are;
-      stands = written.stands;
-      generations = written.generations;
-      words = written.words;
-      used_are = subst (λ (ps : List Place). (place : Place) → Contains ps place ↔ IsPlaceOf n place) used (used-are n complete.once);
-      used_few = omega (arith, complete.few, length-map n.known (λ (node : PlacedNode). node.place), ap length used);
-      used_once = subst (λ (ps : List Place). (i j : ℕ) (place : Place) → slice_get ps i ≡ Some place → slice_get ps j ≡ Some place → i ≡ j) used (used-once n complete.once sound);
-      root_generation = g;
-      root_version = v;
-      root_clean = c;
-      root_geometry = s;
-      root_top = t ∙ ap (λ (ks : List PlacedNode). place_in ks (depth_of geometry.cache_blocks) 0) (sym same);
-    }
-
--- where all nodes are known none is written
-pub none-written_is : (m : Mapping) (geometry : Geometry) (generation : ℕ) (free : List Place) (nodes : List (Place × Node)) → IsComplete geometry.cache_blocks m → nodes ≡ [] → WritesChanged m m geometry generation free nodes
-none-written_is m geometry generation free nodes complete e =
-    let none : List (Place × Node) = [] in
-    subst (WritesChanged m m geometry generation free) (sym e) (record {
-      same_entries = refl;
-      stays = λ level index place h. h;
-      nodes_are = sym complete.all;
-      places_are = refl;
-      stands = All-nil (λ (node : Place × Node). place_of m node.1.level node.1.index ≡ Some node.0);
-      generations = All-nil (λ (node : Place × Node). node.1.generation ≡ generation);
-      words = All-nil (λ (node : Place × Node). HasWordsOf m node.1);
-    })
+pub image-is : (m n : Mapping) (geometry : Geometry) (generation : ℕ) (clean : Bool) (free : List Place) (image : Image)
+    → WritesChanged m n geometry generation free image.nodes.items → IsSound n → IsComplete geometry.cache_blocks n → image.used.items ≡ places n.known → image.root.generation ≡ generation → image.root.version ≡ One
+    → image.root.clean ≡ clean → image.root.geometry ≡ geometry → image.root.top ≡ place_of n (depth_of geometry.cache_blocks) 0
+    → IsImage m n (record { geometry = geometry; generation = generation; clean = clean; free = free }) image
+image-is m n geometry generation clean free image written sound complete used g v c s t = record {
+  same_entries = written.same_entries;
+  stays = written.stays;
+  none_changed = complete.all;
+  nodes_are = written.nodes_are;
+  places_are = written.places_are;
+  stands = written.stands;
+  generations = written.generations;
+  words = written.words;
+  used_are = subst (λ (ps : List Place). (place : Place) → Contains ps place ↔ IsPlaceOf n place) (sym used) (used-are n complete.once);
+  used_few = omega (arith, complete.few, length-map n.known (λ (node : PlacedNode). node.place), ap length used);
+  used_once = subst (λ (ps : List Place). (i j : ℕ) (place : Place) → slice_get ps i ≡ Some place → slice_get ps j ≡ Some place → i ≡ j) (sym used) (used-once n complete.once sound);
+  root_generation = g;
+  root_version = v;
+  root_clean = c;
+  root_geometry = s;
+  root_top = t;
+}

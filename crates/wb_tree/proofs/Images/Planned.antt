@@ -1,25 +1,30 @@
--- The tree whose nodes all stand at the first of some free places.
-use Rattle.std.proofs.Common.{◌≡◌, ◌≤◌, ◌<◌, ◌+◌, ◌∙◌, ◌&&◌, ◌==◌, sym, ap, subst, refl, ℕ, true, List, [], ◌∷◌, Option, Some, None, map, take, length, inl, inr, arith}
-use Rattle.std.specs.Prelude.{IsSome, slice_get}
+-- The tree whose changed nodes all stand at the first of some free places.
+use Rattle.std.proofs.Common.{◌≡◌, ◌≤◌, ◌+◌, ◌∙◌, ◌&&◌, ◌==◌, sym, ap, subst, refl, ℕ, true, false, is_some, List, [], ◌∷◌, ◌++◌, Option, Some, None, map, take, length, inl, inr, arith}
+use Rattle.std.specs.Prelude.{◌⊎◌, IsSome, slice_get, if◌then◌else◌}
 use Rattle.std.specs.List.{AllByRecursion}
+use Rattle.std.proofs.lemmas.Bool.{cases_Bool}
 use Rattle.std.proofs.lemmas.List.{length-map}
 use Rattle.std.proofs.lemmas.List.Elements.{All-weaker}
-use Rattle.wb_types.specs.Limits.{depth_of}
+use Rattle.wb_types.specs.Limits.{depth_of, node_count}
 use Rattle.wb_types.specs.declared.geometry.Geometry.{Geometry}
 use Rattle.wb_types.specs.declared.entry.Entry.{Entry}
 use Rattle.wb_types.specs.declared.number.Place.{Place}
 use Rattle.wb_format.specs.declared.node.Node.{Node}
 use Rattle.wb_tree.specs.declared.placed.PlacedNode.{PlacedNode}
-use Rattle.wb_tree.specs.Mapping.{Mapping, NodeName, IsSound, AreInside, exists, nodes_of, place_in, place_of, changed, changed_of}
-use Rattle.wb_tree.specs.Images.{HasWordsOf, name_of}
-use Rattle.wb_tree.specs.Planning.{placed, planned, names, IsWritten, AreWritten}
-use Rattle.wb_tree.specs.Fields.{IsComplete}
+use Rattle.wb_tree.specs.Mapping.{Mapping, NodeName, IsMapping, IsSound, AreInside, exists, nodes_of, place_in, place_of, changed, changed_of}
+use Rattle.wb_tree.specs.Images.{AreFree, HasWordsOf, name_of}
+use Rattle.wb_tree.specs.Planning.{placed, planned, levels, names, IsWritten, AreWritten, MayPlan}
+use Rattle.wb_tree.specs.Fields.{AreApart, IsComplete}
+use Rattle.wb_tree.proofs.Nodes.Alike.{AreAlike}
 use Rattle.wb_tree.proofs.Nodes.Counting.{count-nodes}
-use Rattle.wb_tree.proofs.Nodes.Names.{IsBelow, has, same_name, nodes_below-below, nodes_below-exist, nodes_below-apart, nodes_below-closed}
-use Rattle.wb_tree.proofs.Nodes.Placing.{placed-apart, placed-some, placed-had, placed-looked, placed-take, places_of}
-use Rattle.wb_tree.proofs.Images.PlanSteps.{planned-is}
+use Rattle.wb_tree.proofs.Nodes.Names.{IsBelow, has, same_name, nodes_below-below, nodes_below-exist}
+use Rattle.wb_tree.proofs.Nodes.Placing.{IsPlaced, placed-apart, placed-some, placed-had, placed-is, placed-none, placed-take}
+use Rattle.wb_tree.proofs.Nodes.Listed.{exists_listed, unknown_changed}
+use Rattle.wb_tree.proofs.Nodes.Knowing.{known-behind, same_names}
+use Rattle.wb_tree.proofs.Images.PlanSteps.{changed-apart, changed-exist, changed_of-all, changed_of-few, planned-known, planned-new}
 use Rattle.wb_tree.proofs.Images.Imaging.{WritesChanged}
-use Rattle.wb_types.proofs.Truth.{either_true}
+use Rattle.wb_tree.proofs.Branching.Looks.{place_right}
+use Rattle.wb_types.proofs.Truth.{either_true, yes}
 
 -- what each of these nodes has, a listed one has
 each_had : (P : NodeName → Type 0) (nodes : List NodeName) (level index : ℕ) → AllByRecursion P nodes → has nodes level index ≡ true → P (record { level = level; index = index })
@@ -29,33 +34,67 @@ each_had P (node ∷ nodes) level index each h = elim (either_true ((node.level 
   | inr later ↦ each_had P nodes level index each.1 later
 ]
 
--- where each of these nodes has a place none counts as changed
-none_changed : (m : Mapping) (nodes : List NodeName) (places : List Place) → places_of m.known nodes ≡ map Some places → changed_of m nodes ≡ []
-none_changed m [] places h = refl
-none_changed m (node ∷ nodes) [] h = absurd cc
-none_changed m (node ∷ nodes) (place ∷ places) h =
-    let here : place_in m.known node.level node.index ≡ Some place = cc in
-    let rest : places_of m.known nodes ≡ map Some places = cc in
-    rw here (none_changed m nodes places rest)
+-- what it takes for the free places to be those of a tree's changed nodes
+pub record CanPlace (m : Mapping) (geometry : Geometry) (free : List Place) : Type 0 where
+  pub size : length m.entries ≡ geometry.cache_blocks
+  pub sound : IsSound m
+  pub once : AreApart m.known
+  pub inside : AreInside geometry.meta_sectors m
+  pub are : AreFree m geometry free
 
--- of a tree of which no node is known all count as changed
-all_changed : (m : Mapping) → m.known ≡ [] → (nodes : List NodeName) → changed_of m nodes ≡ nodes
-all_changed m e [] = refl
-all_changed m e (node ∷ nodes) = rw e (ap (λ (ns : List NodeName). node ∷ ns) (all_changed m e nodes))
+few_enough : (m : Mapping) (geometry : Geometry) (free : List Place) → CanPlace m geometry free → length (changed m (levels m)) ≤ length free
+few_enough m geometry free can =
+    let are = can.are in
+    let enough = are.enough in
+    let size = can.size in
+    let all = changed_of-few m (nodes_of m.entries (levels m)) in
+    let most = count-nodes m.entries (length m.entries) (omega arith) in
+    omega (arith, all, most, ap node_count size)
 
--- what it takes for the places to be those of a tree's nodes
-pub record CanPlace (entries : List (Option Entry)) (depth : ℕ) (geometry : Geometry) (free : List Place) : Type 0 where
-  pub size : length entries ≡ geometry.cache_blocks
-  pub levels : depth ≡ depth_of geometry.cache_blocks
-  pub enough : length (nodes_of entries depth) ≤ length free
-  pub behind : (i : ℕ) (place : Place) → slice_get free i ≡ Some place → 2 ≤ place.0
-  pub inside : (i : ℕ) (place : Place) → slice_get free i ≡ Some place → place.0 < geometry.meta_sectors
-  pub apart : (i j : ℕ) (place : Place) → slice_get free i ≡ Some place → slice_get free j ≡ Some place → i ≡ j
+pub may-plan : (m : Mapping) (geometry : Geometry) (free : List Place) → CanPlace m geometry free → IsMapping geometry.cache_blocks geometry.origin_blocks m.entries → MayPlan m free
+may-plan m geometry free can mapping =
+    let most = geometry.within.cache_to in
+    let origins = geometry.within.origin_to in
+    let size = can.size in
+    let are = can.are in
+    record {
+      sound = can.sound;
+      few = omega arith;
+      spelled = λ block entry e. let within = mapping.within block entry e in record { origin = omega arith; hint = within.1 };
+      enough = few_enough m geometry free can;
+      behind = are.behind;
+      known_behind = λ place h. (can.inside place h).0;
+    }
 
--- a node with a place is listed
-listed : (entries : List (Option Entry)) (depth : ℕ) (free : List Place) (level index : ℕ) (place : Place) → place_of (planned entries depth free) level index ≡ Some place → has (nodes_of entries depth) level index ≡ true
-unfolding planned
-listed entries depth free level index place h = placed-had (nodes_of entries depth) free level index place h
+-- ---- where a node then stands
+
+-- a node that stood, or one that changed
+pub record IsNewAt (m : Mapping) (free : List Place) (level index : ℕ) (place : Place) : Type 0 where
+  pub unknown : place_of m level index ≡ None
+  pub listed : has (changed m (levels m)) level index ≡ true
+  pub placed_at : IsPlaced (changed m (levels m)) free level index place
+
+pub planned-either : (m : Mapping) (free : List Place) (level index : ℕ) (place : Place) → place_of (planned m free) level index ≡ Some place → (place_of m level index ≡ Some place) ⊎ IsNewAt m free level index place
+planned-either m free level index place h = go (place_of m level index) refl
+  where
+    go : (o : Option Place) → place_of m level index ≡ o → (place_of m level index ≡ Some place) ⊎ IsNewAt m free level index place
+    go None none =
+        let there : place_in (placed (changed m (levels m)) free) level index ≡ Some place = sym (planned-new m free level index none) ∙ h in
+        inr (record { unknown = none; listed = placed-had (changed m (levels m)) free level index place there; placed_at = placed-is (changed m (levels m)) free level index place there })
+    go (Some other) known = inl (sym (let e : place_of (planned m free) level index ≡ Some other = planned-known m free level index other known in sym h ∙ (e ∙ sym known)))
+
+-- every node that exists stands somewhere
+planned-all : (m : Mapping) (geometry : Geometry) (free : List Place) (level index : ℕ) → CanPlace m geometry free → 1 ≤ level → level ≤ levels m → exists m.entries level index ≡ true → IsSome (place_of (planned m free) level index)
+planned-all m geometry free level index can from to there = go (place_of m level index) refl
+  where
+    most : length m.entries ≤ 1048576
+    most = let limit = geometry.within.cache_to in let size = can.size in omega arith
+
+    go : (o : Option Place) → place_of m level index ≡ o → IsSome (place_of (planned m free) level index)
+    go None none =
+        let listed : has (changed m (levels m)) level index ≡ true = unknown_changed m (length m.entries) level index refl most from to there none in
+        subst IsSome (sym (planned-new m free level index none)) (placed-some (changed m (levels m)) free level index (few_enough m geometry free can) listed)
+    go (Some place) known = ap is_some (planned-known m free level index place known)
 
 same_node : (a b a' b' : ℕ) (o : Option NodeName) → o ≡ Some (record { level = a; index = b }) → o ≡ Some (record { level = a'; index = b' }) → (a ≡ a') × (b ≡ b')
 same_node a b a' b' o p q =
@@ -64,60 +103,165 @@ same_node a b a' b' o p q =
     let e : one ≡ other = cc in
     (ap (λ (n : NodeName). n.level) e, ap (λ (n : NodeName). n.index) e)
 
-planned_below : (entries : List (Option Entry)) (depth : ℕ) (free : List Place) (level index child : ℕ) → length (nodes_of entries depth) ≤ length free → has (nodes_of entries depth) level child ≡ true
-    → IsSome (place_of (planned entries depth free) level child)
-unfolding planned
-planned_below entries depth free level index child enough h = placed-some (nodes_of entries depth) free level child enough h
+-- a node of it exists, on one of its levels
+there_is : (m : Mapping) (geometry : Geometry) (free : List Place) (level index : ℕ) (place : Place) → CanPlace m geometry free → place_of (planned m free) level index ≡ Some place
+    → ((1 ≤ level) × (level ≤ levels m)) × (exists m.entries level index ≡ true)
+there_is m geometry free level index place can h = elim (planned-either m free level index place h) [
+  | inl known ↦ let sound = can.sound in (sound.known_level level index place known, sound.known_exist level index place known)
+  | inr new ↦
+      let b = each_had (IsBelow (levels m) 0 1) (changed m (levels m)) level index (changed_of-all m (IsBelow (levels m) 0 1) (nodes_of m.entries (levels m)) (nodes_below-below m.entries (levels m) 0)) new.listed in
+      ((b.from, b.to), each_had (λ node. exists m.entries node.level node.index ≡ true) (changed m (levels m)) level index (changed-exist m) new.listed)
+]
 
-planned_entries : (entries : List (Option Entry)) (depth : ℕ) (free : List Place) → (planned entries depth free).entries ≡ entries
+planned_entries : (m : Mapping) (free : List Place) → (planned m free).entries ≡ m.entries
 unfolding planned
-planned_entries entries depth free = refl
+planned_entries m free = refl
 
 -- such a tree is sound
-pub planned-sound : (entries : List (Option Entry)) (depth : ℕ) (geometry : Geometry) (free : List Place) → CanPlace entries depth geometry free → IsSound (planned entries depth free)
+pub planned-sound : (m : Mapping) (geometry : Geometry) (free : List Place) → CanPlace m geometry free → IsSound (planned m free)
 unfolding planned
-planned-sound entries depth geometry free can =
+planned-sound m geometry free can =
+    let are = can.are in
+    let sound = can.sound in
     record {
-      known_level = λ level index place h.
-          let b = each_had (IsBelow depth 0 1) (nodes_of entries depth) level index (nodes_below-below entries depth 0) (listed entries depth free level index place h) in
-          let e : depth ≡ depth_of (length entries) = can.levels ∙ ap depth_of (sym can.size) in
-          (b.from, subst (λ d. level ≤ d) e b.to);
-      known_exist = λ level index place h. each_had (λ node. exists entries node.level node.index ≡ true) (nodes_of entries depth) level index (nodes_below-exist entries depth 0) (listed entries depth free level index place h);
-      known_below = λ level index child place some h e there.
-          planned_below entries depth free level index child can.enough (nodes_below-closed entries depth 0 level index child some (listed entries depth free (level + 1) index place h) e there);
+      known_level = λ level index place h. (there_is m geometry free level index place can h).0;
+      known_exist = λ level index place h. (there_is m geometry free level index place can h).1;
+      known_below = λ level index child place some h e there. let up = (there_is m geometry free (level + 1) index place can h).0 in planned-all m geometry free level child can some (let to = up.1 in omega arith) there;
       apart = λ level index level' index' place h h'.
-          let p = planned-is entries depth free level index place h in
-          let q = planned-is entries depth free level' index' place h' in
-          let at : p.at ≡ q.at = can.apart p.at q.at place p.there q.there in
-          same_node level index level' index' (slice_get (nodes_of entries depth) p.at) p.node (ap (λ k. slice_get (nodes_of entries depth) k) at ∙ q.node);
+          elim (planned-either m free level index place h) [
+            | inl old ↦ elim (planned-either m free level' index' place h') [
+              | inl old' ↦ sound.apart level index level' index' place old old'
+              | inr new' ↦ absurd (are.unused new'.placed_at.at place new'.placed_at.there (record { level = level; index = index; known = old }))
+            ]
+            | inr new ↦ elim (planned-either m free level' index' place h') [
+              | inl old' ↦ absurd (are.unused new.placed_at.at place new.placed_at.there (record { level = level'; index = index'; known = old' }))
+              | inr new' ↦
+                  let p = new.placed_at in
+                  let q = new'.placed_at in
+                  let at : p.at ≡ q.at = are.apart p.at q.at place p.there q.there in
+                  same_node level index level' index' (slice_get (changed m (levels m)) p.at) p.node (ap (λ k. slice_get (changed m (levels m)) k) at ∙ q.node)
+            ]
+          ];
     }
 
-placed-few : (names : List NodeName) (places : List Place) → length (placed names places) ≤ length names
-placed-few [] places = omega arith
-placed-few (name ∷ names) [] = omega arith
-placed-few (name ∷ names) (place ∷ places) = omega (arith, placed-few names places)
+-- and stands on the device
+pub planned-inside : (m : Mapping) (geometry : Geometry) (free : List Place) → CanPlace m geometry free → AreInside geometry.meta_sectors (planned m free)
+planned-inside m geometry free can place h = elim (planned-either m free h.level h.index place h.known) [
+  | inl old ↦ can.inside place (record { level = h.level; index = h.index; known = old })
+  | inr new ↦ let are = can.are in let p = new.placed_at in (are.behind p.at place p.there, are.inside p.at place p.there)
+]
+
+-- ---- no node comes twice, and they are few
+
+apart_both : (xs ys : List PlacedNode) → AreApart xs → AreApart ys → ((level index : ℕ) (place : Place) → place_in xs level index ≡ Some place → place_in ys level index ≡ None) → AreApart (xs ++ ys)
+apart_both [] ys p q off = q
+apart_both (x ∷ xs) ys p q off =
+    let here : place_in (x ∷ xs) x.level x.index ≡ Some x.place = rw (yes x.level, yes x.index) refl in
+    (place_right xs ys x.level x.index p.0 ∙ off x.level x.index x.place here, apart_both xs ys p.1 q (λ level index place h. off level index place (known-behind x xs level index place p.0 h)))
+
+known_not_new : (m : Mapping) (free : List Place) (level index : ℕ) (place : Place) → place_of m level index ≡ Some place → place_in (placed (changed m (levels m)) free) level index ≡ None
+known_not_new m free level index place known = placed-none (changed m (levels m)) free level index (not_changed (nodes_of m.entries (levels m)))
+  where
+    not_changed : (nodes : List NodeName) → has (changed_of m nodes) level index ≡ false
+    not_changed [] = refl
+    not_changed (node ∷ nodes) = elim (cases_Bool (is_some (place_of m node.level node.index))) [
+      | inl was ↦ rw was (not_changed nodes)
+      | inr new ↦ elim (cases_Bool ((node.level == level) && (node.index == index))) [
+        | inl same ↦
+            let e = same_names node.level level node.index index same in
+            let some : is_some (place_of m node.level node.index) ≡ true = ap (λ l. is_some (place_of m l node.index)) e.0 ∙ (ap (λ i. is_some (place_of m level i)) e.1 ∙ ap is_some known) in
+            absurd (let both : true ≡ false = sym some ∙ new in cc)
+        | inr other ↦ rw (new, other) (not_changed nodes)
+      ]
+    ]
+
+planned-once : (m : Mapping) (geometry : Geometry) (free : List Place) → CanPlace m geometry free → AreApart (planned m free).known
+unfolding planned
+planned-once m geometry free can =
+    apart_both m.known (placed (changed m (levels m)) free) can.once (placed-apart (changed m (levels m)) free (changed-apart m)) (λ level index place h. known_not_new m free level index place h)
+
+-- the names without the first of one name
+without : List NodeName → ℕ → ℕ → List NodeName
+without [] level index = []
+without (node ∷ nodes) level index = if (node.level == level) && (node.index == index) then nodes else node ∷ without nodes level index
+
+without-fewer : (nodes : List NodeName) (level index : ℕ) → has nodes level index ≡ true → length (without nodes level index) + 1 ≤ length nodes
+unfolding without
+without-fewer [] level index h = absurd cc
+without-fewer (node ∷ nodes) level index h = elim (cases_Bool ((node.level == level) && (node.index == index))) [
+  | inl same ↦ rw same (omega arith)
+  | inr other ↦ rw other (omega (arith, without-fewer nodes level index (rw (← h) (rw other refl))))
+]
+
+without-has : (nodes : List NodeName) (level index l i : ℕ) → ((level == l) && (index == i)) ≡ false → has nodes l i ≡ true → has (without nodes level index) l i ≡ true
+unfolding without
+without-has [] level index l i off h = h
+without-has (node ∷ nodes) level index l i off h = elim (cases_Bool ((node.level == level) && (node.index == index))) [
+  | inl same ↦
+      let e = same_names node.level level node.index index same in
+      let other : ((node.level == l) && (node.index == i)) ≡ false = ap (λ n. (n == l) && (node.index == i)) e.0 ∙ (ap (λ n. (level == l) && (n == i)) e.1 ∙ off) in
+      rw same (rw (← h) (rw other refl))
+  | inr differs ↦ elim (cases_Bool ((node.level == l) && (node.index == i))) [
+    | inl here ↦ rw differs (rw here refl)
+    | inr later ↦ rw differs (rw later (without-has nodes level index l i off (rw (← h) (rw later refl))))
+  ]
+]
+
+some_or_none : (o : Option Place) (place : Place) → o ≡ None → o ≡ Some place → ⊥
+some_or_none o place a b = absurd cc
+
+-- nodes of which none comes twice are no more than the names among which they are
+few_known : (known : List PlacedNode) (nodes : List NodeName) → AreApart known → ((level index : ℕ) (place : Place) → place_in known level index ≡ Some place → has nodes level index ≡ true) → length known ≤ length nodes
+few_known [] nodes apart among = omega arith
+few_known (x ∷ known) nodes apart among =
+    let here : place_in (x ∷ known) x.level x.index ≡ Some x.place = rw (yes x.level, yes x.index) refl in
+    let fewer = without-fewer nodes x.level x.index (among x.level x.index x.place here) in
+    let rest = few_known known (without nodes x.level x.index) apart.1 (λ level index place h.
+    without-has nodes x.level x.index level index
+    (differ x known level index place apart.0 h) (among level index place (known-behind x known level index place apart.0 h))) in
+    omega (arith, fewer, rest)
+  where
+    differ : (x : PlacedNode) (known : List PlacedNode) (level index : ℕ) (place : Place) → place_in known x.level x.index ≡ None → place_in known level index ≡ Some place → ((x.level == level) && (x.index == index)) ≡ false
+    differ x known level index place none h = elim (cases_Bool ((x.level == level) && (x.index == index))) [
+      | inl same ↦
+          let e = same_names x.level level x.index index same in
+          absurd (some_or_none (place_in known x.level x.index) place none (ap (λ l. place_in known l x.index) e.0 ∙ (ap (λ i. place_in known level i) e.1 ∙ h)))
+      | inr other ↦ other
+    ]
+
+-- where each of these nodes has a place none counts as changed
+nothing_new : (m : Mapping) (nodes : List NodeName) → AllByRecursion (λ node. IsSome (place_of m node.level node.index)) nodes → changed_of m nodes ≡ []
+nothing_new m [] each = refl
+nothing_new m (node ∷ nodes) each = let here : is_some (place_of m node.level node.index) ≡ true = each.0 in rw here (nothing_new m nodes each.1)
+
+each_is : (P Q R : NodeName → Type 0) → ((node : NodeName) → P node → Q node → R node) → (nodes : List NodeName) → AllByRecursion P nodes → AllByRecursion Q nodes → AllByRecursion R nodes
+each_is P Q R f [] p q = tt
+each_is P Q R f (node ∷ nodes) p q = (f node p.0 q.0, each_is P Q R f nodes p.1 q.1)
 
 -- all its nodes are known
-pub planned-complete : (entries : List (Option Entry)) (depth : ℕ) (geometry : Geometry) (free : List Place) → CanPlace entries depth geometry free → IsComplete geometry.cache_blocks (planned entries depth free)
-unfolding planned
-planned-complete entries depth geometry free can = record {
-  once = placed-apart (nodes_of entries depth) free (nodes_below-apart entries depth 0);
-  few =
-      let long = placed-few (nodes_of entries depth) free in
-      let most = count-nodes entries geometry.cache_blocks (omega (arith, can.size)) in
-      let same : length (nodes_of entries depth) ≡ length (nodes_of entries (depth_of geometry.cache_blocks)) = ap (λ d. length (nodes_of entries d)) can.levels in
-      omega (arith, long, most, same);
-  all =
-      let m : Mapping = planned entries depth free in
-      ap (changed m) (sym can.levels)
-      ∙ none_changed m (nodes_of entries depth) (take (length (nodes_of entries depth)) free) (placed-looked (nodes_of entries depth) free (nodes_below-apart entries depth 0) can.enough);
-}
-
--- and stand on the device
-pub planned-inside : (entries : List (Option Entry)) (depth : ℕ) (geometry : Geometry) (free : List Place) → CanPlace entries depth geometry free → AreInside geometry.meta_sectors (planned entries depth free)
-planned-inside entries depth geometry free can place h =
-    let p = planned-is entries depth free h.level h.index place h.known in
-    (can.behind p.at place p.there, can.inside p.at place p.there)
+pub planned-complete : (m : Mapping) (geometry : Geometry) (free : List Place) → CanPlace m geometry free → IsComplete geometry.cache_blocks (planned m free)
+planned-complete m geometry free can =
+    let n : Mapping = planned m free in
+    let same : n.entries ≡ m.entries = planned_entries m free in
+    let size : length m.entries ≡ geometry.cache_blocks = can.size in
+    let limit = geometry.within.cache_to in
+    let deep : levels m ≡ depth_of geometry.cache_blocks = ap depth_of size in
+    record {
+      once = planned-once m geometry free can;
+      few =
+          let among = few_known n.known (nodes_of m.entries (depth_of (length m.entries))) (planned-once m geometry free can) (λ level index place h.
+          let there = there_is m geometry free level index place can h in
+          exists_listed m.entries (length m.entries) level index refl (omega arith) there.0.0 there.0.1 there.1) in
+          let most = count-nodes m.entries (length m.entries) (omega arith) in
+          omega (arith, among, most, ap node_count size);
+      all =
+          ap (λ (es : List (Option Entry)). changed_of n (nodes_of es (depth_of geometry.cache_blocks))) same
+          ∙ (ap (λ d. changed_of n (nodes_of m.entries d)) (sym deep)
+          ∙ nothing_new n (nodes_of m.entries (levels m))
+          (each_is (IsBelow (levels m) 0 1) (λ node. exists m.entries node.level node.index ≡ true) (λ node. IsSome (place_of n node.level node.index))
+          (λ node b there. planned-all m geometry free node.level node.index can b.from b.to there)
+          (nodes_of m.entries (levels m)) (nodes_below-below m.entries (levels m) 0) (nodes_below-exist m.entries (levels m) 0)));
+    }
 
 -- ---- what is remembered of the nodes that are written
 
@@ -129,28 +273,44 @@ placed-names : (nodes : List (Place × Node)) → map known_node nodes ≡ place
 placed-names [] = refl
 placed-names (node ∷ nodes) = ap (λ (ks : List PlacedNode). known_node node ∷ ks) (placed-names nodes)
 
--- the nodes that are written are those that are known afterwards
-pub known-planned : (entries : List (Option Entry)) (depth generation : ℕ) (free : List Place) (nodes : List (Place × Node)) → names nodes ≡ nodes_of entries depth
-    → AreWritten (planned entries depth free) generation free nodes → map known_node nodes ≡ (planned entries depth free).known
+-- with the nodes that are written the tree is the planned one
+pub known-planned : (m : Mapping) (generation : ℕ) (free : List Place) (nodes : List (Place × Node)) → names nodes ≡ changed m (levels m)
+    → AreWritten (planned m free) generation free nodes → m.known ++ map known_node nodes ≡ (planned m free).known
 unfolding planned
-known-planned entries depth generation free nodes same h =
+known-planned m generation free nodes same h =
     let long : length nodes ≡ length (names nodes) = sym (length-map nodes (λ (n : Place × Node). name_of n.1)) in
+    ap (λ (ks : List PlacedNode). m.known ++ ks) (
     placed-names nodes
     ∙ (ap (λ (ps : List Place). placed (names nodes) ps) (h.places ∙ ap (λ k. take k free) long)
-    ∙ (placed-take (names nodes) free ∙ ap (λ (ns : List NodeName). placed ns free) same))
+    ∙ (placed-take (names nodes) free ∙ ap (λ (ns : List NodeName). placed ns free) same)))
 
--- all nodes were written, as none was known
-pub all-written_is : (m : Mapping) (entries : List (Option Entry)) (depth : ℕ) (geometry : Geometry) (generation : ℕ) (free : List Place) (nodes : List (Place × Node)) → CanPlace entries depth geometry free
-    → m.entries ≡ entries → m.known ≡ [] → names nodes ≡ nodes_of entries depth → AreWritten (planned entries depth free) generation free nodes
-    → WritesChanged m (planned entries depth free) geometry generation free nodes
-all-written_is m entries depth geometry generation free nodes can same none ns h =
-    let n : Mapping = planned entries depth free in
+-- the changed nodes were written
+pub written_is : (m : Mapping) (geometry : Geometry) (generation : ℕ) (free : List Place) (nodes : List (Place × Node)) → CanPlace m geometry free
+    → names nodes ≡ changed m (levels m) → AreWritten (planned m free) generation free nodes → WritesChanged m (planned m free) geometry generation free nodes
+written_is m geometry generation free nodes can ns h =
+    let n : Mapping = planned m free in
     record {
-      same_entries = planned_entries entries depth free ∙ sym same;
-      stays = λ level index place e. let nothing : place_of m level index ≡ None = ap (λ (ks : List PlacedNode). place_in ks level index) none in absurd cc;
-      nodes_are = ns ∙ (sym (all_changed m none (nodes_of entries depth)) ∙ (ap (λ (es : List (Option Entry)). changed_of m (nodes_of es depth)) (sym same) ∙ ap (changed m) can.levels));
+      same_entries = planned_entries m free;
+      stays = λ level index place e. planned-known m free level index place e;
+      nodes_are = ns ∙ ap (λ b. changed m (depth_of b)) can.size;
       places_are = h.places;
       stands = All-weaker (IsWritten n generation) (λ (node : Place × Node). place_of n node.1.level node.1.index ≡ Some node.0) (λ node w. w.stands) nodes h.each;
       generations = All-weaker (IsWritten n generation) (λ (node : Place × Node). node.1.generation ≡ generation) (λ node w. w.written_in) nodes h.each;
       words = All-weaker (IsWritten n generation) (λ (node : Place × Node). HasWordsOf n node.1) (λ node w. w.words) nodes h.each;
     }
+
+-- ---- the tree from which and to which an image leads
+
+pub planned-with : (m : Mapping) (free : List Place) (known : List PlacedNode) → known ≡ (planned m free).known → planned m free ≡ record { entries = m.entries; known = known }
+unfolding planned
+planned-with m free known e = ap (λ (ks : List PlacedNode). record { entries = m.entries; known = ks }) (sym e)
+
+pub with-planned : (m : Mapping) (generation : ℕ) (free : List Place) (nodes : List (Place × Node)) (added : List PlacedNode) → added ≡ map known_node nodes → names nodes ≡ changed m (levels m)
+    → AreWritten (planned m free) generation free nodes → m.known ++ added ≡ (planned m free).known
+with-planned m generation free nodes added same ns written = ap (λ (ks : List PlacedNode). m.known ++ ks) same ∙ known-planned m generation free nodes ns written
+
+pub planned-alike : (m n : Mapping) (free : List Place) (known : List PlacedNode) → known ≡ (planned m free).known → n.entries ≡ m.entries → ((level index : ℕ) → place_of n level index ≡ place_in known level index) → AreAlike (planned m free) n
+planned-alike m n free known e entries places = record {
+  entries = entries ∙ sym (planned_entries m free);
+  places = λ level index. places level index ∙ ap (λ (ks : List PlacedNode). place_in ks level index) e;
+}

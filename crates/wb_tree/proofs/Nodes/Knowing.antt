@@ -46,7 +46,7 @@ known-at (node ∷ known) apart (suc at) place h =
     record { node = k.node; there = k.there; found = known-behind node known k.node.level k.node.index place apart.0 k.found }
 
 -- a node that is listed is found
-found_some : (known : List PlacedNode) (at : ℕ) (node : PlacedNode) → slice_get known at ≡ Some node → place_in known node.level node.index ≡ None → ⊥
+pub found_some : (known : List PlacedNode) (at : ℕ) (node : PlacedNode) → slice_get known at ≡ Some node → place_in known node.level node.index ≡ None → ⊥
 found_some [] at node h none = absurd cc
 found_some (first ∷ known) zero node h none =
     let e : first ≡ node = cc in

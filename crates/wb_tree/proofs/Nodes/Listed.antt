@@ -69,6 +69,12 @@ listed_up entries depth enough zero level index some e h =
 listed_up entries depth enough (suc up) level index some e h =
     nodes_below-closed entries depth 0 level (index / 32) index some (listed_up entries depth enough up (level + 1) (index / 32) (omega arith) (omega arith) (parent_exists entries level index h)) refl h
 
+-- a node that exists is one of the tree's
+pub exists_listed : (entries : List (Option Entry)) (blocks level index : ℕ) → length entries ≡ blocks → blocks ≤ 1048576 → 1 ≤ level → level ≤ depth_of blocks → exists entries level index ≡ true → has (nodes_of entries (depth_of blocks)) level index ≡ true
+exists_listed entries blocks level index size limit from to h =
+    let enough = depth_enough blocks limit in
+    listed_up entries (depth_of blocks) (omega arith) (depth_of blocks - level) level index from (omega arith) h
+
 changed_had : (m : Mapping) (nodes : List NodeName) (level index : ℕ) → has nodes level index ≡ true → place_of m level index ≡ None → has (changed_of m nodes) level index ≡ true
 changed_had m [] level index h none = h
 changed_had m (node ∷ nodes) level index h none =

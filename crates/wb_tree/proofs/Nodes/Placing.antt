@@ -46,7 +46,7 @@ places_of known nodes = map (λ node. place_in known node.level node.index) node
 flip_one : (a b : ℕ) → nat_eq a b ≡ nat_eq b a
 flip_one a b = grind (arith, nat_tests)
 
-flip : (a b c d : ℕ) → ((b == a) && (d == c)) ≡ false → ((a == b) && (c == d)) ≡ false
+pub flip : (a b c d : ℕ) → ((b == a) && (d == c)) ≡ false → ((a == b) && (c == d)) ≡ false
 flip a b c d h = ap (λ (t : Bool). t && (c == d)) (flip_one a b) ∙ (ap (λ (t : Bool). (b == a) && t) (flip_one c d) ∙ h)
 
 -- a node in front that is none of these changes no place of theirs

@@ -1,13 +1,12 @@
 -- The tree that was found, where every node that was reached has an entry below it: what holds of every tree holds of it, no
 -- node counts as changed, and each is read as the tree has it.
-use Rattle.std.proofs.Common.{◌≡◌, ◌≤◌, ◌<◌, ◌+◌, ◌-◌, ◌*◌, ◌/◌, ◌^◌, ◌∙◌, ◌&&◌, ◌==◌, sym, ap, subst, refl, ℕ, suc, true, leb, List, [], ◌∷◌, ◌++◌, Option, Some, None, Ok, length, replicate, get_or, take, drop, arith}
+use Rattle.std.proofs.Common.{◌≡◌, ◌≤◌, ◌<◌, ◌+◌, ◌*◌, ◌/◌, ◌^◌, ◌∙◌, ◌&&◌, ◌==◌, sym, ap, subst, refl, ℕ, suc, true, leb, List, [], ◌∷◌, Option, Some, None, Ok, length, get_or, take, drop, arith}
 use Rattle.std.specs.Prelude.{IsSome, is_some, slice_index_or, All}
 use Rattle.std.specs.List.{list_any, AllByRecursion}
 use Rattle.std.proofs.lemmas.Bool.{eqb-true}
 use Rattle.std.proofs.lemmas.Grind.{common_steps}
-use Rattle.std.proofs.lemmas.List.{get_or-take, get_or-drop, length-take, append-nil}
+use Rattle.std.proofs.lemmas.List.{get_or-take, get_or-drop, length-take}
 use Rattle.std.proofs.lemmas.Nat.{div-mul-add}
-use Rattle.std.specs.Global.{Vec}
 use Rattle.wb_types.specs.declared.entry.Entry.{Entry}
 use Rattle.wb_types.specs.Limits.{depth_of}
 use Rattle.wb_format.specs.declared.root.Root.{Root}
@@ -17,7 +16,7 @@ use Rattle.wb_tree.specs.Mapping.{Mapping, NodeName, IsSound, AreInside, place_i
 use Rattle.wb_tree.specs.Reading.{Found, Nodes, tree_read}
 use Rattle.wb_tree.specs.Images.{AreRead, word_at, name_of}
 use Rattle.wb_tree.specs.Loaded.{NodesHaveEntries, IsLoaded}
-use Rattle.wb_tree.specs.Fields.{AreApart, AreFields, padded}
+use Rattle.wb_tree.specs.Fields.{AreApart}
 use Rattle.wb_tree.proofs.Nodes.Names.{IsBelow, nodes_below-below, nodes_below-exist}
 use Rattle.wb_tree.proofs.Reading.PlacedLists.{one_name, place_in-reached, place_in-member, member-named}
 use Rattle.wb_tree.proofs.Reading.LoaderSteps.{depth_range}
@@ -120,9 +119,6 @@ loaded_read root nodes found h level index place e =
 
 -- ---- a tree that is made of what was found
 
-all_padded : (blocks : ℕ) (entries : List (Option Entry)) → length entries ≡ blocks → entries ≡ padded blocks entries
-all_padded blocks entries size = let none : blocks - length entries ≡ 0 = omega (arith, size) in sym (ap (λ n. entries ++ replicate n None) none ∙ append-nil entries)
-
 with_known : List (Option Entry) → List PlacedNode → Mapping
 with_known entries known = record { entries = entries; known = known }
 
@@ -136,30 +132,16 @@ unknown_sound entries = record {
   apart = λ level index level' index' place e e'. absurd cc;
 }
 
-pub fields_none : (blocks : ℕ) (entries : List (Option Entry)) → length entries ≡ blocks → AreFields blocks entries None
+-- no node, or all that were reached, can be known
+pub none_sound : (entries : List (Option Entry)) → IsSound (record { entries = entries; known = [] })
 unfolding with_known
-fields_none blocks entries size = record {
-  size = omega (arith, size);
-  sound = unknown_sound (padded blocks entries);
-  complete = tt;
-}
+none_sound entries = unknown_sound entries
 
--- all nodes that were reached are known
-pub fields_all : (root : Root) (nodes : Nodes) (found : Found) (known : Vec PlacedNode) → tree_read root nodes ≡ Ok found → known.items ≡ found.reached → NodesHaveEntries found → AreFields root.geometry.cache_blocks found.entries (Some known)
-unfolding with_known
-fields_all root nodes found known reads same whole =
-    let h = known_tree root nodes found reads in
-    let tree : with_known found.entries found.reached ≡ with_known (padded root.geometry.cache_blocks found.entries) known.items =
-    ap (λ es. with_known es found.reached) (all_padded root.geometry.cache_blocks found.entries h.size) ∙ ap (λ ks. with_known (padded root.geometry.cache_blocks found.entries) ks) (sym same) in
-    record {
-      size = let s = h.size in omega (arith, s);
-      sound = subst IsSound tree (loaded_sound root nodes found h whole);
-      complete = record {
-        once = subst AreApart (sym same) h.once;
-        few = omega (arith, count-reached root nodes found reads, ap length same);
-        all = subst (λ m. changed m (depth_of root.geometry.cache_blocks) ≡ []) tree (loaded_whole root nodes found h);
-      };
-    }
+pub reached_apart : (root : Root) (nodes : Nodes) (found : Found) → tree_read root nodes ≡ Ok found → AreApart found.reached
+reached_apart root nodes found reads = (known_tree root nodes found reads).once
+
+pub reached_sound : (root : Root) (nodes : Nodes) (found : Found) → tree_read root nodes ≡ Ok found → NodesHaveEntries found → IsSound (record { entries = found.entries; known = found.reached })
+reached_sound root nodes found reads whole = loaded_sound root nodes found (known_tree root nodes found reads) whole
 
 -- what a tree knows that was made so
 unknown_read : (entries : List (Option Entry)) (nodes : Nodes) (generation : ℕ) → AreRead nodes (with_known entries []) generation

@@ -11,7 +11,7 @@ use super::*;
 
 /// So many places, from one on.
 fn places_from(global: Global, first: u32, count: u32) -> Result<Vec<Place>, Refusal>
-    requires { first + count < 1000 }
+    requires { first + count < 100000 }
     ensures { IfOk result (λ places. places.items
         ≡ map (λ number. record { 0 = number }) (range_with_len first count)) }
 {
@@ -30,7 +30,7 @@ fn are_outside(places: &[Place], first: u32, end: u32) -> bool
 
 /// Gives a cache block an entry with this hint, 16 at most, and the origin block of its own number, or takes its
 /// entry away.
-fn change(tree: &mut Tree<Global>, block: u32, hint: Option<u8>) -> Result<(), Refusal>
+pub(super) fn change(tree: &mut Tree<Global>, block: u32, hint: Option<u8>) -> Result<(), Refusal>
     requires block { block < length tree.old.entries }
     requires own { (block : ℕ) (entry : EntryValue) → entry_at tree.old block ≡ Some entry
         → (entry.origin.0 ≡ block) × (entry.hint ≤ 16) }
@@ -52,13 +52,13 @@ fn change(tree: &mut Tree<Global>, block: u32, hint: Option<u8>) -> Result<(), R
 }
 
 /// An image with so many free places from one on. `Busy` where they are too few, or one of them is used.
-fn plan_at(
+pub(super) fn plan_at(
     global: Global,
     tree: &mut Tree<Global>,
     geometry: &Geometry,
     generation: u64,
     used: &[Place],
-    free: (u8, u8),
+    free: (u32, u32),
 ) -> Result<Image, Refusal>
     requires size { length tree.old.entries ≡ geometry.now.cache_blocks }
     requires origin { geometry.now.cache_blocks ≤ geometry.now.origin_blocks }
@@ -71,9 +71,11 @@ fn plan_at(
     ensures used { IfOk result (λ image. (place : PlaceValue) → IsPlaceOf tree.new place → Contains image.used.items place) }
     ensures inside { OnOk result (AreInside geometry.now.meta_sectors tree.new) }
 {
-    let first = u32::from(free.0);
-    let count = u32::from(free.1);
-    if first < 2 || count < geometry.node_count() || geometry.meta_sectors < first + count {
+    let (first, count) = free;
+    if first < 2 || first > 10_000 || count > 10_000 {
+        return Err(Refusal::Busy);
+    }
+    if count < geometry.node_count() || geometry.meta_sectors < first + count {
         return Err(Refusal::Busy);
     }
     if !are_outside(used, first, first + count) {
@@ -81,35 +83,6 @@ fn plan_at(
     }
     let places = places_from(global, first, count)?;
     tree.plan(global, geometry, generation, true, &places)
-}
-
-/// The node of an image at a place, spelled and read.
-fn node_at(image: &Image, place: Place) -> Option<Node> {
-    for node in image.nodes.iter() {
-        if node.0 == place {
-            let mut content = [0; 512];
-            node.1.write(&mut content);
-            return Node::read(&content);
-        }
-    }
-    None
-}
-
-/// The tree that an image's nodes make.
-fn reread(global: Global, image: &Image) -> Result<Tree<Global>, Refusal>
-    ensures { IfOk result (λ tree. length tree.entries ≡ image.now.root.geometry.cache_blocks) }
-{
-    let mut loader = Loader::new(global, global, &image.root)?;
-    for _ in 0..8 {
-        match loader.wanted() {
-            Some(place) => loader = loader.tell(node_at(image, place))?,
-            None => {
-                let (tree, _) = loader.finish(global)?;
-                return Ok(tree);
-            }
-        }
-    }
-    Err(Refusal::Busy)
 }
 
 #[test]
@@ -130,59 +103,85 @@ fn a_leaf_alone_is_planned(rt: HostRuntime) -> Result<(), Fail> {
     Ok(())
 }
 
-/// Whether the nodes of an image are the first of two leaves and the top, each at the next place.
-fn are_next(image: &Image, first: u32) -> bool {
-    let names = [(1, 0), (1, 1), (2, 0)];
+/// What an image is to be: the hints at cache blocks 0 and 33, the free places, and then the nodes by level, index
+/// and place, the place of the top, and how many places are used.
+#[derive(Clone, Copy)]
+struct Row {
+    hints: (Option<u8>, Option<u8>),
+    free: (u32, u32),
+    nodes: [(u32, u32, u32); 3],
+    written: usize,
+    top: Option<u32>,
+    used: usize,
+}
+
+const ROWS: [Row; 5] = [
+    Row {
+        hints: (Some(0), Some(0)),
+        free: (2, 3),
+        nodes: [(1, 0, 2), (1, 1, 3), (2, 0, 4)],
+        written: 3,
+        top: Some(4),
+        used: 3,
+    },
+    Row {
+        hints: (Some(0), Some(0)),
+        free: (5, 3),
+        nodes: [(0, 0, 0); 3],
+        written: 0,
+        top: Some(4),
+        used: 3,
+    },
+    Row {
+        hints: (Some(0), Some(5)),
+        free: (5, 3),
+        nodes: [(1, 1, 5), (2, 0, 6), (0, 0, 0)],
+        written: 2,
+        top: Some(6),
+        used: 3,
+    },
+    Row {
+        hints: (Some(0), None),
+        free: (7, 3),
+        nodes: [(2, 0, 7), (0, 0, 0), (0, 0, 0)],
+        written: 1,
+        top: Some(7),
+        used: 2,
+    },
+    Row {
+        hints: (None, None),
+        free: (3, 3),
+        nodes: [(0, 0, 0); 3],
+        written: 0,
+        top: None,
+        used: 0,
+    },
+];
+
+/// Whether an image is what a row says.
+fn is_as(image: &Image, row: &Row) -> bool {
     for (at, node) in image.nodes.iter().enumerate() {
-        let is_next = names.get(at) == Some(&(node.1.level, node.1.index))
-            && node.1.generation == image.root.generation
-            && u64::from(node.0.0) == u64::from(first) + at as u64;
-        if !is_next {
+        if row.nodes.get(at) != Some(&(node.1.level, node.1.index, node.0.0)) {
             return false;
         }
     }
-    true
+    let top = match image.root.top {
+        Some(Place(number)) => Some(number),
+        None => None,
+    };
+    image.nodes.len() == row.written && top == row.top && image.used.len() == row.used
 }
 
 #[test]
-fn two_leaves_are_planned_again_where_they_changed(rt: HostRuntime) -> Result<(), Fail> {
-    let geometry = Geometry::new(64, 40, 40, 8)?;
+fn an_image_writes_the_nodes_that_changed(rt: HostRuntime) -> Result<(), Fail> {
+    let geometry = Geometry::new(64, 40, 40, 12)?;
     let mut tree = Tree::new(rt.alloc(), 40);
     let mut used = Vec::new(rt.alloc());
-    for (generation, left, right, first, nodes, top) in [
-        (1, Some(0), Some(0), 2, 3, Some(4)),
-        (2, Some(0), Some(0), 5, 0, Some(4)),
-        (3, Some(0), Some(5), 5, 3, Some(7)),
-        (4, None, None, 2, 0, None),
-    ] {
-        change(&mut tree, 0, left)?;
-        change(&mut tree, 33, right)?;
-        let image = plan_at(
-            rt.alloc(),
-            &mut tree,
-            &geometry,
-            generation,
-            &used,
-            (first, 3),
-        )?;
-        assert_eq!(rt; image.root.generation, generation);
-        assert_eq!(rt;
-            image.root.top,
-            top.map(|number| Place(number)),
-            "{generation}"
-        );
-        assert_eq!(rt;
-            image.used.len(),
-            if top.is_some() { 3 } else { 0 },
-            "{generation}"
-        );
-        assert_eq!(rt; image.nodes.len(), nodes, "{generation}");
-        assert!(rt; are_next(&image, u32::from(first)), "{generation}");
-        if nodes == 3 {
-            let again = reread(rt.alloc(), &image)?;
-            assert_eq!(rt; again.get(CBlock(0)), tree.get(CBlock(0)));
-            assert_eq!(rt; again.get(CBlock(33)), tree.get(CBlock(33)));
-        }
+    for row in ROWS {
+        change(&mut tree, 0, row.hints.0)?;
+        change(&mut tree, 33, row.hints.1)?;
+        let image = plan_at(rt.alloc(), &mut tree, &geometry, 1, &used, row.free)?;
+        assert!(rt; is_as(&image, &row));
         let Image { used: places, .. } = image;
         used = places;
     }

@@ -11,9 +11,9 @@ plan-requires-clause-mapping c = own-mapping c.args.geometry.now.cache_blocks c.
 
 pub plan-requires-clause-free : goal.plan-requires-clause-free
 plan-requires-clause-free c =
-    let outside : All (λ place. c.from-first.result ≤ place.0 → c.from-first.result + c.from-count.result ≤ place.0) c.args.used.now = c.are_outside.ensures c.if-not-are_outside.false in
-    places-free c.args.tree.now c.args.geometry.now c.from-first.result c.from-count.result c.deref.result.now (c.deref.ensures.value ∙ c.in_ok-places.ensures)
-    (λ place is. All-contains (λ (place : Place). c.from-first.result ≤ place.0 → c.from-first.result + c.from-count.result ≤ place.0) c.args.used.now place outside (c.requires.used place is))
+    let outside : All (λ place. c.args.free.0 ≤ place.0 → c.args.free.0 + c.args.free.1 ≤ place.0) c.args.used.now = c.are_outside.ensures c.if-not-are_outside.false in
+    places-free c.args.tree.now c.args.geometry.now c.args.free.0 c.args.free.1 c.deref.result.now (c.deref.ensures.value ∙ c.in_ok-places.ensures)
+    (λ place is. All-contains (λ (place : Place). c.args.free.0 ≤ place.0 → c.args.free.0 + c.args.free.1 ≤ place.0) c.args.used.now place outside (c.requires.used place is))
     (omega arith) (omega (arith, c.node_count.ensures.value)) (omega arith)
 
 pub returns-clause-used : goal.returns-clause-used

@@ -1,27 +1,43 @@
-use Rattle.std.proofs.Common.{◌≡◌, ◌<◌, false, Option, Some, None, is_some, length, ap, sym, ◌∙◌, refl, slice_set, arith}
-use Rattle.std.specs.Prelude.{is_some}
-use Rattle.wb_types.specs.declared.entry.Entry.{Entry}
-use Rattle.wb_tree.proofs.Images.Padding.{padded-set, padded-past, padded-here, set_same}
-use Rattle.wb_tree.proofs.tree.Tree.clear.Goals.{else-at-len-via-then-at-len+else-is_some, else-at-len-via-else-at-len}
+use Rattle.std.proofs.Common.{◌∙◌, Some, None, ap, sym, subst}
+use Rattle.std.specs.Box.{with_value}
+use Rattle.wb_tree.specs.Branches.{AreBoxes, IsSlot, boxes_of, rewritten}
+use Rattle.wb_tree.proofs.Branching.Edits.{IsEdit, inside-boxes, next-boxes, next-edit, next_gone, next_kid, no_entry_is, some_entry_is, same-edit}
 use Rattle.wb_tree.proofs.tree.Tree.clear.Goals as goal
 
-pub returns-then-is_some-clause-entries : goal.returns-then-is_some-clause-entries
-returns-then-is_some-clause-entries g c =
-    let long = c.self.inside.entries.ok.0 in
-    let inside : c.args.c.0 < length c.self.inside.entries.items = omega (arith, long) in
-    padded-set c.self.inside.cache_blocks c.self.inside.entries.items c.args.c.0 None inside ∙ ap (λ m. slice_set m.entries c.args.c.0 None) c.self.view_is
+pub returns-then-is_none-clause-entries : goal.returns-then-is_none-clause-entries
+returns-then-is_none-clause-entries g c =
+    same-edit c.args.self.now c.args.c.0 c.get.result None c.get.ensures.entry (no_entry_is c.get.result c.if-is_none.ensures)
 
-nothing : (o : Option Entry) → false ≡ is_some o → o ≡ None
-nothing None e = refl
-nothing (Some x) e = absurd cc
+pub invariant_of-self-2 : goal.invariant_of-self-2
+invariant_of-self-2 g c =
+    let b = c.self.inside in
+    let root = sym c.take.ensures.value ∙ c.in-Some.is in
+    let new = with_value c.in-Some.root c.clear.new.self in
+    next-boxes b.cache_blocks b.depth (Some c.in-Some.root) (Some new) c.args.c.0 None (inside-boxes b.cache_blocks b.depth b.root c.args.self.now c.args.c.0 c.self.invariant c.self.view_is c.requires) (subst (AreBoxes b.cache_blocks b.depth) root c.self.invariant)
+    (next_kid b.depth c.in-Some.root new c.args.c.0 None (subst (IsSlot b.depth 0) root c.self.invariant.top) (c.clear.ensures.cleared ∙ ap (λ v. rewritten v c.args.c.0 None) c.deref_mut.ensures.value) (sym c.clear.ensures.left ∙ c.if-not-clear.false))
 
-pub returns-else-at-len-clause-entries : goal.returns-else-at-len-clause-entries
-returns-else-at-len-clause-entries g c =
-    let long = c.self.inside.entries.ok.0 in
-    set_same c.args.self.now.entries c.args.c.0 None None (
-    elim c.else-at-len.branch [
-      | else-at-len-via-then-at-len+else-is_some w ↦
-          let inside : c.args.c.0 < length c.self.inside.entries.items = omega (arith, long) in
-          rw (← c.self.view_is) (padded-here c.self.inside.cache_blocks c.self.inside.entries.items c.args.c.0 w.index.result.now inside w.index.ensures ∙ nothing w.index.result.now (sym w.if-is_some.false ∙ w.is_some.ensures))
-      | else-at-len-via-else-at-len w ↦ rw (← c.self.view_is) (padded-past c.self.inside.cache_blocks c.self.inside.entries.items c.args.c.0 (omega (arith, long)))
-    ])
+pub invariant_of-self-then-not-clear : goal.invariant_of-self-then-not-clear
+invariant_of-self-then-not-clear g c =
+    let b = c.self.inside in
+    let root = sym c.take.ensures.value ∙ c.in-Some.is in
+    subst (AreBoxes b.cache_blocks b.depth) (sym c.take.ensures.after)
+    (next-boxes b.cache_blocks b.depth (Some c.in-Some.root) None c.args.c.0 None (inside-boxes b.cache_blocks b.depth b.root c.args.self.now c.args.c.0 c.self.invariant c.self.view_is c.requires) (subst (AreBoxes b.cache_blocks b.depth) root c.self.invariant)
+    (next_gone b.depth c.in-Some.root c.clear.new.self c.args.c.0 (subst (IsSlot b.depth 0) root c.self.invariant.top) (c.clear.ensures.cleared ∙ ap (λ v. rewritten v c.args.c.0 None) c.deref_mut.ensures.value) (sym c.clear.ensures.left ∙ c.if-not-clear.true) (c.clear.ensures.emptied c.if-not-clear.true)))
+
+pub returns : goal.returns
+returns g c =
+    let b = c.self.inside in
+    let root = sym c.take.ensures.value ∙ c.in-Some.is in
+    let new = with_value c.in-Some.root c.clear.new.self in
+    let edit = next-edit b.cache_blocks b.depth (Some c.in-Some.root) (Some new) c.args.self.now c.args.c.0 None (subst (AreBoxes b.cache_blocks b.depth) root c.self.invariant) (ap (λ o. boxes_of b.cache_blocks b.depth o) (sym root) ∙ c.self.view_is) c.requires
+    (next_kid b.depth c.in-Some.root new c.args.c.0 None (subst (IsSlot b.depth 0) root c.self.invariant.top) (c.clear.ensures.cleared ∙ ap (λ v. rewritten v c.args.c.0 None) c.deref_mut.ensures.value) (sym c.clear.ensures.left ∙ c.if-not-clear.false)) in
+    record { entries = edit.entries; same = λ there. absurd (some_entry_is c.get.result c.if-is_none.ensures (c.get.ensures.entry ∙ there)); forgets = λ _. edit.forgets; stays_off = edit.stays_off; edited = edit.edited; sound = edit.sound }
+
+pub returns-then-not-clear : goal.returns-then-not-clear
+returns-then-not-clear g c =
+    let b = c.self.inside in
+    let root = sym c.take.ensures.value ∙ c.in-Some.is in
+    let edit = subst (λ o. IsEdit c.args.self.now (boxes_of b.cache_blocks b.depth o) c.args.c.0 None) (sym c.take.ensures.after)
+    (next-edit b.cache_blocks b.depth (Some c.in-Some.root) None c.args.self.now c.args.c.0 None (subst (AreBoxes b.cache_blocks b.depth) root c.self.invariant) (ap (λ o. boxes_of b.cache_blocks b.depth o) (sym root) ∙ c.self.view_is) c.requires
+    (next_gone b.depth c.in-Some.root c.clear.new.self c.args.c.0 (subst (IsSlot b.depth 0) root c.self.invariant.top) (c.clear.ensures.cleared ∙ ap (λ v. rewritten v c.args.c.0 None) c.deref_mut.ensures.value) (sym c.clear.ensures.left ∙ c.if-not-clear.true) (c.clear.ensures.emptied c.if-not-clear.true))) in
+    record { entries = edit.entries; same = λ there. absurd (some_entry_is c.get.result c.if-is_none.ensures (c.get.ensures.entry ∙ there)); forgets = λ _. edit.forgets; stays_off = edit.stays_off; edited = edit.edited; sound = edit.sound }

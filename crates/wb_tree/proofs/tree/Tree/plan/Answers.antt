@@ -1,82 +1,131 @@
-use Rattle.std.proofs.Common.{◌∙◌, sym, ap, subst, List, Option, Ok, map}
+use Rattle.std.proofs.Common.{◌≡◌, ◌++◌, ◌∙◌, sym, ap, subst, refl, List, map}
 use Rattle.wb_types.specs.Limits.{depth_of}
-use Rattle.wb_types.specs.declared.entry.Entry.{Entry}
 use Rattle.wb_types.specs.declared.number.Place.{Place}
 use Rattle.wb_format.specs.declared.node.Node.{Node}
-use Rattle.wb_tree.specs.Mapping.{Mapping, nodes_of}
-use Rattle.wb_tree.specs.Planning.{planned, AreWritten, MayPlan}
-use Rattle.wb_tree.specs.Fields.{known_nodes}
-use Rattle.wb_tree.proofs.Images.Imaging.{image-is, none-written_is}
-use Rattle.wb_tree.proofs.Images.Planned.{known_node}
-use Rattle.wb_tree.proofs.Images.WholePlan.{all-known, may-plan, plan-is, top-inside}
+use Rattle.wb_tree.specs.declared.placed.PlacedNode.{PlacedNode}
+use Rattle.wb_tree.specs.Mapping.{Mapping, IsSound, changed, place_of}
+use Rattle.wb_tree.specs.Planning.{planned, levels, names}
+use Rattle.wb_tree.specs.Fields.{AreApart}
+use Rattle.wb_tree.proofs.Nodes.Alike.{AreAlike, image-alike, inside-alike}
+use Rattle.wb_tree.proofs.Nodes.Knowing.{places}
+use Rattle.wb_tree.proofs.Images.Imaging.{image-is}
+use Rattle.wb_tree.proofs.Images.Planned.{CanPlace, known_node, may-plan, planned-alike, planned-complete, planned-inside, planned-sound, planned-with, with-planned, written_is}
+use Rattle.wb_tree.proofs.Branching.Settled.{levels-boxes}
 use Rattle.wb_tree.proofs.tree.Tree.plan.Goals as goal
 
--- ---- where the nodes are known
-
-pub new-requires : goal.new-requires
-new-requires g c = top-inside c.args.geometry.now.meta_sectors (depth_of c.args.geometry.now.cache_blocks) c.args.self.now c.deref.result.now (ap (λ (m : Mapping). m.known) (sym c.self.view_is) ∙ (ap known_nodes c.in-Some.is ∙ sym c.deref.ensures.value)) c.requires.inside
-
-pub returns-in-Some-clause-image : goal.returns-in-Some-clause-image
-returns-in-Some-clause-image g c =
+pub plan_node-requires-clause-can : goal.plan_node-requires-clause-can
+plan_node-requires-clause-can g c =
     let m = c.args.self.now in
+    let b = c.self.inside in
+    let free = c.args.free.now in
     let geometry = c.args.geometry.now in
-    let told = c.new.ensures in
-    let whole = all-known m c.self.inside.cache_blocks c.self.inside.entries.items c.self.inside.known c.in-Some.known geometry c.self.view_is c.in-Some.is c.self.invariant c.requires.mapping in
-    image-is c.new.result m m geometry c.args.generation c.args.clean c.args.free.now c.new-none.result.items c.deref.result.now
-    (none-written_is m geometry c.args.generation c.args.free.now c.new-none.result.items whole.1 c.new-none.ensures.items) whole.0 whole.1 (ap (λ (m : Mapping). m.known) (sym c.self.view_is) ∙ (ap known_nodes c.in-Some.is ∙ sym c.deref.ensures.value))
-    told.nodes told.used told.generation told.version told.clean told.geometry told.top
+    let can : CanPlace m geometry free = record {
+      size = c.requires.mapping.size;
+      sound = subst IsSound c.self.view_is c.self.invariant.sound;
+      once = subst (λ (n : Mapping). AreApart n.known) c.self.view_is c.self.invariant.once;
+      inside = c.requires.inside;
+      are = c.requires.free;
+    } in
+    may-plan m geometry free can c.requires.mapping
 
--- ---- where they are not
+pub settle-requires-clause-apart : goal.settle-requires-clause-apart
+settle-requires-clause-apart g c =
+    let m = c.args.self.now in
+    let b = c.self.inside in
+    let free = c.args.free.now in
+    let geometry = c.args.geometry.now in
+    let can : CanPlace m geometry free = record {
+      size = c.requires.mapping.size;
+      sound = subst IsSound c.self.view_is c.self.invariant.sound;
+      once = subst (λ (n : Mapping). AreApart n.known) c.self.view_is c.self.invariant.once;
+      inside = c.requires.inside;
+      are = c.requires.free;
+    } in
+    let deep : b.depth ≡ levels m = sym (levels-boxes b.cache_blocks b.depth b.root c.self.invariant) ∙ ap (λ (n : Mapping). levels n) c.self.view_is in
+    let nodes = c.plan_node.new.nodes.items in
+    let ns : names nodes ≡ changed m (levels m) = c.in_ok-top.ensures.names ∙ (ap (λ (xs : List (Place × Node)). names xs ++ changed m b.depth) c.new-nodes.ensures.items ∙ ap (changed m) deep) in
+    let added : c.in_ok-settled.settled.items ≡ map known_node nodes = c.in_ok-settled.ensures.known ∙ ap (λ (xs : List (Place × Node)). map known_node xs) c.deref.ensures.value in
+    let whole : m.known ++ c.deref-3.result.now ≡ (planned m free).known = with-planned m c.args.generation free nodes c.deref-3.result.now (c.deref-3.ensures.value ∙ added) ns c.in_ok-top.ensures.planned in
+    let complete = planned-complete m geometry free can in
+    subst AreApart (sym whole) complete.once
 
-pub plan_nodes-requires-clause-can : goal.plan_nodes-requires-clause-can
-plan_nodes-requires-clause-can g c =
-    let may = may-plan c.args.self.now c.self.inside.cache_blocks c.self.inside.entries.items c.args.geometry.now c.args.free.now c.depth.result
-    (ap (λ (m : Mapping). m.entries) (sym c.self.view_is)) c.self.invariant.size c.requires.mapping c.requires.free c.depth.ensures.value in
-    subst (λ (es : List (Option Entry)). MayPlan es c.depth.result c.args.free.now) (sym c.deref-2.ensures.value) may
+pub settle-requires-clause-sound : goal.settle-requires-clause-sound
+settle-requires-clause-sound g c =
+    let m = c.args.self.now in
+    let b = c.self.inside in
+    let free = c.args.free.now in
+    let geometry = c.args.geometry.now in
+    let can : CanPlace m geometry free = record {
+      size = c.requires.mapping.size;
+      sound = subst IsSound c.self.view_is c.self.invariant.sound;
+      once = subst (λ (n : Mapping). AreApart n.known) c.self.view_is c.self.invariant.once;
+      inside = c.requires.inside;
+      are = c.requires.free;
+    } in
+    let deep : b.depth ≡ levels m = sym (levels-boxes b.cache_blocks b.depth b.root c.self.invariant) ∙ ap (λ (n : Mapping). levels n) c.self.view_is in
+    let nodes = c.plan_node.new.nodes.items in
+    let ns : names nodes ≡ changed m (levels m) = c.in_ok-top.ensures.names ∙ (ap (λ (xs : List (Place × Node)). names xs ++ changed m b.depth) c.new-nodes.ensures.items ∙ ap (changed m) deep) in
+    let added : c.in_ok-settled.settled.items ≡ map known_node nodes = c.in_ok-settled.ensures.known ∙ ap (λ (xs : List (Place × Node)). map known_node xs) c.deref.ensures.value in
+    let whole : m.known ++ c.deref-3.result.now ≡ (planned m free).known = with-planned m c.args.generation free nodes c.deref-3.result.now (c.deref-3.ensures.value ∙ added) ns c.in_ok-top.ensures.planned in
+    subst IsSound (planned-with m free (m.known ++ c.deref-3.result.now) whole) (planned-sound m geometry free can)
 
-pub new-requires-2 : goal.new-requires-2
-new-requires-2 g c =
-    let plan = plan-is c.args.self.now c.self.inside.cache_blocks c.self.inside.entries.items c.args.geometry.now c.args.generation c.args.free.now c.depth.result c.in_ok-nodes.nodes.items c.in_ok-known.known.items
-    (ap (λ (m : Mapping). m.entries) (sym c.self.view_is)) (ap (λ (m : Mapping). m.known) (sym c.self.view_is) ∙ ap known_nodes c.in_default.is) c.self.invariant.size c.requires.mapping c.requires.free c.depth.ensures.value
-    (c.in_ok-nodes.ensures.names ∙ ap (λ (es : List (Option Entry)). nodes_of es c.depth.result) c.deref-2.ensures.value)
-    (subst (λ (es : List (Option Entry)). AreWritten (planned es c.depth.result c.args.free.now) c.args.generation c.args.free.now c.in_ok-nodes.nodes.items) c.deref-2.ensures.value c.in_ok-nodes.ensures.planned)
-    (c.in_ok-known.ensures.known ∙ ap (λ (ns : List (Place × Node)). map known_node ns) c.deref-3.ensures.value) in
-    top-inside c.args.geometry.now.meta_sectors (depth_of c.args.geometry.now.cache_blocks) _ c.deref-4.result.now (sym c.deref-4.ensures.value) plan.inside
-
-pub invariant_of-self : goal.invariant_of-self
-invariant_of-self g c =
-    let plan = plan-is c.args.self.now c.self.inside.cache_blocks c.self.inside.entries.items c.args.geometry.now c.args.generation c.args.free.now c.depth.result c.in_ok-nodes.nodes.items c.in_ok-known.known.items
-    (ap (λ (m : Mapping). m.entries) (sym c.self.view_is)) (ap (λ (m : Mapping). m.known) (sym c.self.view_is) ∙ ap known_nodes c.in_default.is) c.self.invariant.size c.requires.mapping c.requires.free c.depth.ensures.value
-    (c.in_ok-nodes.ensures.names ∙ ap (λ (es : List (Option Entry)). nodes_of es c.depth.result) c.deref-2.ensures.value)
-    (subst (λ (es : List (Option Entry)). AreWritten (planned es c.depth.result c.args.free.now) c.args.generation c.args.free.now c.in_ok-nodes.nodes.items) c.deref-2.ensures.value c.in_ok-nodes.ensures.planned)
-    (c.in_ok-known.ensures.known ∙ ap (λ (ns : List (Place × Node)). map known_node ns) c.deref-3.ensures.value) in
-    record { size = c.self.invariant.size; sound = plan.sound; complete = plan.complete }
-
-pub returns-clause-sound : goal.returns-clause-sound
-returns-clause-sound g c =
-    let plan = plan-is c.args.self.now c.self.inside.cache_blocks c.self.inside.entries.items c.args.geometry.now c.args.generation c.args.free.now c.depth.result c.in_ok-nodes.nodes.items c.in_ok-known.known.items
-    (ap (λ (m : Mapping). m.entries) (sym c.self.view_is)) (ap (λ (m : Mapping). m.known) (sym c.self.view_is) ∙ ap known_nodes c.in_default.is) c.self.invariant.size c.requires.mapping c.requires.free c.depth.ensures.value
-    (c.in_ok-nodes.ensures.names ∙ ap (λ (es : List (Option Entry)). nodes_of es c.depth.result) c.deref-2.ensures.value)
-    (subst (λ (es : List (Option Entry)). AreWritten (planned es c.depth.result c.args.free.now) c.args.generation c.args.free.now c.in_ok-nodes.nodes.items) c.deref-2.ensures.value c.in_ok-nodes.ensures.planned)
-    (c.in_ok-known.ensures.known ∙ ap (λ (ns : List (Place × Node)). map known_node ns) c.deref-3.ensures.value) in
-    plan.sound
-
-pub returns-clause-inside : goal.returns-clause-inside
-returns-clause-inside g c =
-    let plan = plan-is c.args.self.now c.self.inside.cache_blocks c.self.inside.entries.items c.args.geometry.now c.args.generation c.args.free.now c.depth.result c.in_ok-nodes.nodes.items c.in_ok-known.known.items
-    (ap (λ (m : Mapping). m.entries) (sym c.self.view_is)) (ap (λ (m : Mapping). m.known) (sym c.self.view_is) ∙ ap known_nodes c.in_default.is) c.self.invariant.size c.requires.mapping c.requires.free c.depth.ensures.value
-    (c.in_ok-nodes.ensures.names ∙ ap (λ (es : List (Option Entry)). nodes_of es c.depth.result) c.deref-2.ensures.value)
-    (subst (λ (es : List (Option Entry)). AreWritten (planned es c.depth.result c.args.free.now) c.args.generation c.args.free.now c.in_ok-nodes.nodes.items) c.deref-2.ensures.value c.in_ok-nodes.ensures.planned)
-    (c.in_ok-known.ensures.known ∙ ap (λ (ns : List (Place × Node)). map known_node ns) c.deref-3.ensures.value) in
-    plan.inside
+pub invariant_of-root : goal.invariant_of-root
+invariant_of-root g c =
+    let m = c.args.self.now in
+    let b = c.self.inside in
+    let free = c.args.free.now in
+    let geometry = c.args.geometry.now in
+    let can : CanPlace m geometry free = record {
+      size = c.requires.mapping.size;
+      sound = subst IsSound c.self.view_is c.self.invariant.sound;
+      once = subst (λ (n : Mapping). AreApart n.known) c.self.view_is c.self.invariant.once;
+      inside = c.requires.inside;
+      are = c.requires.free;
+    } in
+    record { top_inside = λ place top. planned-inside m geometry free can place (record { level = b.depth; index = 0; known = sym c.in_ok-top.ensures.place ∙ top }) }
 
 pub returns-clause-image : goal.returns-clause-image
 returns-clause-image g c =
-    let plan = plan-is c.args.self.now c.self.inside.cache_blocks c.self.inside.entries.items c.args.geometry.now c.args.generation c.args.free.now c.depth.result c.in_ok-nodes.nodes.items c.in_ok-known.known.items
-    (ap (λ (m : Mapping). m.entries) (sym c.self.view_is)) (ap (λ (m : Mapping). m.known) (sym c.self.view_is) ∙ ap known_nodes c.in_default.is) c.self.invariant.size c.requires.mapping c.requires.free c.depth.ensures.value
-    (c.in_ok-nodes.ensures.names ∙ ap (λ (es : List (Option Entry)). nodes_of es c.depth.result) c.deref-2.ensures.value)
-    (subst (λ (es : List (Option Entry)). AreWritten (planned es c.depth.result c.args.free.now) c.args.generation c.args.free.now c.in_ok-nodes.nodes.items) c.deref-2.ensures.value c.in_ok-nodes.ensures.planned)
-    (c.in_ok-known.ensures.known ∙ ap (λ (ns : List (Place × Node)). map known_node ns) c.deref-3.ensures.value) in
-    let told = c.in_ok-image.ensures in
-    image-is (Ok c.in_ok-image.image) c.args.self.now _ c.args.geometry.now c.args.generation c.args.clean c.args.free.now c.in_ok-nodes.nodes.items c.deref-4.result.now plan.written plan.sound plan.all (sym c.deref-4.ensures.value)
-    told.nodes told.used told.generation told.version told.clean told.geometry told.top
+    let m = c.args.self.now in
+    let b = c.self.inside in
+    let free = c.args.free.now in
+    let geometry = c.args.geometry.now in
+    let can : CanPlace m geometry free = record {
+      size = c.requires.mapping.size;
+      sound = subst IsSound c.self.view_is c.self.invariant.sound;
+      once = subst (λ (n : Mapping). AreApart n.known) c.self.view_is c.self.invariant.once;
+      inside = c.requires.inside;
+      are = c.requires.free;
+    } in
+    let deep : b.depth ≡ levels m = sym (levels-boxes b.cache_blocks b.depth b.root c.self.invariant) ∙ ap (λ (n : Mapping). levels n) c.self.view_is in
+    let nodes = c.plan_node.new.nodes.items in
+    let ns : names nodes ≡ changed m (levels m) = c.in_ok-top.ensures.names ∙ (ap (λ (xs : List (Place × Node)). names xs ++ changed m b.depth) c.new-nodes.ensures.items ∙ ap (changed m) deep) in
+    let added : c.in_ok-settled.settled.items ≡ map known_node nodes = c.in_ok-settled.ensures.known ∙ ap (λ (xs : List (Place × Node)). map known_node xs) c.deref.ensures.value in
+    let whole : m.known ++ c.deref-3.result.now ≡ (planned m free).known = with-planned m c.args.generation free nodes c.deref-3.result.now (c.deref-3.ensures.value ∙ added) ns c.in_ok-top.ensures.planned in
+    let alike : AreAlike (planned m free) c.settle.new.self = planned-alike m c.settle.new.self free (m.known ++ c.deref-3.result.now) whole c.settle.ensures.entries c.settle.ensures.places in
+    let used : c.in_ok-used.used.items ≡ places (planned m free).known =
+    c.in_ok-used.ensures.places ∙ (ap (λ (ks : List PlacedNode). places (m.known ++ ks)) (c.deref-2.ensures.value ∙ sym c.deref-3.ensures.value) ∙ ap places whole) in
+    let top : c.in_ok-top.top ≡ place_of (planned m free) (depth_of geometry.cache_blocks) 0 =
+    c.in_ok-top.ensures.place ∙ (ap (λ d. place_of (planned m free) d 0) deep ∙ ap (λ n. place_of (planned m free) (depth_of n) 0) can.size) in
+    image-alike m (planned m free) c.settle.new.self _ _ alike
+    (image-is m (planned m free) geometry c.args.generation c.args.clean free _ (written_is m geometry c.args.generation free nodes can ns c.in_ok-top.ensures.planned) (planned-sound m geometry free can) (planned-complete m geometry free can) used refl refl refl refl top)
+
+pub returns-clause-inside : goal.returns-clause-inside
+returns-clause-inside g c =
+    let m = c.args.self.now in
+    let b = c.self.inside in
+    let free = c.args.free.now in
+    let geometry = c.args.geometry.now in
+    let can : CanPlace m geometry free = record {
+      size = c.requires.mapping.size;
+      sound = subst IsSound c.self.view_is c.self.invariant.sound;
+      once = subst (λ (n : Mapping). AreApart n.known) c.self.view_is c.self.invariant.once;
+      inside = c.requires.inside;
+      are = c.requires.free;
+    } in
+    let deep : b.depth ≡ levels m = sym (levels-boxes b.cache_blocks b.depth b.root c.self.invariant) ∙ ap (λ (n : Mapping). levels n) c.self.view_is in
+    let nodes = c.plan_node.new.nodes.items in
+    let ns : names nodes ≡ changed m (levels m) = c.in_ok-top.ensures.names ∙ (ap (λ (xs : List (Place × Node)). names xs ++ changed m b.depth) c.new-nodes.ensures.items ∙ ap (changed m) deep) in
+    let added : c.in_ok-settled.settled.items ≡ map known_node nodes = c.in_ok-settled.ensures.known ∙ ap (λ (xs : List (Place × Node)). map known_node xs) c.deref.ensures.value in
+    let whole : m.known ++ c.deref-3.result.now ≡ (planned m free).known = with-planned m c.args.generation free nodes c.deref-3.result.now (c.deref-3.ensures.value ∙ added) ns c.in_ok-top.ensures.planned in
+    inside-alike geometry.meta_sectors (planned m free) c.settle.new.self (planned-alike m c.settle.new.self free (m.known ++ c.deref-3.result.now) whole c.settle.ensures.entries c.settle.ensures.places) (planned-inside m geometry free can)

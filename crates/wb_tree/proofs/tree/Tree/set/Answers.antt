@@ -1,36 +1,55 @@
-use Rattle.std.proofs.Common.{◌≡◌, ◌<◌, ◌≤◌, Some, None, ap, subst, ◌∙◌, sym, slice_set, length, arith}
-use Rattle.wb_tree.specs.Mapping.{Mapping}
-use Rattle.wb_tree.specs.Fields.{padded}
-use Rattle.wb_tree.proofs.Images.Padding.{padded-set, padded-after_resize, set_same}
-use Rattle.wb_tree.proofs.Equality.{same_option}
-use Rattle.wb_tree.proofs.tree.Tree.set.Goals.{then-at-len+in_ok-resize, else-at-len}
+use Rattle.std.proofs.Common.{◌∙◌, Some, None, ap, sym, subst, arith}
+use Rattle.std.specs.Box.{with_value}
+use Rattle.wb_tree.specs.Branches.{AreBoxes, IsSlot, boxes_of, rewritten}
+use Rattle.wb_tree.proofs.Branching.Edits.{first_fits, inside-boxes, next-boxes, next-edit, next_new, next_set, same-edit}
+use Rattle.wb_tree.proofs.Equality.{not_option, same_option}
 use Rattle.wb_tree.proofs.tree.Tree.set.Goals as goal
 
 pub returns-then-eq-clause-entries : goal.returns-then-eq-clause-entries
 returns-then-eq-clause-entries g c =
-    set_same c.args.self.now.entries c.args.c.0 (Some c.args.entry) None (sym c.get.ensures.entry ∙ same_option c.get.result c.args.entry (sym c.eq.ensures ∙ c.if-eq.true))
+    same-edit c.args.self.now c.args.c.0 c.get.result (Some c.args.entry) c.get.ensures.entry (same_option c.get.result c.args.entry (sym c.eq.ensures ∙ c.if-eq.true))
 
-pub returns-clause-entries : goal.returns-clause-entries
-returns-clause-entries g c =
-    let old = c.self.inside in
-    let new = c.if-at-len.self-inside in
-    let long = old.entries.ok.0 in
-    let requires : c.args.c.0 < length (padded old.cache_blocks old.entries.items) = subst (λ (m : Mapping). c.args.c.0 < length m.entries) (sym c.self.view_is) c.requires in
-    let both : (c.args.c.0 < length new.entries.items) × (padded new.cache_blocks new.entries.items ≡ c.args.self.now.entries) =
-    elim c.if-at-len.branch [
-      | then-at-len+in_ok-resize w ↦
-          let grown = w.in_ok-resize.ensures in
-          let long_now = w.resize.new.self.ok.0 in
-          let stays : old.entries.len ≤ c.args.c.0 = omega arith in (
-            rw w.self-inside-is (omega (arith, long_now, grown.len)),
-            ap (λ x. padded x.cache_blocks x.entries.items) w.self-inside-is
-                ∙ (padded-after_resize old.cache_blocks old.entries.items w.resize.new.self.items old.entries.len c.args.c.0 long stays requires c.self.invariant.size grown.items
-                ∙ ap (λ m. m.entries) c.self.view_is),
-          )
-      | else-at-len w ↦ (
-        rw w.self-inside-is (omega (arith, long)),
-        ap (λ x. padded x.cache_blocks x.entries.items) w.self-inside-is ∙ ap (λ m. m.entries) c.self.view_is,
-      )
-    ] in
-    padded-set new.cache_blocks new.entries.items c.args.c.0 (Some c.args.entry) both.0
-    ∙ ap (λ entries. slice_set entries c.args.c.0 (Some c.args.entry)) both.1
+pub boxed-requires-clause-index : goal.boxed-requires-clause-index
+boxed-requires-clause-index g c = first_fits c.self.inside.depth c.self.invariant.from c.self.invariant.to
+
+pub invariant_of-self-in-Some : goal.invariant_of-self-in-Some
+invariant_of-self-in-Some g c =
+    let b = c.self.inside in
+    let root = sym c.take.ensures.value ∙ c.in-Some.is in
+    let less = inside-boxes b.cache_blocks b.depth b.root c.args.self.now c.args.c.0 c.self.invariant c.self.view_is c.requires in
+    let enough = c.self.invariant.enough in
+    next-boxes b.cache_blocks b.depth (Some c.in-Some.root) (Some (with_value c.in-Some.root c.set-done.new.self)) c.args.c.0 (Some c.args.entry) less (subst (AreBoxes b.cache_blocks b.depth) root c.self.invariant)
+    (next_set b.depth c.in-Some.root (with_value c.in-Some.root c.set-done.new.self) c.args.c.0 c.args.entry (subst (IsSlot b.depth 0) root c.self.invariant.top) (omega arith)
+    (c.in_ok-done-in-Some.ensures.ok ∙ ap (λ v. rewritten v c.args.c.0 (Some c.args.entry)) c.deref_mut.ensures.value))
+
+pub invariant_of-self-in-None : goal.invariant_of-self-in-None
+invariant_of-self-in-None g c =
+    let b = c.self.inside in
+    let root = sym c.take.ensures.value ∙ c.in-None.is in
+    let less = inside-boxes b.cache_blocks b.depth b.root c.args.self.now c.args.c.0 c.self.invariant c.self.view_is c.requires in
+    let enough = c.self.invariant.enough in
+    next-boxes b.cache_blocks b.depth None (Some c.in_ok-boxed-in-None.field-0) c.args.c.0 (Some c.args.entry) less (subst (AreBoxes b.cache_blocks b.depth) root c.self.invariant)
+    (next_new b.depth c.in_ok-boxed-in-None.field-0 c.args.c.0 c.args.entry c.self.invariant.from c.self.invariant.to (omega arith) c.in_ok-boxed-in-None.ensures)
+
+pub returns-in_ok-done-in-Some : goal.returns-in_ok-done-in-Some
+returns-in_ok-done-in-Some g c =
+    let b = c.self.inside in
+    let root = sym c.take.ensures.value ∙ c.in-Some.is in
+    let less = inside-boxes b.cache_blocks b.depth b.root c.args.self.now c.args.c.0 c.self.invariant c.self.view_is c.requires in
+    let enough = c.self.invariant.enough in
+    let edit = next-edit b.cache_blocks b.depth (Some c.in-Some.root) (Some (with_value c.in-Some.root c.set-done.new.self)) c.args.self.now c.args.c.0 (Some c.args.entry) (subst (AreBoxes b.cache_blocks b.depth) root c.self.invariant)
+    (ap (λ o. boxes_of b.cache_blocks b.depth o) (sym root) ∙ c.self.view_is) c.requires
+    (next_set b.depth c.in-Some.root (with_value c.in-Some.root c.set-done.new.self) c.args.c.0 c.args.entry (subst (IsSlot b.depth 0) root c.self.invariant.top) (omega arith)
+    (c.in_ok-done-in-Some.ensures.ok ∙ ap (λ v. rewritten v c.args.c.0 (Some c.args.entry)) c.deref_mut.ensures.value)) in
+    record { entries = edit.entries; same = λ there. absurd (not_option c.get.result c.args.entry (sym c.eq.ensures ∙ c.if-eq.false) (c.get.ensures.entry ∙ there)); forgets = λ _. edit.forgets; stays_off = edit.stays_off; edited = edit.edited; err = tt; refused = tt; sound = edit.sound }
+
+pub returns-in_ok-boxed-in-None : goal.returns-in_ok-boxed-in-None
+returns-in_ok-boxed-in-None g c =
+    let b = c.self.inside in
+    let root = sym c.take.ensures.value ∙ c.in-None.is in
+    let less = inside-boxes b.cache_blocks b.depth b.root c.args.self.now c.args.c.0 c.self.invariant c.self.view_is c.requires in
+    let enough = c.self.invariant.enough in
+    let edit = next-edit b.cache_blocks b.depth None (Some c.in_ok-boxed-in-None.field-0) c.args.self.now c.args.c.0 (Some c.args.entry) (subst (AreBoxes b.cache_blocks b.depth) root c.self.invariant)
+    (ap (λ o. boxes_of b.cache_blocks b.depth o) (sym root) ∙ c.self.view_is) c.requires
+    (next_new b.depth c.in_ok-boxed-in-None.field-0 c.args.c.0 c.args.entry c.self.invariant.from c.self.invariant.to (omega arith) c.in_ok-boxed-in-None.ensures) in
+    record { entries = edit.entries; same = λ there. absurd (not_option c.get.result c.args.entry (sym c.eq.ensures ∙ c.if-eq.false) (c.get.ensures.entry ∙ there)); forgets = λ _. edit.forgets; stays_off = edit.stays_off; edited = edit.edited; err = tt; refused = tt; sound = edit.sound }

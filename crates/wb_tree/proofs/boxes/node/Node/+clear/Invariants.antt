@@ -1,4 +1,0 @@
-use Rattle.wb_tree.proofs.boxes.node.Node.+clear.Given as goal
-
-abbrev pub decreases-clear : goal.decreases-clear
-decreases-clear g l = goal.size-clear g l

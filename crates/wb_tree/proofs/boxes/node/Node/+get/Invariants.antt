@@ -1,4 +1,0 @@
-use Rattle.wb_tree.proofs.boxes.node.Node.+get.Given as goal
-
-abbrev pub decreases-get : goal.decreases-get
-decreases-get g l = goal.size-get g l

@@ -1,4 +1,0 @@
-use Rattle.wb_tree.proofs.boxes.node.Node.+set.Given as goal
-
-abbrev pub decreases-set : goal.decreases-set
-decreases-set g l = goal.size-set g l
