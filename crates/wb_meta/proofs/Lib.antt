@@ -1,7 +1,6 @@
 pub mod Lists
 pub mod Histories
 pub mod Stepping
-pub mod TestTrees
 pub mod Crashing
 pub mod Formatted
 pub mod Framing

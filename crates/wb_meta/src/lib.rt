@@ -14,8 +14,6 @@ mod opening;
 mod read_steps;
 mod sector;
 mod slot;
-#[cfg(test)]
-mod tests;
 
 pub use commit_steps::{CommitStep, CommitSteps, commit};
 pub use formatting::format;

@@ -3,5 +3,4 @@ pub mod Images
 pub mod Nodes
 pub mod Reading
 pub mod Stored
-pub mod TestTrees
 pub mod Branching

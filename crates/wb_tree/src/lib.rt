@@ -15,8 +15,6 @@ mod loader;
 mod placed;
 mod planning;
 mod reached;
-#[cfg(test)]
-mod tests;
 mod tree;
 
 pub use image::Image;

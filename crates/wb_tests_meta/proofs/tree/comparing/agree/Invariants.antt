@@ -1,0 +1,25 @@
+use Rattle.std.proofs.Common.{◌≡◌, ◌≤◌, length}
+use Rattle.std.specs.Prelude.{Contains}
+use Rattle.wb_types.specs.declared.number.Place.{Place}
+use Rattle.wb_tree.specs.Mapping.{AreInside, IsPlaceOf}
+use Rattle.wb_tests_meta.proofs.OwnTrees.{AreOwn}
+use Rattle.wb_tests_meta.proofs.tree.comparing.agree.Given as goal
+
+abbrev pub invariant-loop-round : goal.invariant-loop-round
+invariant-loop-round l = record {
+  size : length l.tree.entries ≡ l.cache_blocks;
+  hints_size : length l.hints.items ≡ l.cache_blocks;
+  own : AreOwn l.tree.entries;
+  used : (place : Place) → IsPlaceOf l.tree place → Contains l.used.items place;
+  inside : AreInside l.geometry.meta_sectors l.tree;
+}
+
+abbrev pub invariant-loop : goal.invariant-loop
+invariant-loop l = record {
+  size : length l.tree.entries ≡ l.cache_blocks;
+  hints_size : length l.hints.items ≡ l.cache_blocks;
+  changed_size : length l.changed.items ≡ l.cache_blocks;
+  own : AreOwn l.tree.entries;
+  used : (place : Place) → IsPlaceOf l.tree place → Contains l.used.items place;
+  inside : AreInside l.geometry.meta_sectors l.tree;
+}

@@ -1,0 +1,127 @@
+//! A device of which one step fails.
+
+ghost use Rattle.std.specs.Prelude.{◌≡◌, [], length};
+
+use super::damage::good_sector;
+use super::put;
+use std::alloc::Global;
+use std::process::Abort;
+use std::test::Fail;
+use wb_disk::{Disk, DiskFault, MemDisk};
+use wb_meta::{format, read_state};
+use wb_types::{Content, Dev, Geometry, Refusal};
+
+/// A disk in memory of which one step fails, by its number, counted from 1. It tells nothing.
+#[derive(Drop)]
+struct FailingDisk {
+    inside: MemDisk,
+    steps: u32,
+    fails_at: u32,
+}
+
+impl FailingDisk {
+    fn new(inside: MemDisk, fails_at: u32) -> FailingDisk
+        ensures { result.inside ≡ inside }
+    {
+        FailingDisk {
+            inside,
+            steps: 0,
+            fails_at,
+        }
+    }
+
+    /// Counts one step more, which may be the one that fails.
+    fn count(&mut self) -> Result<(), DiskFault>
+        ensures { self.new.inside ≡ self.old.inside }
+    {
+        self.steps = self.steps.wrapping_add(1);
+        if self.steps == self.fails_at {
+            return Err(DiskFault);
+        }
+        Ok(())
+    }
+}
+
+impl Disk for FailingDisk {
+    ghost tells = { ⊥ };
+
+    ghost size = { λ d. length d.inside.contents };
+
+    ghost contents = { λ _. [] };
+
+    ghost faults = { λ _. 0 };
+
+    fn sectors(&self) -> u64 {
+        self.inside.sectors()
+    }
+
+    fn read(&mut self, at: u64, out: &mut Content) -> Result<(), DiskFault> {
+        self.count()?;
+        self.inside.read(at, out)
+    }
+
+    fn write(&mut self, at: u64, from: &Content) -> Result<(), DiskFault> {
+        self.count()?;
+        self.inside.write(at, from)
+    }
+
+    fn read_extent(&mut self, first: u64, out: &mut [Content]) -> Result<(), DiskFault> {
+        self.count()?;
+        self.inside.read_extent(first, out)
+    }
+
+    fn write_extent(&mut self, first: u64, from: &[Content]) -> Result<(), DiskFault> {
+        self.count()?;
+        self.inside.write_extent(first, from)
+    }
+
+    fn sync(&mut self) -> Result<(), DiskFault> {
+        self.count()?;
+        self.inside.sync()
+    }
+
+    ghost whole = { λ d h. absurd h };
+}
+
+/// How many nodes are read of a good device of which one read fails, and how many reads there were.
+fn read(alloc: Global, fails_at: u32) -> Result<(Result<usize, Refusal>, u32), Refusal> {
+    let mut inside = MemDisk::new(alloc, 8)?;
+    for at in 0..8 {
+        put(&mut inside, at, &good_sector(at))?;
+    }
+    let mut disk = FailingDisk::new(inside, fails_at);
+    let answer = match read_state(alloc, alloc, &mut disk) {
+        Ok(state) => Ok(state.used.len()),
+        Err(refusal) => Err(refusal),
+    };
+    Ok((answer, disk.steps))
+}
+
+#[test]
+fn a_failed_read_is_the_last(rt: HostRuntime) -> Result<(), Fail> {
+    for fails_at in 1..6 {
+        let refused = Err(Refusal::Io(Dev::Metadata));
+        assert_eq!(rt; read(rt.alloc(), fails_at)?, (refused, fails_at));
+    }
+    assert_eq!(rt; read(rt.alloc(), 6)?, (Ok(3), 5));
+    Ok(())
+}
+
+#[test]
+fn a_formatting_that_failed_is_repeated(rt: HostRuntime) -> Result<(), Fail> {
+    let geometry = Geometry::new(64, 4, 10, 4)?;
+    for fails_at in 1..6 {
+        let mut disk = FailingDisk::new(MemDisk::new(rt.alloc(), 4)?, fails_at);
+        let refused = Err(Refusal::Io(Dev::Metadata));
+        assert_eq!(rt; format(&mut disk, &geometry), refused);
+        assert_eq!(rt; disk.steps, fails_at);
+        format(&mut disk, &geometry)?;
+        let state = read_state(rt.alloc(), rt.alloc(), &mut disk)?;
+        assert_eq!(rt; (state.root.generation, state.root.clean), (0, true));
+        assert_eq!(rt; state.used.len(), 0);
+    }
+    let mut disk = FailingDisk::new(MemDisk::new(rt.alloc(), 4)?, 6);
+    assert_eq!(rt; format(&mut disk, &geometry), Ok(()));
+    assert_eq!(rt; disk.steps, 5);
+    Ok(())
+}

@@ -1,5 +1,0 @@
-use Rattle.std.proofs.Common.{◌≡◌, ◌≤◌, length}
-use Rattle.wb_tree.proofs.tests.comparing.fill.Given as goal
-
-abbrev pub invariant-loop-block : goal.invariant-loop-block
-invariant-loop-block l = record { long : length l.tree.entries ≡ 40; few : l.count ≤ l.block }
