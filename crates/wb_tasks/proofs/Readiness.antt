@@ -1,7 +1,7 @@
 -- An actor has what the next step of its task needs, and each step keeps it so; after the answer it holds nothing.
 use Rattle.std.specs.List.{Contains}
 use Rattle.wb_types.proofs.Lists.{Contains-first, Contains-behind}
-use Rattle.std.proofs.Common.{◌≡◌, ◌∙◌, ◌==◌, ◌+◌, ◌<◌, ◌≤◌, arith, inl, inr, zero, suc, ◌-◌, ◌^◌, ◌++◌, ℕ, Bool, true, false, cond, eqb, List, [], ◌∷◌, Option, Some, None, refl, sym, ap, subst, map, if◌then◌else◌}
+use Rattle.std.proofs.Common.{◌≡◌, ◌∙◌, ◌==◌, ◌+◌, ◌<◌, ◌≤◌, arith, zero, suc, ◌-◌, ◌^◌, ◌++◌, ℕ, Bool, true, false, cond, eqb, List, [], ◌∷◌, Option, Some, None, refl, sym, ap, subst, map, if◌then◌else◌}
 use Rattle.std.proofs.lemmas.Bool.{eq-eqb, true≢false}
 use Rattle.wb_types.specs.declared.mode.Dev.{Dev}
 use Rattle.wb_types.specs.declared.mode.Dev.TheVariants.{Cache, Origin}
@@ -26,7 +26,6 @@ use Rattle.wb_tasks.specs.Ready.{MayTake, MayMake, block_of, HasBlock, KnowsNext
 use Rattle.wb_tasks.specs.Plan.{Plan, table, want, after, first_step, gives_back, gives_up, release_orders, node_writes, root_steps, commit_steps, lets_go, exchange, may_take, is_worn, Fits, got_of}
 use Rattle.wb_tasks.specs.declared.step.Answer.{Answer}
 use Rattle.wb_tasks.specs.declared.step.Answer.TheVariants.{Refused as Refuses}
-use Rattle.wb_tasks.specs.declared.step.DeskStep.{DeskStep}
 use Rattle.wb_tasks.specs.declared.step.DeskStep.TheVariants.{Map, Unmap, ReleaseOrder, BeginCommit, EndCommit}
 use Rattle.wb_tasks.specs.declared.step.DeviceStep.{DeviceStep}
 use Rattle.wb_tasks.specs.declared.step.DeviceStep.TheVariants.{Read, Write, Sync, ReadMetadata, WriteNode, WriteRoot}

@@ -7,8 +7,8 @@ use Rattle.wb_tasks.specs.Tables.{BlockRange, device_at}
 use Rattle.wb_tasks.specs.Plan.{want, after, Fits}
 use Rattle.wb_tasks.specs.Phases.{read_left}
 use Rattle.wb_tasks.specs.declared.read.Phase.TheVariants.{Reads, Releases}
-use Rattle.wb_tasks.specs.declared.step.Answer.TheVariants.{Done as Finished, Refused as Refuses}
-use Rattle.wb_tasks.specs.declared.step.Got.TheVariants.{Done, Fault}
+use Rattle.wb_tasks.specs.declared.step.Answer.TheVariants.{Refused as Refuses}
+use Rattle.wb_tasks.specs.declared.step.Got.TheVariants.{Fault}
 
 -- what failed is a read
 pub after_failed_read : (part : BlockRange) (place : Option CBlock) (extents : List Extent) → Fits (want (read_left part (Reads place) extents)) Fault → read_left part (Releases (Refuses (Io (device_at place)))) extents ≡ after (read_left part (Reads place) extents) Fault

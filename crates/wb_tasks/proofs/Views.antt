@@ -1,8 +1,7 @@
 -- From the fields of a task to what its contract says.
-use Rattle.std.proofs.Common.{◌≡◌, ℕ, List, [], ◌∷◌, Option, Some, None, refl, sym, ap, subst, ◌∙◌}
+use Rattle.std.proofs.Common.{◌≡◌, ℕ, List, [], ◌∷◌, Some, None, refl, sym, ap, subst, ◌∙◌}
 use Rattle.wb_words.specs.declared.grip.GripStage.TheVariants.{LookFail, LookLock, Exchange, LookSeal, LookNumber}
 use Rattle.wb_types.specs.declared.extent.Extent.{Extent}
-use Rattle.wb_types.specs.declared.number.CBlock.{CBlock}
 use Rattle.wb_tasks.specs.Tables.{BlockRange}
 use Rattle.wb_tasks.specs.Plan.{Plan, want, after, refused, Fits}
 use Rattle.wb_tasks.specs.Phases.{read_left, write_left, migration_left}
@@ -11,10 +10,10 @@ use Rattle.wb_tasks.specs.declared.migrate.Phase.{Phase as MigrationPhase}
 use Rattle.wb_tasks.specs.declared.migrate.Phase.TheVariants.{Acquires as MigrationAcquires, Reads as ReadsFrom, Writes as WritesTo, Seals, Releases as MigrationReleases, GivesUp, SetsFailed as MigrationFails, Ended as MigrationEnded}
 use Rattle.wb_tasks.specs.declared.step.Migration.{Migration}
 use Rattle.wb_tasks.specs.declared.step.Migration.TheVariants.{Promote, Demote, Clean}
-use Rattle.wb_tasks.specs.declared.step.DeskStep.TheVariants.{Map, Unmap, ReleaseOrder, BeginCommit, EndCommit}
-use Rattle.wb_tasks.specs.declared.step.DeviceStep.TheVariants.{Read, Write, Sync, ReadMetadata, WriteNode, WriteRoot}
+use Rattle.wb_tasks.specs.declared.step.DeskStep.TheVariants.{BeginCommit}
+use Rattle.wb_tasks.specs.declared.step.DeviceStep.TheVariants.{ReadMetadata}
 use Rattle.wb_tasks.specs.declared.step.Want.{Want}
-use Rattle.wb_tasks.specs.declared.step.Want.TheVariants.{Cell, Device, Desk, End}
+use Rattle.wb_tasks.specs.declared.step.Want.TheVariants.{Device, Desk}
 use Rattle.wb_tasks.specs.declared.read.Phase.{Phase as ReadPhase}
 use Rattle.wb_tasks.specs.declared.read.Phase.TheVariants.{Acquires as ReadAcquires, Reads, Releases as ReadReleases, Ended as ReadEnded}
 use Rattle.wb_tasks.specs.declared.write.Phase.{Phase as WritePhase}

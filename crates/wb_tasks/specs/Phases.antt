@@ -1,5 +1,5 @@
 -- What is left of a task, by the phase that it is in.
-use Rattle.std.specs.Prelude.{◌++◌, Bool, true, false, List, [], ◌∷◌, Option, Some, map}
+use Rattle.std.specs.Prelude.{◌++◌, Bool, true, false, List, [], ◌∷◌, Some, map}
 use Rattle.wb_types.specs.declared.refusal.Refusal.TheVariants.{Worn, Io}
 use Rattle.wb_words.specs.declared.word.Access.TheVariants.{Shared, Owned}
 use Rattle.wb_words.specs.declared.word.Word.TheVariants.{Cell as LockWord, Seal as SealWord, Number as NumberWord}

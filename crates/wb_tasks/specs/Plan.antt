@@ -9,10 +9,9 @@ use Rattle.wb_words.specs.SharedWords.{can_take, place_in, dirty_in}
 use Rattle.wb_tasks.specs.Tables.{BlockJob, Reading, Writing, Migrating, TaskJob, OnBlock, Flushing, Opening, is_write, range_of, access_of, acquire, taking, work}
 use Rattle.wb_words.specs.declared.step.CellResult.{CellResult}
 use Rattle.wb_words.specs.declared.step.CellResult.TheVariants.{Done as CellDone, Word as Found, Lost as CellLost}
-use Rattle.wb_words.specs.declared.step.CellStep.TheVariants.{Look, Take, Release, Seal, Finish, Count, SetFailed, SetSuspended}
+use Rattle.wb_words.specs.declared.step.CellStep.TheVariants.{Look, Take, Release, SetFailed}
 use Rattle.wb_tasks.specs.declared.step.DeviceStep.{DeviceStep}
 use Rattle.wb_tasks.specs.declared.step.DeviceStep.TheVariants.{Read, Write, Sync, ReadMetadata, WriteNode, WriteRoot}
-use Rattle.wb_tasks.specs.declared.step.DeskStep.{DeskStep}
 use Rattle.wb_tasks.specs.declared.step.DeskStep.TheVariants.{Map, ReleaseOrder, BeginCommit, EndCommit}
 use Rattle.wb_tasks.specs.declared.step.Answer.{Answer}
 use Rattle.wb_tasks.specs.declared.step.Answer.TheVariants.{Done as Finished, Refused as Refuses}
