@@ -1,1 +1,5 @@
 pub mod Allocation
+pub mod Desks
+pub mod Calls
+pub mod Fields
+pub mod Opening
