@@ -1,5 +1,5 @@
 -- Where origin blocks are cached.
-use Rattle.std.proofs.Common.{◌≡◌, ◌≢◌, ◌<◌, ◌≤◌, ◌⊎◌, inl, inr, ℕ, zero, suc, Bool, true, false, cond, is_some, eqb, eq-eqb, List, [], ◌∷◌, Option, Some, None, length, map, get_or, set, replicate, ◌+◌, get_or-set_same, get_or-set_other, slice_get, refl, sym, ap, subst, ◌∙◌, arith}
+use Rattle.std.proofs.Common.{◌≡◌, ◌<◌, ◌≤◌, inl, inr, ℕ, zero, suc, Bool, true, false, cond, is_some, eqb, eq-eqb, List, [], ◌∷◌, Option, Some, None, length, map, get_or, set, replicate, ◌+◌, get_or-set_same, get_or-set_other, slice_get, refl, sym, ap, subst, ◌∙◌, arith}
 use Rattle.std.specs.Bool.{OnFalse}
 use Rattle.std.specs.Option.{option_map, IfNone, IfSome}
 use Rattle.wb_types.specs.declared.entry.Entry.{Entry}
@@ -14,7 +14,7 @@ use Rattle.std.proofs.lemmas.Bool.{cases_eq, cases_lt}
 use Rattle.std.proofs.lemmas.List.{length-set, length-map, length-replicate, get_or-replicate, get_or_past, ext_get_or, get_or-map}
 use Rattle.std.specs.List.{count_by}
 use Rattle.std.proofs.lemmas.List.Sums.{sum_by-cons}
-use Rattle.std.proofs.lemmas.Option.{slice_get_read, slice_get-get_or, slice_get_within, get_or_from_slice_get}
+use Rattle.std.proofs.lemmas.Option.{slice_get_read, slice_get-get_or, slice_get_within}
 use Rattle.wb_policy.proofs.Laws.{slice_get-set_other}
 use Rattle.wb_desk.specs.Fields.{IsIndex}
 use Rattle.wb_desk.specs.Desks.{DeskState, holdings, Takes, IsLawful, MayReserve, Names}
@@ -178,20 +178,6 @@ no_entry entries c e b t = let x = entry_for entries b c t in differs (sym e ∙
   where
     differs : {f : Entry} → (let y : Option Entry = None in y) ≡ Some f → ⊥
     differs s = cc
-
-pub index_first : (n : ℕ) (mapping : Holdings) (cached : List (Option CBlock)) → cached ≡ replicate n None → IndexUpTo n mapping cached 0
-index_first n mapping cached e = record {
-  size = ap (λ (x : List (Option CBlock)). length x) e ∙ length-replicate {A = Option CBlock} n None;
-  found = λ b c g. absurd (nothing b c (ap (λ (x : List (Option CBlock)). slice_get x b) (sym e) ∙ g));
-  missing = λ b k g le t. omega arith;
-}
-  where
-    nothing : (b : ℕ) (c : CBlock) → slice_get (replicate n None) b ≡ Some (Some c) → ⊥
-    nothing b c g = differs (sym (get_or-replicate {A = Option CBlock} n b None None (omega (arith, slice_get_within (replicate n None) b (Some c) g, length-replicate {A = Option CBlock} n None)))
-        ∙ get_or_from_slice_get (replicate n None) b (Some c) None g)
-      where
-        differs : (let x : Option CBlock = None in x) ≡ Some c → ⊥
-        differs s = cc
 
 pub index_last : (n m : ℕ) (entries : List (Option Entry)) (cached : List (Option CBlock)) → length entries ≡ m → IndexUpTo n (origins entries) cached m → IsIndex n (origins entries) cached
 index_last n m entries cached size i = record {

@@ -1,23 +1,24 @@
 -- What holds of every desk holds after each call.
-use Rattle.std.proofs.Common.{◌≡◌, ◌≢◌, ◌<◌, ◌≤◌, inl, inr, ℕ, Bool, true, false, List, [], ◌∷◌, Option, Some, None, length, get_or, set, slice_get, refl, sym, ap, subst, ◌∙◌, arith, get_or-set_same, get_or-set_other}
+use Rattle.std.proofs.Common.{◌≡◌, ◌<◌, inl, inr, ℕ, Bool, true, false, List, [], ◌∷◌, Option, Some, None, length, get_or, set, refl, sym, ap, subst, ◌∙◌, arith, get_or-set_same, get_or-set_other}
 use Rattle.std.specs.Option.{option_map}
-use Rattle.std.proofs.lemmas.Bool.{cases_eq, cases_lt}
-use Rattle.std.proofs.lemmas.List.{length-set, set-get_or, get_or_past}
-use Rattle.std.proofs.lemmas.Option.{get_or_from_slice_get, slice_get_within}
+use Rattle.std.proofs.lemmas.Bool.{cases_eq}
+use Rattle.std.proofs.lemmas.List.{length-set, set-get_or}
+use Rattle.std.proofs.lemmas.Option.{get_or_from_slice_get}
 use Rattle.wb_types.specs.declared.entry.Entry.{Entry}
 use Rattle.wb_types.specs.declared.number.CBlock.{CBlock}
 use Rattle.wb_policy.specs.declared.order.Order.{Order}
 use Rattle.wb_policy.specs.declared.order.Order.TheVariants.{Promote, Replace, Demote, Clean}
-use Rattle.wb_policy.specs.Law.{Holdings, origins, IsMappedAt, IsUnmapped}
+use Rattle.wb_policy.specs.Law.{Holdings, IsMappedAt}
 use Rattle.wb_space.specs.declared.block.Block.{Block}
 use Rattle.wb_space.specs.declared.block.Block.TheVariants.{Free, Mapped, Reserved, Quarantined}
 use Rattle.wb_space.specs.Blocks.{state, IsClaimed, released as block_released}
 use Rattle.wb_orders.specs.declared.live_order.LiveOrder.{LiveOrder}
 use Rattle.wb_orders.specs.Named.{first_of, second_of}
-use Rattle.wb_orders.specs.Orders.{order_at, taken, slots_taken, marked, unmarked, MayGive, IsTaken}
-use Rattle.wb_desk.specs.Desks.{DeskState, DeskInvariant, IsRight, HasOne, NamesWhatIs, Names, MayReserve, IsLawful, IsLive, IsFreeFor, holdings, is_mapped, Takes, sectors_asked}
+use Rattle.wb_orders.specs.Orders.{order_at, taken, slots_taken, unmarked, IsTaken}
+use Rattle.wb_desk.specs.Desks.{DeskState, DeskInvariant, IsRight, HasOne, NamesWhatIs, Names, MayReserve, IsLawful, IsLive, holdings, is_mapped, Takes, sectors_asked}
 use Rattle.wb_desk.specs.Calls.{blocks_reserved, reserved, released, next_order_taken}
-use Rattle.wb_desk.proofs.Index.{names_take, takes_once}
+use Rattle.wb_orders.proofs.Kept.{within_of}
+use Rattle.wb_desk.proofs.Index.{names_take, takes_once, lawful_takes}
 
 abbrev Each : Holdings → List (Option Entry) → List Block → List (Option LiveOrder) → ℕ → Type 0
 Each mapping entries blocks slots n = (k : ℕ) → k < n → IsRight mapping k (get_or entries k None) (state blocks k) (order_at slots k)
@@ -38,15 +39,6 @@ one_changes mapping entries blocks slots n c b s lb ls each here k l = elim (cas
         subst (λ (x : ℕ). IsRight mapping x (get_or entries x None) (state (set blocks c b) x) (order_at (set slots c s) x)) (sym e)
         (subst (λ (x : Block). IsRight mapping c (get_or entries c None) x (order_at (set slots c s) c)) (sym (get_or-set_same blocks c b Free (omega arith)))
         (subst (λ (x : Option LiveOrder). IsRight mapping c (get_or entries c None) b x) (sym (get_or-set_same slots c s None (omega arith))) (here inside)))
-
-slot_within : (slots : List (Option LiveOrder)) (c : ℕ) (o : LiveOrder) → order_at slots c ≡ Some o → c < length slots
-slot_within slots c o e = elim (cases_lt c (length slots)) [
-  | inl l ↦ l
-  | inr p ↦ absurd (none_is_some (sym (get_or_past slots c None p) ∙ e))
-]
-  where
-    none_is_some : (let x : Option LiveOrder = None in x) ≡ Some o → ⊥
-    none_is_some h = cc
 
 -- ---- the order that waits longest is taken
 
@@ -82,18 +74,6 @@ blocks_by blocks mapping c (Demote b) t = sym (set-get_or blocks c.0 Free)
 blocks_by blocks mapping c (Clean b) t = sym (set-get_or blocks c.0 Free)
 
 module _ {P : Type 0} where
-  pub free_for : (d : DeskState P) (c : CBlock) (order : Order) → IsLawful d c order → IsFreeFor d.space.blocks order
-  free_for d c (Promote b x) l = l.1
-  free_for d c (Replace v b x) l = tt
-  free_for d c (Demote b) l = tt
-  free_for d c (Clean b) l = tt
-
-  takes : (d : DeskState P) (c : CBlock) (order : Order) → IsLawful d c order → Takes (holdings d) c order
-  takes d c (Promote b x) l = l.0
-  takes d c (Replace v b x) l = l.0
-  takes d c (Demote b) l = l
-  takes d c (Clean b) l = l
-
   new_right : (d : DeskState P) (c : CBlock) (o : LiveOrder) (entry : Option Entry) (order : Order) → o.order ≡ order → IsLawful d c order
       → (r : (s : Option LiveOrder) × IsRight (holdings d) c.0 entry (state d.space.blocks c.0) s)
       → IsRight (holdings d) c.0 entry (new_block order (state d.space.blocks c.0)) (Some o)
@@ -148,7 +128,7 @@ module _ {P : Type 0} where
     }
       where
         by : blocks_reserved d.space.blocks order ≡ set d.space.blocks c.0 (new_block order (state d.space.blocks c.0))
-        by = blocks_by d.space.blocks (holdings d) c order (takes d c order m.lawful)
+        by = blocks_by d.space.blocks (holdings d) c order (lawful_takes d c order m.lawful)
 
         o : LiveOrder
         o = record { order = order; sectors = sectors_asked d.geometry order; threshold = d.threshold; number = d.orders.given; waits = waits }
@@ -185,7 +165,7 @@ module _ {P : Type 0} where
 
     pub takes_there : (d : DeskState P) (order : Order) → DeskInvariant knows d → (live : IsLive d order) → Takes (holdings d) live.cache order
     takes_there d order i live =
-        let r = i.each live.cache.0 (omega (arith, slot_within d.orders.slots live.cache.0 live.live live.there, i.slots)) in
+        let r = i.each live.cache.0 (omega (arith, within_of d.orders.slots live.cache.0 live.live live.there, i.slots)) in
         let n : Names (holdings d) (state d.space.blocks live.cache.0) live.cache.0 live.live.order = subst (λ (s : Option LiveOrder). NamesWhatIs (holdings d) (state d.space.blocks live.cache.0) live.cache.0 s) live.there r.stands in
         names_take (holdings d) (state d.space.blocks live.cache.0) live.cache order (subst (λ (y : Order). Names (holdings d) (state d.space.blocks live.cache.0) live.cache.0 y) live.same n)
 
@@ -194,7 +174,7 @@ module _ {P : Type 0} where
     found_at d order c i live t = takes_once d.geometry.cache_blocks d.geometry.origin_blocks d.tree.entries c live.cache order i.mapping t (takes_there d order i live)
 
     pub live_within : (d : DeskState P) (order : Order) → DeskInvariant knows d → (live : IsLive d order) → live.cache.0 < length d.space.blocks
-    live_within d order i live = omega (arith, slot_within d.orders.slots live.cache.0 live.live live.there, i.slots, i.blocks)
+    live_within d order i live = omega (arith, within_of d.orders.slots live.cache.0 live.live live.there, i.slots, i.blocks)
 
     -- what is known of the cache block of a live order, however it was found
     pub own : (d : DeskState P) (order : Order) (c : CBlock) → DeskInvariant knows d → (live : IsLive d order) → Takes (holdings d) c order
@@ -203,14 +183,3 @@ module _ {P : Type 0} where
         let e = found_at d order c i live t in
         subst (λ (k : CBlock). (k.0 < length d.space.blocks) × IsTaken (order_at d.orders.slots k.0)) (sym e)
         (live_within d order i live, subst (λ (s : Option LiveOrder). IsTaken s) (sym live.there) live.taken)
-
--- what is not claimed stays as it is when its order is over
-pub unclaimed_stays : (blocks : List Block) (c : ℕ) → (IsClaimed (state blocks c) → ⊥) → blocks ≡ set blocks c (block_released (state blocks c))
-unclaimed_stays blocks c n = sym (set-get_or blocks c Free) ∙ ap (λ (b : Block). set blocks c b) (by (state blocks c) n)
-  where
-    by : (b : Block) → (IsClaimed b → ⊥) → b ≡ block_released b
-    by Free m = refl
-    by Mapped m = refl
-    by Reserved m = absurd (m tt)
-    by (Quarantined true early) m = absurd (m tt)
-    by (Quarantined false early) m = refl

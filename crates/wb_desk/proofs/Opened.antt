@@ -1,5 +1,5 @@
 -- What holds of a desk that has just been opened.
-use Rattle.std.proofs.Common.{◌≡◌, ◌≤◌, ◌<◌, ◌+◌, ◌%◌, ◌^◌, ℕ, Bool, true, false, is_some, List, Option, Some, None, length, map, get_or, replicate, refl, sym, ap, subst, ◌∙◌, arith}
+use Rattle.std.proofs.Common.{◌≡◌, ◌≤◌, ◌<◌, ◌+◌, ◌%◌, ◌^◌, ℕ, Bool, false, is_some, List, Option, Some, None, length, map, get_or, refl, sym, ap, subst, ◌∙◌, arith}
 use Rattle.std.specs.List.{count_by}
 use Rattle.std.proofs.lemmas.List.{length-map, length-replicate, get_or-replicate, get_or-map}
 use Rattle.wb_types.specs.declared.entry.Entry.{Entry}
@@ -10,10 +10,9 @@ use Rattle.wb_tree.specs.Mapping.{Mapping, IsMapping}
 use Rattle.wb_policy.specs.Law.{Holdings, origins}
 use Rattle.wb_space.specs.declared.block.Block.{Block}
 use Rattle.wb_space.specs.declared.block.Block.TheVariants.{Free}
-use Rattle.wb_space.specs.Blocks.{state, opened_block, IsClaimed}
+use Rattle.wb_space.specs.Blocks.{state, opened_block}
 use Rattle.wb_orders.specs.declared.live_order.LiveOrder.{LiveOrder}
-use Rattle.wb_orders.specs.Orders.{order_at}
-use Rattle.wb_desk.specs.Desks.{DeskState, DeskInvariant, IsRight, HasOne, is_mapped}
+use Rattle.wb_desk.specs.Desks.{DeskInvariant, IsRight}
 use Rattle.wb_desk.specs.Opening.{opened}
 
 opened_right : (mapping : Holdings) (c : ℕ) (entry : Option Entry) → IsRight mapping c entry (opened_block (is_some entry)) None

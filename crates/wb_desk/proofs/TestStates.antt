@@ -1,5 +1,5 @@
 -- The mapping that the tests begin with.
-use Rattle.std.proofs.Common.{◌≡◌, ◌≢◌, ◌≤◌, ◌<◌, ℕ, List, Option, Some, None, length, get_or, set, replicate, refl, sym, ap, subst, ◌∙◌, arith}
+use Rattle.std.proofs.Common.{◌≡◌, ◌≤◌, ◌<◌, ℕ, List, Option, Some, None, set, replicate, sym, subst}
 use Rattle.wb_types.specs.declared.entry.Entry.{Entry}
 use Rattle.wb_tree.specs.Mapping.{IsMapping}
 use Rattle.wb_desk.proofs.Index.{one_mapping}

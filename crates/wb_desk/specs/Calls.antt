@@ -1,12 +1,11 @@
 -- What each call makes of a desk.
-use Rattle.std.specs.Prelude.{ℕ, Bool, List, Option, None, Some, slice_set}
+use Rattle.std.specs.Prelude.{Bool, List, slice_set}
 use Rattle.wb_types.specs.declared.number.CBlock.{CBlock}
 use Rattle.wb_policy.specs.declared.order.Order.{Order}
 use Rattle.wb_policy.specs.declared.order.Order.TheVariants.{Promote, Replace, Demote, Clean}
 use Rattle.wb_space.specs.declared.block.Block.{Block}
 use Rattle.wb_space.specs.declared.block.Block.TheVariants.{Reserved}
 use Rattle.wb_space.specs.Blocks.{state, released as block_released}
-use Rattle.wb_orders.specs.declared.live_order.LiveOrder.{LiveOrder}
 use Rattle.wb_orders.specs.Orders.{with_order, without_order, next_taken}
 use Rattle.wb_desk.specs.Desks.{DeskState, sectors_asked}
 

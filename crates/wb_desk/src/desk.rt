@@ -101,6 +101,7 @@ impl<P: Policy> Desk<P> {
         requires knows { P.knows policy (origins state.tree.entries) }
         ensures opened { IfOk result (λ d. d ≡ opened state.root.geometry state.root.generation state.tree state.used.items
             mode d.policy (threshold_of (value_of Key.MigrationThreshold keys.now)) (mapped_now d)) }
+        ensures fits { IfOk result (λ d. d.threshold < 2 ^ 32) }
         ensures policy { IfOk result (λ d. IsSet P.with_setting policy (value_of Key.PromoteMin keys.now) d.policy) }
         ensures refused { IfErr result (λ e. (e ≡ Refusal.Memory) ⊎ ((e ≡ Refusal.BadMessage) ×
             ((2 ^ 32 ≤ threshold_of (value_of Key.MigrationThreshold keys.now))

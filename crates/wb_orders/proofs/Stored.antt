@@ -19,12 +19,6 @@ stored_new n m slots busy queue s b q = rw (s, b, q) (record {
   orders = none_kept n m;
 })
 
-pub keeps_all : (n : ℕ) (xs : List CBlock) → length xs ≤ n → keep_last n xs ≡ xs
-keeps_all n xs l = ap (λ (k : ℕ). drop k xs) (none_over (length xs) n l)
-  where
-    none_over : (a b : ℕ) → a ≤ b → a - b ≡ 0
-    none_over a b h = omega arith
-
 pub queue_room : (slots : Slots) (busy : List Bool) (queue : Buffer CBlock) (cost given : ℕ) (c : CBlock) (o : LiveOrder)
     → AreStored slots busy queue cost given → IsGiven (orders_of slots busy queue given) c o → length queue.items < queue.capacity
 queue_room slots busy queue cost given c o s g = omega (arith, s.room, given_room (orders_of slots busy queue given) c o s.orders g)

@@ -1,4 +1,4 @@
-use Rattle.std.proofs.Common.{◌∙◌, ◌+◌, Vec, sym, ap, subst, List, Option, ℕ}
+use Rattle.std.proofs.Common.{◌∙◌, ◌+◌, Vec, sym, ap, subst, List, Option}
 use Rattle.std.specs.Global.{Global}
 use Rattle.wb_types.specs.declared.number.CBlock.{CBlock}
 use Rattle.wb_policy.specs.Law.{origins}

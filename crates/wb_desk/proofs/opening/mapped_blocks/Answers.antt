@@ -1,4 +1,4 @@
-use Rattle.std.proofs.Common.{◌<◌, arith}
+use Rattle.std.proofs.Common.{arith}
 use Rattle.wb_desk.proofs.Index.{mapped_list}
 use Rattle.wb_desk.proofs.opening.mapped_blocks.Goals as goal
 

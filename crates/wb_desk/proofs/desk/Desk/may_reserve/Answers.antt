@@ -1,9 +1,9 @@
-use Rattle.std.proofs.Common.{◌≡◌, ℕ, rules, subst, sym}
+use Rattle.std.proofs.Common.{◌≡◌, ℕ, subst, sym}
 use Rattle.std.specs.Option.{IfNone}
-use Rattle.std.proofs.Common.{None, Option}
+use Rattle.std.proofs.Common.{Option}
 use Rattle.wb_types.specs.declared.number.CBlock.{CBlock}
 use Rattle.wb_orders.specs.Orders.{MayGive}
-use Rattle.wb_desk.specs.Desks.{DeskInvariant, DeskState, MayReserve, Takes, holdings, sectors_asked}
+use Rattle.wb_desk.specs.Desks.{DeskInvariant, DeskState, MayReserve, sectors_asked}
 use Rattle.wb_desk.proofs.Index.{refused, lawful_takes}
 use Rattle.wb_desk.proofs.desk.Desk.may_reserve.Goals as goal
 

@@ -1,4 +1,4 @@
-use Rattle.std.proofs.Common.{◌≡◌, ◌∙◌, refl, Bool, false, List, rules, length, is_some, map, sym, ap}
+use Rattle.std.proofs.Common.{◌≡◌, ◌∙◌, refl, Bool, false, List, rules, length, is_some, map, ap}
 use Rattle.std.specs.List.{count_by}
 use Rattle.wb_space.specs.Blocks.{opened_block}
 use Rattle.wb_space.specs.Places.{noted, unused, place_count}

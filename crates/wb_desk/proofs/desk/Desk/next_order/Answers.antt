@@ -1,4 +1,3 @@
-use Rattle.std.proofs.Common.{sym}
 use Rattle.wb_desk.proofs.Kept.{taken_kept}
 use Rattle.wb_desk.proofs.desk.Desk.next_order.Goals as goal
 
