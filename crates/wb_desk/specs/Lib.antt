@@ -3,3 +3,4 @@ pub mod Desks
 pub mod Calls
 pub mod Fields
 pub mod Opening
+pub mod Messages

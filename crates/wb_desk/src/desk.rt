@@ -10,6 +10,7 @@ ghost use Rattle.wb_tree.specs.Mapping.{entry_at, IsMapping};
 ghost use Rattle.wb_orders.specs.Orders.{next_of, cost_of, AreOrders};
 ghost use Rattle.wb_desk.specs.Desks.{DeskInvariant, MayReserve, IsLive, IsLawful, IsFreeFor, Takes, holdings, mapped_now, sectors_asked};
 ghost use Rattle.wb_desk.specs.Opening.{opened, threshold_of, last_value as value_of, IsSet, IsBad};
+ghost use Rattle.wb_desk.specs.Messages.{AreRanges, IsTold, IsRefused};
 ghost use Rattle.wb_desk.specs.Calls.{blocks_reserved, reserved, released, next_order_taken};
 
 use crate::Counts;
@@ -21,7 +22,7 @@ use wb_orders::LiveOrders;
 use wb_policy::{Order, Policy};
 use wb_space::{Holding, Space};
 use wb_tree::Tree;
-use wb_types::{CBlock, Entry, Geometry, Key, Mode, OBlock, Refusal};
+use wb_types::{CBlock, CBlockRange, Entry, Geometry, Key, Message, Mode, OBlock, Refusal};
 
 /// What an opened cache decides by: which blocks are cached, what may be moved, and which commit runs.
 ///
@@ -178,6 +179,50 @@ impl<P: Policy> Desk<P> {
         ensures state { self.new ≡ next_order_taken self.old }
     {
         self.orders.take()
+    }
+
+    /// Tells a message: a threshold or a setting of the policy is set; ranges of cache blocks may be invalidated.
+    ///
+    /// `BadMessage` for a threshold above 4,294,967,295, a setting that the policy does not take, and a range that is empty or
+    /// goes past the last cache block; else `WrongMode` for ranges outside passthrough. Then nothing changed.
+    pub fn message(&mut self, message: &Message) -> Result<(), Refusal>
+        ensures ok { OnOk result (IsTold P.with_setting self.old message.now self.new) }
+        ensures err { OnErr result (self.new ≡ self.old) }
+        ensures refused { IfErr result (IsRefused P.with_setting self.old message.now) }
+    {
+        match message {
+            Message::Set(Key::MigrationThreshold, value) => self.set_threshold(*value),
+            Message::Set(Key::PromoteMin, value) => self.policy.set(Key::PromoteMin, *value),
+            Message::InvalidateCblocks(ranges) => self.may_invalidate(ranges.as_slice()),
+        }
+    }
+
+    fn set_threshold(&mut self, value: u64) -> Result<(), Refusal>
+        ensures ok { OnOk result ((value < 2 ^ 32) × (self.new ≡ record self.old { threshold = value })) }
+        ensures err { OnErr result (self.new ≡ self.old) }
+        ensures refused { IfErr result (λ e. (e ≡ Refusal.BadMessage) × (2 ^ 32 ≤ value)) }
+    {
+        if value > 4_294_967_295 {
+            return Err(Refusal::BadMessage);
+        }
+        self.threshold = value;
+        Ok(())
+    }
+
+    fn may_invalidate(&self, ranges: &[CBlockRange]) -> Result<(), Refusal>
+        ensures ok { OnOk result (AreRanges self.now.geometry.cache_blocks ranges.now × (self.now.mode ≡ Mode.Passthrough)) }
+        ensures refused { IfErr result (λ e.
+            ((e ≡ Refusal.BadMessage) × (AreRanges self.now.geometry.cache_blocks ranges.now → ⊥))
+            ⊎ ((e ≡ Refusal.WrongMode) × AreRanges self.now.geometry.cache_blocks ranges.now × (self.now.mode ≢ Mode.Passthrough))) }
+    {
+        if !are_ranges(ranges, self.geometry.cache_blocks) {
+            return Err(Refusal::BadMessage);
+        }
+        match self.mode {
+            Mode::Passthrough => Ok(()),
+            Mode::Writeback => Err(Refusal::WrongMode),
+            Mode::Writethrough => Err(Refusal::WrongMode),
+        }
     }
 
     /// Gives an order that its caller carries out. `Busy` where it may not be given, and then nothing changed.
@@ -377,4 +422,14 @@ fn release_block(space: &mut Space, c: CBlock)
     if space.is_kept(c) {
         space.give_back(c);
     }
+}
+
+/// Whether each range has a cache block, and none past the last.
+fn are_ranges(ranges: &[CBlockRange], cache_blocks: u32) -> bool
+    ensures are { OnTrue result (AreRanges cache_blocks ranges.now) }
+    ensures other { OnFalse result (¬ AreRanges cache_blocks ranges.now) }
+{
+    ranges
+        .iter()
+        .all(|r| r.begin.0 < r.end.0 && r.end.0 <= cache_blocks)
 }
