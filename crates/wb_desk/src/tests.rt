@@ -9,7 +9,9 @@ use wb_format::{Root, Version};
 use wb_meta::State;
 use wb_policy::{Order, Policy, Quiet};
 use wb_tree::Tree;
-use wb_types::{CBlock, Entry, Geometry, Key, Mode, OBlock, Refusal};
+use wb_types::{
+    CBlock, CBlockRange, CBlockRanges, Entry, Geometry, Key, Message, Mode, OBlock, Refusal,
+};
 
 /// What an opening read: block 3 in cache block 1 of four, and nothing else.
 #[tactic(auto, using(crate::proofs::TestStates::one_entry))]
@@ -125,5 +127,45 @@ fn an_opened_desk_shows_its_entries_and_refuses_bad_settings(
     ];
     let desk = opened(alloc, Mode::Writeback, &last)?;
     assert!(rt; desk.room() == 64);
+    Ok(())
+}
+
+fn invalidation(alloc: Global, begin: u32, end: u32) -> Result<Message, Refusal> {
+    let range = CBlockRange {
+        begin: CBlock(begin),
+        end: CBlock(end),
+    };
+    let ranges = vec![in alloc; range; 1]?;
+    Ok(Message::InvalidateCblocks(CBlockRanges::new(ranges)))
+}
+
+#[test]
+fn messages_are_taken_and_refused(rt: HostRuntime) -> Result<(), Refusal> {
+    let alloc = rt.alloc();
+    let mut desk = opened(alloc, Mode::Writeback, &[])?;
+    let settings = [
+        (Key::MigrationThreshold, 64, Ok(())),
+        (
+            Key::MigrationThreshold,
+            4_294_967_296,
+            Err(Refusal::BadMessage),
+        ),
+        (Key::PromoteMin, 2, Err(Refusal::BadMessage)),
+    ];
+    for (key, value, answer) in settings {
+        assert!(rt; desk.message(&Message::Set(key, value)) == answer);
+    }
+    assert!(rt; desk.room() == 64);
+    assert!(rt; desk.message(&invalidation(alloc, 0, 2)?) == Err(Refusal::WrongMode));
+    let mut desk = opened(alloc, Mode::Passthrough, &[])?;
+    let ranges = [
+        (0, 2, Ok(())),
+        (3, 4, Ok(())),
+        (2, 2, Err(Refusal::BadMessage)),
+        (3, 5, Err(Refusal::BadMessage)),
+    ];
+    for (begin, end, answer) in ranges {
+        assert!(rt; desk.message(&invalidation(alloc, begin, end)?) == answer);
+    }
     Ok(())
 }
