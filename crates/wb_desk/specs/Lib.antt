@@ -1,1 +1,6 @@
 pub mod Allocation
+pub mod Desks
+pub mod Calls
+pub mod Fields
+pub mod Opening
+pub mod Messages

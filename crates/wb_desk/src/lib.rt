@@ -1,6 +1,14 @@
-//! The desk so far: the law of its acts on cache blocks, images and orders. Its calls come with it.
+//! The desk: the mapping, the policy, the live orders and the running commit of an opened cache, as one value under one
+//! lock. Each call is exact: what it makes of the value that it finds, and why it refuses.
 #![tactic(auto)]
 
+mod counts;
+mod desk;
 mod law;
+mod opening;
+#[cfg(test)]
+mod tests;
 
+pub use counts::Counts;
+pub use desk::Desk;
 pub use law::allocation_keeps_its_invariant;

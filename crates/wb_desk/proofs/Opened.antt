@@ -1,0 +1,42 @@
+-- What holds of a desk that has just been opened.
+use Rattle.std.proofs.Common.{◌≡◌, ◌≤◌, ◌<◌, ◌+◌, ◌%◌, ◌^◌, ℕ, Bool, false, is_some, List, Option, Some, None, length, map, get_or, refl, sym, ap, subst, ◌∙◌, arith}
+use Rattle.std.specs.List.{count_by}
+use Rattle.std.proofs.lemmas.List.{length-map, length-replicate, get_or-replicate, get_or-map}
+use Rattle.wb_types.specs.declared.entry.Entry.{Entry}
+use Rattle.wb_types.specs.declared.geometry.Geometry.{Geometry}
+use Rattle.wb_types.specs.declared.mode.Mode.{Mode}
+use Rattle.wb_types.specs.declared.number.Place.{Place}
+use Rattle.wb_tree.specs.Mapping.{Mapping, IsMapping}
+use Rattle.wb_policy.specs.Law.{Holdings, origins}
+use Rattle.wb_space.specs.declared.block.Block.{Block}
+use Rattle.wb_space.specs.declared.block.Block.TheVariants.{Free}
+use Rattle.wb_space.specs.Blocks.{state, opened_block}
+use Rattle.wb_orders.specs.declared.live_order.LiveOrder.{LiveOrder}
+use Rattle.wb_desk.specs.Desks.{DeskInvariant, IsRight}
+use Rattle.wb_desk.specs.Opening.{opened}
+
+opened_right : (mapping : Holdings) (c : ℕ) (entry : Option Entry) → IsRight mapping c entry (opened_block (is_some entry)) None
+opened_right mapping c None = record { filled = refl; held = λ h. h; stands = tt }
+opened_right mapping c (Some e) = record { filled = refl; held = λ h. h; stands = tt }
+
+pub opened_kept : {P : Type 0} (knows : P → Holdings → Type 0) (geometry : Geometry) (generation : ℕ) (tree : Mapping) (used : List Place) (mode : Mode) (policy : P) (threshold mapped : ℕ)
+    → IsMapping geometry.cache_blocks geometry.origin_blocks tree.entries → length used + 2 ≤ geometry.meta_sectors → knows policy (origins tree.entries)
+    → mapped ≡ count_by is_some tree.entries → DeskInvariant knows (opened geometry generation tree used mode policy threshold mapped)
+opened_kept knows geometry generation tree used mode policy threshold mapped m places known count = record {
+  mapping = m;
+  blocks = length-map (map is_some tree.entries) opened_block ∙ length-map tree.entries is_some ∙ m.size;
+  slots = length-replicate {A = Option LiveOrder} geometry.cache_blocks None;
+  busy = length-replicate {A = Bool} geometry.origin_blocks false;
+  places = places;
+  each = λ c l.
+      subst (λ (s : Option LiveOrder). IsRight (origins tree.entries) c (get_or tree.entries c None) (state (map opened_block (map is_some tree.entries)) c) s)
+      (sym (get_or-replicate {A = Option LiveOrder} geometry.cache_blocks c None None l))
+      (subst (λ (b : Block). IsRight (origins tree.entries) c (get_or tree.entries c None) b None) (sym (block c l))
+      (opened_right (origins tree.entries) c (get_or tree.entries c None)));
+  counted = ap (λ (n : ℕ). (n + 0) % 2 ^ 64) count;
+  known = known;
+}
+  where
+    block : (c : ℕ) → c < geometry.cache_blocks → state (map opened_block (map is_some tree.entries)) c ≡ opened_block (is_some (get_or tree.entries c None))
+    block c l = get_or-map opened_block (map is_some tree.entries) c false Free (omega (arith, length-map tree.entries is_some, m.size))
+        ∙ ap opened_block (get_or-map is_some tree.entries c None false (omega (arith, m.size)))

@@ -1,0 +1,27 @@
+use Rattle.std.proofs.Common.{◌≡◌, ◌∙◌, refl, Bool, false, List, rules, length, is_some, map, ap}
+use Rattle.std.specs.List.{count_by}
+use Rattle.wb_space.specs.Blocks.{opened_block}
+use Rattle.wb_space.specs.Places.{noted, unused, place_count}
+use Rattle.wb_desk.proofs.Index.{count_list}
+use Rattle.wb_desk.proofs.Opened.{opened_kept}
+use Rattle.wb_desk.proofs.desk.Desk.new.Goals as goal
+
+pub invariant_of-result : goal.invariant_of-result
+invariant_of-result g c =
+    let n : c.len.result ≡ length c.args.state.used.items = search rules in
+    let k : c.count_mapped-count.result ≡ count_by is_some c.args.state.tree.entries =
+    c.count_mapped-count.ensures ∙ ap (λ (xs : List Bool). count_by (λ m. m) xs) (c.deref.ensures.value ∙ c.in_ok-mapped.ensures) ∙ count_list c.args.state.tree.entries in
+    let s : c.in_ok-new.field-0 ≡ record {
+      blocks = map opened_block (map is_some c.args.state.tree.entries);
+      places = record {
+        committed = noted c.args.state.used.items (unused (place_count c.args.state.root.geometry.cache_blocks));
+        running = unused (place_count c.args.state.root.geometry.cache_blocks);
+      };
+      committing = false;
+    } = c.in_ok-new.ensures.ok ∙ rw (c.deref-2.ensures.value ∙ c.in_ok-mapped.ensures, c.deref-3.ensures.value) refl in
+    record {
+      desk = rw (s, c.in_ok-new-2.ensures.ok, n) (opened_kept g.P.Policy.knows c.args.state.root.geometry c.args.state.root.generation c.args.state.tree c.args.state.used.items
+          c.args.mode c.set_policy.new.policy c.unwrap_or-threshold.result c.count_mapped-count.result c.requires.mapping c.requires.places (c.set_policy.ensures.knows _ c.requires.knows) k);
+      index = c.in_ok-cached.ensures;
+      count = k;
+    }

@@ -1,0 +1,16 @@
+-- What the fields of a desk hold beside what a caller sees.
+use Rattle.std.specs.Prelude.{◌≡◌, ℕ, List, Option, Some, None, length, slice_get}
+use Rattle.wb_types.specs.declared.number.CBlock.{CBlock}
+use Rattle.wb_policy.specs.Law.{Holdings, IsMappedAt, IsUnmapped}
+use Rattle.wb_desk.specs.Desks.{DeskState, DeskInvariant, holdings, mapped_now}
+
+-- where each origin block is cached
+pub record IsIndex (origin_blocks : ℕ) (mapping : Holdings) (cached : List (Option CBlock)) : Type 0 where
+  pub size : length cached ≡ origin_blocks
+  pub found : (b : ℕ) (c : CBlock) → slice_get cached b ≡ Some (Some c) → IsMappedAt mapping b c.0
+  pub missing : (b : ℕ) → slice_get cached b ≡ Some None → IsUnmapped mapping b
+
+pub record AreParts {P : Type 0} (knows : P → Holdings → Type 0) (d : DeskState P) (cached : List (Option CBlock)) (mapped : ℕ) : Type 0 where
+  pub desk : DeskInvariant knows d
+  pub index : IsIndex d.geometry.origin_blocks (holdings d) cached
+  pub count : mapped ≡ mapped_now d

@@ -1,0 +1,171 @@
+//! What no contract says: that memory serves, and that orders are given and refused as they were worked by hand.
+
+ghost use Rattle.std.specs.Prelude.{◌≡◌, [], IfOk};
+ghost use Rattle.wb_tree.specs.Mapping.{IsMapping};
+
+use crate::Desk;
+use std::alloc::Global;
+use wb_format::{Root, Version};
+use wb_meta::State;
+use wb_policy::{Order, Policy, Quiet};
+use wb_tree::Tree;
+use wb_types::{
+    CBlock, CBlockRange, CBlockRanges, Entry, Geometry, Key, Message, Mode, OBlock, Refusal,
+};
+
+/// What an opening read: block 3 in cache block 1 of four, and nothing else.
+#[tactic(auto, using(crate::proofs::TestStates::one_entry))]
+fn state(alloc: Global) -> Result<State<Global>, Refusal>
+    ensures mapping { IfOk result (λ s. IsMapping s.root.geometry.cache_blocks s.root.geometry.origin_blocks s.tree.entries) }
+    ensures cache_blocks { IfOk result (λ s. s.root.geometry.cache_blocks ≡ 4) }
+    ensures places { IfOk result (λ s. s.root.geometry.meta_sectors ≡ 4) }
+    ensures used { IfOk result (λ s. s.used.items ≡ []) }
+{
+    let geometry = Geometry::new(64, 4, 10, 4)?;
+    let mut tree = Tree::new(alloc, 4);
+    let entry = Entry {
+        origin: OBlock(3),
+        dirty: false,
+        hint: 0,
+    };
+    tree.set(CBlock(1), entry)?;
+    Ok(State {
+        root: Root {
+            generation: 7,
+            version: Version::One,
+            clean: false,
+            geometry,
+            top: None,
+        },
+        tree,
+        used: Vec::new(alloc),
+    })
+}
+
+fn opened(alloc: Global, mode: Mode, keys: &[(Key, u64)]) -> Result<Desk<Quiet>, Refusal>
+    ensures { IfOk result (λ d. d.geometry.cache_blocks ≡ 4) }
+{
+    Desk::new(alloc, state(alloc)?, mode, Quiet, keys)
+}
+
+const CLEAN: Order = Order::Clean(OBlock(3));
+
+const PROMOTE: Order = Order::Promote(OBlock(5), CBlock(0));
+
+/// Orders that are given one after the other, and those that are given up, with whether it was so.
+const STEPS: [(bool, Order, bool); 15] = [
+    (true, CLEAN, true),
+    // its block has a live order, is mapped, the cache block is mapped, the block is unmapped, is not there
+    (true, CLEAN, false),
+    (true, Order::Promote(OBlock(3), CBlock(0)), false),
+    (true, Order::Promote(OBlock(5), CBlock(1)), false),
+    (true, Order::Demote(OBlock(7)), false),
+    (true, Order::Promote(OBlock(10), CBlock(0)), false),
+    (true, PROMOTE, true),
+    // the cache block is reserved, and is free again once the order is given up
+    (true, Order::Promote(OBlock(6), CBlock(0)), false),
+    (false, PROMOTE, true),
+    (false, PROMOTE, false),
+    (false, CLEAN, true),
+    // two blocks' sectors
+    (true, Order::Replace(OBlock(3), OBlock(6), CBlock(1)), true),
+    (true, Order::Promote(OBlock(6), CBlock(0)), false),
+    (true, Order::Promote(OBlock(9), CBlock(2)), false),
+    (false, Order::Replace(OBlock(3), OBlock(6), CBlock(1)), true),
+];
+
+fn answers(desk: &mut Desk<Quiet>, gives: bool, order: Order) -> bool {
+    if gives {
+        return desk.reserve(order).is_ok();
+    }
+    if !desk.is_live(order) {
+        return false;
+    }
+    desk.release(order);
+    true
+}
+
+#[test]
+fn orders_are_given_and_given_up(rt: HostRuntime) -> Result<(), Refusal> {
+    let mut desk = opened(
+        rt.alloc(),
+        Mode::Writeback,
+        &[(Key::MigrationThreshold, 150)],
+    )?;
+    for (gives, order, so) in STEPS {
+        assert!(rt; answers(&mut desk, gives, order) == so);
+    }
+    assert!(rt; desk.next_order() == None);
+    assert!(rt; desk.room() == 150);
+    let counts = desk.counts();
+    assert!(rt; counts.generation == 7 && counts.used == 2 && counts.mapped == 1);
+    assert!(rt; counts.promotions == 0 && counts.demotions == 0 && counts.threshold == 150);
+    Ok(())
+}
+
+#[test]
+fn an_opened_desk_shows_its_entries_and_refuses_bad_settings(
+    rt: HostRuntime,
+) -> Result<(), Refusal> {
+    let alloc = rt.alloc();
+    let mut desk = opened(alloc, Mode::Passthrough, &[])?;
+    assert!(rt; desk.entry(CBlock(0)).is_none() && desk.entry(CBlock(1)).is_some());
+    assert!(rt; desk.room() == 2048);
+    assert!(rt; desk.reserve(CLEAN) == Err(Refusal::Busy));
+    let settings = [
+        (Key::MigrationThreshold, 4_294_967_296),
+        (Key::PromoteMin, 2),
+    ];
+    for setting in settings {
+        let refused = opened(alloc, Mode::Writeback, &[setting]);
+        assert!(rt; refused.is_err());
+    }
+    // the last value of a key counts
+    let last = [
+        (Key::MigrationThreshold, 4_294_967_296),
+        (Key::MigrationThreshold, 64),
+    ];
+    let desk = opened(alloc, Mode::Writeback, &last)?;
+    assert!(rt; desk.room() == 64);
+    Ok(())
+}
+
+fn invalidation(alloc: Global, begin: u32, end: u32) -> Result<Message, Refusal> {
+    let range = CBlockRange {
+        begin: CBlock(begin),
+        end: CBlock(end),
+    };
+    let ranges = vec![in alloc; range; 1]?;
+    Ok(Message::InvalidateCblocks(CBlockRanges::new(ranges)))
+}
+
+#[test]
+fn messages_are_taken_and_refused(rt: HostRuntime) -> Result<(), Refusal> {
+    let alloc = rt.alloc();
+    let mut desk = opened(alloc, Mode::Writeback, &[])?;
+    let settings = [
+        (Key::MigrationThreshold, 64, Ok(())),
+        (
+            Key::MigrationThreshold,
+            4_294_967_296,
+            Err(Refusal::BadMessage),
+        ),
+        (Key::PromoteMin, 2, Err(Refusal::BadMessage)),
+    ];
+    for (key, value, answer) in settings {
+        assert!(rt; desk.message(&Message::Set(key, value)) == answer);
+    }
+    assert!(rt; desk.room() == 64);
+    assert!(rt; desk.message(&invalidation(alloc, 0, 2)?) == Err(Refusal::WrongMode));
+    let mut desk = opened(alloc, Mode::Passthrough, &[])?;
+    let ranges = [
+        (0, 2, Ok(())),
+        (3, 4, Ok(())),
+        (2, 2, Err(Refusal::BadMessage)),
+        (3, 5, Err(Refusal::BadMessage)),
+    ];
+    for (begin, end, answer) in ranges {
+        assert!(rt; desk.message(&invalidation(alloc, begin, end)?) == answer);
+    }
+    Ok(())
+}

@@ -1,0 +1,13 @@
+//! The orders that were given and are not over: which cache block and which origin blocks each keeps, in which order they
+//! were given, and who waits to be taken.
+//!
+//! The queue of those that wait is a ring of the kit's; the others are found by their cache block. Nothing is searched.
+#![tactic(auto)]
+
+mod live_order;
+mod live_orders;
+#[cfg(test)]
+mod tests;
+
+pub use live_order::LiveOrder;
+pub use live_orders::LiveOrders;

@@ -1,0 +1,45 @@
+//! An order that lives.
+
+ghost use Rattle.std.specs.Prelude.{◌≡◌};
+ghost use Rattle.wb_orders.specs.Named.{first_of as the_first, second_of as the_second};
+
+use wb_policy::Order;
+use wb_types::OBlock;
+
+/// An order that was given and is not over.
+#[derive(Clone, Copy)]
+pub struct LiveOrder {
+    pub order: Order,
+    /// The sectors that it moves.
+    pub sectors: u64,
+    /// The greatest sum of sectors that was allowed when it was given.
+    pub threshold: u64,
+    /// How many orders had been given before it.
+    pub number: u64,
+    /// Nobody has taken it yet.
+    pub waits: bool,
+}
+
+/// The origin block that an order names first.
+pub(crate) fn first_of(order: Order) -> OBlock
+    ensures { result ≡ the_first order }
+{
+    match order {
+        Order::Promote(b, _) => b,
+        Order::Replace(victim, _, _) => victim,
+        Order::Demote(b) => b,
+        Order::Clean(b) => b,
+    }
+}
+
+/// The origin block that it names last: of a single one, that again.
+pub(crate) fn second_of(order: Order) -> OBlock
+    ensures { result ≡ the_second order }
+{
+    match order {
+        Order::Promote(b, _) => b,
+        Order::Replace(_, b, _) => b,
+        Order::Demote(b) => b,
+        Order::Clean(b) => b,
+    }
+}
