@@ -6,8 +6,6 @@
 
 mod flush;
 mod open;
-#[cfg(test)]
-mod tests;
 
 pub use flush::FlushTask;
 pub use open::OpenTask;

@@ -17,8 +17,6 @@ mod route;
 mod stage;
 mod step;
 mod task;
-#[cfg(test)]
-mod tests;
 mod write;
 
 pub use clean::CleanTask;

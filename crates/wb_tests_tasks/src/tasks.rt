@@ -9,10 +9,10 @@ use self::bench::{BLOCK, BLOCK_SECTORS, Bench};
 use self::migrations::{CACHED, COPIES, DISOWN, GIVE_UP, HOME, MIGRATIONS};
 use self::requests::{CACHED_SECTORS, REQUESTS, SECTORS};
 use self::row::{Job, Row};
-use crate::*;
 use std::alloc::Global;
 use std::process::Abort;
 use std::test::Fail;
+use wb_tasks::*;
 use wb_types::{Extent, Refusal};
 use wb_words::Word;
 

@@ -4,8 +4,8 @@ ghost use Rattle.wb_tasks.specs.Plan.{Fits};
 ghost use Rattle.wb_tasks.specs.declared.step.Want.TheVariants.{Cell, Device, Desk};
 
 use super::row::{Job, Row};
-use crate::*;
 use std::alloc::Global;
+use wb_tasks::*;
 use wb_types::{CBlock, Dev, Extent, OBlock, Refusal};
 use wb_words::{Access, Word, seal_word};
 

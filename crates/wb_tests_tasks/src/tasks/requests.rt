@@ -2,7 +2,7 @@
 
 use super::bench::BLOCK;
 use super::row::{Job, PLAIN, Row};
-use crate::*;
+use wb_tasks::*;
 use wb_types::{CBlock, Dev, Extent, Refusal};
 use wb_words::{Access, Kind, Word};
 

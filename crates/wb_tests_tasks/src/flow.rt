@@ -5,9 +5,9 @@ mod stage;
 
 use self::rows::{ROWS, Row};
 use self::stage::{Noted, Task};
-use crate::*;
 use std::alloc::{AllocError, Global};
 use std::test::Fail;
+use wb_flow::*;
 use wb_tasks::{Answer, drive};
 use wb_types::{OBlock, Refusal};
 

@@ -1,6 +1,6 @@
 //! A task, what it meets, and what it wants then.
 
-use crate::*;
+use wb_tasks::*;
 use wb_words::Word;
 
 /// What is done with the block.

@@ -1,0 +1,8 @@
+//! Tests of the step tables by their public contracts. They stand beside those crates, so that testing one does not prove it
+//! once more.
+#![tactic(auto)]
+
+#[cfg(test)]
+mod flow;
+#[cfg(test)]
+mod tasks;
