@@ -6,6 +6,8 @@ mod counts;
 mod desk;
 mod law;
 mod opening;
+#[cfg(test)]
+mod tests;
 
 pub use counts::Counts;
 pub use desk::Desk;

@@ -3,8 +3,8 @@
 ghost use Rattle.std.specs.Prelude.{◌≡◌, [], IfOk};
 ghost use Rattle.wb_tree.specs.Mapping.{IsMapping};
 
+use crate::Desk;
 use std::alloc::Global;
-use wb_desk::Desk;
 use wb_format::{Root, Version};
 use wb_meta::State;
 use wb_policy::{Order, Policy, Quiet};
@@ -14,7 +14,7 @@ use wb_types::{
 };
 
 /// What an opening read: block 3 in cache block 1 of four, and nothing else.
-#[tactic(auto, using(wb_desk::proofs::TestStates::one_entry))]
+#[tactic(auto, using(crate::proofs::TestStates::one_entry))]
 fn state(alloc: Global) -> Result<State<Global>, Refusal>
     ensures mapping { IfOk result (λ s. IsMapping s.root.geometry.cache_blocks s.root.geometry.origin_blocks s.tree.entries) }
     ensures cache_blocks { IfOk result (λ s. s.root.geometry.cache_blocks ≡ 4) }
