@@ -1,6 +1,6 @@
 //! Trees that are planned, and read back from their images.
 
-ghost use Rattle.std.specs.Prelude.{◌≡◌, ◌≤◌, ◌<◌, ◌+◌, ℕ, Contains, IfOk, IsTrue, OnOk, Some, All, length, map};
+ghost use Rattle.std.specs.Prelude.{◌≡◌, ◌≢◌, ◌≤◌, ◌<◌, ◌+◌, ◌∷◌, [], ℕ, Contains, IfOk, IsTrue, OnOk, Some, All, length, map};
 ghost use Rattle.std.specs.List.{range_with_len};
 ghost use Rattle.wb_types.specs.Limits.{node_count};
 ghost use Rattle.wb_types.specs.declared.entry.Entry.{Entry as EntryValue};
@@ -103,12 +103,12 @@ fn a_leaf_alone_is_planned(rt: HostRuntime) -> Result<(), Fail> {
     Ok(())
 }
 
-/// What an image is to be: the hints at cache blocks 0 and 33, the free places, and then the nodes by level, index
-/// and place, the place of the top, and how many places are used.
+/// What an image is to be: the hints at cache blocks 0 and 33, the places that are free, and then the nodes by level,
+/// index and place, the place of the top, and how many places are used.
 #[derive(Clone, Copy)]
 struct Row {
     hints: (Option<u8>, Option<u8>),
-    free: (u32, u32),
+    free: (u32, u32, u32),
     nodes: [(u32, u32, u32); 3],
     written: usize,
     top: Option<u32>,
@@ -118,7 +118,7 @@ struct Row {
 const ROWS: [Row; 5] = [
     Row {
         hints: (Some(0), Some(0)),
-        free: (2, 3),
+        free: (2, 3, 4),
         nodes: [(1, 0, 2), (1, 1, 3), (2, 0, 4)],
         written: 3,
         top: Some(4),
@@ -126,7 +126,7 @@ const ROWS: [Row; 5] = [
     },
     Row {
         hints: (Some(0), Some(0)),
-        free: (5, 3),
+        free: (5, 6, 7),
         nodes: [(0, 0, 0); 3],
         written: 0,
         top: Some(4),
@@ -134,7 +134,7 @@ const ROWS: [Row; 5] = [
     },
     Row {
         hints: (Some(0), Some(5)),
-        free: (5, 3),
+        free: (5, 6, 7),
         nodes: [(1, 1, 5), (2, 0, 6), (0, 0, 0)],
         written: 2,
         top: Some(6),
@@ -142,21 +142,69 @@ const ROWS: [Row; 5] = [
     },
     Row {
         hints: (Some(0), None),
-        free: (7, 3),
-        nodes: [(2, 0, 7), (0, 0, 0), (0, 0, 0)],
+        free: (3, 4, 7),
+        nodes: [(2, 0, 3), (0, 0, 0), (0, 0, 0)],
         written: 1,
-        top: Some(7),
+        top: Some(3),
         used: 2,
     },
     Row {
         hints: (None, None),
-        free: (3, 3),
+        free: (4, 5, 6),
         nodes: [(0, 0, 0); 3],
         written: 0,
         top: None,
         used: 0,
     },
 ];
+
+/// Whether none of three places is used.
+fn are_unused(used: &[Place], free: (u32, u32, u32)) -> bool
+    ensures { IsTrue result
+        → All (λ place. (place.0 ≢ free.0) × (place.0 ≢ free.1) × (place.0 ≢ free.2)) used.now }
+{
+    used.iter().all(|place| place.0 != free.0 && place.0 != free.1 && place.0 != free.2)
+}
+
+/// Three places.
+fn three_places(global: Global, free: (u32, u32, u32)) -> Result<Vec<Place>, Refusal>
+    ensures { IfOk result (λ places. places.items
+        ≡ record { 0 = free.0 } ∷ record { 0 = free.1 } ∷ record { 0 = free.2 } ∷ []) }
+{
+    let mut places = Vec::with_capacity(global, 3)?;
+    places.push_reserved(Place(free.0));
+    places.push_reserved(Place(free.1));
+    places.push_reserved(Place(free.2));
+    Ok(places)
+}
+
+/// An image with three free places, in rising order. `Busy` where they are too few, or one of them is used.
+fn plan_over(
+    global: Global,
+    tree: &mut Tree<Global>,
+    geometry: &Geometry,
+    used: &[Place],
+    free: (u32, u32, u32),
+) -> Result<Image, Refusal>
+    requires size { length tree.old.entries ≡ geometry.now.cache_blocks }
+    requires origin { geometry.now.cache_blocks ≤ geometry.now.origin_blocks }
+    requires own { (block : ℕ) (entry : EntryValue) → entry_at tree.old block ≡ Some entry
+        → (entry.origin.0 ≡ block) × (entry.hint ≤ 16) }
+    requires used { (place : PlaceValue) → IsPlaceOf tree.old place → Contains used.now place }
+    requires inside { AreInside geometry.now.meta_sectors tree.old }
+    ensures entries { OnOk result (tree.new.entries ≡ tree.old.entries) }
+    ensures used { IfOk result (λ image. (place : PlaceValue) → IsPlaceOf tree.new place → Contains image.used.items place) }
+    ensures inside { OnOk result (AreInside geometry.now.meta_sectors tree.new) }
+{
+    if free.0 < 2 || free.1 <= free.0 || free.2 <= free.1 || geometry.meta_sectors <= free.2 {
+        return Err(Refusal::Busy);
+    }
+    if geometry.node_count() > 3 || !are_unused(used, free) {
+        return Err(Refusal::Busy);
+    }
+    let places = three_places(global, free)?;
+    tree.plan(global, geometry, 1, true, &places)
+}
 
 /// Whether an image is what a row says.
 fn is_as(image: &Image, row: &Row) -> bool {
@@ -174,13 +222,13 @@ fn is_as(image: &Image, row: &Row) -> bool {
 
 #[test]
 fn an_image_writes_the_nodes_that_changed(rt: HostRuntime) -> Result<(), Fail> {
-    let geometry = Geometry::new(64, 40, 40, 12)?;
+    let geometry = Geometry::new(64, 40, 40, 8)?;
     let mut tree = Tree::new(rt.alloc(), 40);
     let mut used = Vec::new(rt.alloc());
     for row in ROWS {
         change(&mut tree, 0, row.hints.0)?;
         change(&mut tree, 33, row.hints.1)?;
-        let image = plan_at(rt.alloc(), &mut tree, &geometry, 1, &used, row.free)?;
+        let image = plan_over(rt.alloc(), &mut tree, &geometry, &used, row.free)?;
         assert!(rt; is_as(&image, &row));
         let Image { used: places, .. } = image;
         used = places;
