@@ -98,13 +98,10 @@ fn formatted(rt: &(impl Abort + AllocGlobal)) -> Result<(MemDisk, Image), Fail> 
 fn formatting_and_a_first_commit_write_these_sectors(rt: HostRuntime) -> Result<(), Fail> {
     let (mut disk, image) = formatted(&rt)?;
     let mut larger = MemDisk::new(rt.alloc(), 5)?;
-    assert_eq!(rt;
-        format(&mut larger, &image.root.geometry),
-        Err(Refusal::Geometry)
-    );
-    assert_eq!(rt; sector_at(&mut larger, 0), Some([0; 512]));
-    assert_eq!(rt; sector_at(&mut disk, 0), Some(sector_of(&FORMATTED)));
-    assert_eq!(rt; sector_at(&mut disk, 1), Some([0; 512]));
+    assert!(rt; format(&mut larger, &image.root.geometry) == Err(Refusal::Geometry));
+    assert!(rt; sector_at(&mut larger, 0) == Some([0; 512]));
+    assert!(rt; sector_at(&mut disk, 0) == Some(sector_of(&FORMATTED)));
+    assert!(rt; sector_at(&mut disk, 1) == Some([0; 512]));
     let mut steps = CommitSteps::new();
     for step in [
         CommitStep::WriteNode(Place(2)),
@@ -112,14 +109,14 @@ fn formatting_and_a_first_commit_write_these_sectors(rt: HostRuntime) -> Result<
         CommitStep::WriteRoot(Place(1)),
         CommitStep::Sync,
     ] {
-        assert_eq!(rt; steps.coming(&image), Some(step));
+        assert!(rt; steps.coming(&image) == Some(step));
         assert!(rt; one_node_fits(&disk, &image));
         steps.next(&mut disk, &image)?;
     }
-    assert_eq!(rt; steps.coming(&image), None);
-    assert_eq!(rt; sector_at(&mut disk, 0), Some(sector_of(&FORMATTED)));
-    assert_eq!(rt; sector_at(&mut disk, 1), Some(sector_of(&COMMITTED)));
-    assert_eq!(rt; sector_at(&mut disk, 2), Some(sector_of(&LEAF)));
-    assert_eq!(rt; sector_at(&mut disk, 3), Some([0; 512]));
+    assert!(rt; steps.coming(&image).is_none());
+    assert!(rt; sector_at(&mut disk, 0) == Some(sector_of(&FORMATTED)));
+    assert!(rt; sector_at(&mut disk, 1) == Some(sector_of(&COMMITTED)));
+    assert!(rt; sector_at(&mut disk, 2) == Some(sector_of(&LEAF)));
+    assert!(rt; sector_at(&mut disk, 3) == Some([0; 512]));
     Ok(())
 }

@@ -1,5 +1,7 @@
 //! Entries that come and go, and a tree of two leaves that is read, whole and with a fault in it.
 
+ghost use Rattle.std.specs.Prelude.{◌≡◌, length};
+
 mod comparing;
 mod images;
 
@@ -21,20 +23,27 @@ const SECOND: Entry = Entry {
     hint: 16,
 };
 
+/// Whether these are the entries of cache blocks 0, 1 and 33, and 39 has none.
+fn are_entries(tree: &Tree<Global>, wanted: [Option<Entry>; 3]) -> bool
+    requires { length tree.now.entries ≡ 40 }
+{
+    tree.get(CBlock(0)) == wanted[0]
+        && tree.get(CBlock(1)) == wanted[1]
+        && tree.get(CBlock(33)) == wanted[2]
+        && tree.get(CBlock(39)).is_none()
+}
+
 #[test]
 fn entries_come_and_go(rt: HostRuntime) -> Result<(), Fail> {
     let mut tree = Tree::new(rt.alloc(), 40);
-    assert_eq!(rt; tree.get(CBlock(39)), None);
+    assert!(rt; are_entries(&tree, [None, None, None]));
     tree.set(CBlock(33), FIRST)?;
     tree.set(CBlock(0), SECOND)?;
     tree.set(CBlock(0), SECOND)?;
-    assert_eq!(rt; tree.get(CBlock(33)), Some(FIRST));
-    assert_eq!(rt; tree.get(CBlock(0)), Some(SECOND));
-    assert_eq!(rt; tree.get(CBlock(1)), None);
+    assert!(rt; are_entries(&tree, [Some(SECOND), None, Some(FIRST)]));
     tree.clear(CBlock(33));
     tree.clear(CBlock(39));
-    assert_eq!(rt; tree.get(CBlock(33)), None);
-    assert_eq!(rt; tree.get(CBlock(0)), Some(SECOND));
+    assert!(rt; are_entries(&tree, [Some(SECOND), None, None]));
     Ok(())
 }
 
@@ -114,7 +123,7 @@ fn a_tree_is_read_or_its_first_fault_is_named(rt: HostRuntime) {
         offset: 0,
         byte: 0x57,
     };
-    assert_eq!(rt; read(rt.alloc(), unchanged), Ok((3, Some(FIRST))));
+    assert!(rt; read(rt.alloc(), unchanged) == Ok((3, Some(FIRST))));
     for (place, offset, byte, place_of_fault) in [
         (4, 40, 2, 4),
         (4, 40, 4, 4),
@@ -137,6 +146,6 @@ fn a_tree_is_read_or_its_first_fault_is_named(rt: HostRuntime) {
             byte,
         };
         let fault = Err(Refusal::Damaged(Place(place_of_fault)));
-        assert_eq!(rt; read(rt.alloc(), change), fault, "{place} {offset}");
+        assert!(rt; read(rt.alloc(), change) == fault, "{place} {offset}");
     }
 }

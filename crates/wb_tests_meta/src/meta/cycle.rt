@@ -84,6 +84,11 @@ pub(super) fn is_read(
     Ok((state.root.generation, are_there))
 }
 
+/// Whether an image has its top at a place, and uses these and no others, in this order.
+fn has_places(image: &Image, top: u32, used: &[Place]) -> bool {
+    image.root.top == Some(Place(top)) && image.used.as_slice() == used
+}
+
 /// The generation that is read after a crash behind so many steps of the first commit, which has two leaves. What is
 /// read has the entries of its generation.
 fn generation_after(rt: &(impl Abort + AllocGlobal), count: u64, base: Base) -> Result<u64, Fail> {
@@ -100,7 +105,7 @@ fn generation_after(rt: &(impl Abort + AllocGlobal), count: u64, base: Base) -> 
     assert!(rt; disk.stop(&CrashChoice::new(base, Vec::new(alloc))));
     let (generation, _) = is_read(alloc, &mut disk, &[])?;
     let wanted: &[(u32, u8)] = if generation == 0 { &[] } else { &entries };
-    assert_eq!(rt; is_read(alloc, &mut disk, wanted)?, (generation, true));
+    assert!(rt; is_read(alloc, &mut disk, wanted)? == (generation, true));
     Ok(generation)
 }
 
@@ -130,23 +135,18 @@ fn a_second_commit_goes_to_the_places_that_are_left(rt: HostRuntime) -> Result<(
     let alloc = rt.alloc();
     let mut disk = formatted(alloc)?;
     let (mut tree, first) = change_and_plan(alloc, &mut disk, &[(0, 1), (33, 2)], (2, 6))?;
-    assert_eq!(rt;
-        first.used.as_slice(),
-        [Place(2), Place(3), Place(4)].as_slice()
-    );
-    assert_eq!(rt; first.root.top, Some(Place(4)));
+    assert!(rt; has_places(&first, 4, &[Place(2), Place(3), Place(4)]));
     commit(&mut disk, &first)?;
-    assert_eq!(rt; is_read(alloc, &mut disk, &[(0, 1), (33, 2)])?, (1, true));
+    assert!(rt; is_read(alloc, &mut disk, &[(0, 1), (33, 2)])? == (1, true));
 
     let geometry = first.root.geometry;
     change(&mut tree, &geometry, 33, 5)?;
     let second = plan_at(alloc, &mut tree, &geometry, 2, &first.used, (5, 3))?;
-    assert_eq!(rt; (second.nodes.len(), second.root.top), (2, Some(Place(6))));
-    assert!(rt; second.used.as_slice() == [Place(2), Place(5), Place(6)].as_slice());
+    assert!(rt; second.nodes.len() == 2 && has_places(&second, 6, &[Place(2), Place(5), Place(6)]));
     commit(&mut disk, &second)?;
-    assert_eq!(rt; is_read(alloc, &mut disk, &[(0, 1), (33, 5)])?, (2, true));
+    assert!(rt; is_read(alloc, &mut disk, &[(0, 1), (33, 5)])? == (2, true));
     let state = read_state(alloc, alloc, &mut disk)?;
-    assert_eq!(rt; state.root, second.root);
+    assert!(rt; state.root == second.root);
     assert!(rt; state.used.as_slice() == [Place(6), Place(2), Place(5)].as_slice());
     Ok(())
 }
@@ -156,21 +156,15 @@ fn a_tree_that_was_read_and_not_changed_writes_no_node(rt: HostRuntime) -> Resul
     let alloc = rt.alloc();
     let mut disk = formatted(alloc)?;
     let (_, empty) = change_and_plan(alloc, &mut disk, &[], (2, 6))?;
-    assert_eq!(rt; empty.nodes.len(), 0);
-    assert_eq!(rt; empty.root.top, None);
+    assert!(rt; empty.nodes.len() == 0 && empty.root.top.is_none());
     let (_, first) = change_and_plan(alloc, &mut disk, &[(0, 1), (33, 2)], (2, 6))?;
     commit(&mut disk, &first)?;
     for changes in [[].as_slice(), [(33, 2)].as_slice()] {
         let (_, same) = change_and_plan(alloc, &mut disk, changes, (5, 3))?;
-        assert_eq!(rt; same.nodes.len(), 0);
-        assert_eq!(rt; same.root.top, Some(Place(4)));
-        assert_eq!(rt;
-            same.used.as_slice(),
-            [Place(4), Place(2), Place(3)].as_slice()
-        );
+        assert!(rt; same.nodes.len() == 0 && has_places(&same, 4, &[Place(4), Place(2), Place(3)]));
     }
     let (_, same) = change_and_plan(alloc, &mut disk, &[], (5, 3))?;
     commit(&mut disk, &same)?;
-    assert_eq!(rt; is_read(alloc, &mut disk, &[(0, 1), (33, 2)])?, (2, true));
+    assert!(rt; is_read(alloc, &mut disk, &[(0, 1), (33, 2)])? == (2, true));
     Ok(())
 }

@@ -67,69 +67,80 @@ fn read(alloc: Global, place: u64, bytes: &[(usize, u8)]) -> Result<usize, Refus
     Ok(state.used.len())
 }
 
-/// A sector, which of its bytes are others, and what is then read: a root out of its ranges is none, one in them is read;
-/// a node out of its ranges is the first fault, one in them is read.
-const ROWS: [(u64, &[(usize, u8)], Result<usize, Refusal>); 82] = [
-    (1, &[(0, 0x77)], Err(Refusal::NotFormatted)),
-    (1, &[(7, 0x32)], Err(Refusal::NotFormatted)),
-    (1, &[(8, 2)], Err(Refusal::NotFormatted)),
-    (1, &[(16, 0)], Err(Refusal::NotFormatted)),
-    (1, &[(16, 2)], Err(Refusal::NotFormatted)),
-    (1, &[(19, 1)], Err(Refusal::NotFormatted)),
-    (1, &[(20, 2)], Err(Refusal::NotFormatted)),
-    (1, &[(23, 1)], Err(Refusal::NotFormatted)),
-    (1, &[(24, 0)], Err(Refusal::NotFormatted)),
-    (1, &[(24, 65)], Err(Refusal::NotFormatted)),
-    (1, &[(24, 32)], Err(Refusal::NotFormatted)),
-    (1, &[(27, 1)], Err(Refusal::NotFormatted)),
-    (1, &[(28, 0)], Err(Refusal::NotFormatted)),
-    (1, &[(30, 16)], Err(Refusal::NotFormatted)),
-    (1, &[(28, 97)], Err(Refusal::NotFormatted)),
-    (1, &[(32, 0)], Err(Refusal::NotFormatted)),
-    (1, &[(32, 1), (34, 16)], Err(Refusal::NotFormatted)),
-    (1, &[(36, 7)], Err(Refusal::NotFormatted)),
-    (1, &[(36, 0)], Err(Refusal::NotFormatted)),
-    (1, &[(40, 1)], Err(Refusal::NotFormatted)),
-    (1, &[(40, 8)], Err(Refusal::NotFormatted)),
-    (1, &[(43, 1)], Err(Refusal::NotFormatted)),
-    (1, &[(44, 1)], Err(Refusal::NotFormatted)),
-    (1, &[(200, 1)], Err(Refusal::NotFormatted)),
-    (1, &[(511, 0x80)], Err(Refusal::NotFormatted)),
-    (1, &[(0, 0), (1, 0)], Err(Refusal::NotFormatted)),
-    (1, &[], Ok(3)),
-    (1, &[(20, 0)], Ok(3)),
-    (1, &[(8, 3)], Ok(3)),
-    (1, &[(15, 0x80)], Ok(3)),
-    (1, &[(24, 128)], Ok(3)),
-    (1, &[(34, 16), (32, 0)], Ok(3)),
-    (1, &[(40, 0)], Ok(0)),
-    (1, &[(36, 9)], Err(Refusal::Mismatch)),
-    (1, &[(39, 0xff)], Err(Refusal::Mismatch)),
-    (1, &[(40, 7)], Err(Refusal::Damaged(Place(7)))),
-    (4, &[(0, 0x52)], Err(Refusal::Damaged(Place(4)))),
-    (4, &[(7, 0x30)], Err(Refusal::Damaged(Place(4)))),
-    (4, &[(8, 2)], Err(Refusal::Damaged(Place(4)))),
-    (4, &[(15, 1)], Err(Refusal::Damaged(Place(4)))),
-    (4, &[(16, 0)], Err(Refusal::Damaged(Place(4)))),
-    (4, &[(16, 1)], Err(Refusal::Damaged(Place(4)))),
-    (4, &[(16, 3)], Err(Refusal::Damaged(Place(4)))),
-    (4, &[(16, 5)], Err(Refusal::Damaged(Place(4)))),
-    (4, &[(19, 1)], Err(Refusal::Damaged(Place(4)))),
-    (4, &[(20, 1)], Err(Refusal::Damaged(Place(4)))),
-    (4, &[(24, 1)], Err(Refusal::Damaged(Place(4)))),
-    (4, &[(31, 1)], Err(Refusal::Damaged(Place(4)))),
-    (4, &[(288, 1)], Err(Refusal::Damaged(Place(4)))),
-    (4, &[(511, 1)], Err(Refusal::Damaged(Place(4)))),
-    (4, &[(32, 1)], Err(Refusal::Damaged(Place(4)))),
-    (4, &[(36, 1)], Err(Refusal::Damaged(Place(4)))),
-    (4, &[(40, 2)], Err(Refusal::Damaged(Place(4)))),
-    (4, &[(40, 4)], Err(Refusal::Damaged(Place(4)))),
-    (4, &[(40, 8)], Err(Refusal::Damaged(Place(4)))),
-    (4, &[(43, 1)], Err(Refusal::Damaged(Place(4)))),
-    (4, &[(48, 5)], Err(Refusal::Damaged(Place(4)))),
-    (4, &[(40, 5)], Err(Refusal::Damaged(Place(5)))),
-    (4, &[(32, 3)], Err(Refusal::Damaged(Place(3)))),
-    (4, &[(32, 1), (40, 2)], Err(Refusal::Damaged(Place(4)))),
+/// Which bytes of the root are others, and what is then read: a root out of its ranges is none, one in them is read.
+const ROOTS: [(&[(usize, u8)], Result<usize, Refusal>); 36] = [
+    (&[(0, 0x77)], Err(Refusal::NotFormatted)),
+    (&[(7, 0x32)], Err(Refusal::NotFormatted)),
+    (&[(8, 2)], Err(Refusal::NotFormatted)),
+    (&[(16, 0)], Err(Refusal::NotFormatted)),
+    (&[(16, 2)], Err(Refusal::NotFormatted)),
+    (&[(19, 1)], Err(Refusal::NotFormatted)),
+    (&[(20, 2)], Err(Refusal::NotFormatted)),
+    (&[(23, 1)], Err(Refusal::NotFormatted)),
+    (&[(24, 0)], Err(Refusal::NotFormatted)),
+    (&[(24, 65)], Err(Refusal::NotFormatted)),
+    (&[(24, 32)], Err(Refusal::NotFormatted)),
+    (&[(27, 1)], Err(Refusal::NotFormatted)),
+    (&[(28, 0)], Err(Refusal::NotFormatted)),
+    (&[(30, 16)], Err(Refusal::NotFormatted)),
+    (&[(28, 97)], Err(Refusal::NotFormatted)),
+    (&[(32, 0)], Err(Refusal::NotFormatted)),
+    (&[(32, 1), (34, 16)], Err(Refusal::NotFormatted)),
+    (&[(36, 7)], Err(Refusal::NotFormatted)),
+    (&[(36, 0)], Err(Refusal::NotFormatted)),
+    (&[(40, 1)], Err(Refusal::NotFormatted)),
+    (&[(40, 8)], Err(Refusal::NotFormatted)),
+    (&[(43, 1)], Err(Refusal::NotFormatted)),
+    (&[(44, 1)], Err(Refusal::NotFormatted)),
+    (&[(200, 1)], Err(Refusal::NotFormatted)),
+    (&[(511, 0x80)], Err(Refusal::NotFormatted)),
+    (&[(0, 0), (1, 0)], Err(Refusal::NotFormatted)),
+    (&[], Ok(3)),
+    (&[(20, 0)], Ok(3)),
+    (&[(8, 3)], Ok(3)),
+    (&[(15, 0x80)], Ok(3)),
+    (&[(24, 128)], Ok(3)),
+    (&[(34, 16), (32, 0)], Ok(3)),
+    (&[(40, 0)], Ok(0)),
+    (&[(36, 9)], Err(Refusal::Mismatch)),
+    (&[(39, 0xff)], Err(Refusal::Mismatch)),
+    (&[(40, 7)], Err(Refusal::Damaged(Place(7)))),
+];
+
+/// Which bytes of the top node are others, and what is then read: a node out of its ranges is the first fault, one in them
+/// is read.
+const TOPS: [(&[(usize, u8)], Result<usize, Refusal>); 27] = [
+    (&[(0, 0x52)], Err(Refusal::Damaged(Place(4)))),
+    (&[(7, 0x30)], Err(Refusal::Damaged(Place(4)))),
+    (&[(8, 2)], Err(Refusal::Damaged(Place(4)))),
+    (&[(15, 1)], Err(Refusal::Damaged(Place(4)))),
+    (&[(16, 0)], Err(Refusal::Damaged(Place(4)))),
+    (&[(16, 1)], Err(Refusal::Damaged(Place(4)))),
+    (&[(16, 3)], Err(Refusal::Damaged(Place(4)))),
+    (&[(16, 5)], Err(Refusal::Damaged(Place(4)))),
+    (&[(19, 1)], Err(Refusal::Damaged(Place(4)))),
+    (&[(20, 1)], Err(Refusal::Damaged(Place(4)))),
+    (&[(24, 1)], Err(Refusal::Damaged(Place(4)))),
+    (&[(31, 1)], Err(Refusal::Damaged(Place(4)))),
+    (&[(288, 1)], Err(Refusal::Damaged(Place(4)))),
+    (&[(511, 1)], Err(Refusal::Damaged(Place(4)))),
+    (&[(32, 1)], Err(Refusal::Damaged(Place(4)))),
+    (&[(36, 1)], Err(Refusal::Damaged(Place(4)))),
+    (&[(40, 2)], Err(Refusal::Damaged(Place(4)))),
+    (&[(40, 4)], Err(Refusal::Damaged(Place(4)))),
+    (&[(40, 8)], Err(Refusal::Damaged(Place(4)))),
+    (&[(43, 1)], Err(Refusal::Damaged(Place(4)))),
+    (&[(48, 5)], Err(Refusal::Damaged(Place(4)))),
+    (&[(40, 5)], Err(Refusal::Damaged(Place(5)))),
+    (&[(32, 3)], Err(Refusal::Damaged(Place(3)))),
+    (&[(32, 1), (40, 2)], Err(Refusal::Damaged(Place(4)))),
+    (&[(8, 0)], Ok(3)),
+    (&[(40, 0)], Ok(2)),
+    (&[(32, 0), (40, 0)], Ok(1)),
+];
+
+/// A leaf or the sector without a root, which of its bytes are others, and what is then read.
+const LEAVES: [(u64, &[(usize, u8)], Result<usize, Refusal>); 19] = [
     (3, &[(8, 2)], Err(Refusal::Damaged(Place(3)))),
     (3, &[(16, 2)], Err(Refusal::Damaged(Place(3)))),
     (3, &[(20, 0)], Err(Refusal::Damaged(Place(3)))),
@@ -144,9 +155,6 @@ const ROWS: [(u64, &[(usize, u8)], Result<usize, Refusal>); 82] = [
     (3, &[(48, 1), (50, 7)], Err(Refusal::Damaged(Place(3)))),
     (2, &[(0, 0)], Err(Refusal::Damaged(Place(2)))),
     (2, &[(32, 2)], Err(Refusal::Damaged(Place(2)))),
-    (4, &[(8, 0)], Ok(3)),
-    (4, &[(40, 0)], Ok(2)),
-    (4, &[(32, 0), (40, 0)], Ok(1)),
     (3, &[(40, 0), (42, 0)], Ok(3)),
     (3, &[(40, 3)], Ok(3)),
     (3, &[(40, 1), (41, 1)], Ok(3)),
@@ -155,8 +163,25 @@ const ROWS: [(u64, &[(usize, u8)], Result<usize, Refusal>); 82] = [
 ];
 
 #[test]
-fn bytes_out_of_their_ranges_are_refused_and_others_read(rt: HostRuntime) {
-    for (place, bytes, answer) in ROWS {
-        assert_eq!(rt; read(rt.alloc(), place, bytes), answer, "{place} {bytes:?}");
+fn bytes_of_a_root_out_of_their_ranges_are_refused_and_others_read(rt: HostRuntime) {
+    for (bytes, answer) in ROOTS {
+        assert!(rt; read(rt.alloc(), 1, bytes) == answer, "{bytes:?}");
+    }
+}
+
+#[test]
+fn bytes_of_the_top_out_of_their_ranges_are_refused_and_others_read(rt: HostRuntime) {
+    for (bytes, answer) in TOPS {
+        assert!(rt; read(rt.alloc(), 4, bytes) == answer, "{bytes:?}");
+    }
+}
+
+#[test]
+fn bytes_of_leaves_out_of_their_ranges_are_refused_and_others_read(rt: HostRuntime) {
+    for (place, bytes, answer) in LEAVES {
+        assert!(rt;
+            read(rt.alloc(), place, bytes) == answer,
+            "{place} {bytes:?}"
+        );
     }
 }

@@ -191,11 +191,11 @@ fn rounds_follow_one_another(rt: HostRuntime) -> Result<(), Fail> {
         let geometry = Geometry::new(64, blocks, blocks, sectors)?;
         let mut disk = MemDisk::new(alloc, sectors)?;
         two_rounds(alloc, &mut disk, &geometry, (2, nodes), (2 + nodes, nodes))?;
-        assert_eq!(rt; is_read(alloc, &mut disk, &[(0, 2)])?, (2, true));
+        assert!(rt; is_read(alloc, &mut disk, &[(0, 2)])? == (2, true));
         reopened(alloc, &mut disk)?;
-        assert_eq!(rt; is_read(alloc, &mut disk, &[(0, 2)])?, (3, true));
+        assert!(rt; is_read(alloc, &mut disk, &[(0, 2)])? == (3, true));
         planned_over(alloc, &mut disk, (2, nodes))?;
-        assert_eq!(rt; is_read(alloc, &mut disk, &[(0, 3)])?, (4, true));
+        assert!(rt; is_read(alloc, &mut disk, &[(0, 3)])? == (4, true));
     }
     Ok(())
 }
