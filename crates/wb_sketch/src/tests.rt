@@ -34,8 +34,8 @@ fn a_block_accessed_past_the_reset(rt: HostRuntime) -> Result<(), Fail> {
             sketch.add(block);
         }
         let found = (sketch.estimate(block), sketch.sample());
-        assert_eq!(rt; found, (estimate, sample), "after {times}");
-        assert_eq!(rt; sketch.row(1), [word].as_slice(), "after {times}");
+        assert!(rt; found == (estimate, sample), "after {times}");
+        assert!(rt; sketch.row(1) == [word].as_slice(), "after {times}");
     }
     Ok(())
 }
@@ -50,7 +50,7 @@ fn words_are_halved_counter_by_counter(rt: HostRuntime) {
         (0xf0f0_0000_0000_0001, 0x7070_0000_0000_0000),
     ];
     for (word, half) in table {
-        assert_eq!(rt; halve(word), half, "of {word}");
+        assert!(rt; halve(word) == half, "of {word}");
     }
 }
 
@@ -74,7 +74,7 @@ fn places_of_the_smallest_sketch(rt: HostRuntime) {
             place(OBlock(x), DOOR1, 7),
             place(OBlock(x), DOOR2, 7),
         );
-        assert_eq!(rt; found, (row1, door1, door2), "of block {x}");
+        assert!(rt; found == (row1, door1, door2), "of block {x}");
     }
     for (x, row2, row3, row4) in [(1, 12, 1, 13), (2, 8, 2, 10), (3, 4, 4, 8)] {
         let found = (
@@ -82,7 +82,7 @@ fn places_of_the_smallest_sketch(rt: HostRuntime) {
             place(OBlock(x), ROW3, 4),
             place(OBlock(x), ROW4, 4),
         );
-        assert_eq!(rt; found, (row2, row3, row4), "of block {x}");
+        assert!(rt; found == (row2, row3, row4), "of block {x}");
     }
 }
 
@@ -102,17 +102,15 @@ fn random_accesses_as_the_plain_program_counts_them(rt: HostRuntime) -> Result<(
         plain.add(x);
         let other = ((state >> 52) & 127) as u32;
         for block in [x, other] {
-            assert_eq!(rt;
-                sketch.estimate(OBlock(block)),
-                plain.estimate(block),
+            assert!(rt;
+                sketch.estimate(OBlock(block)) == plain.estimate(block),
                 "of block {block}"
             );
         }
-        assert_eq!(rt; sketch.sample(), plain.sample);
+        assert!(rt; sketch.sample() == plain.sample);
         for number in 1..5usize {
-            assert_eq!(rt;
-                sketch.row(number),
-                plain.words(number).as_slice(),
+            assert!(rt;
+                sketch.row(number) == plain.words(number).as_slice(),
                 "row {number}"
             );
         }

@@ -6,8 +6,8 @@ mod requests;
 mod row;
 
 use self::bench::{BLOCK, BLOCK_SECTORS, Bench};
-use self::migrations::{CACHED, COPIES, DISOWN, GIVE_UP, HOME, MIGRATIONS};
-use self::requests::{CACHED_SECTORS, REQUESTS, SECTORS};
+use self::migrations::{CACHED, COPIES, DISOWN, GIVE_UP, HOME, PROMOTIONS, REFUSED, RETURNS};
+use self::requests::{CACHED_SECTORS, IN_ONE_STEP, READS, SECTORS, WRITES};
 use self::row::{Job, Row};
 use std::alloc::Global;
 use std::process::Abort;
@@ -76,30 +76,49 @@ fn compare(rt: &impl Abort, alloc: Global, rows: &[Row]) -> Result<(), Fail> {
     for row in rows {
         let name = row.name;
         let (answer, bench) = play(alloc, row)?;
-        assert_eq!(rt; answer, row.answer, "{name}");
+        assert!(rt; answer == row.answer, "{name}");
         let end = row.from.saturating_add(row.wants.len());
-        assert_eq!(rt;
-            bench.wants.as_slice().get(row.from..end),
-            Some(row.wants),
+        assert!(rt;
+            bench.wants.as_slice().get(row.from..end) == Some(row.wants),
             "{name}"
         );
-        assert_eq!(rt; bench.wants.len(), end.saturating_add(row.more), "{name}");
+        assert!(rt; bench.wants.len() == end.saturating_add(row.more), "{name}");
         assert!(rt; has(&bench, row.words), "{name}");
         assert!(rt; is_left(&bench, row), "{name}");
-        assert_eq!(rt; bench.is_mapped, row.is_mapped, "{name}");
-        assert_eq!(rt; bench.has_order, row.has_order, "{name}");
+        assert!(rt; bench.is_mapped == row.is_mapped, "{name}");
+        assert!(rt; bench.has_order == row.has_order, "{name}");
     }
     Ok(())
 }
 
 #[test]
-fn requests_take_the_steps_of_their_tables(rt: HostRuntime) -> Result<(), Fail> {
-    compare(&rt, rt.alloc(), &REQUESTS)
+fn reads_take_the_steps_of_their_table(rt: HostRuntime) -> Result<(), Fail> {
+    compare(&rt, rt.alloc(), &READS)
 }
 
 #[test]
-fn migrations_take_the_steps_of_their_tables(rt: HostRuntime) -> Result<(), Fail> {
-    compare(&rt, rt.alloc(), &MIGRATIONS)
+fn writes_take_the_steps_of_their_table(rt: HostRuntime) -> Result<(), Fail> {
+    compare(&rt, rt.alloc(), &WRITES)
+}
+
+#[test]
+fn requests_take_an_extent_in_one_step(rt: HostRuntime) -> Result<(), Fail> {
+    compare(&rt, rt.alloc(), &IN_ONE_STEP)
+}
+
+#[test]
+fn promotions_take_the_steps_of_their_table(rt: HostRuntime) -> Result<(), Fail> {
+    compare(&rt, rt.alloc(), &PROMOTIONS)
+}
+
+#[test]
+fn demotions_and_cleans_take_the_steps_of_their_tables(rt: HostRuntime) -> Result<(), Fail> {
+    compare(&rt, rt.alloc(), &RETURNS)
+}
+
+#[test]
+fn refused_migrations_take_the_steps_of_their_tables(rt: HostRuntime) -> Result<(), Fail> {
+    compare(&rt, rt.alloc(), &REFUSED)
 }
 
 #[test]
@@ -114,19 +133,18 @@ fn each_fault_of_a_copy_ends_it(rt: HostRuntime) -> Result<(), Fail> {
             let (answer, bench) = play(rt.alloc(), &row)?;
             let is_read = fails % 2 == 0;
             let device = if is_read { *from } else { *to };
-            assert_eq!(rt; answer, Answer::Refused(Refusal::Io(device)), "{fails}");
+            assert!(rt; answer == Answer::Refused(Refusal::Io(device)), "{fails}");
             let parting: &[Want] = if is_read {
                 &[DISOWN, GIVE_UP]
             } else {
                 &[Want::Cell(CellStep::SetFailed)]
             };
             let next = (fails as usize).saturating_add(6);
-            assert_eq!(rt;
-                bench.wants.as_slice().get(next..),
-                Some(parting),
+            assert!(rt;
+                bench.wants.as_slice().get(next..) == Some(parting),
                 "{fails}"
             );
-            assert_eq!(rt; bench.has_order, !is_read, "{fails}");
+            assert!(rt; bench.has_order == !is_read, "{fails}");
             let kept = if is_read { 0 } else { 1 };
             assert!(rt;
                 has(&bench, &[(Word::Cell(BLOCK), kept), (Word::Fail, kept)]),

@@ -36,7 +36,7 @@ fn mapped_blocks_are_placed_by_hint_then_by_cache_block(rt: HostRuntime) -> Resu
     for at in [3, 1, 0, 2] {
         let order = settle(&mut tiny, 9, None, 128, busy.as_slice());
         let want = Order::Replace(OBlock(at), OBlock(9), CBlock(at));
-        assert_eq!(rt; order, Some(want));
+        assert!(rt; order == Some(want));
         if let Some(bit) = busy.get_mut(at as usize) {
             *bit = true;
         }
@@ -92,7 +92,7 @@ fn a_full_cache_replaces_only_by_a_greater_estimate(rt: HostRuntime) -> Result<(
     let mut tiny = policy::<TinyLfu>(rt.alloc(), NO_ENTRIES)?;
     for (line, (block, free, room, want)) in SETTLED.iter().enumerate() {
         let order = settle(&mut tiny, *block, *free, *room, &[]);
-        assert_eq!(rt; order, *want, "in line {line}");
+        assert!(rt; order == *want, "in line {line}");
         if let Some(Order::Promote(b, c)) = order {
             tiny.mapped(b, c)?;
         }
@@ -121,11 +121,11 @@ fn the_least_estimate_of_a_promotion_is_a_setting(rt: HostRuntime) -> Result<(),
         } else {
             Err(Refusal::BadMessage)
         };
-        assert_eq!(rt; answer, want);
-        assert_eq!(rt; tiny.shown(), ("tinylfu", Some(*then)));
+        assert!(rt; answer == want);
+        assert!(rt; tiny.shown() == ("tinylfu", Some(*then)));
     }
     let order = settle(&mut tiny, 0, Some(CBlock(0)), 64, &[]);
-    assert_eq!(rt; order, Some(Order::Promote(OBlock(0), CBlock(0))));
+    assert!(rt; order == Some(Order::Promote(OBlock(0), CBlock(0))));
     Ok(())
 }
 
@@ -133,12 +133,9 @@ fn the_least_estimate_of_a_promotion_is_a_setting(rt: HostRuntime) -> Result<(),
 fn other_policies_have_no_setting(rt: HostRuntime) -> Result<(), Fail> {
     let mut cleaner = policy::<Cleaner>(rt.alloc(), NO_ENTRIES)?;
     let mut quiet = policy::<Quiet>(rt.alloc(), NO_ENTRIES)?;
-    assert_eq!(rt; cleaner.set(Key::PromoteMin, 2), Err(Refusal::BadMessage));
-    assert_eq!(rt; quiet.set(Key::PromoteMin, 2), Err(Refusal::BadMessage));
-    assert_eq!(rt;
-        (cleaner.shown(), quiet.shown()),
-        (("cleaner", None), ("quiet", None))
-    );
+    assert!(rt; cleaner.set(Key::PromoteMin, 2) == Err(Refusal::BadMessage));
+    assert!(rt; quiet.set(Key::PromoteMin, 2) == Err(Refusal::BadMessage));
+    assert!(rt; (cleaner.shown(), quiet.shown()) == (("cleaner", None), ("quiet", None)));
     Ok(())
 }
 

@@ -34,11 +34,8 @@ fn a_mapping_that_fails_late_is_undone(rt: HostRuntime) -> Result<(), Fail> {
     let mut tiny = policy::<TinyLfu>(rt.alloc(), none)?;
     let mut cleaner = policy::<Cleaner>(rt.alloc(), none)?;
     let late = Err(Refusal::Memory);
-    assert_eq!(rt; map_or_undo(&mut tiny, OBlock(1), CBlock(0), late), late);
-    assert_eq!(rt;
-        map_or_undo(&mut tiny, OBlock(1), CBlock(0), Ok(())),
-        Ok(())
-    );
-    assert_eq!(rt; map_or_undo(&mut cleaner, OBlock(1), CBlock(0), late), late);
+    assert!(rt; map_or_undo(&mut tiny, OBlock(1), CBlock(0), late) == late);
+    assert!(rt; map_or_undo(&mut tiny, OBlock(1), CBlock(0), Ok(())).is_ok());
+    assert!(rt; map_or_undo(&mut cleaner, OBlock(1), CBlock(0), late) == late);
     Ok(())
 }

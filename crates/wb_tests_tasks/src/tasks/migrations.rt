@@ -113,7 +113,7 @@ const READ_CACHED: Want = Want::Device(DeviceStep::Read(Dev::Cache, CACHED));
 
 const WRITE_CACHED: Want = Want::Device(DeviceStep::Write(Dev::Cache, CACHED));
 
-pub const MIGRATIONS: [Row; 15] = [
+pub const PROMOTIONS: [Row; 5] = [
     Row {
         name: "a promotion takes its block, copies it, maps it and seals it",
         from: 0,
@@ -169,6 +169,9 @@ pub const MIGRATIONS: [Row; 15] = [
         more: 129,
         ..PROMOTE
     },
+];
+
+pub const RETURNS: [Row; 6] = [
     Row {
         name: "the seventh step of a demotion writes the first sector home",
         longest: 1,
@@ -212,6 +215,9 @@ pub const MIGRATIONS: [Row; 15] = [
         is_mapped: false,
         ..CLEAN
     },
+];
+
+pub const REFUSED: [Row; 4] = [
     Row {
         name: "a shared block is busy by the look",
         shows: Some((Word::Cell(BLOCK), 2)),

@@ -54,7 +54,7 @@ const DISOWN: Want = Want::Cell(CellStep::Release(Access::Owned, BLOCK));
 
 const FINISH: Want = Want::Cell(CellStep::Finish(BLOCK));
 
-pub const REQUESTS: [Row; 14] = [
+pub const READS: [Row; 5] = [
     Row {
         name: "an unmapped block is read from the origin",
         from: 0,
@@ -108,6 +108,9 @@ pub const REQUESTS: [Row; 14] = [
         wants: &[Want::Device(DeviceStep::Read(Dev::Origin, SECOND)), LEAVE],
         ..FREE
     },
+];
+
+pub const WRITES: [Row; 6] = [
     Row {
         name: "an unmapped block is written on the origin",
         job: Job::Write,
@@ -191,6 +194,9 @@ pub const REQUESTS: [Row; 14] = [
         holds: None,
         ..FREE
     },
+];
+
+pub const IN_ONE_STEP: [Row; 3] = [
     Row {
         name: "both sectors are read by one step",
         longest: 2,
