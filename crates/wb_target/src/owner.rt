@@ -47,8 +47,8 @@ impl<D: Disk + Drop, F: TakesContent + Drop> Owner<D, F> {
         requires some { 0 < block_sectors }
         requires range { sectors.first + sectors.count < 2 ^ 64 }
         requires block { block.0 < self.old.stage.origin_blocks }
-        ensures done { OnOk result (Performed D.tells D.contents F.took (Reading (record { block_sectors = block_sectors; block = block; extents = pieces Longest sectors })) self.old.stage Answer.Done self.new.stage) }
-        ensures performed { IfErr result (λ refusal. Performed D.tells D.contents F.took (Reading (record { block_sectors = block_sectors; block = block; extents = pieces Longest sectors })) self.old.stage (Answer.Refused refusal) self.new.stage) }
+        ensures done { OnOk result (Performed D.tells D.contents D.faults F.took (Reading (record { block_sectors = block_sectors; block = block; extents = pieces Longest sectors })) self.old.stage Answer.Done self.new.stage) }
+        ensures performed { IfErr result (λ refusal. Performed D.tells D.contents D.faults F.took (Reading (record { block_sectors = block_sectors; block = block; extents = pieces Longest sectors })) self.old.stage (Answer.Refused refusal) self.new.stage) }
         ensures refused { IfErr result (λ refusal. refusal ≢ Refusal.Range) }
         ensures blocks { self.new.stage.origin_blocks ≡ self.old.stage.origin_blocks }
     {
@@ -68,8 +68,8 @@ impl<D: Disk + Drop, F: TakesContent + Drop> Owner<D, F> {
         requires some { 0 < block_sectors }
         requires range { sectors.first + sectors.count < 2 ^ 64 }
         requires block { block.0 < self.old.stage.origin_blocks }
-        ensures done { OnOk result (Performed D.tells D.contents F.took (Writing (record { block_sectors = block_sectors; block = block; extents = pieces Longest sectors })) self.old.stage Answer.Done self.new.stage) }
-        ensures performed { IfErr result (λ refusal. Performed D.tells D.contents F.took (Writing (record { block_sectors = block_sectors; block = block; extents = pieces Longest sectors })) self.old.stage (Answer.Refused refusal) self.new.stage) }
+        ensures done { OnOk result (Performed D.tells D.contents D.faults F.took (Writing (record { block_sectors = block_sectors; block = block; extents = pieces Longest sectors })) self.old.stage Answer.Done self.new.stage) }
+        ensures performed { IfErr result (λ refusal. Performed D.tells D.contents D.faults F.took (Writing (record { block_sectors = block_sectors; block = block; extents = pieces Longest sectors })) self.old.stage (Answer.Refused refusal) self.new.stage) }
         ensures refused { IfErr result (λ refusal. refusal ≢ Refusal.Range) }
         ensures blocks { self.new.stage.origin_blocks ≡ self.old.stage.origin_blocks }
         ensures contents { self.new.stage.contents ≡ self.old.stage.contents }
