@@ -50,13 +50,13 @@ for row in 'read 1 200000' 'read 8 200000' 'read 64 100000' 'read 2048 4000' \
   script "$1" "$2" "$3"
   for turn in 1 2 3 4 5; do
     cost "$work/plain.ms" "$work/plain" "$work/o.img" "$1" "$2" "$3"
-    if test "$2" -le 64; then cost "$work/driven.ms" "$bench" "$work/o.img" "$1" "$2" "$3"; fi
+    cost "$work/driven.ms" "$bench" "$work/o.img" "$1" "$2" "$3"
     cost "$work/script.ms" sh -c '"$0" run "$1" <"$2"' "$cache" "cache $work/m.img $work/c.img $work/o.img 64 0 tinylfu 0" "$work/script"
   done
   plain=$(median "$work/plain.ms")
+  driven=$(median "$work/driven.ms")
   scripted=$(median "$work/script.ms")
-  if test "$2" -le 64; then driven=$(median "$work/driven.ms") against=$(ratio "$driven" "$plain"); else driven=- against=-; fi
-  printf '%-16s %10s %10s %10s %14s %14s\n' "$1 $(($2 * 512)) B" "$plain" "$driven" "$scripted" "$against" "$(ratio "$scripted" "$plain")"
+  printf '%-16s %10s %10s %10s %14s %14s\n' "$1 $(($2 * 512)) B" "$plain" "$driven" "$scripted" "$(ratio "$driven" "$plain")" "$(ratio "$scripted" "$plain")"
 done
 
 # A file of 64 MiB whose pages were dropped is overwritten whole, and read whole, 32 KiB a call.

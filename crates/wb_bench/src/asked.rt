@@ -5,6 +5,9 @@ ghost use Rattle.std.specs.Prelude.{◌≤◌};
 use crate::shares::{Crowd, Shares};
 use crate::turnover::Turnover;
 
+/// The most sectors of a request: 1 MiB.
+pub const MOST_SECTORS: u64 = 2_048;
+
 /// Which way the sectors go.
 #[derive(Clone, Copy, Debug, PartialEq, Eq)]
 pub enum Direction {
@@ -17,10 +20,10 @@ pub enum Direction {
 pub struct Requests<'a> {
     pub file: &'a str,
     pub direction: Direction,
-    /// Sectors of a request, 1 to 64.
+    /// Sectors of a request, 1 to `MOST_SECTORS`.
     pub sectors: u64,
     pub requests: u64,
-    pub ghost one_block: { sectors ≤ 64 },
+    pub ghost few: { sectors ≤ 2048 },
 }
 
 /// What is to be timed.
@@ -89,7 +92,7 @@ pub fn read_asked(words: &[String]) -> Option<Asked<'_>> {
             let requests = requests.as_str().parse::<u64>().ok()?;
             let sectors = sectors.as_str().parse::<u64>().ok()?;
             let direction = read_direction(direction.as_str())?;
-            if sectors == 0 || sectors > 64 {
+            if sectors == 0 || sectors > MOST_SECTORS {
                 return None;
             }
             Some(Asked::Requests(Requests {

@@ -1,8 +1,8 @@
 //! Drives requests over a file, to be timed from outside.
 //!
-//! `wb_bench FILE read|write SECTORS REQUESTS` drives so many requests of so many sectors each, up to a block of
-//! 64, one after another over all blocks of the file, and prints how many were done. `wb_bench sketch CACHE_BLOCKS
-//! ADDS` adds so many accesses to a frequency sketch, and prints the sum of every 1,024th estimate; with `reset` in place
+//! `wb_bench FILE read|write SECTORS REQUESTS` drives so many requests of so many sectors each, up to 2,048 (1 MiB),
+//! one after another over all blocks of the file, and prints how many were done. A block is as small as it may be to hold
+//! such a request: a multiple of 64 sectors. `wb_bench sketch CACHE_BLOCKS ADDS` adds so many accesses to a frequency sketch, and prints the sum of every 1,024th estimate; with `reset` in place
 //! of a number it prints the nanoseconds of the first access that resets the sketch. `wb_bench space
 //! CACHE_BLOCKS ROUNDS REMOVED` removes so many blocks of a full cache in each round, commits, fills the cache again,
 //! and prints the sum of the blocks that were filled. `wb_bench shares same|apart 1|2|4 ROUNDS` shares a block and leaves
@@ -37,8 +37,8 @@ use wb_streams::hold_streams;
 use wb_target::Owner;
 use wb_types::{Extent, OBlock, Refusal, SECTOR_BYTES};
 
-/// Sectors of a block.
-const BLOCK: u32 = 64;
+/// A block has a multiple of so many sectors.
+const BLOCK_UNIT: u64 = 64;
 
 /// The exit status where the standard streams cannot be held, or the output failed.
 const STREAM_FAILED: u8 = 4;
@@ -124,7 +124,7 @@ fn serve(rt: &HostRuntime, requests: &Requests<'_>) -> ExitCode {
     let Ok(disk) = FileDisk::open(rt, requests.file) else {
         return failed(rt, "the file cannot be opened");
     };
-    let blocks = (disk.sectors() / u64::from(BLOCK)).min(MOST_BLOCKS);
+    let blocks = (disk.sectors() / block_size(requests.sectors)).min(MOST_BLOCKS);
     if blocks == 0 {
         return failed(rt, "the file has no whole block");
     }
@@ -147,24 +147,35 @@ fn print(rt: &HostRuntime, number: u64) -> ExitCode {
     }
 }
 
+/// Sectors of the least block that holds a request of so many.
+fn block_size(sectors: u64) -> u64
+    requires { sectors ≤ 2048 }
+    ensures holds { sectors ≤ result }
+    ensures some { 64 ≤ result }
+    ensures few { result ≤ 2048 }
+{
+    sectors.max(1).div_ceil(BLOCK_UNIT) * BLOCK_UNIT
+}
+
 /// Drives all requests; None where one is not answered done.
 fn drive_all(asked: &Requests<'_>, blocks: u64, owner: &mut Owner<FileDisk, Unnoted>) -> Option<u64>
     requires some { 0 < blocks }
     requires blocks { blocks ≡ owner.old.stage.origin_blocks }
     requires few { blocks ≤ 1048576 }
-    requires one_block { asked.now.sectors ≤ 64 }
+    requires few_sectors { asked.now.sectors ≤ 2048 }
 {
+    let size = block_size(asked.sectors);
     owner.fill(&[0x5a; SECTOR_BYTES], asked.sectors);
     for number in 0..asked.requests {
         let block = number % blocks;
         let sectors = Extent {
-            first: block * u64::from(BLOCK),
+            first: block * size,
             count: asked.sectors,
         };
         let block = OBlock(block as u32);
         let answer = match asked.direction {
-            Direction::Read => owner.read(BLOCK, block, sectors),
-            Direction::Write => owner.write(BLOCK, block, sectors),
+            Direction::Read => owner.read(size as u32, block, sectors),
+            Direction::Write => owner.write(size as u32, block, sectors),
         };
         answer.ok()?;
     }

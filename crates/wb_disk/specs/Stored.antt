@@ -1,7 +1,8 @@
 -- What the fields of a disk in memory stand for.
-use Rattle.std.specs.Prelude.{◌≡◌, ◌<◌, ℕ, List, [], ◌∷◌, Some, map, length, slice_get, slice_set, vec_capacity}
+use Rattle.std.specs.Prelude.{◌≡◌, ◌<◌, ℕ, List, [], ◌∷◌, Some, map, length, slice_get, slice_set, vec_capacity, if◌then◌else◌}
+use Rattle.wb_types.specs.declared.mode.Dev.{Dev}
 use Rattle.wb_disk.specs.Device.{History, entries, only}
-use Rattle.wb_disk.specs.Crash.{Choice, content_at, chosen_position}
+use Rattle.wb_disk.specs.Crash.{Choice, content_at, chosen_position, is_device}
 use Rattle.wb_disk.specs.declared.crash_choice.NamedContent.{NamedContent}
 use Rattle.wb_disk.specs.declared.pending.Pending.{Pending}
 
@@ -30,11 +31,12 @@ capacities ps = map capacity_of ps
 abbrev pub marks : List Pending → List ℕ
 marks ps = map (λ p. p.mark) ps
 
--- the marks after these names were carried over to them, in order
-abbrev pub marks_named : List NamedContent → List ℕ → List ℕ
-marks_named [] ms = ms
-marks_named (name ∷ names) ms = marks_named names (slice_set ms name.sector name.position)
+-- the marks of a device after these names were carried over to them, in order
+abbrev pub marks_named : Dev → List NamedContent → List ℕ → List ℕ
+marks_named device [] ms = ms
+marks_named device (name ∷ names) ms =
+    marks_named device names (if is_device name.device device then slice_set ms name.sector name.position else ms)
 
 -- each mark is at the content that a choice keeps
-abbrev pub IsMarked : Choice → List Pending → Type 0
-IsMarked choice ps = (at : ℕ) (p : Pending) → slice_get ps at ≡ Some p → p.mark ≡ chosen_position choice at (history p)
+abbrev pub IsMarked : Dev → Choice → List Pending → Type 0
+IsMarked device choice ps = (at : ℕ) (p : Pending) → slice_get ps at ≡ Some p → p.mark ≡ chosen_position device choice at (history p)

@@ -6,17 +6,18 @@ ghost use Rattle.wb_disk.specs.Stored.{histories, capacities, marks, marks_named
 
 use crate::pending::Pending;
 use crate::{Base, CrashChoice, NamedContent};
+use wb_types::Dev;
 
-/// Marks the chosen content of each sector, and answers whether the choice applies. The marks mean nothing
-/// where it does not.
-pub(crate) fn mark_chosen(sectors: &mut [Pending], choice: &CrashChoice) -> bool
+/// Marks the chosen content of each sector of the device, and answers whether the choice applies to it. The marks
+/// mean nothing where it does not.
+pub(crate) fn mark_chosen(sectors: &mut [Pending], device: Dev, choice: &CrashChoice) -> bool
     ensures contents { histories sectors.new ≡ histories sectors.old }
     ensures capacity { capacities sectors.new ≡ capacities sectors.old }
-    ensures marked { IsTrue result → IsMarked choice.now sectors.new }
-    ensures applies { IsTrue result ↔ Applies choice.now (histories sectors.old) }
+    ensures marked { IsTrue result → IsMarked device choice.now sectors.new }
+    ensures applies { IsTrue result ↔ Applies device choice.now (histories sectors.old) }
 {
     mark_base(sectors, choice.base());
-    mark_named(sectors, choice.named()) && are_marks_there(sectors)
+    mark_named(sectors, device, choice.named()) && are_marks_there(sectors)
 }
 
 /// Marks the base's content of each sector.
@@ -30,19 +31,22 @@ fn mark_base(sectors: &mut [Pending], base: Base)
     }
 }
 
-/// Marks the contents that are named, in order, and answers whether each is of a sector that is there.
-fn mark_named(sectors: &mut [Pending], named: &[NamedContent]) -> bool
+/// Marks the contents that are named of this device, in order, and answers whether each is of a sector that is
+/// there. Names of other devices are passed over.
+fn mark_named(sectors: &mut [Pending], device: Dev, named: &[NamedContent]) -> bool
     ensures contents { histories sectors.new ≡ histories sectors.old }
     ensures capacity { capacities sectors.new ≡ capacities sectors.old }
-    ensures inside { IsTrue result ↔ All (λ name. name.sector < length sectors.old) named.now }
-    ensures marks { IsTrue result → marks sectors.new ≡ marks_named named.now (marks sectors.old) }
+    ensures inside { IsTrue result ↔ All (λ name. name.device ≡ device → name.sector < length sectors.old) named.now }
+    ensures marks { IsTrue result → marks sectors.new ≡ marks_named device named.now (marks sectors.old) }
 {
     for name in named {
-        let at = name.sector as usize;
-        if at >= sectors.len() {
-            return false;
+        if name.is_on(device) {
+            let at = name.sector as usize;
+            if at >= sectors.len() {
+                return false;
+            }
+            sectors[at].mark_position(name.position);
         }
-        sectors[at].mark_position(name.position);
     }
     true
 }

@@ -1,8 +1,10 @@
 //! Which content each sector keeps.
 
-ghost use Rattle.std.specs.Prelude.{◌≡◌};
+ghost use Rattle.std.specs.Prelude.{◌≡◌, ◌↔◌, IsTrue};
+ghost use Rattle.wb_disk.specs.Crash.{is_device, NamesOnly};
 
 use std::marker::Model;
+use wb_types::Dev;
 
 /// What is kept of a sector that is not named.
 #[derive(Clone, Copy, Debug, PartialEq, Eq)]
@@ -13,15 +15,26 @@ pub enum Base {
     Newest,
 }
 
-/// A content of a sector, by its position in the sector's list: 0 is the durable one, and each write since
-/// has the next.
+/// A content of a sector of a device, by its position in the sector's list: 0 is the durable one, and each write
+/// since has the next.
 #[derive(Clone, Copy, Debug, PartialEq, Eq)]
 pub struct NamedContent {
+    pub device: Dev,
     pub sector: u64,
     pub position: u64,
 }
 
-/// A content for each sector of a device. Of two names for one sector the later counts.
+impl NamedContent {
+    /// Whether it is of a sector of this device.
+    pub fn is_on(&self, device: Dev) -> bool
+        ensures is_on { result ≡ is_device self.now.device device }
+        ensures same { IsTrue result ↔ self.now.device ≡ device }
+    {
+        self.device == device
+    }
+}
+
+/// A content for each sector of the devices. Of two names for one sector the later counts.
 #[derive(Debug, Drop)]
 pub struct CrashChoice {
     base: Base,
@@ -56,5 +69,12 @@ impl CrashChoice {
         ensures { result.now ≡ self.now.named }
     {
         self.named.as_slice()
+    }
+
+    /// Whether no other device than this one is named.
+    pub fn names_only(&self, device: Dev) -> bool
+        ensures { IsTrue result ↔ NamesOnly device self.now }
+    {
+        self.named.iter().all(|name| name.is_on(device))
     }
 }

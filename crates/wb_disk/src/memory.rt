@@ -14,7 +14,7 @@ use crate::pending::Pending;
 use crate::{CrashChoice, Disk, DiskFault};
 use std::alloc::{AllocError, Global};
 use std::marker::Model;
-use wb_types::{Content, Refusal};
+use wb_types::{Content, Dev, Refusal};
 
 /// A disk in memory, which tells all that it holds.
 ///
@@ -81,19 +81,19 @@ impl MemDisk {
         self.sectors[at as usize].make_room()
     }
 
-    /// Crashes: each sector keeps its chosen content, and that alone. It takes no memory, and time linear in
-    /// the sectors and names.
+    /// Crashes as this device: each sector keeps its chosen content, and that alone. Names of other devices are of
+    /// no account. It takes no memory, and time linear in the sectors and names.
     ///
-    /// False, and nothing changes, where the choice does not apply: a name is of a sector that the disk has not
-    /// got, or the last name of a sector is of a content that is not in its list.
+    /// False, and nothing changes, where the choice does not apply to this device: one of its names is of a sector
+    /// that the disk has not got, or the last name of a sector is of a content that is not in its list.
     #[must_use]
-    pub fn stop(&mut self, choice: &CrashChoice) -> bool
-        ensures applies { IsTrue result ↔ Applies choice.now self.old.contents }
-        ensures crashed { OnTrue result (self.new ≡ record self.old { contents = crashed choice.now self.old.contents }) }
+    pub fn stop(&mut self, device: Dev, choice: &CrashChoice) -> bool
+        ensures applies { IsTrue result ↔ Applies device choice.now self.old.contents }
+        ensures crashed { OnTrue result (self.new ≡ record self.old { contents = crashed device choice.now self.old.contents }) }
         ensures outcome { OnTrue result (Crashed self.old.contents self.new.contents) }
         ensures kept { OnFalse result (self.new ≡ self.old) }
     {
-        if !mark_chosen(&mut self.sectors, choice) {
+        if !mark_chosen(&mut self.sectors, device, choice) {
             return false;
         }
         for pending in self.sectors.iter_mut() {
@@ -102,12 +102,13 @@ impl MemDisk {
         true
     }
 
-    /// Whether `stop` would crash the disk by this choice. The disk is lent to be marked, and shows no change.
-    pub fn applies(&mut self, choice: &CrashChoice) -> bool
-        ensures applies { IsTrue result ↔ Applies choice.now self.old.contents }
+    /// Whether `stop` would crash the disk, as this device, by this choice. The disk is lent to be marked, and shows
+    /// no change.
+    pub fn applies(&mut self, device: Dev, choice: &CrashChoice) -> bool
+        ensures applies { IsTrue result ↔ Applies device choice.now self.old.contents }
         ensures kept { self.new ≡ self.old }
     {
-        mark_chosen(&mut self.sectors, choice)
+        mark_chosen(&mut self.sectors, device, choice)
     }
 }
 

@@ -1,17 +1,20 @@
 -- What one step of an owner does to the words, to the origin, and to what takes what was read.
-use Rattle.std.specs.Prelude.{◌≡◌, ◌≤◌, ℕ, List, length, take}
+use Rattle.std.specs.Prelude.{◌≡◌, ◌≤◌, ◌+◌, ℕ, List, length, take}
+use Rattle.wb_types.specs.declared.extent.Extent.{Extent}
 use Rattle.wb_types.specs.declared.mode.Dev.TheVariants.{Origin}
-use Rattle.wb_disk.specs.Device.{History, Content as SectorContent}
+use Rattle.wb_disk.specs.Device.{History, Content as SectorContent, OneMore}
 use Rattle.wb_disk.specs.Extents.{GivesEach, written_each, PartlyWritten}
 use Rattle.wb_words.specs.Effects.{result_of}
 use Rattle.wb_cells.specs.Crews.{CrewState, crew_after}
 use Rattle.wb_tasks.specs.Tables.{BlockJob, Reading, Writing}
 use Rattle.wb_tasks.specs.Plan.{got_of}
+use Rattle.wb_tasks.specs.declared.step.DeviceStep.{DeviceStep}
 use Rattle.wb_tasks.specs.declared.step.DeviceStep.TheVariants.{Read, Write}
 use Rattle.wb_tasks.specs.declared.step.Want.{Want}
 use Rattle.wb_tasks.specs.declared.step.Want.TheVariants.{Cell, Device, Desk}
 use Rattle.wb_tasks.specs.declared.step.Got.{Got}
 use Rattle.wb_tasks.specs.declared.step.Got.TheVariants.{Done, Fault}
+use Rattle.wb_target.specs.declared.stage.TheConstants.{LONGEST}
 
 -- a read or write, which asks nothing of a desk; there is none yet
 abbrev pub IsRequest : BlockJob → Type 0
@@ -36,6 +39,22 @@ DoneOnOrigin origin contents (Device (Read Origin e)) Done read origin' = (e.cou
 DoneOnOrigin origin contents (Device (Write Origin e)) Done read origin' = (e.count ≤ length contents) × (origin' ≡ written_each origin e.first (take e.count contents))
 DoneOnOrigin origin contents (Device (Write Origin e)) Fault read origin' = PartlyWritten origin e.first (take e.count contents) origin'
 DoneOnOrigin origin contents want got read origin' = origin' ≡ origin
+
+-- The stage can do a step: it is on the origin, which has its sectors, and they are no more than a step takes.
+abbrev pub IsWithin : List History → Extent → Type 0
+IsWithin origin e = (e.first + e.count ≤ length origin) × (e.count ≤ LONGEST)
+
+abbrev pub CanDo : List History → DeviceStep → Type 0
+CanDo origin (Read Origin e) = IsWithin origin e
+CanDo origin (Write Origin e) = IsWithin origin e
+CanDo origin step = ⊥
+
+-- What a step makes of the origin's count of faults. No fault comes from nowhere: where a step that the stage can do is
+-- answered as a fault, the origin failed, once. In all else it did not fail.
+abbrev pub FaultsOfOrigin : List History → Want → Got → ℕ → ℕ → Type 0
+FaultsOfOrigin origin (Device step) Fault faults faults' =
+    (CanDo origin step → OneMore faults faults') × (¬ CanDo origin step → faults' ≡ faults)
+FaultsOfOrigin origin want got faults faults' = faults' ≡ faults
 
 -- What a step does to what takes contents: where it has read some, they are taken.
 abbrev pub DoneOnTaker : {F : Type 0} → (F → ℕ → List SectorContent → F → Type 0) → F → Want → Got → List SectorContent → F → Type 0

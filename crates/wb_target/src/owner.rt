@@ -37,7 +37,8 @@ impl<D: Disk + Drop, F: TakesContent + Drop> Owner<D, F> {
     }
 
     /// Reads sectors that lie in this block, by extents of at most `LONGEST` sectors: a run of the table of a read, whose
-    /// answer this is. `Io` where a step of the origin failed, `Failed` after a write that failed so.
+    /// answer this is. `Io` where a step of the origin failed, `Failed` after a write that failed so. Where it is done the
+    /// origin did not fail.
     pub fn read(
         &mut self,
         block_sectors: u32,
@@ -47,9 +48,10 @@ impl<D: Disk + Drop, F: TakesContent + Drop> Owner<D, F> {
         requires some { 0 < block_sectors }
         requires range { sectors.first + sectors.count < 2 ^ 64 }
         requires block { block.0 < self.old.stage.origin_blocks }
-        ensures done { OnOk result (Performed D.tells D.contents F.took (Reading (record { block_sectors = block_sectors; block = block; extents = pieces Longest sectors })) self.old.stage Answer.Done self.new.stage) }
-        ensures performed { IfErr result (λ refusal. Performed D.tells D.contents F.took (Reading (record { block_sectors = block_sectors; block = block; extents = pieces Longest sectors })) self.old.stage (Answer.Refused refusal) self.new.stage) }
+        ensures done { OnOk result (Performed D.tells D.contents D.faults F.took (Reading (record { block_sectors = block_sectors; block = block; extents = pieces Longest sectors })) self.old.stage Answer.Done self.new.stage) }
+        ensures performed { IfErr result (λ refusal. Performed D.tells D.contents D.faults F.took (Reading (record { block_sectors = block_sectors; block = block; extents = pieces Longest sectors })) self.old.stage (Answer.Refused refusal) self.new.stage) }
         ensures refused { IfErr result (λ refusal. refusal ≢ Refusal.Range) }
+        ensures no_fault { D.tells → OnOk result (D.faults self.new.stage.origin ≡ D.faults self.old.stage.origin) }
         ensures blocks { self.new.stage.origin_blocks ≡ self.old.stage.origin_blocks }
     {
         let mut task = ReadTask::new(block_sectors, block, sectors, LONGEST);
@@ -58,7 +60,7 @@ impl<D: Disk + Drop, F: TakesContent + Drop> Owner<D, F> {
 
     /// Writes the stage's contents to sectors that lie in this block, by extents of at most `LONGEST` sectors: a run of
     /// the table of a write, whose answer this is. `Io` where a step of the origin failed, `Failed` after a write that failed so,
-    /// `Worn` where the block's number of writes is used up.
+    /// `Worn` where the block's number of writes is used up. Where it is done the origin did not fail.
     pub fn write(
         &mut self,
         block_sectors: u32,
@@ -68,9 +70,10 @@ impl<D: Disk + Drop, F: TakesContent + Drop> Owner<D, F> {
         requires some { 0 < block_sectors }
         requires range { sectors.first + sectors.count < 2 ^ 64 }
         requires block { block.0 < self.old.stage.origin_blocks }
-        ensures done { OnOk result (Performed D.tells D.contents F.took (Writing (record { block_sectors = block_sectors; block = block; extents = pieces Longest sectors })) self.old.stage Answer.Done self.new.stage) }
-        ensures performed { IfErr result (λ refusal. Performed D.tells D.contents F.took (Writing (record { block_sectors = block_sectors; block = block; extents = pieces Longest sectors })) self.old.stage (Answer.Refused refusal) self.new.stage) }
+        ensures done { OnOk result (Performed D.tells D.contents D.faults F.took (Writing (record { block_sectors = block_sectors; block = block; extents = pieces Longest sectors })) self.old.stage Answer.Done self.new.stage) }
+        ensures performed { IfErr result (λ refusal. Performed D.tells D.contents D.faults F.took (Writing (record { block_sectors = block_sectors; block = block; extents = pieces Longest sectors })) self.old.stage (Answer.Refused refusal) self.new.stage) }
         ensures refused { IfErr result (λ refusal. refusal ≢ Refusal.Range) }
+        ensures no_fault { D.tells → OnOk result (D.faults self.new.stage.origin ≡ D.faults self.old.stage.origin) }
         ensures blocks { self.new.stage.origin_blocks ≡ self.old.stage.origin_blocks }
         ensures contents { self.new.stage.contents ≡ self.old.stage.contents }
     {

@@ -12,7 +12,7 @@ use wb_tasks::{Got, Stage, Want};
 impl<D: Disk, F: TakesContent> Stage for OwnerStage<D, F> {
     ghost ready = { λ stage want. MayTake stage.origin_blocks (card_of stage.crew 0) want × IsOffDesk want };
 
-    ghost led = { Led D.tells D.contents F.took };
+    ghost led = { Led D.tells D.contents D.faults F.took };
 
     fn perform(&mut self, want: &Want) -> Got {
         match want {

@@ -1,6 +1,6 @@
 //! Where one owner's requests are performed.
 
-ghost use Rattle.std.specs.Prelude.{◌≡◌, ◌≤◌, ◌<◌, ◌+◌, ◌^◌, length, take, min, replicate, IfOk, IfErr, OnOk, IsTrue, ◌↔◌};
+ghost use Rattle.std.specs.Prelude.{◌≡◌, ◌≤◌, ◌<◌, ◌+◌, ◌^◌, length, take, min, replicate, IfOk, IfErr, OnOk, OnErr, IsTrue, ◌↔◌};
 ghost use Rattle.wb_types.specs.declared.mode.Dev.TheVariants.{Origin};
 ghost use Rattle.wb_words.specs.SharedWords.{fresh_words};
 ghost use Rattle.wb_words.specs.Cards.{blank_card};
@@ -8,8 +8,10 @@ ghost use Rattle.wb_cells.specs.Crews.{card_of};
 ghost use Rattle.wb_tasks.specs.Plan.{Fits};
 ghost use Rattle.wb_tasks.specs.declared.step.Want.TheVariants.{Device};
 ghost use Rattle.wb_tasks.specs.declared.step.DeviceStep.TheVariants.{Read, Write};
+ghost use Rattle.wb_disk.specs.Device.{OneMore};
 ghost use Rattle.wb_disk.specs.Extents.{GivesEach};
-ghost use Rattle.wb_target.specs.Steps.{DoneOnOrigin, DoneOnTaker};
+ghost use Rattle.wb_target.specs.declared.stage.TheConstants.{LONGEST as Longest};
+ghost use Rattle.wb_target.specs.Steps.{DoneOnOrigin, DoneOnTaker, FaultsOfOrigin};
 
 use std::alloc::Global;
 use wb_cells::Crew;
@@ -42,12 +44,14 @@ pub struct OwnerStage<D, F> {
     pub origin: D,
     /// What takes what the running read reads.
     pub taker: F,
-    /// What the last step of a read has read, and what was read before it.
+    /// What the last step of a read has read, and what was read before it. There is room for a step.
     pub read: Vec<Content>,
-    /// What each step of the running write writes: as many of these as it has sectors.
+    /// What each step of the running write writes: as many of these as it has sectors, and they are enough for a step.
     pub contents: Vec<Content>,
     ghost alone: { length crew.cards ≡ 1 },
     ghost sized: { crew.blocks ≡ origin_blocks },
+    ghost roomy: { length read.items ≡ Longest },
+    ghost enough: { length contents.items ≡ Longest },
 }
 
 impl<D: Disk, F: TakesContent> OwnerStage<D, F> {
@@ -76,6 +80,7 @@ impl<D: Disk, F: TakesContent> OwnerStage<D, F> {
     pub(crate) fn device_step(&mut self, step: DeviceStep) -> Got
         ensures kind { Fits (Device step) result }
         ensures origin { D.tells → DoneOnOrigin (D.contents self.old.origin) self.old.contents.items (Device step) result self.new.read.items (D.contents self.new.origin) }
+        ensures faults { D.tells → FaultsOfOrigin (D.contents self.old.origin) (Device step) result (D.faults self.old.origin) (D.faults self.new.origin) }
         ensures taker { DoneOnTaker F.took self.old.taker (Device step) result self.new.read.items self.new.taker }
         ensures contents { self.new.contents ≡ self.old.contents }
         ensures crew { self.new.crew ≡ self.old.crew }
@@ -92,12 +97,13 @@ impl<D: Disk, F: TakesContent> OwnerStage<D, F> {
     fn read(&mut self, extent: Extent) -> Got
         ensures kind { Fits (Device (Read Origin extent)) result }
         ensures origin { D.tells → DoneOnOrigin (D.contents self.old.origin) self.old.contents.items (Device (Read Origin extent)) result self.new.read.items (D.contents self.new.origin) }
+        ensures faults { D.tells → FaultsOfOrigin (D.contents self.old.origin) (Device (Read Origin extent)) result (D.faults self.old.origin) (D.faults self.new.origin) }
         ensures taker { DoneOnTaker F.took self.old.taker (Device (Read Origin extent)) result self.new.read.items self.new.taker }
         ensures contents { self.new.contents ≡ self.old.contents }
         ensures crew { self.new.crew ≡ self.old.crew }
         ensures origin_blocks { self.new.origin_blocks ≡ self.old.origin_blocks }
     {
-        if extent.count > self.read.len() as u64 || !self.has(extent) {
+        if extent.count > LONGEST || !self.has(extent) {
             return Got::Fault;
         }
         if read_front(&mut self.origin, extent, self.read.as_mut_slice()).is_err() {
@@ -113,12 +119,13 @@ impl<D: Disk, F: TakesContent> OwnerStage<D, F> {
     fn write(&mut self, extent: Extent) -> Got
         ensures kind { Fits (Device (Write Origin extent)) result }
         ensures origin { D.tells → DoneOnOrigin (D.contents self.old.origin) self.old.contents.items (Device (Write Origin extent)) result self.new.read.items (D.contents self.new.origin) }
+        ensures faults { D.tells → FaultsOfOrigin (D.contents self.old.origin) (Device (Write Origin extent)) result (D.faults self.old.origin) (D.faults self.new.origin) }
         ensures taker { DoneOnTaker F.took self.old.taker (Device (Write Origin extent)) result self.new.read.items self.new.taker }
         ensures contents { self.new.contents ≡ self.old.contents }
         ensures crew { self.new.crew ≡ self.old.crew }
         ensures origin_blocks { self.new.origin_blocks ≡ self.old.origin_blocks }
     {
-        if extent.count > self.contents.len() as u64 || !self.has(extent) {
+        if extent.count > LONGEST || !self.has(extent) {
             return Got::Fault;
         }
         let count = extent.count as usize;
@@ -161,6 +168,8 @@ fn read_front<D: Disk>(disk: &mut D, extent: Extent, read: &mut [Content]) -> Re
     ensures many { length read.new ≡ length read.old }
     ensures given { D.tells → OnOk result (GivesEach (D.contents disk.old) extent.first (take extent.count read.new)) }
     ensures kept { D.tells → D.contents disk.new ≡ D.contents disk.old }
+    ensures no_fault { D.tells → OnOk result (D.faults disk.new ≡ D.faults disk.old) }
+    ensures cause { D.tells → OnErr result (OneMore (D.faults disk.old) (D.faults disk.new)) }
 {
     let (into, _) = read.split_at_mut(extent.count as usize);
     disk.read_extent(extent.first, into)

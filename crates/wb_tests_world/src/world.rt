@@ -7,7 +7,7 @@ use std::alloc::Global;
 use std::test::Fail;
 use wb_disk::{Base, CrashChoice, NamedContent};
 use wb_tasks::{Got, Want};
-use wb_types::{Content, Extent, Geometry, Refusal};
+use wb_types::{Content, Dev, Extent, Geometry, Refusal};
 use wb_world::*;
 
 /// Blocks of 64 sectors in these numbers, on the cache, the origin, and the metadata device.
@@ -120,19 +120,25 @@ const THREE: Extent = Extent {
     count: 3,
 };
 
-/// A choice that names these sectors of the three by these numbers, and has of all others what is durable.
-fn choice(alloc: Global, numbers: [u64; 3]) -> Result<CrashChoice, Refusal> {
+/// A choice that names the three sectors of a device by these numbers, and has of all others what is durable.
+fn choice_on(alloc: Global, device: Dev, numbers: [u64; 3]) -> Result<CrashChoice, Refusal> {
     let mut named = Vec::new(alloc);
     for (k, position) in numbers.iter().enumerate() {
         let sector = THREE.first + k as u64;
         named
             .push(NamedContent {
+                device,
                 sector,
                 position: *position,
             })
             .map_err(|_| Refusal::Memory)?;
     }
     Ok(CrashChoice::new(Base::Durable, named))
+}
+
+/// One that names the three sectors of the origin.
+fn choice(alloc: Global, numbers: [u64; 3]) -> Result<CrashChoice, Refusal> {
+    choice_on(alloc, Dev::Origin, numbers)
 }
 
 /// So many steps of an actor.
@@ -229,5 +235,26 @@ fn a_failed_extent_lands_and_a_crash_keeps_sector_by_sector(rt: HostRuntime) -> 
     // With another number it does not apply, and a second content was never written.
     let told = crash_after_the_write(rt.alloc(), Some([2, 1, 1]), [0, 0, 1])?;
     assert_eq!(rt; told, What::Skipped);
+    Ok(())
+}
+
+#[test]
+fn a_choice_that_names_another_device_does_not_apply(rt: HostRuntime) -> Result<(), Fail> {
+    for (device, applies) in [
+        (Dev::Metadata, false),
+        (Dev::Cache, false),
+        (Dev::Origin, true),
+    ] {
+        let alloc = rt.alloc();
+        let mut world = World::cutting(alloc, small_setup()?, 3)?;
+        world.event(Event::Start(0, Job::Write(THREE, filled(0x11))))?;
+        steps(&mut world, 0, 5)?;
+        world.event(Event::FaultStep(0, choice_on(alloc, device, [0; 3])?))?;
+        let failed = matches!(last(&world), What::Stepped(_, Got::Fault));
+        assert_eq!(rt; failed, applies, "a failing step on {device}");
+        world.event(Event::Stop(choice_on(alloc, device, [0; 3])?))?;
+        let stopped = last(&world) == What::Stopped;
+        assert_eq!(rt; stopped, applies, "a crash of {device}");
+    }
     Ok(())
 }

@@ -2,8 +2,9 @@
 use Rattle.std.proofs.Common.{◌≡◌, ◌≤◌, ◌⊎◌, inl, inr, ℕ, zero, suc, Bool, true, false, List, [], ◌∷◌, ◌++◌, Option, Some, None, refl, sym, ap, subst, ◌∙◌, arith, slice_get, slice_set, slice_index_or, length, length-set, replicate, map, Result, Ok, Err, IfOk}
 use Rattle.std.proofs.lemmas.List.{map-append}
 use Rattle.wb_types.specs.declared.refusal.Refusal.{Refusal}
+use Rattle.wb_types.specs.declared.mode.Dev.TheVariants.{Origin}
 use Rattle.wb_disk.specs.Device.{Content as Bytes, History}
-use Rattle.wb_disk.specs.Crash.{Choice, Applies, crashed}
+use Rattle.wb_disk.specs.Crash.{Choice, crashed}
 use Rattle.wb_words.specs.declared.card.Card.{Card}
 use Rattle.wb_words.specs.Cards.{blank_card}
 use Rattle.wb_words.specs.Effects.{card_after}
@@ -21,7 +22,7 @@ use Rattle.wb_world.specs.declared.event.Event.TheVariants.{Start, Step, FaultSt
 use Rattle.wb_world.specs.declared.event.What.{What}
 use Rattle.wb_world.specs.declared.event.What.TheVariants.{Skipped, Started, Stopped}
 use Rattle.wb_world.specs.declared.event.Record.{Record}
-use Rattle.wb_world.specs.World.{Shape, State, Actor, Plain, OfSome, IsOnDevice, MayFail, DoesNotApply, lands, start, resting, stepped, device_by, words_then, card_then, task_then, job_refusal, extent_of, MayBe, May, IsRun, after_what, after_happening, after_all, Happening, records_of}
+use Rattle.wb_world.specs.World.{Shape, State, Actor, Plain, OfSome, IsOnDevice, MayFail, MayStop, DoesNotApply, lands, start, resting, stepped, device_by, words_then, card_then, task_then, job_refusal, extent_of, MayBe, May, IsRun, after_what, after_happening, after_all, Happening, records_of}
 use Rattle.wb_world.specs.Life.{Life, actors_of, actors_seen, state_of, chosen_for, happening_of, happenings, IsWhere, Happens, GoesOn}
 use Rattle.wb_world.specs.Performing.{Steps, Falters, IsManned, crew_then, started_or, free_outcome, task_given}
 use Rattle.wb_types.proofs.Cutting.{pieces_cut}
@@ -231,10 +232,10 @@ rested : (stands : Bool) (actors : List Actor) → actors_seen false actors ≡ 
 rested true actors = refl
 rested false actors = rest_twice actors
 
-pub stop_happens : (shape : Shape) (longest : ℕ) (device device' : List History) (crew : CrewState) (stands : Bool) (members : List Member) (choice : Choice) (what : What) (read : List Bytes) → Applies choice device → device' ≡ crashed choice device → what ≡ Stopped → read ≡ [] →
+pub stop_happens : (shape : Shape) (longest : ℕ) (device device' : List History) (crew : CrewState) (stands : Bool) (members : List Member) (choice : Choice) (what : What) (read : List Bytes) → MayStop choice device → device' ≡ crashed Origin choice device → what ≡ Stopped → read ≡ [] →
     Happens shape longest (state_of device crew stands members) (Stop choice) what read (state_of device' crew false members)
 stop_happens shape longest device device' crew stands members choice what read applies d w f =
-    rw (w, f, d) (record { may = applies; leads = λ i. record { device = crashed choice device; words = crew.words; stands = false; actors = rested stands (actors_of members crew.cards) i } })
+    rw (w, f, d) (record { may = applies; leads = λ i. record { device = crashed Origin choice device; words = crew.words; stands = false; actors = rested stands (actors_of members crew.cards) i } })
 
 -- a run goes on by a record that may come
 pub run_more : (shape : Shape) (w : State) (hs : List Happening) (h : Happening) → IsRun shape w hs → May shape (after_all shape w hs) h → IsRun shape w (hs ++ h ∷ [])

@@ -21,6 +21,7 @@ use Rattle.wb_tasks.specs.Plan.{Plan, want, got_of}
 use Rattle.wb_tasks.specs.Ready.{MayTake}
 use Rattle.wb_tasks.proofs.Readiness.{is_ready}
 use Rattle.wb_tasks.specs.declared.step.DeviceStep.TheVariants.{Read as ReadExtent, Write as WriteExtent}
+use Rattle.wb_types.specs.declared.mode.Dev.{Dev}
 use Rattle.wb_types.specs.declared.mode.Dev.TheVariants.{Origin}
 use Rattle.wb_tasks.specs.declared.step.Want.{Want}
 use Rattle.wb_tasks.specs.declared.step.Want.TheVariants.{Cell, Device, Desk, End}
@@ -200,18 +201,18 @@ one_content : (c d : Bytes) → Contains (c ∷ []) d → c ≡ d
 one_content c d m = elim (Contains-push_cases [] c d m) [ inl none ↦ absurd (omega (arith, none.1)) | inr e ↦ e ]
 
 -- a sector keeps one of its contents, which stands in its history
-crash_holds : (choice : Choice) (k : ℕ) (device : List History) (at : ℕ) (g : Option History) → WasWritten (slice_get device at) g → WasWritten (slice_get (crashed_from choice k device) at) g
-crash_holds choice k [] at g i = i
-crash_holds choice k (h ∷ hs) zero (Some g) i =
-    let position = chosen_position choice k h in
+crash_holds : (of : Dev) (choice : Choice) (k : ℕ) (device : List History) (at : ℕ) (g : Option History) → WasWritten (slice_get device at) g → WasWritten (slice_get (crashed_from of choice k device) at) g
+crash_holds of choice k [] at g i = i
+crash_holds of choice k (h ∷ hs) zero (Some g) i =
+    let position = chosen_position of choice k h in
     λ d m. i d (subst (λ (c : Bytes). Contains (entries h) c) (one_content (content_at h position) d m) (Contains-content_at h position))
-crash_holds choice k (h ∷ hs) zero None i = absurd i
-crash_holds choice k (h ∷ hs) (suc at) g i = crash_holds choice (suc k) hs at g i
+crash_holds of choice k (h ∷ hs) zero None i = absurd i
+crash_holds of choice k (h ∷ hs) (suc at) g i = crash_holds of choice (suc k) hs at g i
 
 -- as many sectors as before
-length-crashed : (choice : Choice) (k : ℕ) (device : List History) → length (crashed_from choice k device) ≡ length device
-length-crashed choice k [] = refl
-length-crashed choice k (h ∷ hs) = ap (λ m. suc m) (length-crashed choice (suc k) hs)
+length-crashed : (of : Dev) (choice : Choice) (k : ℕ) (device : List History) → length (crashed_from of choice k device) ≡ length device
+length-crashed of choice k [] = refl
+length-crashed of choice k (h ∷ hs) = ap (λ m. suc m) (length-crashed of choice (suc k) hs)
 
 -- each actor is at rest
 all_rest : (actors : List Actor) (a : ℕ) (x : Actor) → slice_get (map (λ (y : Actor). resting) actors) a ≡ Some x → (x ≡ resting) × ((y : Actor) × (slice_get actors a ≡ Some y))
@@ -224,18 +225,18 @@ known_to_rest : (shape : Shape) (card : Card) (task : Option (Job × Plan)) (doi
 known_to_rest shape card None doings a s = get_map (λ (d : Option Doing). no_doing) doings a None s.0
 known_to_rest shape card (Some task) doings a s = get_map (λ (d : Option Doing). no_doing) doings a (Some s.0) s.3
 
-stopped_kept : (shape : Shape) (w : State) (n : Notes) (choice : Choice) → Invariant shape w n → Invariant shape (after_crash w (crashed choice w.device)) (record n { doings = nobody n.doings })
+stopped_kept : (shape : Shape) (w : State) (n : Notes) (choice : Choice) → Invariant shape w n → Invariant shape (after_crash w (crashed Origin choice w.device)) (record n { doings = nobody n.doings })
 stopped_kept shape w n choice i = record {
   acting = λ a x e. let r = all_rest w.actors a x e in
       subst (λ (v : Actor). ActingOn shape v.card v.task (slice_get (nobody n.doings) a)) (sym r.0) (known_to_rest shape r.1.0.card r.1.0.task n.doings a (i.acting a r.1.0 r.1.1), refl);
   seals = i.seals;
   busy = λ a x e t. absurd (subst (λ (v : Actor). IsAtWork v.task) (all_rest w.actors a x e).0 t);
   rule = λ t. absurd (cc);
-  holds = λ at. crash_holds choice 0 w.device at (slice_get n.histories at) (i.holds at);
+  holds = λ at. crash_holds Origin choice 0 w.device at (slice_get n.histories at) (i.holds at);
   last = λ t. absurd (cc);
   failed = λ a x e. inl (ap (λ (v : Actor). v.card.kept) (all_rest w.actors a x e).0);
   floors = i.floors;
-  device_size = length-crashed choice 0 w.device ∙ i.device_size;
+  device_size = length-crashed Origin choice 0 w.device ∙ i.device_size;
   history_size = i.history_size;
 }
 

@@ -1,6 +1,6 @@
 //! The device and the actors' shared words, and one step on them.
 
-ghost use Rattle.std.specs.Prelude.{◌≡◌, ◌≤◌, ◌<◌, ◌+◌, length, slice_index_or, IfOk, IfErr, OnOk, OnErr, true, []};
+ghost use Rattle.std.specs.Prelude.{◌≡◌, ◌≤◌, ◌<◌, ◌+◌, ◌↔◌, IsTrue, length, slice_index_or, IfOk, IfErr, OnOk, OnErr, true, []};
 ghost use Rattle.wb_world.specs.declared.event.What.TheVariants.{Skipped};
 ghost use Rattle.wb_types.specs.declared.refusal.Refusal.TheVariants.{Memory};
 ghost use Rattle.wb_tasks.specs.declared.step.Want.TheVariants.{Device as DeviceWant};
@@ -8,9 +8,11 @@ ghost use Rattle.wb_tasks.specs.declared.step.DeviceStep.TheVariants.{Write as W
 ghost use Rattle.wb_types.specs.declared.mode.Dev.TheVariants.{Origin as OriginDevice};
 ghost use Rattle.wb_words.specs.Cards.{blank_card};
 ghost use Rattle.wb_tasks.specs.Ready.{MayTake};
+ghost use Rattle.std.specs.Bool.{OnTrue, OnFalse};
+ghost use Rattle.wb_disk.specs.Crash.{crashed};
 ghost use Rattle.wb_disk.specs.Extents.{GivesEach};
 ghost use Rattle.wb_world.specs.Performing.{Performs, IsPossible};
-ghost use Rattle.wb_world.specs.World.{device_by, lands};
+ghost use Rattle.wb_world.specs.World.{device_by, lands, MayStop};
 
 use crate::Job;
 use crate::event::{Outcome, What};
@@ -19,7 +21,7 @@ use std::alloc::Global;
 use wb_cells::Crew;
 use wb_disk::{Base, CrashChoice, Disk, MemDisk};
 use wb_tasks::{DeviceStep, Got, Want};
-use wb_types::{Content, Extent, Refusal, SECTOR_BYTES};
+use wb_types::{Content, Dev, Extent, Refusal, SECTOR_BYTES};
 
 /// The device, and the shared words with a card for each actor.
 #[derive(Drop)]
@@ -126,5 +128,16 @@ impl Bench {
             self.write(job, extent, choice)?;
         }
         Ok(())
+    }
+
+    /// The device crashes: each sector keeps its chosen content. False, and nothing changes, where the choice does
+    /// not apply to the origin, or names another device.
+    pub(crate) fn stop(&mut self, choice: &CrashChoice) -> bool
+        ensures applies { IsTrue result ↔ MayStop choice.now self.old.disk.contents }
+        ensures crashed { OnTrue result (self.new.disk.contents ≡ crashed OriginDevice choice.now self.old.disk.contents) }
+        ensures kept { OnFalse result (self.new.disk.contents ≡ self.old.disk.contents) }
+        ensures crew { self.new.crew ≡ self.old.crew }
+    {
+        choice.names_only(Dev::Origin) && self.disk.stop(Dev::Origin, choice)
     }
 }

@@ -13,10 +13,11 @@ pub enum Event {
     /// An actor's task does its next step, or answers.
     Step(usize),
     /// The next step of an actor, a device step, fails. Of what it writes the choice says sector by sector what has
-    /// landed: a sector that is named with 1 has, one named with 0 has not, and for all others its base says it.
+    /// landed: a sector that is named with 1 has, one named with 0 has not, and for all others its base says it. With
+    /// another number it does not apply, nor where it names another device than the origin.
     FaultStep(usize, CrashChoice),
     /// Power is lost. Each sector keeps the chosen content; words and tasks are gone, and the actors have nothing to
-    /// do.
+    /// do. A choice that names a content that is not there, or another device than the origin, does not apply.
     Stop(CrashChoice),
 }
 

@@ -215,7 +215,7 @@ fn happen(
             Ok(bench.told(what))
         }
         Event::Stop(choice) => {
-            if !bench.disk.stop(choice) {
+            if !bench.stop(choice) {
                 return Ok(bench.skipped());
             }
             *stands = false;

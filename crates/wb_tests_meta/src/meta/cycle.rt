@@ -12,7 +12,7 @@ use std::test::Fail;
 use wb_disk::{Base, CrashChoice, MemDisk};
 use wb_meta::{CommitSteps, Image, State, commit, format, read_state};
 use wb_tree::Tree;
-use wb_types::{CBlock, Geometry, Place, Refusal};
+use wb_types::{CBlock, Dev, Geometry, Place, Refusal};
 
 /// A formatted device: blocks of 64 sectors, 40 of them on the cache and on the origin, and room for two images.
 fn formatted(alloc: Global) -> Result<MemDisk, Refusal> {
@@ -102,7 +102,7 @@ fn generation_after(rt: &(impl Abort + AllocGlobal), count: u64, base: Base) -> 
         steps.next(&mut disk, &image)?;
     }
     assert_eq!(rt; steps.is_done(), count >= 6);
-    assert!(rt; disk.stop(&CrashChoice::new(base, Vec::new(alloc))));
+    assert!(rt; disk.stop(Dev::Metadata, &CrashChoice::new(base, Vec::new(alloc))));
     let (generation, _) = is_read(alloc, &mut disk, &[])?;
     let wanted: &[(u32, u8)] = if generation == 0 { &[] } else { &entries };
     assert!(rt; is_read(alloc, &mut disk, wanted)? == (generation, true));

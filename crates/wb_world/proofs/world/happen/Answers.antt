@@ -81,5 +81,5 @@ returns-in_ok-what-in-FaultStep-clause-ok c =
 
 pub returns-else-not-stop-clause-ok : goal.returns-else-not-stop-clause-ok
 returns-else-not-stop-clause-ok c =
-    rw c.in-Stop.is (stop_happens (shape_of c.args.geometry.now ACTORS) c.args.longest c.args.bench.now.disk.contents c.stop.new.self.contents c.args.bench.now.crew c.args.stands.now c.args.members.now.items c.in-Stop.choice c.told-in-Stop.result.what c.told-in-Stop.result.read.items
-    (c.stop.ensures.applies.0 c.if-not-stop.false) (ap (λ d. d.contents) c.if-not-stop.ensures.crashed) c.told-in-Stop.ensures.what c.told-in-Stop.ensures.read)
+    rw (c.in-Stop.is, c.stop.ensures.crew) (stop_happens (shape_of c.args.geometry.now ACTORS) c.args.longest c.args.bench.now.disk.contents c.stop.new.self.disk.contents c.args.bench.now.crew c.args.stands.now c.args.members.now.items c.in-Stop.choice c.told-in-Stop.result.what c.told-in-Stop.result.read.items
+    (c.stop.ensures.applies.0 c.if-not-stop.false) c.if-not-stop.ensures.crashed c.told-in-Stop.ensures.what c.told-in-Stop.ensures.read)

@@ -35,19 +35,19 @@ returns-clause-crashed c =
     let all_old : take c.loop-pending.pending-index seen ≡ seen = take_all c.loop-pending.pending-index seen (omega arith) in
     let was : c.deref_mut.result.now ≡ ps = c.deref_mut.ensures.value in
     let marks_kept : histories ms ≡ histories ps = c.mark_chosen.ensures.contents ∙ ap (λ rs. histories rs) was in
-    let cut : histories qs ≡ crashed choice (histories ps) =
+    let cut : histories qs ≡ crashed c.args.device choice (histories ps) =
     ap (λ rs. histories rs) (sym all_new)
     ∙ c.loop-pending.invariant.cut
     ∙ ap (λ rs. map cut_at_mark rs) (all_old ∙ is_seen)
-    ∙ crashed-marked choice ms (c.mark_chosen.ensures.marked c.if-not-mark_chosen.false)
-    ∙ ap (crashed choice) marks_kept in
+    ∙ crashed-marked c.args.device choice ms (c.mark_chosen.ensures.marked c.if-not-mark_chosen.false)
+    ∙ ap (crashed c.args.device choice) marks_kept in
     let capacity : capacities qs ≡ capacities ps =
     c.loop-pending.invariant.capacity ∙ ap (λ rs. capacities rs) is_seen ∙ c.mark_chosen.ensures.capacity ∙ ap (λ rs. capacities rs) was in
     let put : (with_items (with_items c.self.inside.sectors ms) qs).items ≡ qs = with_items_is (with_items c.self.inside.sectors ms) qs (omega arith) in
-    rw put (shown-changed (crashed choice) ps qs c.self.inside.faults c.args.self.now c.self.view_is cut capacity)
+    rw put (shown-changed (crashed c.args.device choice) ps qs c.self.inside.faults c.args.self.now c.self.view_is cut capacity)
 
 pub returns-clause-outcome : goal.returns-clause-outcome
 returns-clause-outcome c =
     let new = ap (λ m. m.contents) (returns-clause-crashed c) in
     let P : List History → Type 0 = Crashed c.args.self.now.contents in
-    subst P (sym new) (Crashed-crashed_from c.args.choice.now 0 c.args.self.now.contents)
+    subst P (sym new) (Crashed-crashed_from c.args.device c.args.choice.now 0 c.args.self.now.contents)

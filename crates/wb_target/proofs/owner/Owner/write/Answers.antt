@@ -1,10 +1,17 @@
+use Rattle.std.proofs.Common.{ap}
 use Rattle.wb_target.proofs.Requests.{refused-not_range, Leads-kept, request_ready, request_ends}
+use Rattle.wb_target.proofs.Faulting.{done_without_fault}
 use Rattle.wb_target.proofs.owner.Owner.write.Goals as goal
 
 pub returns-clause-refused : goal.returns-clause-refused
 returns-clause-refused g c =
     let run = c.drive.ensures.run in
     refused-not_range c.new-task.result _ run.0 c.drive.result c.answered.result c.new-task.ensures run.2 c.answered.ensures.refused
+
+pub returns-clause-no_fault : goal.returns-clause-no_fault
+returns-clause-no_fault g c tells =
+    let run = c.drive.ensures.run in
+    done_without_fault g.D.Disk.tells (λ x. g.D.Disk.contents x) (λ x. g.D.Disk.faults x) g.F.TakesContent.took c.new-task.result _ c.args.self.now.stage run.0 c.drive.result c.drive.new.stage c.answered.result tt (ap (λ s. s.job) c.new-task.ensures) run.2 run.3 c.answered.ensures.done tells
 
 pub returns-clause-blocks : goal.returns-clause-blocks
 returns-clause-blocks g c =
