@@ -17,7 +17,6 @@ use Rattle.wb_space.specs.declared.block.Block.{Block}
 use Rattle.wb_space.specs.declared.block.Block.TheVariants.{Free, Mapped, Reserved, Quarantined}
 use Rattle.wb_space.specs.Blocks.{state, IsClaimed, commit_begun as block_begun, commit_ended as block_ended}
 use Rattle.wb_space.specs.Places.{noted, unused, place_count}
-use Rattle.wb_space.specs.Spaces.{Spaces}
 use Rattle.wb_space.proofs.Noted.{length-noted_alone}
 use Rattle.wb_orders.specs.declared.live_order.LiveOrder.{LiveOrder}
 use Rattle.wb_orders.specs.Orders.{order_at}
@@ -231,27 +230,3 @@ module _ {P : Type 0} (knows : P → Holdings → Type 0) where
     counted = i.counted;
     known = i.known;
   }
-
-  -- what the end of a commit leaves of the space
-  pub space_ended : (d : DeskState P) → DeskInvariant knows d → (let s : Spaces = record {
-    blocks = map block_ended d.space.blocks;
-    places = record { committed = d.space.places.running; running = unused (length d.space.places.committed) };
-    committing = false;
-  } in s) ≡ (commit_ended d).space
-  space_ended d i = ap (λ (n : ℕ). let s : Spaces = record {
-    blocks = map block_ended d.space.blocks;
-    places = record { committed = d.space.places.running; running = unused n };
-    committing = false;
-  } in s) (length_flags d.geometry.cache_blocks d.nodes d.space.places.committed i.places.committed)
-
-  -- and its beginning
-  pub space_begun : (d : DeskState P) (used : List Place) → DeskInvariant knows d → (let s : Spaces = record {
-    blocks = map block_begun d.space.blocks;
-    places = record d.space.places { running = noted used (unused (length d.space.places.running)) };
-    committing = true;
-  } in s) ≡ (commit_begun d d.tree used).space
-  space_begun d used i = ap (λ (n : ℕ). let s : Spaces = record {
-    blocks = map block_begun d.space.blocks;
-    places = record d.space.places { running = noted used (unused n) };
-    committing = true;
-  } in s) (length_flags d.geometry.cache_blocks d.coming d.space.places.running i.places.running)
