@@ -1,20 +1,20 @@
 //! What no contract says: that memory serves, and that orders are given and refused as they were worked by hand.
 
-ghost use Rattle.std.specs.Prelude.{◌≡◌, IfOk};
+ghost use Rattle.std.specs.Prelude.{◌≡◌, true, IfOk, OnOk};
 ghost use Rattle.wb_meta.specs.Reads.{FitsDevice};
 
 use crate::Desk;
 use std::alloc::Global;
 use wb_format::{Root, Version};
-use wb_meta::State;
+use wb_meta::{Image, State};
 use wb_policy::{Order, Policy, Quiet};
 use wb_tree::Tree;
 use wb_types::{
-    CBlock, CBlockRange, CBlockRanges, Entry, Geometry, Key, Message, Mode, OBlock, Refusal,
+    CBlock, CBlockRange, CBlockRanges, Entry, Geometry, Key, Message, Mode, OBlock, Place, Refusal,
 };
 
 /// What an opening read: block 3 in cache block 1 of four, and nothing else.
-fn state(alloc: Global) -> Result<State<Global>, Refusal>
+fn state(alloc: Global, generation: u64) -> Result<State<Global>, Refusal>
     ensures cache_blocks { IfOk result (λ s. s.root.geometry.cache_blocks ≡ 4) }
     ensures fits { IfOk result (λ s. FitsDevice s.root.geometry.meta_sectors s.root s.tree s.used.items) }
 {
@@ -28,7 +28,7 @@ fn state(alloc: Global) -> Result<State<Global>, Refusal>
     tree.set(CBlock(1), entry)?;
     Ok(State {
         root: Root {
-            generation: 7,
+            generation,
             version: Version::One,
             clean: false,
             geometry,
@@ -42,7 +42,7 @@ fn state(alloc: Global) -> Result<State<Global>, Refusal>
 fn opened(alloc: Global, mode: Mode, keys: &[(Key, u64)]) -> Result<Desk<Quiet>, Refusal>
     ensures { IfOk result (λ d. d.geometry.cache_blocks ≡ 4) }
 {
-    Desk::new(alloc, state(alloc)?, mode, Quiet, keys)
+    Desk::new(alloc, state(alloc, 7)?, mode, Quiet, keys)
 }
 
 const CLEAN: Order = Order::Clean(OBlock(3));
@@ -164,5 +164,55 @@ fn messages_are_taken_and_refused(rt: HostRuntime) -> Result<(), Refusal> {
     for (begin, end, answer) in ranges {
         assert!(rt; desk.message(&invalidation(alloc, begin, end)?) == answer);
     }
+    Ok(())
+}
+
+/// A commit begins; where memory was wanted, all is as it was, and the next one begins.
+fn begun(desk: &mut Desk<Quiet>, alloc: Global) -> Result<Image, Refusal>
+    ensures { OnOk result (desk.new.space.committing ≡ true) }
+{
+    match desk.begin_commit(alloc) {
+        Ok(image) => Ok(image),
+        Err(Refusal::Memory) => desk.begin_commit(alloc),
+        Err(refusal) => Err(refusal),
+    }
+}
+
+/// Its generation, its nodes, and where the first and the top of them stand; and what the desk counts when it has ended.
+const COMMITS: [(u64, usize, Option<Place>, u32); 3] = [
+    // the one leaf is written to the least free place, and has it from then on
+    (8, 1, Some(Place(2)), 3),
+    (9, 0, Some(Place(2)), 3),
+    (10, 0, Some(Place(2)), 3),
+];
+
+#[test]
+fn commits_follow_on_each_other(rt: HostRuntime) -> Result<(), Refusal> {
+    let alloc = rt.alloc();
+    let mut desk = opened(alloc, Mode::Writeback, &[])?;
+    for (generation, nodes, top, used) in COMMITS {
+        let image = begun(&mut desk, alloc)?;
+        assert!(rt; image.root.generation == generation && !image.root.clean);
+        assert!(rt; image.nodes.len() == nodes && image.root.top == top && image.used.len() == 1);
+        let refused = desk.begin_commit(alloc);
+        assert!(rt; refused.is_err());
+        assert!(rt; desk.counts().generation == generation - 1);
+        desk.end_commit();
+        let counts = desk.counts();
+        assert!(rt; counts.generation == generation && counts.used == used && counts.mapped == 1);
+    }
+    Ok(())
+}
+
+#[test]
+fn the_last_generation_has_no_next(rt: HostRuntime) -> Result<(), Refusal> {
+    let alloc = rt.alloc();
+    let last = state(alloc, u64::MAX)?;
+    let mut desk = Desk::new(alloc, last, Mode::Writeback, Quiet, &[])?;
+    match desk.begin_commit(alloc) {
+        Err(Refusal::GenerationEnd) => {}
+        _ => assert!(rt; false),
+    }
+    assert!(rt; desk.counts().generation == u64::MAX);
     Ok(())
 }
