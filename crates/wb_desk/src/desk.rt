@@ -13,6 +13,8 @@ ghost use Rattle.wb_desk.specs.Opening.{opened, threshold_of, last_value as valu
 ghost use Rattle.wb_desk.specs.Messages.{AreRanges, IsTold, IsRefused};
 ghost use Rattle.wb_desk.specs.Calls.{blocks_reserved, reserved, released, next_order_taken};
 
+mod mapping;
+
 use crate::Counts;
 use crate::opening::{cached_blocks, count_mapped, last_value, mapped_blocks, set_policy};
 use std::alloc::Global;

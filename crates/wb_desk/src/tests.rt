@@ -169,3 +169,83 @@ fn messages_are_taken_and_refused(rt: HostRuntime) -> Result<(), Refusal> {
     }
     Ok(())
 }
+
+/// What is asked of a desk, one after the other.
+enum Call {
+    Reserve(Order),
+    Release(Order),
+    Map(u32, u32),
+    Unmap(u32),
+}
+
+const REPLACE: Order = Order::Replace(OBlock(5), OBlock(6), CBlock(0));
+
+/// Each call, and whether it was done. Block 3 stands in cache block 1.
+const MOVES: [(Call, bool); 20] = [
+    // no order brings it there, and another one brings another block
+    (Call::Map(5, 0), false),
+    (Call::Reserve(PROMOTE), true),
+    (Call::Map(6, 0), false),
+    (Call::Map(5, 2), false),
+    (Call::Map(5, 0), true),
+    // the order is over
+    (Call::Release(PROMOTE), false),
+    (Call::Map(5, 0), false),
+    // a block that is written back stays, and goes under its demotion
+    (Call::Unmap(7), false),
+    (Call::Reserve(CLEAN), true),
+    (Call::Unmap(3), false),
+    (Call::Release(CLEAN), true),
+    (Call::Reserve(Order::Demote(OBlock(3))), true),
+    (Call::Unmap(3), true),
+    (Call::Release(Order::Demote(OBlock(3))), false),
+    // quarantined, before any commit
+    (Call::Reserve(Order::Promote(OBlock(8), CBlock(1))), false),
+    // a replacement goes on, and its block comes in after a commit alone
+    (Call::Reserve(REPLACE), true),
+    (Call::Unmap(5), true),
+    (Call::Map(6, 0), false),
+    (Call::Release(REPLACE), true),
+    (Call::Map(6, 0), false),
+];
+
+fn is_done(desk: &mut Desk<Quiet>, call: &Call) -> Result<bool, Refusal> {
+    match call {
+        Call::Reserve(order) => Ok(answers(desk, true, *order)),
+        Call::Release(order) => Ok(answers(desk, false, *order)),
+        Call::Map(b, c) => maps(desk, OBlock(*b), CBlock(*c)),
+        Call::Unmap(b) => Ok(unmaps(desk, OBlock(*b))),
+    }
+}
+
+fn maps(desk: &mut Desk<Quiet>, b: OBlock, c: CBlock) -> Result<bool, Refusal> {
+    let may = desk.may_map(b, c);
+    if may {
+        desk.map(b, c)?;
+    }
+    Ok(may)
+}
+
+fn unmaps(desk: &mut Desk<Quiet>, b: OBlock) -> bool {
+    let may = desk.may_unmap(b);
+    if may {
+        desk.unmap(b);
+    }
+    may
+}
+
+#[test]
+fn entries_come_and_go(rt: HostRuntime) -> Result<(), Refusal> {
+    let mut desk = opened(rt.alloc(), Mode::Writeback, &[])?;
+    for (call, done) in &MOVES {
+        assert!(rt; is_done(&mut desk, call)? == *done);
+    }
+    let counts = desk.counts();
+    assert!(rt; counts.mapped == 0 && counts.promotions == 1 && counts.demotions == 2);
+    assert!(rt; desk.room() == 2048);
+    // in passthrough nothing is ordered, and a block goes all the same
+    let mut desk = opened(rt.alloc(), Mode::Passthrough, &[])?;
+    assert!(rt; unmaps(&mut desk, OBlock(3)) && !unmaps(&mut desk, OBlock(3)));
+    assert!(rt; desk.counts().mapped == 0);
+    Ok(())
+}
