@@ -8,9 +8,12 @@ use Rattle.std.proofs.lemmas.List.{length-set, length-map, map-set, get_or-map, 
 use Rattle.std.proofs.lemmas.List.Sums.{sum_by-set}
 use Rattle.std.proofs.lemmas.Option.{get_or_from_slice_get, slice_get-get_or}
 use Rattle.wb_types.specs.declared.entry.Entry.{Entry}
+use Rattle.wb_types.specs.declared.geometry.Geometry.{Geometry}
 use Rattle.wb_types.specs.declared.number.CBlock.{CBlock}
 use Rattle.wb_types.specs.declared.number.OBlock.{OBlock}
 use Rattle.wb_tree.specs.Mapping.{Mapping, IsMapping}
+use Rattle.wb_tree.specs.Edits.{IsEdited}
+use Rattle.wb_tree.proofs.Stored.Edited.{places-edited}
 use Rattle.wb_tree.proofs.Stored.EntryChanges.{set-mapping}
 use Rattle.wb_policy.specs.declared.order.Order.{Order}
 use Rattle.wb_policy.specs.declared.order.Order.TheVariants.{Promote, Replace, Demote, Clean}
@@ -18,11 +21,13 @@ use Rattle.wb_policy.specs.Law.{Holdings, origins, IsMappedAt, IsUnmapped}
 use Rattle.wb_policy.proofs.Laws.{slice_get-set_same, slice_get-set_other}
 use Rattle.wb_space.specs.declared.block.Block.{Block}
 use Rattle.wb_space.specs.declared.block.Block.TheVariants.{Free, Mapped, Reserved}
+use Rattle.wb_space.specs.Places.{PlacesInUse}
 use Rattle.wb_space.specs.Blocks.{state}
 use Rattle.wb_orders.specs.declared.live_order.LiveOrder.{LiveOrder}
 use Rattle.wb_orders.specs.Named.{IsNamed}
 use Rattle.wb_orders.specs.Orders.{AreOrders, order_at}
 use Rattle.wb_orders.proofs.Kept.{within_of}
+use Rattle.wb_desk.specs.InUse.{PlacesInvariant}
 use Rattle.wb_desk.specs.Desks.{DeskState, DeskInvariant, IsRight, NamesWhatIs, Names, holdings, is_mapped, mapped_now}
 use Rattle.wb_desk.specs.Fields.{IsIndex, AreParts}
 use Rattle.wb_desk.specs.Entries.{IsChangedAt, MayMap, Brings, entry_of, mapped}
@@ -113,6 +118,20 @@ busy_inside busy b is = elim (cases_lt b (length busy)) [
   where
     differs : false ≡ true → ⊥
     differs e = cc
+
+-- ---- places
+
+-- after an edit nodes stand where nodes stood
+pub places_edited : (geometry : Geometry) (old new : Mapping) (places : PlacesInUse) (committing : Bool) (nodes coming : ℕ) → IsEdited old new
+    → PlacesInvariant geometry old places committing nodes coming → PlacesInvariant geometry new places committing nodes coming
+places_edited geometry old new places committing nodes coming edited i = record {
+  room = i.room;
+  inside = λ p at. i.inside p (places-edited old new p edited at);
+  committed = i.committed;
+  running = i.running;
+  known = λ p at. i.known p (places-edited old new p edited at);
+  idle = i.idle;
+}
 
 -- ---- counting
 
@@ -233,7 +252,8 @@ module _ {P : Type 0} (knows : P → Holdings → Type 0) where
     blocks = length-set d.space.blocks c.0 Mapped ∙ i.blocks;
     slots = length-set d.orders.slots c.0 None ∙ i.slots;
     busy = length_unmarked (order_at d.orders.slots c.0) d.orders.busy ∙ i.busy;
-    places = i.places;
+    places = places_edited d.geometry d.tree tree d.space.places d.space.committing d.nodes d.coming changed.edited i.places;
+    next = i.next;
     each = subst (λ (x : List (Option Entry)). Each (origins x) x (set d.space.blocks c.0 Mapped) (set d.orders.slots c.0 None) d.geometry.cache_blocks) (sym changed.entries)
         (one_entry_changes (holdings d) (origins (set d.tree.entries c.0 (Some (entry_of b)))) d.tree.entries d.space.blocks d.orders.slots d.geometry.cache_blocks c.0 (Some (entry_of b)) Mapped None
         i.mapping.size i.blocks i.slots i.each others

@@ -114,6 +114,7 @@ module _ {P : Type 0} where
       slots = length_taken d.orders.slots d.orders.waiting ∙ i.slots;
       busy = i.busy;
       places = i.places;
+      next = i.next;
       each = each_taken (holdings d) d.tree.entries d.space.blocks d.orders.slots d.geometry.cache_blocks d.orders.waiting i.blocks i.slots i.each;
       counted = i.counted;
       known = i.known;
@@ -127,6 +128,7 @@ module _ {P : Type 0} where
       busy = length-set (set d.orders.busy (first_of order).0 true) (second_of order).0 true
           ∙ length-set d.orders.busy (first_of order).0 true ∙ i.busy;
       places = i.places;
+      next = i.next;
       each = subst (λ (x : List Block). Each (holdings d) d.tree.entries x (set d.orders.slots c.0 (Some o)) d.geometry.cache_blocks) (sym by)
           (one_changes (holdings d) d.tree.entries d.space.blocks d.orders.slots d.geometry.cache_blocks c.0 (new_block order (state d.space.blocks c.0)) (Some o) i.blocks i.slots i.each
           (λ l. new_right d c o (get_or d.tree.entries c.0 None) order refl m.lawful (order_at d.orders.slots c.0, i.each c.0 l)));
@@ -147,6 +149,7 @@ module _ {P : Type 0} where
       slots = length-set d.orders.slots c.0 None ∙ i.slots;
       busy = length_unmarked (order_at d.orders.slots c.0) d.orders.busy ∙ i.busy;
       places = i.places;
+      next = i.next;
       each = one_changes (holdings d) d.tree.entries d.space.blocks d.orders.slots d.geometry.cache_blocks c.0 (block_released (state d.space.blocks c.0)) None i.blocks i.slots i.each
           (λ l. record { filled = same (state d.space.blocks c.0) ∙ (i.each c.0 l).filled; held = unclaimed (state d.space.blocks c.0); stands = tt });
       counted = i.counted;

@@ -26,7 +26,7 @@ use Rattle.wb_desk.specs.Fields.{IsIndex, AreParts}
 use Rattle.wb_desk.specs.Entries.{IsChangedAt, MayUnmap, IsRemoved, Removes, keeps, is_replacement, orders_past, orders_left, unmapped}
 use Rattle.wb_desk.proofs.Index.{entry_for, mapped_once, same_cache}
 use Rattle.wb_desk.proofs.Kept.{Each, length_unmarked}
-use Rattle.wb_desk.proofs.Entering.{one_entry_changes, mapped_elsewhere, set_origin, set_there}
+use Rattle.wb_desk.proofs.Entering.{one_entry_changes, mapped_elsewhere, set_origin, set_there, places_edited}
 
 pub entry_there : (entries : List (Option Entry)) (b c : ℕ) → IsMappedAt (origins entries) b c → IsSome (get_or entries c None)
 entry_there entries b c at = subst (λ (x : Option Entry). IsSome x) (sym (entry_for entries b c at).there) refl
@@ -213,7 +213,8 @@ module _ {P : Type 0} (knows : P → Holdings → Type 0) where
     blocks = length-set d.space.blocks c.0 quarantined ∙ i.blocks;
     slots = ap (λ (x : List (Option LiveOrder)). length x) (slots_left d.orders c) ∙ length-set d.orders.slots c.0 (slot_left (order_at d.orders.slots c.0)) ∙ i.slots;
     busy = busy_left d.orders c ∙ i.busy;
-    places = i.places;
+    places = places_edited d.geometry d.tree tree d.space.places d.space.committing d.nodes d.coming changed.edited i.places;
+    next = i.next;
     each = subst (λ (x : List (Option Entry)). Each (origins x) x (set d.space.blocks c.0 quarantined) (orders_left d.orders c).slots d.geometry.cache_blocks) (sym changed.entries)
         (subst (λ (x : List (Option LiveOrder)). Each (origins (set d.tree.entries c.0 None)) (set d.tree.entries c.0 None) (set d.space.blocks c.0 quarantined) x d.geometry.cache_blocks) (sym (slots_left d.orders c))
         (subst (λ (m : Holdings). Each m (set d.tree.entries c.0 None) (set d.space.blocks c.0 quarantined) (set d.orders.slots c.0 (slot_left (order_at d.orders.slots c.0))) d.geometry.cache_blocks) (sym (set_origin d.tree.entries c.0 None))

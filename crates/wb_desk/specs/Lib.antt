@@ -1,6 +1,8 @@
 pub mod Allocation
+pub mod InUse
 pub mod Desks
 pub mod Calls
+pub mod Commits
 pub mod Entries
 pub mod Fields
 pub mod Opening

@@ -1,7 +1,7 @@
 //! What no contract says: that memory serves, and that orders are given and refused as they were worked by hand.
 
-ghost use Rattle.std.specs.Prelude.{◌≡◌, [], IfOk};
-ghost use Rattle.wb_tree.specs.Mapping.{IsMapping};
+ghost use Rattle.std.specs.Prelude.{◌≡◌, IfOk};
+ghost use Rattle.wb_meta.specs.Reads.{FitsDevice};
 
 use crate::Desk;
 use std::alloc::Global;
@@ -14,12 +14,9 @@ use wb_types::{
 };
 
 /// What an opening read: block 3 in cache block 1 of four, and nothing else.
-#[tactic(auto, using(crate::proofs::TestStates::one_entry))]
 fn state(alloc: Global) -> Result<State<Global>, Refusal>
-    ensures mapping { IfOk result (λ s. IsMapping s.root.geometry.cache_blocks s.root.geometry.origin_blocks s.tree.entries) }
     ensures cache_blocks { IfOk result (λ s. s.root.geometry.cache_blocks ≡ 4) }
-    ensures places { IfOk result (λ s. s.root.geometry.meta_sectors ≡ 4) }
-    ensures used { IfOk result (λ s. s.used.items ≡ []) }
+    ensures fits { IfOk result (λ s. FitsDevice s.root.geometry.meta_sectors s.root s.tree s.used.items) }
 {
     let geometry = Geometry::new(64, 4, 10, 4)?;
     let mut tree = Tree::new(alloc, 4);
