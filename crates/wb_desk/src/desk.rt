@@ -15,6 +15,7 @@ ghost use Rattle.wb_desk.specs.Messages.{AreRanges, IsTold, IsRefused};
 ghost use Rattle.wb_desk.specs.Calls.{blocks_reserved, reserved, released, next_order_taken};
 
 mod commit;
+mod mapping;
 
 use crate::Counts;
 use crate::opening::{cached_blocks, count_mapped, last_value, mapped_blocks, set_policy};

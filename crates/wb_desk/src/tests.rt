@@ -167,6 +167,88 @@ fn messages_are_taken_and_refused(rt: HostRuntime) -> Result<(), Refusal> {
     Ok(())
 }
 
+/// What is asked of a desk, one after the other.
+enum Call {
+    Reserve(Order),
+    Release(Order),
+    Map(u32, u32),
+    Unmap(u32),
+}
+
+const REPLACE: Order = Order::Replace(OBlock(5), OBlock(6), CBlock(0));
+
+/// Each call, and whether it was done. Block 3 stands in cache block 1.
+const MOVES: [(Call, bool); 20] = [
+    // no order brings it there, and another one brings another block
+    (Call::Map(5, 0), false),
+    (Call::Reserve(PROMOTE), true),
+    (Call::Map(6, 0), false),
+    (Call::Map(5, 2), false),
+    (Call::Map(5, 0), true),
+    // the order is over
+    (Call::Release(PROMOTE), false),
+    (Call::Map(5, 0), false),
+    // a block that is written back stays, and goes under its demotion
+    (Call::Unmap(7), false),
+    (Call::Reserve(CLEAN), true),
+    (Call::Unmap(3), false),
+    (Call::Release(CLEAN), true),
+    (Call::Reserve(Order::Demote(OBlock(3))), true),
+    (Call::Unmap(3), true),
+    (Call::Release(Order::Demote(OBlock(3))), false),
+    // quarantined, before any commit
+    (Call::Reserve(Order::Promote(OBlock(8), CBlock(1))), false),
+    // a replacement goes on, and its block comes in after a commit alone
+    (Call::Reserve(REPLACE), true),
+    (Call::Unmap(5), true),
+    (Call::Map(6, 0), false),
+    (Call::Release(REPLACE), true),
+    (Call::Map(6, 0), false),
+];
+
+fn is_done(desk: &mut Desk<Quiet>, call: &Call) -> Result<bool, Refusal> {
+    match call {
+        Call::Reserve(order) => Ok(answers(desk, true, *order)),
+        Call::Release(order) => Ok(answers(desk, false, *order)),
+        Call::Map(b, c) => maps(desk, OBlock(*b), CBlock(*c)),
+        Call::Unmap(b) => Ok(unmaps(desk, OBlock(*b))),
+    }
+}
+
+fn maps(desk: &mut Desk<Quiet>, b: OBlock, c: CBlock) -> Result<bool, Refusal> {
+    let may = desk.may_map(b, c);
+    if may {
+        desk.map(b, c)?;
+    }
+    Ok(may)
+}
+
+fn unmaps(desk: &mut Desk<Quiet>, b: OBlock) -> bool
+    ensures { desk.new.space.committing ≡ desk.old.space.committing }
+{
+    let may = desk.may_unmap(b);
+    if may {
+        desk.unmap(b);
+    }
+    may
+}
+
+#[test]
+fn entries_come_and_go(rt: HostRuntime) -> Result<(), Refusal> {
+    let mut desk = opened(rt.alloc(), Mode::Writeback, &[])?;
+    for (call, done) in &MOVES {
+        assert!(rt; is_done(&mut desk, call)? == *done);
+    }
+    let counts = desk.counts();
+    assert!(rt; counts.mapped == 0 && counts.promotions == 1 && counts.demotions == 2);
+    assert!(rt; desk.room() == 2048);
+    // in passthrough nothing is ordered, and a block goes all the same
+    let mut desk = opened(rt.alloc(), Mode::Passthrough, &[])?;
+    assert!(rt; unmaps(&mut desk, OBlock(3)) && !unmaps(&mut desk, OBlock(3)));
+    assert!(rt; desk.counts().mapped == 0);
+    Ok(())
+}
+
 /// A commit begins; where memory was wanted, all is as it was, and the next one begins.
 fn begun(desk: &mut Desk<Quiet>, alloc: Global) -> Result<Image, Refusal>
     ensures { OnOk result (desk.new.space.committing ≡ true) }
@@ -214,5 +296,29 @@ fn the_last_generation_has_no_next(rt: HostRuntime) -> Result<(), Refusal> {
         _ => assert!(rt; false),
     }
     assert!(rt; desk.counts().generation == u64::MAX);
+    Ok(())
+}
+
+#[test]
+fn a_block_that_is_removed_while_a_commit_runs_waits_for_the_next(
+    rt: HostRuntime,
+) -> Result<(), Refusal> {
+    let alloc = rt.alloc();
+    let promote = Order::Promote(OBlock(8), CBlock(1));
+    let mut desk = opened(alloc, Mode::Writeback, &[])?;
+    let image = begun(&mut desk, alloc)?;
+    assert!(rt; image.nodes.len() == 1);
+    assert!(rt; unmaps(&mut desk, OBlock(3)));
+    desk.end_commit();
+    assert!(rt; !answers(&mut desk, true, promote));
+    let image = begun(&mut desk, alloc)?;
+    assert!(rt; image.nodes.is_empty() && image.used.is_empty() && image.root.top == None);
+    desk.end_commit();
+    assert!(rt; answers(&mut desk, true, promote));
+    assert!(rt; maps(&mut desk, OBlock(8), CBlock(1))?);
+    let image = begun(&mut desk, alloc)?;
+    assert!(rt; image.nodes.len() == 1 && image.root.top == Some(Place(2)));
+    let counts = desk.counts();
+    assert!(rt; counts.generation == 9 && counts.used == 2 && counts.mapped == 1);
     Ok(())
 }
