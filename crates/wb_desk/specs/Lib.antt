@@ -6,4 +6,5 @@ pub mod Commits
 pub mod Entries
 pub mod Fields
 pub mod Opening
+pub mod Safety
 pub mod Messages

@@ -11,4 +11,4 @@ mod tests;
 
 pub use counts::Counts;
 pub use desk::Desk;
-pub use law::allocation_keeps_its_invariant;
+pub use law::{allocation_keeps_its_invariant, images_stay_safe};
