@@ -22,15 +22,16 @@ use Rattle.wb_space.specs.declared.block.Block.{Block}
 use Rattle.wb_space.specs.declared.block.Block.TheVariants.{Free, Mapped, Reserved, Quarantined}
 use Rattle.wb_space.specs.Blocks.{state, released as block_released, opened_block, commit_begun as block_begun, commit_ended as block_ended}
 use Rattle.wb_orders.specs.Orders.{order_at}
-use Rattle.wb_desk.specs.Allocation.{Allocation, ImageSafe, entry_in}
-use Rattle.wb_desk.specs.Desks.{DeskState, DeskInvariant, IsLawful, holdings}
+use Rattle.wb_desk.specs.Allocation.{Allocation, ImageSafe, Stays, entry_in}
+use Rattle.wb_desk.specs.Desks.{DeskState, DeskInvariant, IsLawful, IsFreeFor, holdings, is_mapped}
 use Rattle.wb_desk.specs.Calls.{blocks_reserved, reserved, released, next_order_taken}
 use Rattle.wb_desk.specs.Messages.{IsTold}
 use Rattle.wb_desk.specs.Entries.{MayMap, MayUnmap, HasEntered, HasLeft, entry_of, mapped, unmapped, keeps}
 use Rattle.wb_desk.specs.Commits.{commit_begun, commit_ended}
 use Rattle.wb_desk.specs.Opening.{opened}
-use Rattle.wb_desk.specs.Safety.{HeldImages, AreSafe, Call, TakeOrder, Tell, GiveOrder, Release, Map, Unmap, BeginCommit, EndCommit, Does, AreCalls, images_after, images_since, desk_after}
-use Rattle.wb_desk.proofs.Acts.{block_sound, entry_sound, sound_given_back, sound_begun, sound_ended}
+use Rattle.wb_desk.specs.Safety.{HeldImages, AreSafe, Call, TakeOrder, Tell, GiveOrder, Release, Map, Unmap, BeginCommit, EndCommit, Does, AreCalls, IsBeginning, images_after, images_since, desk_after}
+use Rattle.wb_desk.proofs.Index.{entry_for}
+use Rattle.wb_desk.proofs.Acts.{same_stays, stays_given_back, stays_begun, stays_ended, set_stays, from_block, block_sound, entry_sound, sound_given_back, sound_begun, sound_ended}
 
 -- the cache blocks beside the mapping and the images, with no order
 abbrev beside : List Block → Holdings → HeldImages → Allocation
@@ -171,6 +172,56 @@ opened_safe geometry generation tree used mode policy threshold mapped = record 
         subst (λ (x : Option ℕ). ImageSafe (state (map opened_block (map is_some entries)) c) x x x) (sym (get_or-map (option_map (λ (e : Entry). e.origin.0)) entries c None))
         (subst (λ (b : Block). ImageSafe b (option_map (λ (e : Entry). e.origin.0) (get_or entries c None)) (option_map (λ (e : Entry). e.origin.0) (get_or entries c None)) (option_map (λ (e : Entry). e.origin.0) (get_or entries c None)))
         (sym (get_or-map opened_block (map is_some entries) c false ∙ ap opened_block (get_or-map is_some entries c None))) (opened_one (get_or entries c None)))
+
+-- ---- quarantine
+
+reserved_stays : (B E : Type 0) (blocks : List Block) (order : Order) (c : ℕ) → IsFreeFor blocks order → Stays B E (state blocks c) (state (blocks_reserved blocks order) c)
+reserved_stays B E blocks (Promote b k) c free = set_stays B E blocks k.0 Reserved c (from_block B E blocks k.0 Free Reserved free tt)
+reserved_stays B E blocks (Replace v b k) c free = same_stays B E (state blocks c)
+reserved_stays B E blocks (Demote b) c free = same_stays B E (state blocks c)
+reserved_stays B E blocks (Clean b) c free = same_stays B E (state blocks c)
+
+abbrev ends : Call → Type 0
+ends call = call ≡ EndCommit
+
+-- a mapped block may be quarantined
+mapped_leaves : (B E : Type 0) (b : Block) (keep : Bool) → is_mapped b ≡ true → Stays B E b (Quarantined keep false)
+mapped_leaves B E Free keep e = tt
+mapped_leaves B E Mapped keep e = tt
+mapped_leaves B E Reserved keep e = tt
+mapped_leaves B E (Quarantined claimed early) keep e = absurd (differs (sym e))
+
+module _ {P : Type 0} where
+  free_for_order : (d : DeskState P) (cache : CBlock) (order : Order) → IsLawful d cache order → IsFreeFor d.space.blocks order
+  free_for_order d cache (Promote b k) lawful = lawful.1
+  free_for_order d cache (Replace v b k) lawful = tt
+  free_for_order d cache (Demote b) lawful = tt
+  free_for_order d cache (Clean b) lawful = tt
+
+  stays_by : (B E : Type 0) (d new : DeskState P) (blocks : List Block) (c : ℕ) → new.space.blocks ≡ blocks → Stays B E (state d.space.blocks c) (state blocks c) → Stays B E (state d.space.blocks c) (state new.space.blocks c)
+  stays_by B E d new blocks c e s = subst (λ (bs : List Block). Stays B E (state d.space.blocks c) (state bs c)) (sym e) s
+
+  pub quarantine_stays : (knows : P → Holdings → Type 0) (d new : DeskState P) (call : Call) → DeskInvariant knows d → Does d call new → (c : ℕ)
+      → Stays (IsBeginning call) (call ≡ EndCommit) (state d.space.blocks c) (state new.space.blocks c)
+  quarantine_stays knows d new TakeOrder i does c = stays_by _ _ d new d.space.blocks c (ap (λ (x : DeskState P). x.space.blocks) does) (same_stays _ _ (state d.space.blocks c))
+  quarantine_stays knows d new Tell i does c = stays_by _ _ d new d.space.blocks c (ap (λ (x : DeskState P). x.space.blocks) does) (same_stays _ _ (state d.space.blocks c))
+  quarantine_stays knows d new (GiveOrder cache order waits) i does c = stays_by _ _ d new (blocks_reserved d.space.blocks order) c (ap (λ (x : DeskState P). x.space.blocks) does.1)
+      (reserved_stays _ _ d.space.blocks order c (free_for_order d cache order does.0.lawful))
+  quarantine_stays knows d new (Release cache) i does c = stays_by _ _ d new (set d.space.blocks cache.0 (block_released (state d.space.blocks cache.0))) c (ap (λ (x : DeskState P). x.space.blocks) does)
+      (set_stays _ _ d.space.blocks cache.0 (block_released (state d.space.blocks cache.0)) c (stays_given_back _ _ (state d.space.blocks cache.0)))
+  quarantine_stays knows d new (Map b cache) i does c = stays_by _ _ d new (set d.space.blocks cache.0 Mapped) c (ap (λ (x : DeskState P). x.space.blocks) does.2)
+      (set_stays _ _ d.space.blocks cache.0 Mapped c (from_block _ _ d.space.blocks cache.0 Reserved Mapped does.0.reserved tt))
+  quarantine_stays knows d new (Unmap b cache) i does c =
+      let keep : Bool = keeps (order_at d.orders.slots cache.0) in
+      let entry = entry_for d.tree.entries b.0 cache.0 does.0 in
+      let within : cache.0 < d.geometry.cache_blocks = omega (arith, slice_get_within (holdings d) cache.0 (Some b.0) does.0, i.mapping.size, length-map d.tree.entries (option_map (λ x. x.origin.0))) in
+      stays_by _ _ d new (set d.space.blocks cache.0 (Quarantined keep false)) c (ap (λ (x : DeskState P). x.space.blocks) does.2)
+      (set_stays _ _ d.space.blocks cache.0 (Quarantined keep false) c
+      (mapped_leaves _ _ (state d.space.blocks cache.0) keep ((i.each cache.0 within).filled ∙ ap is_some entry.there)))
+  quarantine_stays knows d new (BeginCommit used) i does c = stays_by _ _ d new (map block_begun d.space.blocks) c (ap (λ (x : DeskState P). x.space.blocks) does.2)
+      (subst (λ (x : Block). Stays (Unit {0}) (ends (BeginCommit used)) (state d.space.blocks c) x) (sym (get_or-map block_begun d.space.blocks c Free)) (stays_begun (Unit {0}) (ends (BeginCommit used)) (state d.space.blocks c) tt))
+  quarantine_stays knows d new EndCommit i does c = stays_by _ _ d new (map block_ended d.space.blocks) c (ap (λ (x : DeskState P). x.space.blocks) does.1)
+      (subst (λ (x : Block). Stays ⊥ (EndCommit ≡ EndCommit) (state d.space.blocks c) x) (sym (get_or-map block_ended d.space.blocks c Free)) (stays_ended ⊥ (EndCommit ≡ EndCommit) (state d.space.blocks c) refl))
 
 -- ---- contracts
 

@@ -13,7 +13,7 @@ use Rattle.wb_tree.specs.declared.image.Image.{Image}
 use Rattle.wb_policy.specs.declared.order.Order.{Order}
 use Rattle.wb_policy.specs.Law.{Holdings, IsMappedAt, origins}
 use Rattle.wb_space.specs.Blocks.{state}
-use Rattle.wb_desk.specs.Allocation.{ImageSafe, entry_in}
+use Rattle.wb_desk.specs.Allocation.{ImageSafe, Stays, entry_in}
 use Rattle.wb_desk.specs.Desks.{DeskState, DeskInvariant, MayReserve, holdings}
 use Rattle.wb_desk.specs.Calls.{reserved, released, next_order_taken}
 use Rattle.wb_desk.specs.Entries.{MayMap, MayUnmap, HasEntered, HasLeft, entry_of, mapped, unmapped}
@@ -91,6 +91,21 @@ OpenedIsSafe P = (geometry : Geometry) (generation : ℕ) (tree : Mapping) (used
 abbrev pub CallsAreSafe : (P : Type 0) → (P → Holdings → Type 0) → Type 0
 CallsAreSafe P knows = (d : DeskState P) (calls : List (Call × DeskState P)) (images : HeldImages) → AreCalls knows d calls → AreSafe d images
     → AreSafe (desk_after d calls) (images_since d images calls)
+
+-- A quarantined block leaves its quarantine only at the end of a commit that began after its removal.
+abbrev pub IsBeginning : Call → Type 0
+IsBeginning TakeOrder = ⊥
+IsBeginning Tell = ⊥
+IsBeginning (GiveOrder cache order waits) = ⊥
+IsBeginning (Release cache) = ⊥
+IsBeginning (Map b cache) = ⊥
+IsBeginning (Unmap b cache) = ⊥
+IsBeginning (BeginCommit used) = Unit {0}
+IsBeginning EndCommit = ⊥
+
+abbrev pub QuarantineStays : (P : Type 0) → (P → Holdings → Type 0) → Type 0
+QuarantineStays P knows = (d new : DeskState P) (call : Call) → DeskInvariant knows d → Does d call new → (c : ℕ)
+    → Stays (IsBeginning call) (call ≡ EndCommit) (state d.space.blocks c) (state new.space.blocks c)
 
 -- What the contracts of the calls say is that they do so.
 abbrev pub BeginningDoes : Type 0 → Type 0
