@@ -299,26 +299,38 @@ fn the_last_generation_has_no_next(rt: HostRuntime) -> Result<(), Refusal> {
     Ok(())
 }
 
+/// A whole commit, while which a block is removed: how many nodes it writes, and where the top of the tree stands.
+fn committed(
+    desk: &mut Desk<Quiet>,
+    alloc: Global,
+    removed: OBlock,
+) -> Result<(usize, Option<Place>), Refusal> {
+    let image = begun(desk, alloc)?;
+    let seen = (image.nodes.len(), image.root.top);
+    unmaps(desk, removed);
+    desk.end_commit();
+    Ok(seen)
+}
+
+/// An order for the cache block of a removed block, before the first commit and after each; and what the commit wrote.
+const WAITS: [(bool, usize, Option<Place>); 3] = [
+    (false, 1, Some(Place(2))),
+    // the block was removed while the first commit ran, so the second one frees its cache block
+    (false, 0, None),
+    (true, 0, None),
+];
+
 #[test]
 fn a_block_that_is_removed_while_a_commit_runs_waits_for_the_next(
     rt: HostRuntime,
 ) -> Result<(), Refusal> {
     let alloc = rt.alloc();
-    let promote = Order::Promote(OBlock(8), CBlock(1));
     let mut desk = opened(alloc, Mode::Writeback, &[])?;
-    let image = begun(&mut desk, alloc)?;
-    assert!(rt; image.nodes.len() == 1);
-    assert!(rt; unmaps(&mut desk, OBlock(3)));
-    desk.end_commit();
-    assert!(rt; !answers(&mut desk, true, promote));
-    let image = begun(&mut desk, alloc)?;
-    assert!(rt; image.nodes.is_empty() && image.used.is_empty() && image.root.top == None);
-    desk.end_commit();
-    assert!(rt; answers(&mut desk, true, promote));
-    assert!(rt; maps(&mut desk, OBlock(8), CBlock(1))?);
-    let image = begun(&mut desk, alloc)?;
-    assert!(rt; image.nodes.len() == 1 && image.root.top == Some(Place(2)));
-    let counts = desk.counts();
-    assert!(rt; counts.generation == 9 && counts.used == 2 && counts.mapped == 1);
+    for (may, nodes, top) in WAITS {
+        let promote = Order::Promote(OBlock(8), CBlock(1));
+        assert!(rt; answers(&mut desk, true, promote) == may);
+        let seen = committed(&mut desk, alloc, OBlock(3))?;
+        assert!(rt; seen.0 == nodes && seen.1 == top);
+    }
     Ok(())
 }
