@@ -1,6 +1,4 @@
 use Rattle.std.proofs.Common.{◌∙◌, ℕ, None, false, replicate, sym, ap, arith}
-use Rattle.wb_types.specs.declared.number.Place.{Place}
-use Rattle.wb_meta.specs.Reads.{FitsDevice}
 use Rattle.wb_desk.proofs.TestStates.{one_entry}
 use Rattle.wb_desk.proofs.tests.state.Goals as goal
 
