@@ -7,7 +7,7 @@ use Rattle.std.proofs.Math.ListN.{get_or-map}
 use Rattle.wb_space.specs.declared.block.Block.{Block}
 use Rattle.wb_space.specs.declared.block.Block.TheVariants.{Free, Mapped, Reserved, Quarantined}
 use Rattle.wb_space.specs.Blocks.{released, commit_begun, commit_ended, state, IsClaimed}
-use Rattle.wb_desk.specs.Allocation.{BlockMap, LiveOrder, Allocation, Act, Give, Over, Map, Unmap, Begin, End, Threshold, Apart, ApartAll, Shareless, WithinFrom, ImageSafe, AllocationInvariant, MayAct, IsActRun, after_act, after_acts, without, cost, entry_in, cache_at, HasOrder, Stays, StaysOrEnds, NoneTwice, at_opening, opened_entry}
+use Rattle.wb_desk.specs.Allocation.{BlockMap, LiveOrder, Allocation, Act, Give, Over, Map, Unmap, Begin, End, Threshold, Apart, ApartAll, Shareless, WithinFrom, ImageSafe, AllocationInvariant, MayAct, IsActRun, after_act, after_acts, without, cost, entry_in, cache_at, HasOrder, StaysQuarantined, StaysOrEnds, NoneTwice, at_opening, opened_entry}
 
 -- Orders
 
@@ -140,14 +140,14 @@ given_back_free Mapped h = h
 given_back_free Reserved h = h
 given_back_free (Quarantined claimed early) h = h
 
-kept_begun : (b : Block) → IsClaimed (commit_begun b) → IsClaimed b
+pub kept_begun : (b : Block) → IsClaimed (commit_begun b) → IsClaimed b
 kept_begun Free h = h
 kept_begun Mapped h = h
 kept_begun Reserved h = h
 kept_begun (Quarantined true early) h = h
 kept_begun (Quarantined false early) h = h
 
-kept_ended : (b : Block) → IsClaimed (commit_ended b) → IsClaimed b
+pub kept_ended : (b : Block) → IsClaimed (commit_ended b) → IsClaimed b
 kept_ended Free h = h
 kept_ended Mapped h = h
 kept_ended Reserved h = h
@@ -310,28 +310,28 @@ all_kept d (a ∷ acts) run i = all_kept (after_act d a) acts run.1 (act_kept d 
 
 -- Quarantine
 
-pub same_stays : (B E : Type 0) (b : Block) → Stays B E b b
+pub same_stays : (B E : Type 0) (b : Block) → StaysQuarantined B E b b
 same_stays B E Free = tt
 same_stays B E Mapped = tt
 same_stays B E Reserved = tt
 same_stays B E (Quarantined k true) = tt
 same_stays B E (Quarantined k false) = tt
 
-pub stays_given_back : (B E : Type 0) (b : Block) → Stays B E b (released b)
+pub stays_given_back : (B E : Type 0) (b : Block) → StaysQuarantined B E b (released b)
 stays_given_back B E Free = tt
 stays_given_back B E Mapped = tt
 stays_given_back B E Reserved = tt
 stays_given_back B E (Quarantined k true) = tt
 stays_given_back B E (Quarantined k false) = tt
 
-pub stays_begun : (B E : Type 0) (b : Block) → B → Stays B E b (commit_begun b)
+pub stays_begun : (B E : Type 0) (b : Block) → B → StaysQuarantined B E b (commit_begun b)
 stays_begun B E Free begins = tt
 stays_begun B E Mapped begins = tt
 stays_begun B E Reserved begins = tt
 stays_begun B E (Quarantined k true) begins = tt
 stays_begun B E (Quarantined k false) begins = begins
 
-pub stays_ended : (B E : Type 0) (b : Block) → E → Stays B E b (commit_ended b)
+pub stays_ended : (B E : Type 0) (b : Block) → E → StaysQuarantined B E b (commit_ended b)
 stays_ended B E Free ends = tt
 stays_ended B E Mapped ends = tt
 stays_ended B E Reserved ends = tt
@@ -339,20 +339,20 @@ stays_ended B E (Quarantined true true) ends = ends
 stays_ended B E (Quarantined false true) ends = ends
 stays_ended B E (Quarantined k false) ends = tt
 
-pub set_stays : (B E : Type 0) (blocks : List Block) (c : ℕ) (b : Block) (k : ℕ) → Stays B E (state blocks c) b → Stays B E (state blocks k) (state (set blocks c b) k)
+pub set_stays : (B E : Type 0) (blocks : List Block) (c : ℕ) (b : Block) (k : ℕ) → StaysQuarantined B E (state blocks c) b → StaysQuarantined B E (state blocks k) (state (set blocks c b) k)
 set_stays B E blocks c b k h = elim (cases_eq k c) [
-  | inl e ↦ subst (λ (k : ℕ). Stays B E (state blocks k) (state (set blocks c b) k)) (sym e) at
-  | inr n ↦ subst (λ (x : Block). Stays B E (state blocks k) x) (sym (get_or-set_other blocks c k b Free n)) (same_stays B E (state blocks k))
+  | inl e ↦ subst (λ (k : ℕ). StaysQuarantined B E (state blocks k) (state (set blocks c b) k)) (sym e) at
+  | inr n ↦ subst (λ (x : Block). StaysQuarantined B E (state blocks k) x) (sym (get_or-set_other blocks c k b Free n)) (same_stays B E (state blocks k))
 ]
   where
-    at : Stays B E (state blocks c) (state (set blocks c b) c)
+    at : StaysQuarantined B E (state blocks c) (state (set blocks c b) c)
     at = elim (cases_lt c (length blocks)) [
-      | inl l ↦ subst (λ (x : Block). Stays B E (state blocks c) x) (sym (get_or-set_same blocks c b Free l)) h
-      | inr p ↦ subst (λ (x : List Block). Stays B E (state blocks c) (state x c)) (sym (set_past blocks c b p)) (same_stays B E (state blocks c))
+      | inl l ↦ subst (λ (x : Block). StaysQuarantined B E (state blocks c) x) (sym (get_or-set_same blocks c b Free l)) h
+      | inr p ↦ subst (λ (x : List Block). StaysQuarantined B E (state blocks c) (state x c)) (sym (set_past blocks c b p)) (same_stays B E (state blocks c))
     ]
 
-pub from_block : (B E : Type 0) (blocks : List Block) (c : ℕ) (b x : Block) → slice_get blocks c ≡ Some b → Stays B E b x → Stays B E (state blocks c) x
-from_block B E blocks c b x e h = subst (λ (y : Block). Stays B E y x) (sym (get_or_from_slice_get blocks c b Free e)) h
+pub from_block : (B E : Type 0) (blocks : List Block) (c : ℕ) (b x : Block) → slice_get blocks c ≡ Some b → StaysQuarantined B E b x → StaysQuarantined B E (state blocks c) x
+from_block B E blocks c b x e h = subst (λ (y : Block). StaysQuarantined B E y x) (sym (get_or_from_slice_get blocks c b Free e)) h
 
 pub stays : (d : Allocation) (a : Act) → MayAct d a → (c : ℕ) → StaysOrEnds (state d.blocks c) a (state (after_act d a).blocks c)
 stays d (Give o true) may c = set_stays _ _ d.blocks o.cache Reserved c (from_block _ _ d.blocks o.cache Free Reserved may.1 tt)

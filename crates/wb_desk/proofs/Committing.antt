@@ -26,6 +26,7 @@ use Rattle.wb_desk.specs.InUse.{AreFlagged}
 use Rattle.wb_desk.specs.Desks.{DeskState, DeskInvariant, IsRight, NamesWhatIs, Names, holdings, is_mapped}
 use Rattle.wb_desk.specs.Fields.{IsIndex, AreParts}
 use Rattle.wb_desk.specs.Commits.{MayBegin, IsOnUnused, next_plan, commit_begun, commit_ended}
+use Rattle.wb_desk.proofs.Acts.{kept_begun, kept_ended}
 use Rattle.wb_desk.proofs.FreePlaces.{unused_places}
 
 -- ---- blocks
@@ -41,7 +42,7 @@ record LeavesOrders (change : Block → Block) : Type 0 where
 begins : LeavesOrders block_begun
 begins = record {
   mapped = mapped;
-  unclaimed = unclaimed;
+  unclaimed = kept_begun;
   claimed = claimed;
   free = refl;
   reserved = refl;
@@ -53,13 +54,6 @@ begins = record {
     mapped Reserved = refl
     mapped (Quarantined claimed early) = refl
 
-    unclaimed : (b : Block) → IsClaimed (block_begun b) → IsClaimed b
-    unclaimed Free h = h
-    unclaimed Mapped h = h
-    unclaimed Reserved h = h
-    unclaimed (Quarantined true early) h = h
-    unclaimed (Quarantined false early) h = h
-
     claimed : (b : Block) → IsClaimed b → IsClaimed (block_begun b)
     claimed Free h = h
     claimed Mapped h = h
@@ -70,7 +64,7 @@ begins = record {
 ends : LeavesOrders block_ended
 ends = record {
   mapped = mapped;
-  unclaimed = unclaimed;
+  unclaimed = kept_ended;
   claimed = claimed;
   free = refl;
   reserved = refl;
@@ -83,15 +77,6 @@ ends = record {
     mapped (Quarantined true true) = refl
     mapped (Quarantined false true) = refl
     mapped (Quarantined claimed false) = refl
-
-    unclaimed : (b : Block) → IsClaimed (block_ended b) → IsClaimed b
-    unclaimed Free h = h
-    unclaimed Mapped h = h
-    unclaimed Reserved h = h
-    unclaimed (Quarantined true true) h = tt
-    unclaimed (Quarantined true false) h = h
-    unclaimed (Quarantined false true) h = h
-    unclaimed (Quarantined false false) h = h
 
     claimed : (b : Block) → IsClaimed b → IsClaimed (block_ended b)
     claimed Free h = h

@@ -22,7 +22,7 @@ use Rattle.wb_space.specs.declared.block.Block.{Block}
 use Rattle.wb_space.specs.declared.block.Block.TheVariants.{Free, Mapped, Reserved, Quarantined}
 use Rattle.wb_space.specs.Blocks.{state, released as block_released, opened_block, commit_begun as block_begun, commit_ended as block_ended}
 use Rattle.wb_orders.specs.Orders.{order_at}
-use Rattle.wb_desk.specs.Allocation.{Allocation, ImageSafe, Stays, entry_in}
+use Rattle.wb_desk.specs.Allocation.{Allocation, ImageSafe, StaysQuarantined, entry_in}
 use Rattle.wb_desk.specs.Desks.{DeskState, DeskInvariant, IsLawful, IsFreeFor, holdings, is_mapped}
 use Rattle.wb_desk.specs.Calls.{blocks_reserved, reserved, released, next_order_taken}
 use Rattle.wb_desk.specs.Messages.{IsTold}
@@ -89,9 +89,6 @@ origins-set entries new c entry e = ap (λ (es : List (Option Entry)). origins e
 
 module _ {P : Type 0} where
   -- what a call made, with the entries of then
-  with_holdings : (d : DeskState P) (mapping : Holdings) (images : HeldImages) → holdings d ≡ mapping → AllSafe d.space.blocks mapping images → AllSafe d.space.blocks (holdings d) images
-  with_holdings d mapping images e all = subst (λ (m : Holdings). AllSafe d.space.blocks m images) (sym e) all
-
   with_blocks : (d : DeskState P) (blocks : List Block) (mapping : Holdings) (images : HeldImages) → d.space.blocks ≡ blocks → holdings d ≡ mapping → AllSafe blocks mapping images
       → AllSafe d.space.blocks (holdings d) images
   with_blocks d blocks mapping images b e all = subst (λ (bs : List Block). AllSafe bs (holdings d) images) (sym b) (subst (λ (m : Holdings). AllSafe blocks m images) (sym e) all)
@@ -175,7 +172,7 @@ opened_safe geometry generation tree used mode policy threshold mapped = record 
 
 -- ---- quarantine
 
-reserved_stays : (B E : Type 0) (blocks : List Block) (order : Order) (c : ℕ) → IsFreeFor blocks order → Stays B E (state blocks c) (state (blocks_reserved blocks order) c)
+reserved_stays : (B E : Type 0) (blocks : List Block) (order : Order) (c : ℕ) → IsFreeFor blocks order → StaysQuarantined B E (state blocks c) (state (blocks_reserved blocks order) c)
 reserved_stays B E blocks (Promote b k) c free = set_stays B E blocks k.0 Reserved c (from_block B E blocks k.0 Free Reserved free tt)
 reserved_stays B E blocks (Replace v b k) c free = same_stays B E (state blocks c)
 reserved_stays B E blocks (Demote b) c free = same_stays B E (state blocks c)
@@ -185,7 +182,7 @@ abbrev ends : Call → Type 0
 ends call = call ≡ EndCommit
 
 -- a mapped block may be quarantined
-mapped_leaves : (B E : Type 0) (b : Block) (keep : Bool) → is_mapped b ≡ true → Stays B E b (Quarantined keep false)
+mapped_leaves : (B E : Type 0) (b : Block) (keep : Bool) → is_mapped b ≡ true → StaysQuarantined B E b (Quarantined keep false)
 mapped_leaves B E Free keep e = tt
 mapped_leaves B E Mapped keep e = tt
 mapped_leaves B E Reserved keep e = tt
@@ -198,11 +195,11 @@ module _ {P : Type 0} where
   free_for_order d cache (Demote b) lawful = tt
   free_for_order d cache (Clean b) lawful = tt
 
-  stays_by : (B E : Type 0) (d new : DeskState P) (blocks : List Block) (c : ℕ) → new.space.blocks ≡ blocks → Stays B E (state d.space.blocks c) (state blocks c) → Stays B E (state d.space.blocks c) (state new.space.blocks c)
-  stays_by B E d new blocks c e s = subst (λ (bs : List Block). Stays B E (state d.space.blocks c) (state bs c)) (sym e) s
+  stays_by : (B E : Type 0) (d new : DeskState P) (blocks : List Block) (c : ℕ) → new.space.blocks ≡ blocks → StaysQuarantined B E (state d.space.blocks c) (state blocks c) → StaysQuarantined B E (state d.space.blocks c) (state new.space.blocks c)
+  stays_by B E d new blocks c e s = subst (λ (bs : List Block). StaysQuarantined B E (state d.space.blocks c) (state bs c)) (sym e) s
 
   pub quarantine_stays : (knows : P → Holdings → Type 0) (d new : DeskState P) (call : Call) → DeskInvariant knows d → Does d call new → (c : ℕ)
-      → Stays (IsBeginning call) (call ≡ EndCommit) (state d.space.blocks c) (state new.space.blocks c)
+      → StaysQuarantined (IsBeginning call) (call ≡ EndCommit) (state d.space.blocks c) (state new.space.blocks c)
   quarantine_stays knows d new TakeOrder i does c = stays_by _ _ d new d.space.blocks c (ap (λ (x : DeskState P). x.space.blocks) does) (same_stays _ _ (state d.space.blocks c))
   quarantine_stays knows d new Tell i does c = stays_by _ _ d new d.space.blocks c (ap (λ (x : DeskState P). x.space.blocks) does) (same_stays _ _ (state d.space.blocks c))
   quarantine_stays knows d new (GiveOrder cache order waits) i does c = stays_by _ _ d new (blocks_reserved d.space.blocks order) c (ap (λ (x : DeskState P). x.space.blocks) does.1)
@@ -219,9 +216,9 @@ module _ {P : Type 0} where
       (set_stays _ _ d.space.blocks cache.0 (Quarantined keep false) c
       (mapped_leaves _ _ (state d.space.blocks cache.0) keep ((i.each cache.0 within).filled ∙ ap is_some entry.there)))
   quarantine_stays knows d new (BeginCommit used) i does c = stays_by _ _ d new (map block_begun d.space.blocks) c (ap (λ (x : DeskState P). x.space.blocks) does.2)
-      (subst (λ (x : Block). Stays (Unit {0}) (ends (BeginCommit used)) (state d.space.blocks c) x) (sym (get_or-map block_begun d.space.blocks c Free)) (stays_begun (Unit {0}) (ends (BeginCommit used)) (state d.space.blocks c) tt))
+      (subst (λ (x : Block). StaysQuarantined (Unit {0}) (ends (BeginCommit used)) (state d.space.blocks c) x) (sym (get_or-map block_begun d.space.blocks c Free)) (stays_begun (Unit {0}) (ends (BeginCommit used)) (state d.space.blocks c) tt))
   quarantine_stays knows d new EndCommit i does c = stays_by _ _ d new (map block_ended d.space.blocks) c (ap (λ (x : DeskState P). x.space.blocks) does.1)
-      (subst (λ (x : Block). Stays ⊥ (EndCommit ≡ EndCommit) (state d.space.blocks c) x) (sym (get_or-map block_ended d.space.blocks c Free)) (stays_ended ⊥ (EndCommit ≡ EndCommit) (state d.space.blocks c) refl))
+      (subst (λ (x : Block). StaysQuarantined ⊥ (EndCommit ≡ EndCommit) (state d.space.blocks c) x) (sym (get_or-map block_ended d.space.blocks c Free)) (stays_ended ⊥ (EndCommit ≡ EndCommit) (state d.space.blocks c) refl))
 
 -- ---- contracts
 

@@ -13,7 +13,7 @@ use Rattle.wb_tree.specs.declared.image.Image.{Image}
 use Rattle.wb_policy.specs.declared.order.Order.{Order}
 use Rattle.wb_policy.specs.Law.{Holdings, IsMappedAt, origins}
 use Rattle.wb_space.specs.Blocks.{state}
-use Rattle.wb_desk.specs.Allocation.{ImageSafe, Stays, entry_in}
+use Rattle.wb_desk.specs.Allocation.{ImageSafe, StaysQuarantined, entry_in}
 use Rattle.wb_desk.specs.Desks.{DeskState, DeskInvariant, MayReserve, holdings}
 use Rattle.wb_desk.specs.Calls.{reserved, released, next_order_taken}
 use Rattle.wb_desk.specs.Entries.{MayMap, MayUnmap, HasEntered, HasLeft, entry_of, mapped, unmapped}
@@ -105,7 +105,7 @@ IsBeginning EndCommit = ⊥
 
 abbrev pub QuarantineStays : (P : Type 0) → (P → Holdings → Type 0) → Type 0
 QuarantineStays P knows = (d new : DeskState P) (call : Call) → DeskInvariant knows d → Does d call new → (c : ℕ)
-    → Stays (IsBeginning call) (call ≡ EndCommit) (state d.space.blocks c) (state new.space.blocks c)
+    → StaysQuarantined (IsBeginning call) (call ≡ EndCommit) (state d.space.blocks c) (state new.space.blocks c)
 
 -- What the contracts of the calls say is that they do so.
 abbrev pub BeginningDoes : Type 0 → Type 0
