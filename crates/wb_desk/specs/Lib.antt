@@ -4,6 +4,7 @@ pub mod Desks
 pub mod Calls
 pub mod Commits
 pub mod Entries
+pub mod Settling
 pub mod Fields
 pub mod Opening
 pub mod Messages
