@@ -5,6 +5,7 @@ pub mod Calls
 pub mod Commits
 pub mod Entries
 pub mod Settling
+pub mod Decisions
 pub mod Fields
 pub mod Opening
 pub mod Messages

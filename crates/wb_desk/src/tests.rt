@@ -246,3 +246,13 @@ fn entries_come_and_go(rt: HostRuntime) -> Result<(), Refusal> {
     assert!(rt; desk.counts().mapped == 0);
     Ok(())
 }
+
+#[test]
+fn a_quiet_policy_orders_nothing(rt: HostRuntime) -> Result<(), Refusal> {
+    let mut desk = opened(rt.alloc(), Mode::Writeback, &[])?;
+    desk.settle(&[OBlock(5), OBlock(5), OBlock(3)]);
+    desk.tick(&[]);
+    assert!(rt; desk.next_order() == None);
+    assert!(rt; desk.room() == 2048 && desk.counts().mapped == 1);
+    Ok(())
+}
