@@ -4,6 +4,8 @@ pub mod Desks
 pub mod Calls
 pub mod Commits
 pub mod Entries
+pub mod Settling
+pub mod Decisions
 pub mod Fields
 pub mod Opening
 pub mod Safety

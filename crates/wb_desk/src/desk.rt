@@ -16,6 +16,7 @@ ghost use Rattle.wb_desk.specs.Calls.{blocks_reserved, reserved, released, next_
 
 mod commit;
 mod mapping;
+mod settling;
 
 use crate::Counts;
 use crate::opening::{cached_blocks, count_mapped, last_value, mapped_blocks, set_policy};

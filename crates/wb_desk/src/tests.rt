@@ -334,3 +334,13 @@ fn a_block_that_is_removed_while_a_commit_runs_waits_for_the_next(
     }
     Ok(())
 }
+
+#[test]
+fn a_quiet_policy_orders_nothing(rt: HostRuntime) -> Result<(), Refusal> {
+    let mut desk = opened(rt.alloc(), Mode::Writeback, &[])?;
+    desk.settle(&[OBlock(5), OBlock(5), OBlock(3)]);
+    desk.tick(&[]);
+    assert!(rt; desk.next_order() == None);
+    assert!(rt; desk.room() == 2048 && desk.counts().mapped == 1);
+    Ok(())
+}
