@@ -7,7 +7,7 @@ use Rattle.std.proofs.Math.ListN.{get_or-map}
 use Rattle.wb_space.specs.declared.block.Block.{Block}
 use Rattle.wb_space.specs.declared.block.Block.TheVariants.{Free, Mapped, Reserved, Quarantined}
 use Rattle.wb_space.specs.Blocks.{released, commit_begun, commit_ended, state, IsClaimed}
-use Rattle.wb_desk.specs.Allocation.{BlockMap, LiveOrder, Allocation, Act, Give, Over, Map, Unmap, Begin, End, Threshold, Apart, ApartAll, Shareless, WithinFrom, ImageSafe, AllocationInvariant, MayAct, IsActRun, after_act, after_acts, without, cost, entry_in, cache_at, HasOrder, StaysOrEnds, NoneTwice, at_opening, opened_entry}
+use Rattle.wb_desk.specs.Allocation.{BlockMap, LiveOrder, Allocation, Act, Give, Over, Map, Unmap, Begin, End, Threshold, Apart, ApartAll, Shareless, WithinFrom, ImageSafe, AllocationInvariant, MayAct, IsActRun, after_act, after_acts, without, cost, entry_in, cache_at, HasOrder, StaysQuarantined, StaysOrEnds, NoneTwice, at_opening, opened_entry}
 
 -- Orders
 
@@ -140,14 +140,14 @@ given_back_free Mapped h = h
 given_back_free Reserved h = h
 given_back_free (Quarantined claimed early) h = h
 
-kept_begun : (b : Block) → IsClaimed (commit_begun b) → IsClaimed b
+pub kept_begun : (b : Block) → IsClaimed (commit_begun b) → IsClaimed b
 kept_begun Free h = h
 kept_begun Mapped h = h
 kept_begun Reserved h = h
 kept_begun (Quarantined true early) h = h
 kept_begun (Quarantined false early) h = h
 
-kept_ended : (b : Block) → IsClaimed (commit_ended b) → IsClaimed b
+pub kept_ended : (b : Block) → IsClaimed (commit_ended b) → IsClaimed b
 kept_ended Free h = h
 kept_ended Mapped h = h
 kept_ended Reserved h = h
@@ -310,60 +310,60 @@ all_kept d (a ∷ acts) run i = all_kept (after_act d a) acts run.1 (act_kept d 
 
 -- Quarantine
 
-same_stays : (b : Block) (a : Act) → StaysOrEnds b a b
-same_stays Free a = tt
-same_stays Mapped a = tt
-same_stays Reserved a = tt
-same_stays (Quarantined k true) a = tt
-same_stays (Quarantined k false) a = tt
+pub same_stays : (B E : Type 0) (b : Block) → StaysQuarantined B E b b
+same_stays B E Free = tt
+same_stays B E Mapped = tt
+same_stays B E Reserved = tt
+same_stays B E (Quarantined k true) = tt
+same_stays B E (Quarantined k false) = tt
 
-stays_given_back : (b : Block) (a : Act) → StaysOrEnds b a (released b)
-stays_given_back Free a = tt
-stays_given_back Mapped a = tt
-stays_given_back Reserved a = tt
-stays_given_back (Quarantined k true) a = tt
-stays_given_back (Quarantined k false) a = tt
+pub stays_given_back : (B E : Type 0) (b : Block) → StaysQuarantined B E b (released b)
+stays_given_back B E Free = tt
+stays_given_back B E Mapped = tt
+stays_given_back B E Reserved = tt
+stays_given_back B E (Quarantined k true) = tt
+stays_given_back B E (Quarantined k false) = tt
 
-stays_begun : (b : Block) → StaysOrEnds b Begin (commit_begun b)
-stays_begun Free = tt
-stays_begun Mapped = tt
-stays_begun Reserved = tt
-stays_begun (Quarantined k true) = tt
-stays_begun (Quarantined k false) = refl
+pub stays_begun : (B E : Type 0) (b : Block) → B → StaysQuarantined B E b (commit_begun b)
+stays_begun B E Free begins = tt
+stays_begun B E Mapped begins = tt
+stays_begun B E Reserved begins = tt
+stays_begun B E (Quarantined k true) begins = tt
+stays_begun B E (Quarantined k false) begins = begins
 
-stays_ended : (b : Block) → StaysOrEnds b End (commit_ended b)
-stays_ended Free = tt
-stays_ended Mapped = tt
-stays_ended Reserved = tt
-stays_ended (Quarantined true true) = refl
-stays_ended (Quarantined false true) = refl
-stays_ended (Quarantined k false) = tt
+pub stays_ended : (B E : Type 0) (b : Block) → E → StaysQuarantined B E b (commit_ended b)
+stays_ended B E Free ends = tt
+stays_ended B E Mapped ends = tt
+stays_ended B E Reserved ends = tt
+stays_ended B E (Quarantined true true) ends = ends
+stays_ended B E (Quarantined false true) ends = ends
+stays_ended B E (Quarantined k false) ends = tt
 
-set_stays : (d : Allocation) (c : ℕ) (b : Block) (a : Act) (k : ℕ) → StaysOrEnds (state d.blocks c) a b → StaysOrEnds (state d.blocks k) a (state (set d.blocks c b) k)
-set_stays d c b a k h = elim (cases_eq k c) [
-  | inl e ↦ subst (λ (k : ℕ). StaysOrEnds (state d.blocks k) a (state (set d.blocks c b) k)) (sym e) at
-  | inr n ↦ subst (λ (x : Block). StaysOrEnds (state d.blocks k) a x) (sym (get_or-set_other d.blocks c k b Free n)) (same_stays (state d.blocks k) a)
+pub set_stays : (B E : Type 0) (blocks : List Block) (c : ℕ) (b : Block) (k : ℕ) → StaysQuarantined B E (state blocks c) b → StaysQuarantined B E (state blocks k) (state (set blocks c b) k)
+set_stays B E blocks c b k h = elim (cases_eq k c) [
+  | inl e ↦ subst (λ (k : ℕ). StaysQuarantined B E (state blocks k) (state (set blocks c b) k)) (sym e) at
+  | inr n ↦ subst (λ (x : Block). StaysQuarantined B E (state blocks k) x) (sym (get_or-set_other blocks c k b Free n)) (same_stays B E (state blocks k))
 ]
   where
-    at : StaysOrEnds (state d.blocks c) a (state (set d.blocks c b) c)
-    at = elim (cases_lt c (length d.blocks)) [
-      | inl l ↦ subst (λ (x : Block). StaysOrEnds (state d.blocks c) a x) (sym (get_or-set_same d.blocks c b Free l)) h
-      | inr p ↦ subst (λ (x : List Block). StaysOrEnds (state d.blocks c) a (state x c)) (sym (set_past d.blocks c b p)) (same_stays (state d.blocks c) a)
+    at : StaysQuarantined B E (state blocks c) (state (set blocks c b) c)
+    at = elim (cases_lt c (length blocks)) [
+      | inl l ↦ subst (λ (x : Block). StaysQuarantined B E (state blocks c) x) (sym (get_or-set_same blocks c b Free l)) h
+      | inr p ↦ subst (λ (x : List Block). StaysQuarantined B E (state blocks c) (state x c)) (sym (set_past blocks c b p)) (same_stays B E (state blocks c))
     ]
 
-from_block : (d : Allocation) (c : ℕ) (b x : Block) (a : Act) → slice_get d.blocks c ≡ Some b → StaysOrEnds b a x → StaysOrEnds (state d.blocks c) a x
-from_block d c b x a e h = subst (λ (y : Block). StaysOrEnds y a x) (sym (get_or_from_slice_get d.blocks c b Free e)) h
+pub from_block : (B E : Type 0) (blocks : List Block) (c : ℕ) (b x : Block) → slice_get blocks c ≡ Some b → StaysQuarantined B E b x → StaysQuarantined B E (state blocks c) x
+from_block B E blocks c b x e h = subst (λ (y : Block). StaysQuarantined B E y x) (sym (get_or_from_slice_get blocks c b Free e)) h
 
 pub stays : (d : Allocation) (a : Act) → MayAct d a → (c : ℕ) → StaysOrEnds (state d.blocks c) a (state (after_act d a).blocks c)
-stays d (Give o true) may c = set_stays d o.cache Reserved (Give o true) c (from_block d o.cache Free Reserved (Give o true) may.1 tt)
-stays d (Give o false) may c = same_stays (state d.blocks c) (Give o false)
-stays d (Over n) may c = set_stays d (cache_at d.orders n) (released (state d.blocks (cache_at d.orders n))) (Over n) c (stays_given_back (state d.blocks (cache_at d.orders n)) (Over n))
-stays d (Map b k) may c = set_stays d k Mapped (Map b k) c (from_block d k Reserved Mapped (Map b k) may.0 tt)
-stays d (Unmap k false) may c = set_stays d k (Quarantined false false) (Unmap k false) c (from_block d k Mapped (Quarantined false false) (Unmap k false) may tt)
-stays d (Unmap k true) may c = set_stays d k (Quarantined true false) (Unmap k true) c (from_block d k Mapped (Quarantined true false) (Unmap k true) may.0 tt)
-stays d Begin may c = subst (λ (x : Block). StaysOrEnds (state d.blocks c) Begin x) (sym (get_or-map commit_begun d.blocks c Free)) (stays_begun (state d.blocks c))
-stays d End may c = subst (λ (x : Block). StaysOrEnds (state d.blocks c) End x) (sym (get_or-map commit_ended d.blocks c Free)) (stays_ended (state d.blocks c))
-stays d (Threshold n) may c = same_stays (state d.blocks c) (Threshold n)
+stays d (Give o true) may c = set_stays _ _ d.blocks o.cache Reserved c (from_block _ _ d.blocks o.cache Free Reserved may.1 tt)
+stays d (Give o false) may c = same_stays _ _ (state d.blocks c)
+stays d (Over n) may c = set_stays _ _ d.blocks (cache_at d.orders n) (released (state d.blocks (cache_at d.orders n))) c (stays_given_back _ _ (state d.blocks (cache_at d.orders n)))
+stays d (Map b k) may c = set_stays _ _ d.blocks k Mapped c (from_block _ _ d.blocks k Reserved Mapped may.0 tt)
+stays d (Unmap k false) may c = set_stays _ _ d.blocks k (Quarantined false false) c (from_block _ _ d.blocks k Mapped (Quarantined false false) may tt)
+stays d (Unmap k true) may c = set_stays _ _ d.blocks k (Quarantined true false) c (from_block _ _ d.blocks k Mapped (Quarantined true false) may.0 tt)
+stays d Begin may c = subst (λ (x : Block). StaysOrEnds (state d.blocks c) Begin x) (sym (get_or-map commit_begun d.blocks c Free)) (stays_begun _ _ (state d.blocks c) refl)
+stays d End may c = subst (λ (x : Block). StaysOrEnds (state d.blocks c) End x) (sym (get_or-map commit_ended d.blocks c Free)) (stays_ended _ _ (state d.blocks c) refl)
+stays d (Threshold n) may c = same_stays _ _ (state d.blocks c)
 
 -- The first state, and what no image entry_in
 

@@ -83,6 +83,11 @@ elsewhere p a X f = by (eqb p a) refl
     by true e = tt
     by false e = f (λ h. differs (sym (eq-eqb p a h) ∙ e))
 
+-- a test that is not passed rules out what needs it
+pub ruled_out : (b : Bool) (X Y : Type 0) → (Y → X) → OnFalse b (X → ⊥) → OnFalse b (Y → ⊥)
+ruled_out true X Y f h = tt
+ruled_out false X Y f h = λ y. h (f y)
+
 -- what the index has for a block
 pub place_right : (n : ℕ) (mapping : Holdings) (cached : List (Option CBlock)) (b : ℕ) (x : Option CBlock) → IsIndex n mapping cached → b < n → x ≡ get_or cached b x
     → IfSome x (λ c. IsMappedAt mapping b c.0) × IfNone x (IsUnmapped mapping b)
@@ -109,7 +114,7 @@ pub record IndexUpTo (origin_blocks : ℕ) (mapping : Holdings) (cached : List (
   pub found : (b : ℕ) (c : CBlock) → slice_get cached b ≡ Some (Some c) → IsMappedAt mapping b c.0
   pub missing : (b k : ℕ) → slice_get cached b ≡ Some None → k < bound → IsMappedAt mapping b k → ⊥
 
-mapped_there : (entries : List (Option Entry)) (c : ℕ) (e : Entry) → get_or entries c None ≡ Some e → IsMappedAt (origins entries) e.origin.0 c
+pub mapped_there : (entries : List (Option Entry)) (c : ℕ) (e : Entry) → get_or entries c None ≡ Some e → IsMappedAt (origins entries) e.origin.0 c
 mapped_there [] c e h = absurd (cc)
 mapped_there (x ∷ entries) zero e h = ap (λ (y : Option Entry). Some (option_map (λ z. z.origin.0) y)) h
 mapped_there (x ∷ entries) (suc c) e h = mapped_there entries c e h

@@ -20,7 +20,7 @@ use Rattle.wb_desk.specs.Calls.{blocks_reserved, reserved, released, next_order_
 use Rattle.wb_orders.proofs.Kept.{within_of}
 use Rattle.wb_desk.proofs.Index.{names_take, takes_once, lawful_takes}
 
-abbrev Each : Holdings → List (Option Entry) → List Block → List (Option LiveOrder) → ℕ → Type 0
+abbrev pub Each : Holdings → List (Option Entry) → List Block → List (Option LiveOrder) → ℕ → Type 0
 Each mapping entries blocks slots n = (k : ℕ) → k < n → IsRight mapping k (get_or entries k None) (state blocks k) (order_at slots k)
 
 -- one cache block changes its state and its order
@@ -57,6 +57,13 @@ each_taken mapping entries blocks slots n (c ∷ cs) lb ls each =
     subst (λ (x : List Block). Each mapping entries x (slots_taken slots (c ∷ cs)) n) (set-get_or blocks c.0 Free)
     (one_changes mapping entries blocks slots n c.0 (state blocks c.0) (option_map taken (order_at slots c.0)) lb ls each
     (λ l. taken_right mapping c.0 (get_or entries c.0 None) (state blocks c.0) (order_at slots c.0) (each c.0 l)))
+
+-- ---- an order is over
+
+pub length_unmarked : (s : Option LiveOrder) (busy : List Bool) → length (unmarked s busy) ≡ length busy
+length_unmarked None busy = refl
+length_unmarked (Some o) busy = length-set (set busy (first_of o.order).0 false) (second_of o.order).0 false
+    ∙ length-set busy (first_of o.order).0 false
 
 -- ---- an order is given
 
@@ -107,6 +114,7 @@ module _ {P : Type 0} where
       slots = length_taken d.orders.slots d.orders.waiting ∙ i.slots;
       busy = i.busy;
       places = i.places;
+      next = i.next;
       each = each_taken (holdings d) d.tree.entries d.space.blocks d.orders.slots d.geometry.cache_blocks d.orders.waiting i.blocks i.slots i.each;
       counted = i.counted;
       known = i.known;
@@ -120,6 +128,7 @@ module _ {P : Type 0} where
       busy = length-set (set d.orders.busy (first_of order).0 true) (second_of order).0 true
           ∙ length-set d.orders.busy (first_of order).0 true ∙ i.busy;
       places = i.places;
+      next = i.next;
       each = subst (λ (x : List Block). Each (holdings d) d.tree.entries x (set d.orders.slots c.0 (Some o)) d.geometry.cache_blocks) (sym by)
           (one_changes (holdings d) d.tree.entries d.space.blocks d.orders.slots d.geometry.cache_blocks c.0 (new_block order (state d.space.blocks c.0)) (Some o) i.blocks i.slots i.each
           (λ l. new_right d c o (get_or d.tree.entries c.0 None) order refl m.lawful (order_at d.orders.slots c.0, i.each c.0 l)));
@@ -138,19 +147,15 @@ module _ {P : Type 0} where
       mapping = i.mapping;
       blocks = length-set d.space.blocks c.0 (block_released (state d.space.blocks c.0)) ∙ i.blocks;
       slots = length-set d.orders.slots c.0 None ∙ i.slots;
-      busy = length_unmarked (order_at d.orders.slots c.0) ∙ i.busy;
+      busy = length_unmarked (order_at d.orders.slots c.0) d.orders.busy ∙ i.busy;
       places = i.places;
+      next = i.next;
       each = one_changes (holdings d) d.tree.entries d.space.blocks d.orders.slots d.geometry.cache_blocks c.0 (block_released (state d.space.blocks c.0)) None i.blocks i.slots i.each
           (λ l. record { filled = same (state d.space.blocks c.0) ∙ (i.each c.0 l).filled; held = unclaimed (state d.space.blocks c.0); stands = tt });
       counted = i.counted;
       known = i.known;
     }
       where
-        length_unmarked : (s : Option LiveOrder) → length (unmarked s d.orders.busy) ≡ length d.orders.busy
-        length_unmarked None = refl
-        length_unmarked (Some o) = length-set (set d.orders.busy (first_of o.order).0 false) (second_of o.order).0 false
-            ∙ length-set d.orders.busy (first_of o.order).0 false
-
         same : (b : Block) → is_mapped (block_released b) ≡ is_mapped b
         same Free = refl
         same Mapped = refl

@@ -1,8 +1,39 @@
--- The mapping that the tests begin with.
-use Rattle.std.proofs.Common.{◌≡◌, ◌≤◌, ◌<◌, ℕ, List, Option, Some, None, set, replicate, sym, subst}
+-- What the tests begin with fits its device.
+use Rattle.std.proofs.Common.{◌≡◌, ◌≤◌, ◌<◌, ℕ, List, [], ◌∷◌, Option, Some, None, replicate, refl, sym, ap, subst, ◌∙◌, arith}
+use Rattle.std.specs.Prelude.{slice_set}
+use Rattle.std.specs.List.{IsDistinct}
 use Rattle.wb_types.specs.declared.entry.Entry.{Entry}
-use Rattle.wb_tree.specs.Mapping.{IsMapping}
+use Rattle.wb_types.specs.declared.number.Place.{Place}
+use Rattle.wb_format.specs.declared.root.Root.{Root}
+use Rattle.wb_tree.specs.declared.placed.PlacedNode.{PlacedNode}
+use Rattle.wb_tree.specs.Mapping.{Mapping, IsMapping, IsSound, IsPlaceOf, place_in}
+use Rattle.wb_tree.specs.Edits.{IsEdited}
+use Rattle.wb_tree.proofs.Stored.Edited.{places-edited}
+use Rattle.wb_meta.specs.Reads.{FitsDevice}
 use Rattle.wb_desk.proofs.Index.{one_mapping}
 
-pub one_entry : (n m c : ℕ) (entries : List (Option Entry)) (e : Entry) → entries ≡ set (replicate n None) c (Some e) → e.origin.0 < m → e.hint ≤ 16 → IsMapping n m entries
-one_entry n m c entries e is l h = subst (λ (x : List (Option Entry)). IsMapping n m x) (sym is) (one_mapping n m c e l h)
+-- a tree of one entry, set in an empty one
+pub one_entry : (root : Root) (old tree : Mapping) (c : ℕ) (e : Entry) → old.entries ≡ replicate root.geometry.cache_blocks None → old.known ≡ []
+    → tree.entries ≡ slice_set old.entries c (Some e) → IsEdited old tree → IsSound tree → e.origin.0 < root.geometry.origin_blocks → e.hint ≤ 16
+    → FitsDevice root.geometry.meta_sectors root tree []
+unfolding IsDistinct
+one_entry root old tree c e empty unknown is edited sound within hint = record {
+  size = refl;
+  mapping = subst (λ (xs : List (Option Entry)). IsMapping root.geometry.cache_blocks root.geometry.origin_blocks xs)
+      (sym (is ∙ ap (λ (xs : List (Option Entry)). slice_set xs c (Some e)) empty)) (one_mapping root.geometry.cache_blocks root.geometry.origin_blocks c e within hint);
+  sound = sound;
+  inside = λ p at. absurd (nowhere p at);
+  known_used = λ p at. absurd (nowhere p at);
+  used_are = record { from = tt; to = tt; apart = tt };
+  used_few = omega arith;
+}
+  where
+    nowhere : (p : Place) → IsPlaceOf tree p → ⊥
+    nowhere p at =
+        let was = places-edited old tree p edited at in
+        let known = was.known in
+        absurd (none_there old.known unknown was.level was.index p known)
+      where
+        none_there : (known : List PlacedNode) → known ≡ [] → (level index : ℕ) (p : Place) → place_in known level index ≡ Some p → ⊥
+        none_there [] e level index p k = absurd cc
+        none_there (n ∷ ns) e level index p k = absurd cc

@@ -141,16 +141,19 @@ abbrev pub after_acts : Allocation → List Act → Allocation
 after_acts d [] = d
 after_acts d (a ∷ rest) = after_acts (after_act d a) rest
 
--- A quarantined block stays so until the end of a commit, one that began after its removal: only a
--- beginning marks it, and only an end frees what is marked.
+-- A quarantined block stays so until the end of a commit, one that began after its removal: only a beginning marks it, and
+-- only an end frees what is marked. Said of what a block was and is, and whether this was a beginning or an end.
+abbrev pub StaysQuarantined : (begins ends : Type 0) → Block → Block → Type 0
+StaysQuarantined begins ends (Quarantined k false) (Quarantined k' false) = Unit {0}
+StaysQuarantined begins ends (Quarantined k false) (Quarantined k' true) = begins
+StaysQuarantined begins ends (Quarantined k false) b = ⊥
+StaysQuarantined begins ends (Quarantined k true) (Quarantined k' true) = Unit {0}
+StaysQuarantined begins ends (Quarantined k true) (Quarantined k' false) = ⊥
+StaysQuarantined begins ends (Quarantined k true) b = ends
+StaysQuarantined begins ends other b = Unit {0}
+
 abbrev pub StaysOrEnds : Block → Act → Block → Type 0
-StaysOrEnds (Quarantined k false) a (Quarantined k' false) = Unit {0}
-StaysOrEnds (Quarantined k false) a (Quarantined k' true) = a ≡ Begin
-StaysOrEnds (Quarantined k false) a b = ⊥
-StaysOrEnds (Quarantined k true) a (Quarantined k' true) = Unit {0}
-StaysOrEnds (Quarantined k true) a (Quarantined k' false) = ⊥
-StaysOrEnds (Quarantined k true) a b = a ≡ End
-StaysOrEnds other a b = Unit {0}
+StaysOrEnds old a new = StaysQuarantined (a ≡ Begin) (a ≡ End) old new
 
 -- at an opening, each entry of the mapping is in the committed image too
 abbrev pub opened_entry : Option ℕ → Block

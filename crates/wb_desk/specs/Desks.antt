@@ -1,5 +1,5 @@
 -- What a caller sees of a desk, and what holds of it.
-use Rattle.std.specs.Prelude.{◌≡◌, ◌≢◌, ◌<◌, ◌≤◌, ◌+◌, ◌*◌, ◌%◌, ◌^◌, ◌⊎◌, ℕ, Bool, true, false, List, Option, Some, None, is_some, length, slice_get, slice_index_or}
+use Rattle.std.specs.Prelude.{◌≡◌, ◌≢◌, ◌<◌, ◌+◌, ◌*◌, ◌%◌, ◌^◌, ◌⊎◌, ℕ, Bool, true, false, List, Option, Some, None, is_some, length, slice_get, slice_index_or}
 use Rattle.std.specs.List.{count_by}
 use Rattle.wb_types.specs.declared.entry.Entry.{Entry}
 use Rattle.wb_types.specs.declared.geometry.Geometry.{Geometry}
@@ -16,6 +16,7 @@ use Rattle.wb_space.specs.Blocks.{state, IsClaimed}
 use Rattle.wb_space.specs.Spaces.{Spaces}
 use Rattle.wb_orders.specs.declared.live_order.LiveOrder.{LiveOrder}
 use Rattle.wb_orders.specs.Orders.{Orders, MayGive, order_at}
+use Rattle.wb_desk.specs.InUse.{PlacesInvariant}
 
 pub record DeskState (P : Type 0) : Type 0 where
   pub geometry : Geometry
@@ -30,8 +31,9 @@ pub record DeskState (P : Type 0) : Type 0 where
   pub threshold : ℕ
   -- of the root that stands
   pub generation : ℕ
-  -- of the committed image
+  -- of the committed image, and of the one that a commit writes
   pub nodes : ℕ
+  pub coming : ℕ
   -- the blocks that were mapped at the opening, and the entries that came and went since, modulo 2^64
   pub at_opening : ℕ
   pub promotions : ℕ
@@ -124,8 +126,9 @@ pub record DeskInvariant {P : Type 0} (knows : P → Holdings → Type 0) (d : D
   pub blocks : length d.space.blocks ≡ d.geometry.cache_blocks
   pub slots : length d.orders.slots ≡ d.geometry.cache_blocks
   pub busy : length d.orders.busy ≡ d.geometry.origin_blocks
-  -- the slots and the committed image are on the metadata device
-  pub places : d.nodes + 2 ≤ d.geometry.meta_sectors
+  pub places : PlacesInvariant d.geometry d.tree d.space.places d.space.committing d.nodes d.coming
+  -- while a commit runs there is a next generation
+  pub next : d.space.committing ≡ true → d.generation + 1 < 2 ^ 64
   pub each : (c : ℕ) → c < d.geometry.cache_blocks
       → IsRight (holdings d) c (slice_index_or d.tree.entries c None) (state d.space.blocks c) (order_at d.orders.slots c)
   -- promotions less demotions are the blocks mapped now less those at the opening

@@ -1,6 +1,12 @@
 pub mod Allocation
+pub mod InUse
 pub mod Desks
 pub mod Calls
+pub mod Commits
+pub mod Entries
+pub mod Settling
+pub mod Decisions
 pub mod Fields
 pub mod Opening
+pub mod Safety
 pub mod Messages

@@ -46,6 +46,7 @@ opened geometry generation tree used mode policy threshold mapped = record {
   threshold = threshold;
   generation = generation;
   nodes = length used;
+  coming = 0;
   at_opening = mapped;
   promotions = 0;
   demotions = 0;

@@ -6,12 +6,17 @@ ghost use Rattle.std.specs.Option.{option_map, IfSome, IfNone};
 ghost use Rattle.wb_space.specs.declared.block.Block.TheVariants as block;
 ghost use Rattle.wb_space.specs.Blocks.{state, released as block_released};
 ghost use Rattle.wb_policy.specs.Law.{origins, IsMappedAt, IsUnmapped};
-ghost use Rattle.wb_tree.specs.Mapping.{entry_at, IsMapping};
+ghost use Rattle.wb_tree.specs.Mapping.{entry_at};
+ghost use Rattle.wb_meta.specs.Reads.{FitsDevice};
 ghost use Rattle.wb_orders.specs.Orders.{next_of, cost_of, AreOrders};
 ghost use Rattle.wb_desk.specs.Desks.{DeskInvariant, MayReserve, IsLive, IsLawful, IsFreeFor, Takes, holdings, mapped_now, sectors_asked};
 ghost use Rattle.wb_desk.specs.Opening.{opened, threshold_of, last_value as value_of, IsSet, IsBad};
 ghost use Rattle.wb_desk.specs.Messages.{AreRanges, IsTold, IsRefused};
 ghost use Rattle.wb_desk.specs.Calls.{blocks_reserved, reserved, released, next_order_taken};
+
+mod commit;
+mod mapping;
+mod settling;
 
 use crate::Counts;
 use crate::opening::{cached_blocks, count_mapped, last_value, mapped_blocks, set_policy};
@@ -41,6 +46,8 @@ pub struct Desk<P: Policy> {
     threshold: u64,
     generation: u64,
     nodes: u32,
+    /// Of the image that the running commit writes.
+    coming: u32,
     mapped: u32,
     at_opening: u32,
     promotions: u64,
@@ -63,6 +70,7 @@ impl<P: Policy> Model for Desk<P> {
       threshold = d.threshold;
       generation = d.generation;
       nodes = d.nodes;
+      coming = d.coming;
       at_opening = d.at_opening;
       promotions = d.promotions;
       demotions = d.demotions;
@@ -78,6 +86,7 @@ impl<P: Policy> Model for Desk<P> {
       threshold = d.threshold;
       generation = d.generation;
       nodes = d.nodes;
+      coming = d.coming;
       at_opening = d.at_opening;
       promotions = d.promotions;
       demotions = d.demotions;
@@ -97,8 +106,7 @@ impl<P: Policy> Desk<P> {
         policy: P,
         keys: &[(Key, u64)],
     ) -> Result<Desk<P>, Refusal>
-        requires mapping { IsMapping state.root.geometry.cache_blocks state.root.geometry.origin_blocks state.tree.entries }
-        requires places { length state.used.items + 2 ≤ state.root.geometry.meta_sectors }
+        requires fits { FitsDevice state.root.geometry.meta_sectors state.root state.tree state.used.items }
         requires knows { P.knows policy (origins state.tree.entries) }
         ensures opened { IfOk result (λ d. d ≡ opened state.root.geometry state.root.generation state.tree state.used.items
             mode d.policy (threshold_of (value_of Key.MigrationThreshold keys.now)) (mapped_now d)) }
@@ -130,6 +138,7 @@ impl<P: Policy> Desk<P> {
             threshold,
             generation: root.generation,
             nodes: used.len() as u32,
+            coming: 0,
             mapped: count,
             at_opening: count,
             promotions: 0,

@@ -3,7 +3,9 @@
 ghost use Rattle.std.specs.Prelude.{◌≡◌, ◌≢◌, ◌⊎◌, ℕ, List, Some};
 ghost use Rattle.wb_desk.specs.Allocation.{Allocation, Act, AllocationInvariant, IsActRun, after_acts, after_act, MayAct, StaysOrEnds, NoneTwice, BlockMap, at_opening, entry_in};
 ghost use Rattle.wb_space.specs.Blocks.{state};
+ghost use Rattle.wb_desk.specs.Safety.{OpenedIsSafe, CallsAreSafe, QuarantineStays, BeginningDoes, MappingDoes, UnmappingDoes, TellingDoes};
 
+use wb_policy::Policy;
 use wb_space::Block;
 
 /// What holds after every run of acts on the blocks. The acts do to the cache blocks what the calls of `Space`
@@ -21,4 +23,21 @@ pub fn allocation_keeps_its_invariant()
     ensures unnamed { (d : Allocation) → AllocationInvariant d → (c : ℕ) →
         (state d.blocks c ≡ Block.Free) ⊎ (state d.blocks c ≡ Block.Reserved) → (b : ℕ) →
         (entry_in d.mapping c ≢ Some b) × (entry_in d.committed c ≢ Some b) × (entry_in d.running c ≢ Some b) }
+{}
+
+/// What holds of the images of a desk after every list of calls, though no field holds them: no free or reserved cache block
+/// is in the committed image or the running one, and a mapped one stands in each for the block that it has now, or not at all.
+///
+/// `opening`: it is so of the entries that an opening read. `calls`: it stays so, where a commit takes the entries of its
+/// beginning as its image, and leaves it alone when it ends. `quarantine`: a quarantined block leaves its quarantine only at
+/// the end of a commit that began after its removal. The others: what the contracts of the calls say is what is
+/// supposed of them there.
+pub fn images_stay_safe<P: Policy>()
+    ensures opening { OpenedIsSafe P }
+    ensures calls { CallsAreSafe P P.knows }
+    ensures quarantine { QuarantineStays P P.knows }
+    ensures beginning { BeginningDoes P }
+    ensures mapping { MappingDoes P P.with_entry }
+    ensures unmapping { UnmappingDoes P P.without_entry }
+    ensures telling { TellingDoes P P.with_setting }
 {}

@@ -3,6 +3,7 @@
 #![tactic(auto)]
 
 mod counts;
+mod decisions;
 mod desk;
 mod law;
 mod opening;
@@ -10,5 +11,6 @@ mod opening;
 mod tests;
 
 pub use counts::Counts;
+pub use decisions::decisions_law;
 pub use desk::Desk;
-pub use law::allocation_keeps_its_invariant;
+pub use law::{allocation_keeps_its_invariant, images_stay_safe};

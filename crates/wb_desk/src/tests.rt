@@ -1,25 +1,22 @@
 //! What no contract says: that memory serves, and that orders are given and refused as they were worked by hand.
 
-ghost use Rattle.std.specs.Prelude.{◌≡◌, [], IfOk};
-ghost use Rattle.wb_tree.specs.Mapping.{IsMapping};
+ghost use Rattle.std.specs.Prelude.{◌≡◌, true, IfOk, OnOk};
+ghost use Rattle.wb_meta.specs.Reads.{FitsDevice};
 
 use crate::Desk;
 use std::alloc::Global;
 use wb_format::{Root, Version};
-use wb_meta::State;
+use wb_meta::{Image, State};
 use wb_policy::{Order, Policy, Quiet};
 use wb_tree::Tree;
 use wb_types::{
-    CBlock, CBlockRange, CBlockRanges, Entry, Geometry, Key, Message, Mode, OBlock, Refusal,
+    CBlock, CBlockRange, CBlockRanges, Entry, Geometry, Key, Message, Mode, OBlock, Place, Refusal,
 };
 
 /// What an opening read: block 3 in cache block 1 of four, and nothing else.
-#[tactic(auto, using(crate::proofs::TestStates::one_entry))]
-fn state(alloc: Global) -> Result<State<Global>, Refusal>
-    ensures mapping { IfOk result (λ s. IsMapping s.root.geometry.cache_blocks s.root.geometry.origin_blocks s.tree.entries) }
+fn state(alloc: Global, generation: u64) -> Result<State<Global>, Refusal>
     ensures cache_blocks { IfOk result (λ s. s.root.geometry.cache_blocks ≡ 4) }
-    ensures places { IfOk result (λ s. s.root.geometry.meta_sectors ≡ 4) }
-    ensures used { IfOk result (λ s. s.used.items ≡ []) }
+    ensures fits { IfOk result (λ s. FitsDevice s.root.geometry.meta_sectors s.root s.tree s.used.items) }
 {
     let geometry = Geometry::new(64, 4, 10, 4)?;
     let mut tree = Tree::new(alloc, 4);
@@ -31,7 +28,7 @@ fn state(alloc: Global) -> Result<State<Global>, Refusal>
     tree.set(CBlock(1), entry)?;
     Ok(State {
         root: Root {
-            generation: 7,
+            generation,
             version: Version::One,
             clean: false,
             geometry,
@@ -45,7 +42,7 @@ fn state(alloc: Global) -> Result<State<Global>, Refusal>
 fn opened(alloc: Global, mode: Mode, keys: &[(Key, u64)]) -> Result<Desk<Quiet>, Refusal>
     ensures { IfOk result (λ d. d.geometry.cache_blocks ≡ 4) }
 {
-    Desk::new(alloc, state(alloc)?, mode, Quiet, keys)
+    Desk::new(alloc, state(alloc, 7)?, mode, Quiet, keys)
 }
 
 const CLEAN: Order = Order::Clean(OBlock(3));
@@ -167,5 +164,183 @@ fn messages_are_taken_and_refused(rt: HostRuntime) -> Result<(), Refusal> {
     for (begin, end, answer) in ranges {
         assert!(rt; desk.message(&invalidation(alloc, begin, end)?) == answer);
     }
+    Ok(())
+}
+
+/// What is asked of a desk, one after the other.
+enum Call {
+    Reserve(Order),
+    Release(Order),
+    Map(u32, u32),
+    Unmap(u32),
+}
+
+const REPLACE: Order = Order::Replace(OBlock(5), OBlock(6), CBlock(0));
+
+/// Each call, and whether it was done. Block 3 stands in cache block 1.
+const MOVES: [(Call, bool); 20] = [
+    // no order brings it there, and another one brings another block
+    (Call::Map(5, 0), false),
+    (Call::Reserve(PROMOTE), true),
+    (Call::Map(6, 0), false),
+    (Call::Map(5, 2), false),
+    (Call::Map(5, 0), true),
+    // the order is over
+    (Call::Release(PROMOTE), false),
+    (Call::Map(5, 0), false),
+    // a block that is written back stays, and goes under its demotion
+    (Call::Unmap(7), false),
+    (Call::Reserve(CLEAN), true),
+    (Call::Unmap(3), false),
+    (Call::Release(CLEAN), true),
+    (Call::Reserve(Order::Demote(OBlock(3))), true),
+    (Call::Unmap(3), true),
+    (Call::Release(Order::Demote(OBlock(3))), false),
+    // quarantined, before any commit
+    (Call::Reserve(Order::Promote(OBlock(8), CBlock(1))), false),
+    // a replacement goes on, and its block comes in after a commit alone
+    (Call::Reserve(REPLACE), true),
+    (Call::Unmap(5), true),
+    (Call::Map(6, 0), false),
+    (Call::Release(REPLACE), true),
+    (Call::Map(6, 0), false),
+];
+
+fn is_done(desk: &mut Desk<Quiet>, call: &Call) -> Result<bool, Refusal> {
+    match call {
+        Call::Reserve(order) => Ok(answers(desk, true, *order)),
+        Call::Release(order) => Ok(answers(desk, false, *order)),
+        Call::Map(b, c) => maps(desk, OBlock(*b), CBlock(*c)),
+        Call::Unmap(b) => Ok(unmaps(desk, OBlock(*b))),
+    }
+}
+
+fn maps(desk: &mut Desk<Quiet>, b: OBlock, c: CBlock) -> Result<bool, Refusal> {
+    let may = desk.may_map(b, c);
+    if may {
+        desk.map(b, c)?;
+    }
+    Ok(may)
+}
+
+fn unmaps(desk: &mut Desk<Quiet>, b: OBlock) -> bool
+    ensures { desk.new.space.committing ≡ desk.old.space.committing }
+{
+    let may = desk.may_unmap(b);
+    if may {
+        desk.unmap(b);
+    }
+    may
+}
+
+#[test]
+fn entries_come_and_go(rt: HostRuntime) -> Result<(), Refusal> {
+    let mut desk = opened(rt.alloc(), Mode::Writeback, &[])?;
+    for (call, done) in &MOVES {
+        assert!(rt; is_done(&mut desk, call)? == *done);
+    }
+    let counts = desk.counts();
+    assert!(rt; counts.mapped == 0 && counts.promotions == 1 && counts.demotions == 2);
+    assert!(rt; desk.room() == 2048);
+    // in passthrough nothing is ordered, and a block goes all the same
+    let mut desk = opened(rt.alloc(), Mode::Passthrough, &[])?;
+    assert!(rt; unmaps(&mut desk, OBlock(3)) && !unmaps(&mut desk, OBlock(3)));
+    assert!(rt; desk.counts().mapped == 0);
+    Ok(())
+}
+
+/// A commit begins; where memory was wanted, all is as it was, and the next one begins.
+fn begun(desk: &mut Desk<Quiet>, alloc: Global) -> Result<Image, Refusal>
+    ensures { OnOk result (desk.new.space.committing ≡ true) }
+{
+    match desk.begin_commit(alloc) {
+        Ok(image) => Ok(image),
+        Err(Refusal::Memory) => desk.begin_commit(alloc),
+        Err(refusal) => Err(refusal),
+    }
+}
+
+/// Its generation, its nodes, and where the first and the top of them stand; and what the desk counts when it has ended.
+const COMMITS: [(u64, usize, Option<Place>, u32); 3] = [
+    // the one leaf is written to the least free place, and has it from then on
+    (8, 1, Some(Place(2)), 3),
+    (9, 0, Some(Place(2)), 3),
+    (10, 0, Some(Place(2)), 3),
+];
+
+#[test]
+fn commits_follow_on_each_other(rt: HostRuntime) -> Result<(), Refusal> {
+    let alloc = rt.alloc();
+    let mut desk = opened(alloc, Mode::Writeback, &[])?;
+    for (generation, nodes, top, used) in COMMITS {
+        let image = begun(&mut desk, alloc)?;
+        assert!(rt; image.root.generation == generation && !image.root.clean);
+        assert!(rt; image.nodes.len() == nodes && image.root.top == top && image.used.len() == 1);
+        let refused = desk.begin_commit(alloc);
+        assert!(rt; refused.is_err());
+        assert!(rt; desk.counts().generation == generation - 1);
+        desk.end_commit();
+        let counts = desk.counts();
+        assert!(rt; counts.generation == generation && counts.used == used && counts.mapped == 1);
+    }
+    Ok(())
+}
+
+#[test]
+fn the_last_generation_has_no_next(rt: HostRuntime) -> Result<(), Refusal> {
+    let alloc = rt.alloc();
+    let last = state(alloc, u64::MAX)?;
+    let mut desk = Desk::new(alloc, last, Mode::Writeback, Quiet, &[])?;
+    match desk.begin_commit(alloc) {
+        Err(Refusal::GenerationEnd) => {}
+        _ => assert!(rt; false),
+    }
+    assert!(rt; desk.counts().generation == u64::MAX);
+    Ok(())
+}
+
+/// A whole commit, while which a block is removed: how many nodes it writes, and where the top of the tree stands.
+fn committed(
+    desk: &mut Desk<Quiet>,
+    alloc: Global,
+    removed: OBlock,
+) -> Result<(usize, Option<Place>), Refusal> {
+    let image = begun(desk, alloc)?;
+    let seen = (image.nodes.len(), image.root.top);
+    unmaps(desk, removed);
+    desk.end_commit();
+    Ok(seen)
+}
+
+/// An order for the cache block of a removed block, before the first commit and after each; and what the commit wrote.
+const WAITS: [(bool, usize, Option<Place>); 3] = [
+    (false, 1, Some(Place(2))),
+    // the block was removed while the first commit ran, so the second one frees its cache block
+    (false, 0, None),
+    (true, 0, None),
+];
+
+#[test]
+fn a_block_that_is_removed_while_a_commit_runs_waits_for_the_next(
+    rt: HostRuntime,
+) -> Result<(), Refusal> {
+    let alloc = rt.alloc();
+    let mut desk = opened(alloc, Mode::Writeback, &[])?;
+    for (may, nodes, top) in WAITS {
+        let promote = Order::Promote(OBlock(8), CBlock(1));
+        assert!(rt; answers(&mut desk, true, promote) == may);
+        let seen = committed(&mut desk, alloc, OBlock(3))?;
+        assert!(rt; seen.0 == nodes && seen.1 == top);
+    }
+    Ok(())
+}
+
+#[test]
+fn a_quiet_policy_orders_nothing(rt: HostRuntime) -> Result<(), Refusal> {
+    let mut desk = opened(rt.alloc(), Mode::Writeback, &[])?;
+    desk.settle(&[OBlock(5), OBlock(5), OBlock(3)]);
+    desk.tick(&[]);
+    assert!(rt; desk.next_order() == None);
+    assert!(rt; desk.room() == 2048 && desk.counts().mapped == 1);
     Ok(())
 }

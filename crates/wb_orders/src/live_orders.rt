@@ -147,7 +147,8 @@ impl LiveOrders {
     /// The order of this cache block, which somebody has taken, is over.
     pub fn end(&mut self, c: CBlock)
         requires { IsTaken (order_at self.old.slots c.0) }
-        ensures { self.new ≡ without_order self.old c }
+        ensures state { self.new ≡ without_order self.old c }
+        ensures orders { AreOrders self.old }
     {
         let CBlock(at) = c;
         let slot = at as usize;

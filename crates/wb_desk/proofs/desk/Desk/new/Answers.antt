@@ -20,8 +20,8 @@ invariant_of-result g c =
       committing = false;
     } = c.in_ok-new.ensures.ok ∙ rw (c.deref-2.ensures.value ∙ c.in_ok-mapped.ensures, c.deref-3.ensures.value) refl in
     record {
-      desk = rw (s, c.in_ok-new-2.ensures.ok, n) (opened_kept g.P.Policy.knows c.args.state.root.geometry c.args.state.root.generation c.args.state.tree c.args.state.used.items
-          c.args.mode c.set_policy.new.policy c.unwrap_or-threshold.result c.count_mapped-count.result c.requires.mapping c.requires.places (c.set_policy.ensures.knows _ c.requires.knows) k);
+      desk = rw (s, c.in_ok-new-2.ensures.ok, n) (opened_kept g.P.Policy.knows c.args.state.root c.args.state.tree c.args.state.used.items c.args.mode c.set_policy.new.policy c.unwrap_or-threshold.result
+          c.count_mapped-count.result c.args.state.root.geometry.within.meta_from c.requires.fits (c.set_policy.ensures.knows _ c.requires.knows) k);
       index = c.in_ok-cached.ensures;
       count = k;
     }

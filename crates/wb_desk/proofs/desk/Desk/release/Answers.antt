@@ -23,7 +23,7 @@ end-requires g c =
     (own g.P.Policy.knows _ c.args.order c.in-Some.c c.self.invariant.desk live t).1
 
 pub invariant_of-self : goal.invariant_of-self
-invariant_of-self g c = rw (c.release_block.ensures, c.end.ensures) (record {
+invariant_of-self g c = rw (c.release_block.ensures, c.end.ensures.state) (record {
   desk = released_kept g.P.Policy.knows _ c.in-Some.c c.self.invariant.desk;
   index = c.self.invariant.index;
   count = c.self.invariant.count;
@@ -33,4 +33,4 @@ pub returns : goal.returns
 returns g c = λ live.
     let i = subst (λ (d : DeskState _). DeskInvariant g.P.Policy.knows d) c.self.view_is c.self.invariant.desk in
     let e = found_at g.P.Policy.knows c.args.self.now c.args.order c.in-Some.c i live c.in-Some.ensures.takes in
-    rw (c.release_block.ensures, c.end.ensures) (ap (λ (d : DeskState _). released d c.in-Some.c) c.self.view_is ∙ ap (λ (k : CBlock). released c.args.self.now k) e)
+    rw (c.release_block.ensures, c.end.ensures.state) (ap (λ (d : DeskState _). released d c.in-Some.c) c.self.view_is ∙ ap (λ (k : CBlock). released c.args.self.now k) e)

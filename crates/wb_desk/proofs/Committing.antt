@@ -1,0 +1,217 @@
+-- What holds of every desk holds after a commit has begun, and after it has ended.
+use Rattle.std.proofs.Common.{◌≡◌, ◌<◌, ◌^◌, ℕ, Bool, true, false, if◌then◌else◌, List, [], ◌∷◌, Option, Some, None, length, map, get_or, is_some, inl, inr, ◌+◌, ◌%◌, refl, sym, ap, subst, ◌∙◌, arith}
+use Rattle.std.specs.Prelude.{Contains}
+use Rattle.std.specs.List.{count_by}
+use Rattle.std.proofs.lemmas.List.{length-map}
+use Rattle.std.proofs.Math.ListN.{get_or-map}
+use Rattle.wb_types.specs.declared.entry.Entry.{Entry}
+use Rattle.wb_types.specs.declared.number.CBlock.{CBlock}
+use Rattle.wb_types.specs.declared.number.Place.{Place}
+use Rattle.wb_tree.specs.Mapping.{Mapping, IsMapping, IsSound, AreInside}
+use Rattle.wb_tree.specs.Images.{AreFree, IsImage}
+use Rattle.wb_tree.specs.declared.image.Image.{Image}
+use Rattle.wb_policy.specs.declared.order.Order.{Order}
+use Rattle.wb_policy.specs.declared.order.Order.TheVariants.{Promote, Replace, Demote, Clean}
+use Rattle.wb_policy.specs.Law.{Holdings, origins}
+use Rattle.wb_space.specs.declared.block.Block.{Block}
+use Rattle.wb_space.specs.declared.block.Block.TheVariants.{Free, Mapped, Reserved, Quarantined}
+use Rattle.wb_space.specs.Blocks.{state, IsClaimed, commit_begun as block_begun, commit_ended as block_ended}
+use Rattle.wb_space.specs.Places.{noted, unused, place_count}
+use Rattle.wb_space.proofs.Noted.{length-noted_alone}
+use Rattle.wb_orders.specs.declared.live_order.LiveOrder.{LiveOrder}
+use Rattle.wb_orders.specs.Orders.{order_at}
+use Rattle.wb_meta.specs.Imaging.{AreUnused}
+use Rattle.wb_meta.proofs.Round.{free_of_used}
+use Rattle.wb_desk.specs.InUse.{AreFlagged}
+use Rattle.wb_desk.specs.Desks.{DeskState, DeskInvariant, IsRight, NamesWhatIs, Names, holdings, is_mapped}
+use Rattle.wb_desk.specs.Fields.{IsIndex, AreParts}
+use Rattle.wb_desk.specs.Commits.{MayBegin, IsOnUnused, next_plan, commit_begun, commit_ended}
+use Rattle.wb_desk.proofs.Acts.{kept_begun, kept_ended}
+use Rattle.wb_desk.proofs.FreePlaces.{unused_places}
+
+-- ---- blocks
+
+-- a change of all cache blocks that leaves which are mapped, free, reserved and claimed, but frees what is not claimed
+record LeavesOrders (change : Block → Block) : Type 0 where
+  mapped : (b : Block) → is_mapped (change b) ≡ is_mapped b
+  unclaimed : (b : Block) → IsClaimed (change b) → IsClaimed b
+  claimed : (b : Block) → IsClaimed b → IsClaimed (change b)
+  free : change Free ≡ Free
+  reserved : change Reserved ≡ Reserved
+
+begins : LeavesOrders block_begun
+begins = record {
+  mapped = mapped;
+  unclaimed = kept_begun;
+  claimed = claimed;
+  free = refl;
+  reserved = refl;
+}
+  where
+    mapped : (b : Block) → is_mapped (block_begun b) ≡ is_mapped b
+    mapped Free = refl
+    mapped Mapped = refl
+    mapped Reserved = refl
+    mapped (Quarantined claimed early) = refl
+
+    claimed : (b : Block) → IsClaimed b → IsClaimed (block_begun b)
+    claimed Free h = h
+    claimed Mapped h = h
+    claimed Reserved h = h
+    claimed (Quarantined true early) h = h
+    claimed (Quarantined false early) h = h
+
+ends : LeavesOrders block_ended
+ends = record {
+  mapped = mapped;
+  unclaimed = kept_ended;
+  claimed = claimed;
+  free = refl;
+  reserved = refl;
+}
+  where
+    mapped : (b : Block) → is_mapped (block_ended b) ≡ is_mapped b
+    mapped Free = refl
+    mapped Mapped = refl
+    mapped Reserved = refl
+    mapped (Quarantined true true) = refl
+    mapped (Quarantined false true) = refl
+    mapped (Quarantined claimed false) = refl
+
+    claimed : (b : Block) → IsClaimed b → IsClaimed (block_ended b)
+    claimed Free h = h
+    claimed Mapped h = h
+    claimed Reserved h = h
+    claimed (Quarantined true true) h = tt
+    claimed (Quarantined true false) h = h
+    claimed (Quarantined false true) h = absurd h
+    claimed (Quarantined false false) h = h
+
+names_left : (change : Block → Block) → LeavesOrders change → (mapping : Holdings) (block : Block) (c : ℕ) (order : Order) → Names mapping block c order → Names mapping (change block) c order
+names_left change leaves mapping block c (Promote b k) n = (n.0, ap change n.1 ∙ leaves.reserved, n.2)
+names_left change leaves mapping block c (Replace v b k) n = (
+  n.0,
+  n.1,
+  elim n.2 [
+    | inl at ↦ inl at
+    | inr gone ↦ inr (gone.0, leaves.claimed block gone.1)
+  ],
+)
+names_left change leaves mapping block c (Demote b) n = n
+names_left change leaves mapping block c (Clean b) n = n
+
+stands_left : (change : Block → Block) → LeavesOrders change → (mapping : Holdings) (block : Block) (c : ℕ) (slot : Option LiveOrder) → NamesWhatIs mapping block c slot → NamesWhatIs mapping (change block) c slot
+stands_left change leaves mapping block c None n = tt
+stands_left change leaves mapping block c (Some o) n = names_left change leaves mapping block c o.order n
+
+right_left : (change : Block → Block) → LeavesOrders change → (mapping : Holdings) (c : ℕ) (entry : Option Entry) (block : Block) (slot : Option LiveOrder)
+    → IsRight mapping c entry block slot → IsRight mapping c entry (change block) slot
+right_left change leaves mapping c entry block slot right = record {
+  filled = leaves.mapped block ∙ right.filled;
+  held = λ h. right.held (leaves.unclaimed block h);
+  stands = stands_left change leaves mapping block c slot right.stands;
+}
+
+state_left : (change : Block → Block) → LeavesOrders change → (blocks : List Block) (c : ℕ) → state (map change blocks) c ≡ change (state blocks c)
+state_left change leaves blocks c = ap (λ (b : Block). get_or (map change blocks) c b) (sym leaves.free) ∙ get_or-map change blocks c Free
+
+each_left : (change : Block → Block) → LeavesOrders change → (mapping : Holdings) (entries : List (Option Entry)) (blocks : List Block) (slots : List (Option LiveOrder)) (n : ℕ)
+    → ((c : ℕ) → c < n → IsRight mapping c (get_or entries c None) (state blocks c) (order_at slots c))
+    → (c : ℕ) → c < n → IsRight mapping c (get_or entries c None) (state (map change blocks) c) (order_at slots c)
+each_left change leaves mapping entries blocks slots n each c l =
+    subst (λ (b : Block). IsRight mapping c (get_or entries c None) b (order_at slots c)) (sym (state_left change leaves blocks c))
+    (right_left change leaves mapping c (get_or entries c None) (state blocks c) (order_at slots c) (each c l))
+
+none_used : (used : List Place) → length used ≡ 0 → used ≡ []
+none_used [] e = refl
+none_used (p ∷ ps) e = absurd (omega arith)
+
+-- so many places are kept track of
+pub length_flags : (cache_blocks nodes : ℕ) (flags : List Bool) → AreFlagged cache_blocks nodes flags → length flags ≡ place_count cache_blocks
+length_flags cache_blocks nodes flags f = ap (λ (xs : List Bool). length xs) f.are ∙ length-noted_alone f.used (place_count cache_blocks)
+
+-- ---- desks
+
+module _ {P : Type 0} (knows : P → Holdings → Type 0) where
+  -- the running image uses no place where no commit runs
+  idle_flags : (d : DeskState P) → DeskInvariant knows d → d.space.committing ≡ false → d.space.places.running ≡ unused (place_count d.geometry.cache_blocks)
+  idle_flags d i idle = i.places.running.are ∙ ap (λ (ps : List Place). noted ps (unused (place_count d.geometry.cache_blocks)))
+      (none_used i.places.running.used (i.places.running.many ∙ i.places.idle idle))
+
+  unused_for : (d : DeskState P) (used : List Place) → DeskInvariant knows d → d.space.committing ≡ false
+      → d.space.places.committed ≡ noted used (unused (place_count d.geometry.cache_blocks)) → AreUnused d.geometry used (next_plan d).free
+  unused_for d used i idle are = unused_places d.geometry d.space.places d.nodes used i.places.committed (idle_flags d i idle) i.places.room are
+
+  -- the places that the next image is planned with are free for it
+  pub free_for : (d : DeskState P) → DeskInvariant knows d → d.space.committing ≡ false → AreFree d.tree d.geometry (next_plan d).free
+  free_for d i idle = free_of_used d.tree d.geometry i.places.committed.used (next_plan d).free
+      (λ p is. subst (λ (b : Bool). Contains (if b then i.places.running.used else i.places.committed.used) p) idle (i.places.known p is))
+      (unused_for d i.places.committed.used i idle i.places.committed.are)
+
+  -- the image that was planned with the next generation and these places
+  pub image_for : (d : DeskState P) (tree : Mapping) (generation : ℕ) (free : List Place) (image : Image) → DeskInvariant knows d → generation ≡ d.generation + 1 → free ≡ (next_plan d).free
+      → IsImage d.tree tree (record { geometry = d.geometry; generation = generation; clean = false; free = free }) image → IsImage d.tree tree (next_plan d) image
+  image_for d tree generation free image i next same is =
+      subst (λ (n : ℕ). IsImage d.tree tree (record { geometry = d.geometry; generation = n; clean = false; free = (next_plan d).free }) image) next
+      (subst (λ (ps : List Place). IsImage d.tree tree (record { geometry = d.geometry; generation = generation; clean = false; free = ps }) image) same is)
+
+  pub on_unused : (d : DeskState P) (tree : Mapping) (image : Image) → DeskInvariant knows d → d.space.committing ≡ false → IsImage d.tree tree (next_plan d) image
+      → IsSound tree → AreInside d.geometry.meta_sectors tree → IsOnUnused d tree image
+  on_unused d tree image i idle is sound inside used are = record {
+    mapping = i.mapping;
+    free_are = unused_for d used i idle are;
+    image_is = is;
+    sound = sound;
+    inside = inside;
+  }
+
+  pub begun_kept : (d : DeskState P) (tree : Mapping) (image : Image) → DeskInvariant knows d → MayBegin d → IsImage d.tree tree (next_plan d) image
+      → AreInside d.geometry.meta_sectors tree → DeskInvariant knows (commit_begun d tree image.used.items)
+  begun_kept d tree image i may is inside = record {
+    mapping = subst (λ (xs : List (Option Entry)). IsMapping d.geometry.cache_blocks d.geometry.origin_blocks xs) (sym is.same_entries) i.mapping;
+    blocks = length-map d.space.blocks block_begun ∙ i.blocks;
+    slots = i.slots;
+    busy = i.busy;
+    places = record {
+      room = i.places.room;
+      inside = inside;
+      committed = i.places.committed;
+      running = record { used = image.used.items; are = refl; many = refl; few = is.used_few };
+      known = λ p at. (is.used_are p).1 at;
+      idle = λ e. absurd cc;
+    };
+    next = λ e. may.next;
+    each = subst (λ (xs : List (Option Entry)). (c : ℕ) → c < d.geometry.cache_blocks
+        → IsRight (origins xs) c (get_or xs c None) (state (map block_begun d.space.blocks) c) (order_at d.orders.slots c)) (sym is.same_entries)
+        (each_left block_begun begins (holdings d) d.tree.entries d.space.blocks d.orders.slots d.geometry.cache_blocks i.each);
+    counted = subst (λ (xs : List (Option Entry)). (d.at_opening + d.promotions) % 2 ^ 64 ≡ (count_by is_some xs + d.demotions) % 2 ^ 64) (sym is.same_entries) i.counted;
+    known = subst (λ (xs : List (Option Entry)). knows d.policy (origins xs)) (sym is.same_entries) i.known;
+  }
+
+  pub begun_parts : (d : DeskState P) (tree : Mapping) (image : Image) (cached : List (Option CBlock)) (mapped : ℕ) → AreParts knows d cached mapped → MayBegin d
+      → IsImage d.tree tree (next_plan d) image → AreInside d.geometry.meta_sectors tree → AreParts knows (commit_begun d tree image.used.items) cached mapped
+  begun_parts d tree image cached mapped parts may is inside = record {
+    desk = begun_kept d tree image parts.desk may is inside;
+    index = subst (λ (xs : List (Option Entry)). IsIndex d.geometry.origin_blocks (origins xs) cached) (sym is.same_entries) parts.index;
+    count = subst (λ (xs : List (Option Entry)). mapped ≡ count_by is_some xs) (sym is.same_entries) parts.count;
+  }
+
+  pub ended_kept : (d : DeskState P) → DeskInvariant knows d → d.space.committing ≡ true → DeskInvariant knows (commit_ended d)
+  ended_kept d i runs = record {
+    mapping = i.mapping;
+    blocks = length-map d.space.blocks block_ended ∙ i.blocks;
+    slots = i.slots;
+    busy = i.busy;
+    places = record {
+      room = i.places.room;
+      inside = i.places.inside;
+      committed = i.places.running;
+      running = record { used = []; are = refl; many = refl; few = omega arith };
+      known = λ p at. subst (λ (b : Bool). Contains (if b then i.places.running.used else i.places.committed.used) p) runs (i.places.known p at);
+      idle = λ e. refl;
+    };
+    next = λ e. absurd cc;
+    each = each_left block_ended ends (holdings d) d.tree.entries d.space.blocks d.orders.slots d.geometry.cache_blocks i.each;
+    counted = i.counted;
+    known = i.known;
+  }

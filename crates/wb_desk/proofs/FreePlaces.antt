@@ -1,0 +1,148 @@
+-- The free places that an image is given are enough, and used by no image.
+use Rattle.std.proofs.Common.{◌≡◌, ◌≤◌, ◌<◌, ◌+◌, ◌-◌, ◌*◌, ◌&&◌, inl, inr, ℕ, zero, suc, Bool, true, false, not, cond, List, [], ◌∷◌, Some, length, map, take, get_or, set, refl, sym, ap, subst, ◌∙◌, arith, get_or-set_same, get_or-set_other, slice_get}
+use Rattle.std.specs.Prelude.{filter, Contains, slice_index_or}
+use Rattle.std.specs.List.{range_with_len}
+use Rattle.std.proofs.lemmas.Bool.{cases_eq, cases_lt}
+use Rattle.std.proofs.lemmas.List.{length-set, length-map, length-take-le, set_past}
+use Rattle.wb_types.specs.Limits.{node_count}
+use Rattle.wb_types.specs.declared.geometry.Geometry.{Geometry}
+use Rattle.wb_types.specs.declared.number.Place.{Place}
+use Rattle.wb_types.proofs.Lists.{map_there}
+use Rattle.wb_space.specs.Places.{PlacesInUse, noted, unused, place_count, is_free_place, free_places, place}
+use Rattle.wb_space.proofs.Noted.{length-noted_alone}
+use Rattle.wb_space.proofs.Suffices.{places_suffice}
+use Rattle.wb_meta.specs.Imaging.{AreUnused}
+use Rattle.wb_desk.specs.InUse.{AreFlagged}
+
+-- ---- flags
+
+flag_stays : (flags : List Bool) (p at : ℕ) → get_or flags at false ≡ true → get_or (set flags p true) at false ≡ true
+flag_stays flags p at e = elim (cases_eq at p) [
+  | inl q ↦ elim (cases_lt p (length flags)) [
+    | inl l ↦ ap (λ (k : ℕ). get_or (set flags p true) k false) q ∙ get_or-set_same flags p true false l
+    | inr past ↦ ap (λ (xs : List Bool). get_or xs at false) (set_past flags p true past) ∙ e
+  ]
+  | inr n ↦ get_or-set_other flags p at true false n ∙ e
+]
+
+flags_stay : (ps : List Place) (flags : List Bool) (at : ℕ) → get_or flags at false ≡ true → get_or (noted ps flags) at false ≡ true
+flags_stay [] flags at e = e
+flags_stay (p ∷ ps) flags at e = flags_stay ps (set flags p.0 true) at (flag_stays flags p.0 at e)
+
+flagged_at : (ps : List Place) (flags : List Bool) (p : Place) (k : ℕ) → k < length ps → slice_index_or ps k p ≡ p → p.0 < length flags → get_or (noted ps flags) p.0 false ≡ true
+flagged_at [] flags p k l e within = absurd (omega arith)
+flagged_at (q ∷ ps) flags p zero l e within = flags_stay ps (set flags q.0 true) p.0
+    (ap (λ (x : Place). get_or (set flags x.0 true) p.0 false) e ∙ get_or-set_same flags p.0 true false within)
+flagged_at (q ∷ ps) flags p (suc k) l e within = flagged_at ps (set flags q.0 true) p k (omega arith) e (omega (arith, length-set flags q.0 true))
+
+-- a place that was noted is flagged
+pub flagged : (ps : List Place) (flags : List Bool) (p : Place) → Contains ps p → p.0 < length flags → get_or (noted ps flags) p.0 false ≡ true
+flagged ps flags p has within = flagged_at ps flags p has.0 has.1 has.2 within
+
+-- ---- the free places, rising
+
+record IsChosen (q : ℕ → Bool) (first count x : ℕ) : Type 0 where
+  from : first ≤ x
+  to : x < first + count
+  chosen : q x ≡ true
+
+some_same : (x y : ℕ) → (let a = Some x in a) ≡ Some y → x ≡ y
+some_same x y e = cc
+
+chosen_first : (q : ℕ → Bool) (first count i x : ℕ) (b : Bool) → q first ≡ b → ((i : ℕ) → slice_get (filter q (range_with_len (first + 1) count)) i ≡ Some x → IsChosen q (first + 1) count x)
+    → slice_get (cond b (first ∷ filter q (range_with_len (first + 1) count)) (filter q (range_with_len (first + 1) count))) i ≡ Some x → IsChosen q first (suc count) x
+chosen_first q first count i x b t behind e = by b i t e
+  where
+    later : (i : ℕ) → slice_get (filter q (range_with_len (first + 1) count)) i ≡ Some x → IsChosen q first (suc count) x
+    later i e = let c = behind i e in record { from = omega (arith, c.from); to = omega (arith, c.to); chosen = c.chosen }
+
+    here : q first ≡ true → first ≡ x → IsChosen q first (suc count) x
+    here t e = record { from = omega (arith, e); to = omega (arith, e); chosen = ap q (sym e) ∙ t }
+
+    by : (b : Bool) (i : ℕ) → q first ≡ b → slice_get (cond b (first ∷ filter q (range_with_len (first + 1) count)) (filter q (range_with_len (first + 1) count))) i ≡ Some x → IsChosen q first (suc count) x
+    by true zero t e = here t (some_same first x e)
+    by true (suc i) t e = later i e
+    by false i t e = later i e
+
+chosen_there : (q : ℕ → Bool) (first count i x : ℕ) → slice_get (filter q (range_with_len first count)) i ≡ Some x → IsChosen q first count x
+chosen_there q first zero i x e = absurd cc
+chosen_there q first (suc count) i x e = chosen_first q first count i x (q first) refl (λ k f. chosen_there q (first + 1) count k x f) e
+
+apart_first : (b : Bool) (first : ℕ) (rest : List ℕ) (i j x : ℕ) → ((k : ℕ) → slice_get rest k ≡ Some x → first + 1 ≤ x) → ((i j : ℕ) → slice_get rest i ≡ Some x → slice_get rest j ≡ Some x → i ≡ j)
+    → slice_get (cond b (first ∷ rest) rest) i ≡ Some x → slice_get (cond b (first ∷ rest) rest) j ≡ Some x → i ≡ j
+apart_first true first rest zero zero x above apart e f = refl
+apart_first true first rest zero (suc j) x above apart e f = let s = some_same first x e in absurd (omega (arith, s, above j f))
+apart_first true first rest (suc i) zero x above apart e f = let s = some_same first x f in absurd (omega (arith, s, above i e))
+apart_first true first rest (suc i) (suc j) x above apart e f = ap suc (apart i j e f)
+apart_first false first rest i j x above apart e f = apart i j e f
+
+chosen_apart : (q : ℕ → Bool) (first count i j x : ℕ) → slice_get (filter q (range_with_len first count)) i ≡ Some x
+    → slice_get (filter q (range_with_len first count)) j ≡ Some x → i ≡ j
+chosen_apart q first zero i j x e f = absurd cc
+chosen_apart q first (suc count) i j x e f = apart_first (q first) first (filter q (range_with_len (first + 1) count)) i j x
+    (λ k h. (chosen_there q (first + 1) count k x h).from) (λ a b g h. chosen_apart q (first + 1) count a b x g h) e f
+
+taken_there : (k : ℕ) (xs : List ℕ) (i x : ℕ) → slice_get (take k xs) i ≡ Some x → slice_get xs i ≡ Some x
+taken_there zero xs i x e = absurd cc
+taken_there (suc k) [] i x e = absurd cc
+taken_there (suc k) (y ∷ xs) zero x e = e
+taken_there (suc k) (y ∷ xs) (suc i) x e = taken_there k xs i x e
+
+not_flagged : (a b : Bool) → (not a && not b) ≡ true → a ≡ false
+not_flagged true b e = absurd cc
+not_flagged false b e = refl
+
+yes_and_no : (b : Bool) → b ≡ true → b ≡ false → ⊥
+yes_and_no b p q = absurd cc
+
+-- a place of the list, in the lists that it comes from
+record FreeAt (places : PlacesInUse) (i : ℕ) (p : Place) : Type 0 where
+  there : slice_get (free_places places) i ≡ Some p.0
+  from : 2 ≤ p.0
+  to : p.0 < length places.committed
+  free : get_or places.committed p.0 false ≡ false
+
+free_at : (places : PlacesInUse) (n i : ℕ) (p : Place) → slice_get (map place (take n (free_places places))) i ≡ Some p → FreeAt places i p
+free_at places n i p e =
+    let w = map_there place (take n (free_places places)) i p e in
+    let there : slice_get (free_places places) i ≡ Some w.0 = taken_there n (free_places places) i w.0 w.1 in
+    let same : w.0 ≡ p.0 = ap (λ (x : Place). x.0) (sym w.2) in
+    let c : IsChosen (is_free_place places) 2 (length places.committed - 2) w.0 = chosen_there (is_free_place places) 2 (length places.committed - 2) i w.0 there in
+    record {
+      there = there ∙ ap (λ (x : ℕ). Some x) same;
+      from = omega (arith, same, c.from);
+      to = omega (arith, same, c.from, c.to);
+      free = ap (λ (x : ℕ). get_or places.committed x false) (sym same) ∙ not_flagged (get_or places.committed w.0 false) (get_or places.running w.0 false) c.chosen;
+    }
+
+-- outside a commit, the so many least free places are enough for an image, and the committed one uses none of them
+pub unused_places : (geometry : Geometry) (places : PlacesInUse) (nodes : ℕ) (used : List Place) → AreFlagged geometry.cache_blocks nodes places.committed
+    → places.running ≡ unused (place_count geometry.cache_blocks) → 2 + 2 * node_count geometry.cache_blocks ≤ geometry.meta_sectors
+    → places.committed ≡ noted used (unused (place_count geometry.cache_blocks))
+    → AreUnused geometry used (map place (take (node_count geometry.cache_blocks) (free_places places)))
+unused_places geometry places nodes used flags idle room are = record {
+  enough = omega (arith, length-map (take n (free_places places)) place, length-take-le n (free_places places) many);
+  behind = λ i p e. (free_at places n i p e).from;
+  inside = λ i p e. omega (arith, (free_at places n i p e).to, size, room);
+  apart = λ i j p e f. chosen_apart (is_free_place places) 2 (length places.committed - 2) i j p.0 (free_at places n i p e).there (free_at places n j p f).there;
+  unused = λ i p e has. yes_and_no (get_or places.committed p.0 false)
+      (ap (λ (xs : List Bool). get_or xs p.0 false) are ∙ flagged used none p has (omega (arith, (free_at places n i p e).to, size, length-noted_alone [] (place_count geometry.cache_blocks))))
+      (free_at places n i p e).free;
+}
+  where
+    n : ℕ
+    n = node_count geometry.cache_blocks
+
+    none : List Bool
+    none = unused (place_count geometry.cache_blocks)
+
+    size : length places.committed ≡ place_count geometry.cache_blocks
+    size = ap (λ (xs : List Bool). length xs) are ∙ length-noted_alone used (place_count geometry.cache_blocks)
+
+    many : n ≤ length (free_places places)
+    many =
+        let enough : 2 * n ≤ length (free_places (record { committed = noted flags.used none; running = none })) + length flags.used + 0 = places_suffice n flags.used [] in
+        let as_committed = subst (λ (xs : List Bool). 2 * n ≤ length (free_places (record { committed = xs; running = none })) + length flags.used + 0) (sym flags.are) enough in
+        let as_running : 2 * n ≤ length (free_places (record { committed = places.committed; running = places.running })) + length flags.used + 0 =
+        subst (λ (xs : List Bool). 2 * n ≤ length (free_places (record { committed = places.committed; running = xs })) + length flags.used + 0) (sym idle) as_committed in
+        omega (arith, as_running, flags.many, flags.few)

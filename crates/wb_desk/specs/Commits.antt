@@ -1,0 +1,67 @@
+-- What a commit makes of a desk, and when it is refused.
+use Rattle.std.specs.Prelude.{◌≡◌, ◌<◌, ◌+◌, ◌^◌, true, false, List, map, take, length}
+use Rattle.wb_types.specs.Limits.{node_count}
+use Rattle.wb_types.specs.declared.number.Place.{Place}
+use Rattle.wb_types.specs.declared.refusal.Refusal.{Refusal}
+use Rattle.wb_types.specs.declared.refusal.Refusal.TheVariants.{Busy, Memory, GenerationEnd}
+use Rattle.wb_tree.specs.Mapping.{Mapping}
+use Rattle.wb_tree.specs.Images.{ImagePlan}
+use Rattle.wb_tree.specs.declared.image.Image.{Image}
+use Rattle.wb_space.specs.Blocks.{commit_begun as block_begun, commit_ended as block_ended}
+use Rattle.wb_space.specs.Places.{noted, unused, place_count, free_places, place}
+use Rattle.wb_meta.specs.Imaging.{IsPlanned}
+use Rattle.wb_desk.specs.Desks.{DeskState}
+
+-- A commit may begin: none runs, and there is a next generation.
+pub record MayBegin {P : Type 0} (d : DeskState P) : Type 0 where
+  pub idle : d.space.committing ≡ false
+  pub next : d.generation + 1 < 2 ^ 64
+
+-- why none begins: one runs, the generations are used up, or there is no memory for one that may begin
+abbrev pub IsBeginRefused : {P : Type 0} → DeskState P → Refusal → Type 0
+IsBeginRefused d Busy = d.space.committing ≡ true
+IsBeginRefused d GenerationEnd = (d.space.committing ≡ false) × (d.generation + 1 ≡ 2 ^ 64)
+IsBeginRefused d Memory = MayBegin d
+IsBeginRefused d _ = ⊥
+
+-- what the next image is planned with: the next generation, not clean, and the least free places, one for each node that a
+-- tree of this size can have
+abbrev pub next_plan : {P : Type 0} → DeskState P → ImagePlan
+next_plan d = record {
+  geometry = d.geometry;
+  generation = d.generation + 1;
+  clean = false;
+  free = map place (take (node_count d.geometry.cache_blocks) (free_places d.space.places));
+}
+
+-- A commit begins, whose image leads to this tree and uses these places: what is quarantined was removed before.
+abbrev pub commit_begun : {P : Type 0} → DeskState P → Mapping → List Place → DeskState P
+commit_begun d tree used = record d {
+  tree = tree;
+  space = record {
+    blocks = map block_begun d.space.blocks;
+    places = record d.space.places { running = noted used (unused (place_count d.geometry.cache_blocks)) };
+    committing = true;
+  };
+  coming = length used;
+}
+
+-- The image leads from the one tree to the other on places that the committed image does not use, whatever list of its
+-- places was noted.
+abbrev pub IsOnUnused : {P : Type 0} → DeskState P → Mapping → Image → Type 0
+IsOnUnused d tree image = (used : List Place) → d.space.places.committed ≡ noted used (unused (place_count d.geometry.cache_blocks))
+    → IsPlanned d.tree tree (next_plan d) image used
+
+-- The running commit ends: its image is the committed one, by the next generation, and what was removed before it began is
+-- free, or reserved where it is claimed.
+abbrev pub commit_ended : {P : Type 0} → DeskState P → DeskState P
+commit_ended d = record d {
+  space = record {
+    blocks = map block_ended d.space.blocks;
+    places = record { committed = d.space.places.running; running = unused (place_count d.geometry.cache_blocks) };
+    committing = false;
+  };
+  generation = d.generation + 1;
+  nodes = d.coming;
+  coming = 0;
+}

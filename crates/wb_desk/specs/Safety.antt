@@ -1,0 +1,122 @@
+-- What the calls of a desk make of its images, which no field holds, and which cache blocks no image has.
+use Rattle.std.specs.Prelude.{◌≡◌, false, true, ℕ, Bool, List, [], ◌∷◌, Option, Some, None, slice_set}
+use Rattle.wb_types.specs.declared.geometry.Geometry.{Geometry}
+use Rattle.wb_types.specs.declared.message.Key.{Key}
+use Rattle.wb_types.specs.declared.message.Message.{Message}
+use Rattle.wb_types.specs.declared.mode.Mode.{Mode}
+use Rattle.wb_types.specs.declared.number.CBlock.{CBlock}
+use Rattle.wb_types.specs.declared.number.OBlock.{OBlock}
+use Rattle.wb_types.specs.declared.number.Place.{Place}
+use Rattle.wb_tree.specs.Mapping.{Mapping}
+use Rattle.wb_tree.specs.Images.{IsImage}
+use Rattle.wb_tree.specs.declared.image.Image.{Image}
+use Rattle.wb_policy.specs.declared.order.Order.{Order}
+use Rattle.wb_policy.specs.Law.{Holdings, IsMappedAt, origins}
+use Rattle.wb_space.specs.Blocks.{state}
+use Rattle.wb_desk.specs.Allocation.{ImageSafe, StaysQuarantined, entry_in}
+use Rattle.wb_desk.specs.Desks.{DeskState, DeskInvariant, MayReserve, holdings}
+use Rattle.wb_desk.specs.Calls.{reserved, released, next_order_taken}
+use Rattle.wb_desk.specs.Entries.{MayMap, MayUnmap, HasEntered, HasLeft, entry_of, mapped, unmapped}
+use Rattle.wb_desk.specs.Commits.{MayBegin, next_plan, commit_begun, commit_ended}
+use Rattle.wb_desk.specs.Messages.{IsTold}
+use Rattle.wb_desk.specs.Opening.{opened}
+
+-- which origin block each cache block has in the committed image, and in the one that a commit writes
+pub record HeldImages : Type 0 where
+  pub committed : Holdings
+  pub running : Holdings
+
+-- No free or reserved cache block is in an image. A mapped one stands in each for the origin block that it has now, or not at
+-- all. One that was removed before the running commit began is not in its image. Where no commit runs there is one image.
+pub record AreSafe {P : Type 0} (d : DeskState P) (images : HeldImages) : Type 0 where
+  pub each : (c : ℕ) → ImageSafe (state d.space.blocks c) (entry_in (holdings d) c) (entry_in images.committed c) (entry_in images.running c)
+  pub idle : d.space.committing ≡ false → images.running ≡ images.committed
+
+-- what is called, where it changes the desk
+pub data Call : Type 0 where
+  TakeOrder : Call
+  Tell : Call
+  GiveOrder : (cache : CBlock) (order : Order) (waits : Bool) → Call
+  Release : (cache : CBlock) → Call
+  Map : (block : OBlock) (cache : CBlock) → Call
+  Unmap : (block : OBlock) (cache : CBlock) → Call
+  BeginCommit : (used : List Place) → Call
+  EndCommit : Call
+
+-- A call may be made of a desk, and makes this one of it: as the contracts of the calls say.
+abbrev pub Does : {P : Type 0} → DeskState P → Call → DeskState P → Type 0
+Does d TakeOrder new = new ≡ next_order_taken d
+Does d Tell new = new ≡ record d { threshold = new.threshold; policy = new.policy }
+Does d (GiveOrder cache order waits) new = MayReserve d cache order × (new ≡ reserved d cache order waits)
+Does d (Release cache) new = new ≡ released d cache
+Does d (Map b cache) new = MayMap d b cache × (new.tree.entries ≡ slice_set d.tree.entries cache.0 (Some (entry_of b))) × (new ≡ mapped d cache new.tree new.policy)
+Does d (Unmap b cache) new = IsMappedAt (holdings d) b.0 cache.0 × (new.tree.entries ≡ slice_set d.tree.entries cache.0 None) × (new ≡ unmapped d cache new.tree new.policy)
+Does d (BeginCommit used) new = MayBegin d × (new.tree.entries ≡ d.tree.entries) × (new ≡ commit_begun d new.tree used)
+Does d EndCommit new = (d.space.committing ≡ true) × (new ≡ commit_ended d)
+
+-- A commit that begins has the entries of now in its image; one that ends leaves its image alone.
+abbrev pub images_after : {P : Type 0} → DeskState P → HeldImages → Call → HeldImages
+images_after d images TakeOrder = images
+images_after d images Tell = images
+images_after d images (GiveOrder cache order waits) = images
+images_after d images (Release cache) = images
+images_after d images (Map b cache) = images
+images_after d images (Unmap b cache) = images
+images_after d images (BeginCommit used) = record { committed = images.committed; running = holdings d }
+images_after d images EndCommit = record { committed = images.running; running = images.running }
+
+-- calls, each with the desk that it made, one after the other
+abbrev pub AreCalls : {P : Type 0} → (P → Holdings → Type 0) → DeskState P → List (Call × DeskState P) → Type 0
+AreCalls knows d [] = Unit {0}
+AreCalls knows d (c ∷ calls) = DeskInvariant knows d × Does d c.0 c.1 × AreCalls knows c.1 calls
+
+-- the desk after them
+abbrev pub desk_after : {P : Type 0} → DeskState P → List (Call × DeskState P) → DeskState P
+desk_after d [] = d
+desk_after d (c ∷ calls) = desk_after c.1 calls
+
+-- and the images
+abbrev pub images_since : {P : Type 0} → DeskState P → HeldImages → List (Call × DeskState P) → HeldImages
+images_since d images [] = images
+images_since d images (c ∷ calls) = images_since c.1 (images_after d images c.0) calls
+
+-- ---- laws
+
+-- the images of a desk that has just been opened, which are its entries, are safe
+abbrev pub OpenedIsSafe : Type 0 → Type 0
+OpenedIsSafe P = (geometry : Geometry) (generation : ℕ) (tree : Mapping) (used : List Place) (mode : Mode) (policy : P) (threshold mapped : ℕ)
+    → AreSafe (opened geometry generation tree used mode policy threshold mapped) (record { committed = origins tree.entries; running = origins tree.entries })
+
+-- and stay safe whatever is called
+abbrev pub CallsAreSafe : (P : Type 0) → (P → Holdings → Type 0) → Type 0
+CallsAreSafe P knows = (d : DeskState P) (calls : List (Call × DeskState P)) (images : HeldImages) → AreCalls knows d calls → AreSafe d images
+    → AreSafe (desk_after d calls) (images_since d images calls)
+
+-- A quarantined block leaves its quarantine only at the end of a commit that began after its removal.
+abbrev pub IsBeginning : Call → Type 0
+IsBeginning TakeOrder = ⊥
+IsBeginning Tell = ⊥
+IsBeginning (GiveOrder cache order waits) = ⊥
+IsBeginning (Release cache) = ⊥
+IsBeginning (Map b cache) = ⊥
+IsBeginning (Unmap b cache) = ⊥
+IsBeginning (BeginCommit used) = Unit {0}
+IsBeginning EndCommit = ⊥
+
+abbrev pub QuarantineStays : (P : Type 0) → (P → Holdings → Type 0) → Type 0
+QuarantineStays P knows = (d new : DeskState P) (call : Call) → DeskInvariant knows d → Does d call new → (c : ℕ)
+    → StaysQuarantined (IsBeginning call) (call ≡ EndCommit) (state d.space.blocks c) (state new.space.blocks c)
+
+-- What the contracts of the calls say is that they do so.
+abbrev pub BeginningDoes : Type 0 → Type 0
+BeginningDoes P = (d new : DeskState P) (image : Image) → MayBegin d → IsImage d.tree new.tree (next_plan d) image → new ≡ commit_begun d new.tree image.used.items
+    → Does d (BeginCommit image.used.items) new
+
+abbrev pub MappingDoes : (P : Type 0) → (P → ℕ → ℕ → P) → Type 0
+MappingDoes P with_entry = (d new : DeskState P) (b : OBlock) (c : CBlock) → MayMap d b c → HasEntered with_entry d b c new → Does d (Map b c) new
+
+abbrev pub UnmappingDoes : (P : Type 0) → (P → ℕ → P) → Type 0
+UnmappingDoes P without_entry = (d new : DeskState P) (b : OBlock) (may : MayUnmap d b) → HasLeft without_entry d b may.cache new → Does d (Unmap b may.cache) new
+
+abbrev pub TellingDoes : (P : Type 0) → (P → Key → ℕ → Option P) → Type 0
+TellingDoes P with_setting = (d new : DeskState P) (message : Message) → IsTold with_setting d message new → Does d Tell new

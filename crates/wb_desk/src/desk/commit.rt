@@ -1,0 +1,58 @@
+//! The commits of a desk.
+
+ghost use Rattle.std.specs.Prelude.{◌≡◌, true, IfOk, IfErr, OnErr};
+ghost use Rattle.wb_meta.specs.Placing.{HavePlaces};
+ghost use Rattle.wb_tree.specs.Images.{IsImage};
+ghost use Rattle.wb_desk.specs.Commits.{MayBegin, IsBeginRefused, IsOnUnused, next_plan, commit_begun, commit_ended};
+
+use super::Desk;
+use std::alloc::Global;
+use wb_meta::{Image, image_law};
+use wb_policy::Policy;
+use wb_types::Refusal;
+
+impl<P: Policy> Desk<P> {
+    /// Begins a commit, and gives the image that it writes: the nodes that changed since the last one, each with a free
+    /// place, and a root of the next generation, not clean. The entries are those of now; what is removed from now on is
+    /// quarantined until a later commit ends.
+    ///
+    /// `Busy` where a commit runs, `GenerationEnd` where there is no next generation, `Memory` where there is none for the
+    /// image. Then nothing changed.
+    pub fn begin_commit(&mut self, alloc: Global) -> Result<Image, Refusal>
+        ensures may { IfOk result (λ _. MayBegin self.old) }
+        ensures state { IfOk result (λ image. self.new ≡ commit_begun self.old self.new.tree image.used.items) }
+        ensures image { IfOk result (IsImage self.old.tree self.new.tree (next_plan self.old)) }
+        ensures unused { IfOk result (IsOnUnused self.old self.new.tree) }
+        ensures places { IfOk result (λ image. HavePlaces image.nodes.items self.old.geometry.meta_sectors) }
+        ensures err { OnErr result (self.new ≡ self.old) }
+        ensures refused { IfErr result (IsBeginRefused self.old) }
+    {
+        if self.space.is_committing() {
+            return Err(Refusal::Busy);
+        }
+        let Some(generation) = self.generation.checked_add(1) else {
+            return Err(Refusal::GenerationEnd);
+        };
+        let geometry = self.geometry;
+        let free = self
+            .space
+            .free_places(alloc, geometry.node_count() as usize)?;
+        let image = self.tree.plan(alloc, &geometry, generation, false, &free)?;
+        image_law();
+        self.space.begin(&image.used);
+        self.coming = image.used.len() as u32;
+        Ok(image)
+    }
+
+    /// Ends the running commit, all of which was written and synced: its image is the committed one. What was removed
+    /// before it began is free, or reserved where a live replacement is to fill it.
+    pub fn end_commit(&mut self)
+        requires { self.old.space.committing ≡ true }
+        ensures { self.new ≡ commit_ended self.old }
+    {
+        self.space.end();
+        self.generation += 1;
+        self.nodes = self.coming;
+        self.coming = 0;
+    }
+}
