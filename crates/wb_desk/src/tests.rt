@@ -49,28 +49,6 @@ const CLEAN: Order = Order::Clean(OBlock(3));
 
 const PROMOTE: Order = Order::Promote(OBlock(5), CBlock(0));
 
-/// Orders that are given one after the other, and those that are given up, with whether it was so.
-const STEPS: [(bool, Order, bool); 15] = [
-    (true, CLEAN, true),
-    // its block has a live order, is mapped, the cache block is mapped, the block is unmapped, is not there
-    (true, CLEAN, false),
-    (true, Order::Promote(OBlock(3), CBlock(0)), false),
-    (true, Order::Promote(OBlock(5), CBlock(1)), false),
-    (true, Order::Demote(OBlock(7)), false),
-    (true, Order::Promote(OBlock(10), CBlock(0)), false),
-    (true, PROMOTE, true),
-    // the cache block is reserved, and is free again once the order is given up
-    (true, Order::Promote(OBlock(6), CBlock(0)), false),
-    (false, PROMOTE, true),
-    (false, PROMOTE, false),
-    (false, CLEAN, true),
-    // two blocks' sectors
-    (true, Order::Replace(OBlock(3), OBlock(6), CBlock(1)), true),
-    (true, Order::Promote(OBlock(6), CBlock(0)), false),
-    (true, Order::Promote(OBlock(9), CBlock(2)), false),
-    (false, Order::Replace(OBlock(3), OBlock(6), CBlock(1)), true),
-];
-
 fn answers(desk: &mut Desk<Quiet>, gives: bool, order: Order) -> bool {
     if gives {
         return desk.reserve(order).is_ok();
@@ -82,6 +60,53 @@ fn answers(desk: &mut Desk<Quiet>, gives: bool, order: Order) -> bool {
     true
 }
 
+/// Orders that are given or given up one after the other, and whether it was so.
+fn answer_so(desk: &mut Desk<Quiet>, steps: &[(bool, Order, bool)]) -> bool {
+    for (gives, order, so) in steps {
+        if answers(desk, *gives, *order) != *so {
+            return false;
+        }
+    }
+    true
+}
+
+/// One order a block, of a mapped block, or of an unmapped one that is there for a free cache block.
+fn are_lawful(desk: &mut Desk<Quiet>) -> bool {
+    const STEPS: [(bool, Order, bool); 6] = [
+        (true, CLEAN, true),
+        // its block has a live order, is mapped, the cache block is mapped, the block is unmapped, is not there
+        (true, CLEAN, false),
+        (true, Order::Promote(OBlock(3), CBlock(0)), false),
+        (true, Order::Promote(OBlock(5), CBlock(1)), false),
+        (true, Order::Demote(OBlock(7)), false),
+        (true, Order::Promote(OBlock(10), CBlock(0)), false),
+    ];
+    answer_so(desk, &STEPS)
+}
+
+/// A cache block is reserved for a promotion, and free again once the order is given up, once.
+fn is_reserved(desk: &mut Desk<Quiet>) -> bool {
+    const STEPS: [(bool, Order, bool); 5] = [
+        (true, PROMOTE, true),
+        (true, Order::Promote(OBlock(6), CBlock(0)), false),
+        (false, PROMOTE, true),
+        (false, PROMOTE, false),
+        (false, CLEAN, true),
+    ];
+    answer_so(desk, &STEPS)
+}
+
+/// A replacement takes the room of two blocks.
+fn leaves_no_room(desk: &mut Desk<Quiet>) -> bool {
+    const STEPS: [(bool, Order, bool); 4] = [
+        (true, Order::Replace(OBlock(3), OBlock(6), CBlock(1)), true),
+        (true, Order::Promote(OBlock(6), CBlock(0)), false),
+        (true, Order::Promote(OBlock(9), CBlock(2)), false),
+        (false, Order::Replace(OBlock(3), OBlock(6), CBlock(1)), true),
+    ];
+    answer_so(desk, &STEPS)
+}
+
 #[test]
 fn orders_are_given_and_given_up(rt: HostRuntime) -> Result<(), Refusal> {
     let mut desk = opened(
@@ -89,9 +114,7 @@ fn orders_are_given_and_given_up(rt: HostRuntime) -> Result<(), Refusal> {
         Mode::Writeback,
         &[(Key::MigrationThreshold, 150)],
     )?;
-    for (gives, order, so) in STEPS {
-        assert!(rt; answers(&mut desk, gives, order) == so);
-    }
+    assert!(rt; are_lawful(&mut desk) && is_reserved(&mut desk) && leaves_no_room(&mut desk));
     assert!(rt; desk.next_order() == None);
     assert!(rt; desk.room() == 150);
     let counts = desk.counts();
@@ -101,30 +124,29 @@ fn orders_are_given_and_given_up(rt: HostRuntime) -> Result<(), Refusal> {
 }
 
 #[test]
-fn an_opened_desk_shows_its_entries_and_refuses_bad_settings(
-    rt: HostRuntime,
-) -> Result<(), Refusal> {
-    let alloc = rt.alloc();
-    let mut desk = opened(alloc, Mode::Passthrough, &[])?;
+fn an_opened_desk_shows_its_entries(rt: HostRuntime) -> Result<(), Refusal> {
+    let mut desk = opened(rt.alloc(), Mode::Passthrough, &[])?;
     assert!(rt; desk.entry(CBlock(0)).is_none() && desk.entry(CBlock(1)).is_some());
     assert!(rt; desk.room() == 2048);
     assert!(rt; desk.reserve(CLEAN) == Err(Refusal::Busy));
-    let settings = [
-        (Key::MigrationThreshold, 4_294_967_296),
-        (Key::PromoteMin, 2),
-    ];
-    for setting in settings {
-        let refused = opened(alloc, Mode::Writeback, &[setting]);
-        assert!(rt; refused.is_err());
-    }
-    // the last value of a key counts
-    let last = [
-        (Key::MigrationThreshold, 4_294_967_296),
-        (Key::MigrationThreshold, 64),
-    ];
-    let desk = opened(alloc, Mode::Writeback, &last)?;
-    assert!(rt; desk.room() == 64);
     Ok(())
+}
+
+/// The room of a desk that is opened with these settings: None where they are refused.
+fn room_with(alloc: Global, keys: &[(Key, u64)]) -> Option<u64> {
+    match opened(alloc, Mode::Writeback, keys) {
+        Ok(desk) => Some(desk.room()),
+        Err(_) => None,
+    }
+}
+
+#[test]
+fn the_last_value_of_a_key_counts_and_may_be_refused(rt: HostRuntime) {
+    let alloc = rt.alloc();
+    let high = (Key::MigrationThreshold, 4_294_967_296);
+    assert!(rt; room_with(alloc, &[high]).is_none());
+    assert!(rt; room_with(alloc, &[(Key::PromoteMin, 2)]).is_none());
+    assert!(rt; room_with(alloc, &[high, (Key::MigrationThreshold, 64)]) == Some(64));
 }
 
 fn invalidation(alloc: Global, begin: u32, end: u32) -> Result<Message, Refusal> {
@@ -136,11 +158,9 @@ fn invalidation(alloc: Global, begin: u32, end: u32) -> Result<Message, Refusal>
     Ok(Message::InvalidateCblocks(CBlockRanges::new(ranges)))
 }
 
-#[test]
-fn messages_are_taken_and_refused(rt: HostRuntime) -> Result<(), Refusal> {
-    let alloc = rt.alloc();
-    let mut desk = opened(alloc, Mode::Writeback, &[])?;
-    let settings = [
+/// Whether a threshold is taken, and not one that is too high, nor a setting that the policy does not have.
+fn are_settings_taken(desk: &mut Desk<Quiet>) -> bool {
+    const SETTINGS: [(Key, u64, Result<(), Refusal>); 3] = [
         (Key::MigrationThreshold, 64, Ok(())),
         (
             Key::MigrationThreshold,
@@ -149,21 +169,44 @@ fn messages_are_taken_and_refused(rt: HostRuntime) -> Result<(), Refusal> {
         ),
         (Key::PromoteMin, 2, Err(Refusal::BadMessage)),
     ];
-    for (key, value, answer) in settings {
-        assert!(rt; desk.message(&Message::Set(key, value)) == answer);
+    for (key, value, answer) in &SETTINGS {
+        if desk.message(&Message::Set(*key, *value)) != *answer {
+            return false;
+        }
     }
-    assert!(rt; desk.room() == 64);
-    assert!(rt; desk.message(&invalidation(alloc, 0, 2)?) == Err(Refusal::WrongMode));
-    let mut desk = opened(alloc, Mode::Passthrough, &[])?;
-    let ranges = [
+    true
+}
+
+/// Whether ranges of cache blocks that are there, and not empty, may be invalidated, and no others.
+fn are_ranges_taken(desk: &mut Desk<Quiet>, alloc: Global) -> Result<bool, Refusal> {
+    const RANGES: [(u32, u32, Result<(), Refusal>); 4] = [
         (0, 2, Ok(())),
         (3, 4, Ok(())),
         (2, 2, Err(Refusal::BadMessage)),
         (3, 5, Err(Refusal::BadMessage)),
     ];
-    for (begin, end, answer) in ranges {
-        assert!(rt; desk.message(&invalidation(alloc, begin, end)?) == answer);
+    for (begin, end, answer) in &RANGES {
+        if desk.message(&invalidation(alloc, *begin, *end)?) != *answer {
+            return Ok(false);
+        }
     }
+    Ok(true)
+}
+
+#[test]
+fn messages_are_taken_and_refused(rt: HostRuntime) -> Result<(), Refusal> {
+    let alloc = rt.alloc();
+    let mut desk = opened(alloc, Mode::Writeback, &[])?;
+    assert!(rt; are_settings_taken(&mut desk));
+    assert!(rt; desk.room() == 64);
+    assert!(rt; desk.message(&invalidation(alloc, 0, 2)?) == Err(Refusal::WrongMode));
+    Ok(())
+}
+
+#[test]
+fn ranges_are_invalidated_in_passthrough(rt: HostRuntime) -> Result<(), Refusal> {
+    let mut desk = opened(rt.alloc(), Mode::Passthrough, &[])?;
+    assert!(rt; are_ranges_taken(&mut desk, rt.alloc())?);
     Ok(())
 }
 
@@ -177,34 +220,59 @@ enum Call {
 
 const REPLACE: Order = Order::Replace(OBlock(5), OBlock(6), CBlock(0));
 
-/// Each call, and whether it was done. Block 3 stands in cache block 1.
-const MOVES: [(Call, bool); 20] = [
-    // no order brings it there, and another one brings another block
-    (Call::Map(5, 0), false),
-    (Call::Reserve(PROMOTE), true),
-    (Call::Map(6, 0), false),
-    (Call::Map(5, 2), false),
-    (Call::Map(5, 0), true),
-    // the order is over
-    (Call::Release(PROMOTE), false),
-    (Call::Map(5, 0), false),
-    // a block that is written back stays, and goes under its demotion
-    (Call::Unmap(7), false),
-    (Call::Reserve(CLEAN), true),
-    (Call::Unmap(3), false),
-    (Call::Release(CLEAN), true),
-    (Call::Reserve(Order::Demote(OBlock(3))), true),
-    (Call::Unmap(3), true),
-    (Call::Release(Order::Demote(OBlock(3))), false),
-    // quarantined, before any commit
-    (Call::Reserve(Order::Promote(OBlock(8), CBlock(1))), false),
-    // a replacement goes on, and its block comes in after a commit alone
-    (Call::Reserve(REPLACE), true),
-    (Call::Unmap(5), true),
-    (Call::Map(6, 0), false),
-    (Call::Release(REPLACE), true),
-    (Call::Map(6, 0), false),
-];
+/// Calls, and whether each was done.
+fn are_done(desk: &mut Desk<Quiet>, calls: &[(Call, bool)]) -> Result<bool, Refusal> {
+    for (call, done) in calls {
+        if is_done(desk, call)? != *done {
+            return Ok(false);
+        }
+    }
+    Ok(true)
+}
+
+/// A block comes in under its order alone, which is over then.
+fn comes_in(desk: &mut Desk<Quiet>) -> Result<bool, Refusal> {
+    const CALLS: [(Call, bool); 7] = [
+        // no order brings it there, and another one brings another block
+        (Call::Map(5, 0), false),
+        (Call::Reserve(PROMOTE), true),
+        (Call::Map(6, 0), false),
+        (Call::Map(5, 2), false),
+        (Call::Map(5, 0), true),
+        // the order is over
+        (Call::Release(PROMOTE), false),
+        (Call::Map(5, 0), false),
+    ];
+    are_done(desk, &CALLS)
+}
+
+/// Block 3, in cache block 1, stays while it is written back, and goes under its demotion.
+fn goes(desk: &mut Desk<Quiet>) -> Result<bool, Refusal> {
+    const CALLS: [(Call, bool); 8] = [
+        (Call::Unmap(7), false),
+        (Call::Reserve(CLEAN), true),
+        (Call::Unmap(3), false),
+        (Call::Release(CLEAN), true),
+        (Call::Reserve(Order::Demote(OBlock(3))), true),
+        (Call::Unmap(3), true),
+        (Call::Release(Order::Demote(OBlock(3))), false),
+        // quarantined, before any commit
+        (Call::Reserve(Order::Promote(OBlock(8), CBlock(1))), false),
+    ];
+    are_done(desk, &CALLS)
+}
+
+/// A replacement goes on, and its block comes in after a commit alone.
+fn is_replaced(desk: &mut Desk<Quiet>) -> Result<bool, Refusal> {
+    const CALLS: [(Call, bool); 5] = [
+        (Call::Reserve(REPLACE), true),
+        (Call::Unmap(5), true),
+        (Call::Map(6, 0), false),
+        (Call::Release(REPLACE), true),
+        (Call::Map(6, 0), false),
+    ];
+    are_done(desk, &CALLS)
+}
 
 fn is_done(desk: &mut Desk<Quiet>, call: &Call) -> Result<bool, Refusal> {
     match call {
@@ -236,13 +304,17 @@ fn unmaps(desk: &mut Desk<Quiet>, b: OBlock) -> bool
 #[test]
 fn entries_come_and_go(rt: HostRuntime) -> Result<(), Refusal> {
     let mut desk = opened(rt.alloc(), Mode::Writeback, &[])?;
-    for (call, done) in &MOVES {
-        assert!(rt; is_done(&mut desk, call)? == *done);
-    }
+    assert!(rt; comes_in(&mut desk)?);
+    assert!(rt; goes(&mut desk)?);
+    assert!(rt; is_replaced(&mut desk)?);
     let counts = desk.counts();
     assert!(rt; counts.mapped == 0 && counts.promotions == 1 && counts.demotions == 2);
     assert!(rt; desk.room() == 2048);
-    // in passthrough nothing is ordered, and a block goes all the same
+    Ok(())
+}
+
+#[test]
+fn in_passthrough_a_block_goes_without_an_order(rt: HostRuntime) -> Result<(), Refusal> {
     let mut desk = opened(rt.alloc(), Mode::Passthrough, &[])?;
     assert!(rt; unmaps(&mut desk, OBlock(3)) && !unmaps(&mut desk, OBlock(3)));
     assert!(rt; desk.counts().mapped == 0);
