@@ -1,0 +1,5 @@
+pub mod Volume
+pub mod Acts
+pub mod Conditions
+pub mod Promises
+pub mod Examples
