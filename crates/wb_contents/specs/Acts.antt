@@ -3,24 +3,26 @@ use Rattle.std.specs.Prelude.{◌+◌, ℕ, List, [], ◌∷◌, Bool, true, fal
 use Rattle.wb_types.specs.declared.mode.Mode.{Mode}
 use Rattle.wb_types.specs.declared.mode.Mode.TheVariants.{Writeback}
 use Rattle.wb_disk.specs.Device.{Content, History, newest, added, only}
-use Rattle.wb_contents.specs.Volume.{Locations, Image, unclean, Standing, Whole, Half, Torn, Volume, location, changed, changed_at}
+use Rattle.wb_contents.specs.Volume.{Image, unclean, Whole, Half, Torn, Volume, location, changed, changed_at}
 
 -- What happens. Contents that are copied are computed; a crash and a failed sync choose for each sector.
 pub data Act : Type 0 where
-  -- a sector is written on the location that the mapping names; to the origin, by write-through; and then to the cache; or the step fails and nothing arrives
+  -- a sector is written where the mapping has its block; by write-through to the origin, and then to the cache; or the step
+  -- fails and nothing arrives
   Write : (block offset : ℕ) → Content → Act
   Write_origin : (block offset : ℕ) → Content → Act
   Write_cache : (block offset : ℕ) → Act
   Fail_write : (block offset : ℕ) → Content → Act
+  -- what was entered of a sector counts as finished
   Finish : (block offset : ℕ) → Act
-  -- migrations: a sector of an unused cache block is written, a sector is copied to the origin
+  -- migrations: a sector of an unused cache block is written; one is copied to the origin from where the mapping has it
   Fill_cache : (cache offset : ℕ) → Content → Act
   Copy_back : (block offset : ℕ) → Act
   Map : (block cache : ℕ) → Act
   Unmap : (block : ℕ) → Act
   Make_dirty : (block : ℕ) → Act
   Make_clean : (block : ℕ) → Act
-  -- commits
+  -- commits, of which a suspend's keeps the clean bits
   Begin_commit : Act
   Begin_suspend : Act
   Sync_cache : Act
@@ -32,35 +34,42 @@ pub data Act : Type 0 where
   -- flushes, any number of them at once
   Begin_flush : (actor : ℕ) → Act
   End_flush : (actor : ℕ) → Act
-  -- ends and beginnings of lives
+  -- A life ends by a crash, or by an opening that finds which image the metadata represent; an opening writes its root, and
+  -- a life begins.
   Crash : (origin cache : ℕ → ℕ → Content) → (new_root : Bool) → Act
   Find_image : (new_root : Bool) → Act
   Write_opening_root : Act
   Open : Mode → Act
 
+-- a sector is written where its block is
 abbrev pub sector_written : Volume → Option ℕ → ℕ → ℕ → Content → Volume
 sector_written d None b o c = record d { origin = changed_at d.origin b o (added (d.origin b o) c); histories = changed_at d.histories b o (added (d.histories b o) c); standing = changed_at d.standing b o Whole }
 sector_written d (Some k) b o c = record d { cache = changed_at d.cache k o (added (d.cache k o) c); histories = changed_at d.histories b o (added (d.histories b o) c); standing = changed_at d.standing b o Whole }
 
+-- the cache gets what the origin got
 abbrev pub written_through : Volume → Option ℕ → ℕ → ℕ → Volume
 written_through d None b o = d
 written_through d (Some k) b o = record d { cache = changed_at d.cache k o (added (d.cache k o) (newest (d.histories b o))); standing = changed_at d.standing b o Whole }
 
+-- of each sector the newest content alone
 abbrev pub all_synced : (ℕ → ℕ → History) → ℕ → ℕ → History
 all_synced f i o = only (newest (f i o))
 
+-- the same for the chosen sectors
 abbrev pub partly_synced : (ℕ → ℕ → Bool) → (ℕ → ℕ → History) → ℕ → ℕ → History
 partly_synced choice f i o = cond (choice i o) (only (newest (f i o))) (f i o)
 
+-- of each sector the chosen content alone
 abbrev pub only_chosen : (ℕ → ℕ → Content) → ℕ → ℕ → History
 only_chosen choice i o = only (choice i o)
 
--- the image that metadata turn out to stand for
+-- the image that the metadata turn out to represent
 abbrev pub image_found : Volume → Bool → Image
 image_found d true = d.running
 image_found d false = d.committed
 
--- no target: these devices, and metadata that stand for this image alone
+-- No target runs: these are the devices, and the metadata represent this image alone. What was finished is what the committed
+-- image saw finished.
 abbrev pub life_ended : Volume → (origin cache : ℕ → ℕ → History) → Image → Volume
 life_ended d origin cache image = record d {
   origin = origin;
@@ -83,6 +92,8 @@ life_ended d origin cache image = record d {
   then_finished = λ a b o. 0;
 }
 
+-- A target runs on what the committed image names. Histories begin with what is visible; a block is clean where the image
+-- says so.
 abbrev pub life_begun : Volume → Mode → Volume
 life_begun d m = record d {
   live = true;
@@ -106,6 +117,7 @@ life_begun d m = record d {
   floor = λ b o. 0;
 }
 
+-- what an act leaves
 abbrev pub after : Volume → Act → Volume
 after d (Write b o c) = sector_written d (d.mapping b) b o c
 after d (Write_origin b o c) = record d { origin = changed_at d.origin b o (added (d.origin b o) c); histories = changed_at d.histories b o (added (d.histories b o) c); standing = changed_at d.standing b o Half }
@@ -133,6 +145,7 @@ after d (Find_image new_root) = life_ended d d.origin d.cache (image_found d new
 after d Write_opening_root = record d { running = unclean d.committed; running_floor = d.committed_floor; root_written = true; then_finished = λ a b o. 0 }
 after d (Open m) = life_begun d m
 
+-- what a list of acts leaves
 abbrev pub after_all : Volume → List Act → Volume
 after_all d [] = d
 after_all d (x ∷ xs) = after_all (after d x) xs

@@ -4,28 +4,30 @@ use Rattle.wb_types.specs.declared.mode.Mode.{Mode}
 use Rattle.wb_types.specs.declared.mode.Mode.TheVariants.{Writeback, Passthrough}
 use Rattle.wb_disk.specs.Device.{entries, newest}
 use Rattle.wb_contents.specs.Volume.{Locations, Image, Whole, Half, Volume}
-use Rattle.wb_contents.specs.Acts.{Act, Write, Write_origin, Write_cache, Fail_write, Finish, Fill_cache, Copy_back, Map, Unmap, Make_dirty, Make_clean, Begin_commit, Begin_suspend, Sync_cache, Sync_origin, Fail_cache_sync, Fail_origin_sync, Write_root, End_commit, Begin_flush, End_flush, Crash, Find_image, Write_opening_root, Open, after}
+use Rattle.wb_contents.specs.Acts.{Act, Write, Write_origin, Write_cache, Fail_write, Finish, Fill_cache, Copy_back, Map, Unmap, Make_dirty, Make_clean, Begin_commit, Begin_suspend, Write_root, End_commit, End_flush, Crash, Find_image, Write_opening_root, Open, after}
 
--- two locations hold the same newest content in each sector of a block
+-- a cache block and a block of the origin have the same newest content in each sector
 abbrev pub IsCopied : Volume → ℕ → ℕ → Type 0
 IsCopied d b k = (o : ℕ) → newest (d.cache k o) ≡ newest (d.origin b o)
 
+-- no block is in this cache block
 abbrev pub IsUnnamed : Locations → ℕ → Type 0
 IsUnnamed locations k = (b : ℕ) → locations b ≢ Some k
 
--- no image and no block of the mapping has this cache block
+-- neither the mapping nor an image names this cache block
 abbrev pub IsUnused : Volume → ℕ → Type 0
 IsUnused d k = IsUnnamed d.mapping k × IsUnnamed d.committed.locations k × IsUnnamed d.running.locations k
 
+-- each sector of a block has its last entry where it is read
 abbrev pub IsAllWhole : Volume → ℕ → Type 0
 IsAllWhole d b = (o : ℕ) → d.standing b o ≡ Whole
 
--- what a mode asks of what is opened
+-- What a mode asks of what is opened: passthrough wants each mapped block clean.
 abbrev pub Admits : Mode → Image → Type 0
 Admits Passthrough image = (b k : ℕ) → image.locations b ≡ Some k → image.clean b ≡ true
 Admits other image = Unit {0}
 
--- What may happen.
+-- the condition of an act
 abbrev pub MayAct : Volume → Act → Type 0
 MayAct d (Write b o c) = (d.live ≡ true) × ((d.mapping b ≡ None) ⊎ (d.dirty b ≡ true))
 MayAct d (Write_origin b o c) = d.live ≡ true
@@ -49,6 +51,7 @@ MayAct d Write_opening_root = (d.live ≡ false) × (d.root_written ≡ false)
 MayAct d (Open m) = (d.live ≡ false) × (d.cache_synced ≡ true) × (d.origin_synced ≡ true) × Admits m d.committed
 MayAct d other = Unit {0}
 
+-- a list of acts, each of which meets its condition
 abbrev pub IsRun : Volume → List Act → Type 0
 IsRun d [] = Unit {0}
 IsRun d (x ∷ xs) = MayAct d x × IsRun (after d x) xs

@@ -4,16 +4,18 @@ use Rattle.wb_types.specs.declared.mode.Mode.{Mode}
 use Rattle.wb_types.specs.declared.mode.Mode.TheVariants.{Writeback, Writethrough, Passthrough}
 use Rattle.wb_disk.specs.Device.{Content, History, entries, newest, only}
 use Rattle.wb_contents.specs.Volume.{Volume, Whole, at_location, location}
-use Rattle.wb_contents.specs.Acts.{Act, Open, after}
+use Rattle.wb_contents.specs.Acts.{Open, after}
 use Rattle.wb_contents.specs.Conditions.{MayAct}
 
 -- an entry of the history at this position or a later one
 abbrev pub IsEntryFrom : ℕ → History → Content → Type 0
 IsEntryFrom k g c = (p : ℕ) × (k ≤ p) × (slice_get (entries g) p ≡ Some c)
 
+-- each content of a list is such an entry
 abbrev pub AllEntriesFrom : ℕ → History → History → Type 0
 AllEntriesFrom k g h = (c : Content) → Contains (entries h) c → IsEntryFrom k g c
 
+-- a target over these contents, that has nothing cached
 abbrev pub first_volume : Mode → (ℕ → ℕ → Content) → Volume
 first_volume m c = record {
   origin = λ b o. only (c b o);
@@ -39,14 +41,13 @@ first_volume m c = record {
   floor = λ b o. 0;
 }
 
--- The theorem's words.
-
--- where a read goes
+-- where a read of a block goes
 abbrev pub route : Mode → Option ℕ → Option ℕ
 route Writeback p = p
 route Writethrough p = p
 route Passthrough p = None
 
+-- what a read of a sector is given
 abbrev pub read_given : Volume → ℕ → ℕ → Content
 read_given d b o = newest (at_location d.origin d.cache (route d.mode (d.mapping b)) b o)
 

@@ -61,13 +61,13 @@ fn a_root_is_written_byte_by_byte(rt: HostRuntime) -> Result<(), Fail> {
     };
     let mut content = [0xff; 512];
     formatted.write(&mut content);
-    assert_eq!(rt; content, sector_of(&FORMATTED));
-    assert_eq!(rt; Root::read(&content), Some(formatted));
-    assert_eq!(rt; formatted.slot(), Place(0));
+    assert!(rt; content == sector_of(&FORMATTED));
+    assert!(rt; Root::read(&content) == Some(formatted));
+    assert!(rt; formatted.slot() == Place(0));
     committed.write(&mut content);
-    assert_eq!(rt; content, sector_of(&COMMITTED));
-    assert_eq!(rt; Root::read(&content), Some(committed));
-    assert_eq!(rt; committed.slot(), Place(1));
+    assert!(rt; content == sector_of(&COMMITTED));
+    assert!(rt; Root::read(&content) == Some(committed));
+    assert!(rt; committed.slot() == Place(1));
     Ok(())
 }
 
@@ -82,7 +82,7 @@ fn a_node_is_read_and_written_byte_by_byte(rt: HostRuntime) -> Result<(), Fail> 
     assert_eq!(rt; last, 0);
     let mut content = [0xff; 512];
     node.write(&mut content);
-    assert_eq!(rt; content, sector_of(&LEAF));
+    assert!(rt; content == sector_of(&LEAF));
     Ok(())
 }
 
@@ -105,7 +105,7 @@ fn roots_with_a_wrong_field_are_not_read(rt: HostRuntime) {
         (510, [0, 1]),
     ] {
         let damaged = changed(committed, offset, bytes);
-        assert_eq!(rt; Root::read(&damaged), None, "at {offset}");
+        assert!(rt; Root::read(&damaged) == None, "at {offset}");
     }
 }
 
@@ -129,7 +129,7 @@ fn nodes_with_a_wrong_field_are_not_read(rt: HostRuntime) {
         (510, [0, 1]),
     ] {
         let damaged = changed(leaf, offset, bytes);
-        assert_eq!(rt; Node::read(&damaged), None, "at {offset}");
+        assert!(rt; Node::read(&damaged) == None, "at {offset}");
     }
 }
 
@@ -151,15 +151,15 @@ fn words_of_a_leaf(rt: HostRuntime) {
             dirty,
             hint,
         };
-        assert_eq!(rt; u64::from_le_bytes(bytes), word);
-        assert_eq!(rt; entry_of(word), Some(Some(entry)));
+        assert!(rt; u64::from_le_bytes(bytes) == word);
+        assert!(rt; entry_of(word) == Some(Some(entry)));
         if origin < 1 << 20 && hint <= 16 {
-            assert_eq!(rt; word_of(Some(entry)), word);
+            assert!(rt; word_of(Some(entry)) == word);
         }
     }
-    assert_eq!(rt; entry_of(0), Some(None));
+    assert!(rt; entry_of(0) == Some(None));
     assert_eq!(rt; word_of(None), 0);
     for word in [2, 5, 0x111, 1 << 9 | 1, 1 << 36 | 1] {
-        assert_eq!(rt; entry_of(word), None);
+        assert!(rt; entry_of(word) == None);
     }
 }

@@ -6,7 +6,7 @@ use wb_types::*;
 #[test]
 fn sizes_at_the_limits_of_a_block(rt: HostRuntime) -> Result<(), Fail> {
     for block in [96, 32, 2_097_216] {
-        assert_eq!(rt; Geometry::new(block, 1, 1, 4), Err(Refusal::Geometry));
+        assert!(rt; Geometry::new(block, 1, 1, 4) == Err(Refusal::Geometry));
     }
     let greatest = Geometry::new(2_097_152, 1, 1, 4)?;
     assert_eq!(rt; greatest.block, 2_097_152);
@@ -15,7 +15,7 @@ fn sizes_at_the_limits_of_a_block(rt: HostRuntime) -> Result<(), Fail> {
 
 #[test]
 fn two_images_have_to_fit(rt: HostRuntime) -> Result<(), Fail> {
-    assert_eq!(rt; Geometry::new(64, 33, 33, 7), Err(Refusal::Geometry));
+    assert!(rt; Geometry::new(64, 33, 33, 7) == Err(Refusal::Geometry));
     let geometry = Geometry::new(64, 33, 33, 8)?;
     assert_eq!(rt; geometry.depth(), 2);
     assert_eq!(rt; geometry.node_count(), 3);
@@ -28,11 +28,11 @@ fn a_full_cache_has_four_levels(rt: HostRuntime) -> Result<(), Fail> {
     let nodes = 32_768 + 1_024 + 32 + 1;
     let full = Geometry::new(64, 1_048_575, 1_048_576, 2 + 2 * nodes)?;
     assert_eq!(rt; full.depth(), 4);
-    assert_eq!(rt; u64::from(full.node_count()), nodes);
+    assert!(rt; u64::from(full.node_count()) == nodes);
     assert_eq!(rt; full.origin_sectors(), 67_108_864);
     assert_eq!(rt; full.cache_sectors(), 67_108_800);
     let short = Geometry::new(64, 1_048_575, 1_048_576, 1 + 2 * nodes);
-    assert_eq!(rt; short, Err(Refusal::Geometry));
+    assert!(rt; short == Err(Refusal::Geometry));
     Ok(())
 }
 
@@ -49,7 +49,7 @@ fn sizes_past_a_limit_are_refused(rt: HostRuntime) -> Result<(), Fail> {
         (u64::MAX, u64::MAX, u64::MAX, u64::MAX),
     ] {
         let geometry = Geometry::new(block, cache, origin, metadata);
-        assert_eq!(rt; geometry, Err(Refusal::Geometry));
+        assert!(rt; geometry == Err(Refusal::Geometry));
     }
     assert_eq!(rt;
         Geometry::new(64, 1, 1, 4_294_967_295)?.meta_sectors,
@@ -85,8 +85,8 @@ const TEXTS: [(Refusal, u8, &str); 19] = [
 fn a_refusal_shows_its_number_and_name(rt: HostRuntime) -> Result<(), Fail> {
     for (refusal, number, text) in TEXTS {
         let shown = format!(in rt.alloc(); "{refusal}")?;
-        assert_eq!(rt; shown.as_str(), text);
-        assert_eq!(rt; refusal.number(), number);
+        assert!(rt; shown.as_str() == text);
+        assert!(rt; refusal.number() == number);
     }
     Ok(())
 }
@@ -99,11 +99,11 @@ fn words_of_the_trade_show_as_users_write_them(rt: HostRuntime) -> Result<(), Fa
         (Mode::Passthrough, "passthrough"),
     ] {
         let shown = format!(in rt.alloc(); "{mode}")?;
-        assert_eq!(rt; shown.as_str(), text);
+        assert!(rt; shown.as_str() == text);
     }
     let (sector, block, cached) = (Sector(640), OBlock(10), CBlock(3));
     let shown = format!(in rt.alloc(); "{sector} {block} {cached}")?;
-    assert_eq!(rt; shown.as_str(), "640 10 3");
+    assert!(rt; shown.as_str() == "640 10 3");
     Ok(())
 }
 
@@ -114,8 +114,8 @@ fn ranges_of_blocks_come_back_as_they_went_in(rt: HostRuntime) -> Result<(), Fai
         end: CBlock(3),
     };
     let ranges = CBlockRanges::new(vec![in rt.alloc(); first]?);
-    assert_eq!(rt; ranges.as_slice(), [first].as_slice());
+    assert!(rt; ranges.as_slice() == [first].as_slice());
     let back = ranges.into_vec();
-    assert_eq!(rt; back.as_slice(), [first].as_slice());
+    assert!(rt; back.as_slice() == [first].as_slice());
     Ok(())
 }

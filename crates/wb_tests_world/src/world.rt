@@ -81,7 +81,7 @@ fn play(alloc: Global, lines: &[(Line, What)]) -> Result<Option<usize>, Refusal>
 #[test]
 fn interleavings_answer_as_their_rows_say(rt: HostRuntime) -> Result<(), Fail> {
     for row in &ROWS {
-        assert_eq!(rt; play(rt.alloc(), row.lines)?, None, "{}", row.name);
+        assert!(rt; play(rt.alloc(), row.lines)? == None, "{}", row.name);
     }
     Ok(())
 }
@@ -107,7 +107,7 @@ fn a_run_is_the_trace_that_its_events_make(rt: HostRuntime) -> Result<(), Fail> 
     assert_eq!(rt; trace.records().len(), 11);
     assert_eq!(rt; world.trace().records().len(), 11);
     for (here, there) in trace.records().iter().zip(world.trace().records()) {
-        assert_eq!(rt; here.what, there.what);
+        assert!(rt; here.what == there.what);
     }
     assert!(rt; matches!(last(&world), What::Stepped(Want::End(_), Got::Done)));
     headline();
@@ -227,14 +227,14 @@ fn a_failed_extent_lands_and_a_crash_keeps_sector_by_sector(rt: HostRuntime) -> 
             let there = kept.iter().zip(landed).all(|pair| pair.0 <= pair.1);
             let told = crash_after_the_write(rt.alloc(), Some(*landed), *kept)?;
             let expected = if there { What::Stopped } else { What::Skipped };
-            assert_eq!(rt; told, expected);
+            assert!(rt; told == expected);
         }
         let told = crash_after_the_write(rt.alloc(), None, *landed)?;
-        assert_eq!(rt; told, What::Stopped);
+        assert!(rt; told == What::Stopped);
     }
     // With another number it does not apply, and a second content was never written.
     let told = crash_after_the_write(rt.alloc(), Some([2, 1, 1]), [0, 0, 1])?;
-    assert_eq!(rt; told, What::Skipped);
+    assert!(rt; told == What::Skipped);
     Ok(())
 }
 
@@ -251,10 +251,10 @@ fn a_choice_that_names_another_device_does_not_apply(rt: HostRuntime) -> Result<
         steps(&mut world, 0, 5)?;
         world.event(Event::FaultStep(0, choice_on(alloc, device, [0; 3])?))?;
         let failed = matches!(last(&world), What::Stepped(_, Got::Fault));
-        assert_eq!(rt; failed, applies, "a failing step on {device}");
+        assert!(rt; failed == applies, "a failing step on {device}");
         world.event(Event::Stop(choice_on(alloc, device, [0; 3])?))?;
         let stopped = last(&world) == What::Stopped;
-        assert_eq!(rt; stopped, applies, "a crash of {device}");
+        assert!(rt; stopped == applies, "a crash of {device}");
     }
     Ok(())
 }

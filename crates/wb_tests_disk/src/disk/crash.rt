@@ -13,11 +13,11 @@ fn sector_after(
     named: &[(Dev, u64, u64)],
 ) -> Result<(bool, Option<u8>), Fail> {
     let mut disk = MemDisk::new(rt.alloc(), 2)?;
-    assert_eq!(rt; put(&mut disk, 1, 1), Ok(()));
-    assert_eq!(rt; put(&mut disk, 1, 2), Ok(()));
-    assert_eq!(rt; disk.sync(), Ok(()));
-    assert_eq!(rt; put(&mut disk, 1, 3), Ok(()));
-    assert_eq!(rt; put(&mut disk, 1, 4), Ok(()));
+    assert!(rt; put(&mut disk, 1, 1) == Ok(()));
+    assert!(rt; put(&mut disk, 1, 2) == Ok(()));
+    assert!(rt; disk.sync() == Ok(()));
+    assert!(rt; put(&mut disk, 1, 3) == Ok(()));
+    assert!(rt; put(&mut disk, 1, 4) == Ok(()));
     let mut names = Vec::new(rt.alloc());
     for (device, sector, position) in named {
         names.push(NamedContent {
@@ -28,9 +28,9 @@ fn sector_after(
     }
     let choice = CrashChoice::new(base, names);
     let applies = disk.applies(Dev::Cache, &choice);
-    assert_eq!(rt; got(&mut disk, 1), Ok(4));
-    assert_eq!(rt; disk.stop(Dev::Cache, &choice), applies);
-    assert_eq!(rt; got(&mut disk, 0), Ok(0));
+    assert!(rt; got(&mut disk, 1) == Ok(4));
+    assert!(rt; disk.stop(Dev::Cache, &choice) == applies);
+    assert!(rt; got(&mut disk, 0) == Ok(0));
     let kept = got(&mut disk, 1);
 
     // What the crash left is durable, and nothing else is there any more.
@@ -38,7 +38,7 @@ fn sector_after(
         for again in [Base::Durable, Base::Newest] {
             let choice = CrashChoice::new(again, Vec::new(rt.alloc()));
             assert!(rt; disk.stop(Dev::Cache, &choice));
-            assert_eq!(rt; got(&mut disk, 1), kept);
+            assert!(rt; got(&mut disk, 1) == kept);
         }
     }
     Ok((applies, kept.ok()))
@@ -90,7 +90,7 @@ fn each_sector_keeps_its_chosen_content(rt: HostRuntime) -> Result<(), Fail> {
         ),
     ];
     for (base, named, want) in table {
-        assert_eq!(rt; sector_after(&rt, base, named)?, want);
+        assert!(rt; sector_after(&rt, base, named)? == want);
     }
     Ok(())
 }
@@ -109,10 +109,10 @@ fn one_choice_serves_each_device_by_its_own_names(rt: HostRuntime) -> Result<(),
     assert!(rt; !choice.names_only(Dev::Origin));
     for (device, kept) in [(Dev::Metadata, 0), (Dev::Cache, 1), (Dev::Origin, 2)] {
         let mut disk = MemDisk::new(rt.alloc(), 1)?;
-        assert_eq!(rt; put(&mut disk, 0, 1), Ok(()));
-        assert_eq!(rt; put(&mut disk, 0, 2), Ok(()));
+        assert!(rt; put(&mut disk, 0, 1) == Ok(()));
+        assert!(rt; put(&mut disk, 0, 2) == Ok(()));
         assert!(rt; disk.stop(device, &choice));
-        assert_eq!(rt; got(&mut disk, 0), Ok(kept));
+        assert!(rt; got(&mut disk, 0) == Ok(kept));
     }
     Ok(())
 }

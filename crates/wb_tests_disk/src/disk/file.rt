@@ -22,16 +22,13 @@ fn a_file_keeps_what_was_written(rt: HostRuntime) -> Result<(), Fail> {
     ];
     assert!(rt; are_done(&mut disk, &steps));
     let mut other = FileDisk::open(&rt, name)?;
-    assert_eq!(rt; got(&mut other, 2), Ok(7));
+    assert!(rt; got(&mut other, 2) == Ok(7));
 
     // Cut short while it is open, the file no longer has the sector.
     fs::write(&rt, name, &zeros[..1100])?;
-    assert_eq!(rt; got(&mut other, 1), Ok(0));
-    assert_eq!(rt; got(&mut other, 2), Err(DiskFault));
-    assert_eq!(rt;
-        get_extent(&mut other, 1, &mut [[0; 512]; 2]),
-        Err(DiskFault)
-    );
+    assert!(rt; got(&mut other, 1) == Ok(0));
+    assert!(rt; got(&mut other, 2) == Err(DiskFault));
+    assert!(rt; get_extent(&mut other, 1, &mut [[0; 512]; 2]) == Err(DiskFault));
     fs::remove_file(&rt, name)?;
     assert!(rt; FileDisk::open(&rt, name).is_err());
     assert!(rt; FileDisk::open(&rt, ".").is_err());
@@ -63,14 +60,14 @@ fn pieces_are_put_together(rt: HostRuntime) -> Result<(), Fail> {
 fn an_extent_is_its_sectors_in_order(rt: HostRuntime) -> Result<(), Fail> {
     for piece in [1, 100, 512, 700, 1024] {
         let mut disk = FileDisk::over(fake(piece, 0, io::ErrorKind::Other))?;
-        assert_eq!(rt; put_extent(&mut disk, 0, &[[5; 512], [6; 512]]), Ok(()));
+        assert!(rt; put_extent(&mut disk, 0, &[[5; 512], [6; 512]]) == Ok(()));
         assert!(rt; are_done(&mut disk, &[Step::Got(0, 5), Step::Got(1, 6)]));
-        assert_eq!(rt; put_extent(&mut disk, 1, &[[7; 512]]), Ok(()));
+        assert!(rt; put_extent(&mut disk, 1, &[[7; 512]]) == Ok(()));
         let mut out = [[0; 512]; 2];
-        assert_eq!(rt; get_extent(&mut disk, 0, &mut out), Ok(()));
+        assert!(rt; get_extent(&mut disk, 0, &mut out) == Ok(()));
         assert!(rt; out == [[5; 512], [7; 512]]);
-        assert_eq!(rt; put_extent(&mut disk, 2, &[]), Ok(()));
-        assert_eq!(rt; get_extent(&mut disk, 2, &mut out[..0]), Ok(()));
+        assert!(rt; put_extent(&mut disk, 2, &[]) == Ok(()));
+        assert!(rt; get_extent(&mut disk, 2, &mut out[..0]) == Ok(()));
     }
     Ok(())
 }
@@ -83,11 +80,11 @@ fn an_extent_that_fails_midway_is_a_fault(rt: HostRuntime) -> Result<(), Fail> {
             let file = fake(piece, fails_at, io::ErrorKind::StorageFull);
             let mut disk = FileDisk::over(file)?;
             let wrote = put_extent(&mut disk, 0, &[[5; 512], [6; 512]]);
-            assert_eq!(rt; wrote.is_err(), fails_at < 2 + calls);
+            assert!(rt; wrote.is_err() == (fails_at < 2 + calls));
             if wrote.is_ok() {
                 let mut out = [[0; 512]; 2];
                 let read = get_extent(&mut disk, 0, &mut out);
-                assert_eq!(rt; read.is_err(), fails_at < 2 + 2 * calls);
+                assert!(rt; read.is_err() == (fails_at < 2 + 2 * calls));
             }
         }
     }
@@ -104,10 +101,10 @@ fn a_step_that_fails_midway_is_a_fault(rt: HostRuntime) -> Result<(), Fail> {
             continue;
         };
         let wrote = put(&mut disk, 1, 9);
-        assert_eq!(rt; wrote.is_err(), (2..8).contains(&fails_at));
+        assert!(rt; wrote.is_err() == (2..8).contains(&fails_at));
         if wrote.is_ok() {
-            assert_eq!(rt; got(&mut disk, 1).is_err(), (8..14).contains(&fails_at));
-            assert_eq!(rt; disk.sync().is_err(), fails_at == 14);
+            assert!(rt; got(&mut disk, 1).is_err() == (8..14).contains(&fails_at));
+            assert!(rt; disk.sync().is_err() == (fails_at == 14));
         }
     }
     Ok(())
@@ -116,8 +113,8 @@ fn a_step_that_fails_midway_is_a_fault(rt: HostRuntime) -> Result<(), Fail> {
 #[test]
 fn a_file_that_moves_nothing_is_a_fault(rt: HostRuntime) -> Result<(), Fail> {
     let mut disk = FileDisk::over(fake(0, 0, io::ErrorKind::Other))?;
-    assert_eq!(rt; put(&mut disk, 0, 9), Err(DiskFault));
-    assert_eq!(rt; got(&mut disk, 0), Err(DiskFault));
+    assert!(rt; put(&mut disk, 0, 9) == Err(DiskFault));
+    assert!(rt; got(&mut disk, 0) == Err(DiskFault));
     Ok(())
 }
 

@@ -19,7 +19,7 @@ fn a_read_gives_the_latest_write(rt: HostRuntime) -> Result<(), Fail> {
     ];
     let mut disk = MemDisk::new(rt.alloc(), 3)?;
     assert!(rt; are_done(&mut disk, &steps));
-    assert_eq!(rt; (disk.sectors(), disk.faults()), (3, 0));
+    assert!(rt; (disk.sectors(), disk.faults()) == (3, 0));
     Ok(())
 }
 
@@ -32,10 +32,10 @@ fn an_extent_lands_from_the_front(rt: HostRuntime) -> Result<(), Fail> {
     let wrote = put_extent(&mut disk, 1, &[[5; 512], [6; 512]]).is_ok();
     let mut out = [[9; 512]; 4];
     let read = get_extent(&mut disk, 0, &mut out).is_ok();
-    assert_eq!(rt; (read, out[0][0], out[3][511]), (true, 0, 0));
+    assert!(rt; (read, out[0][0], out[3][511]) == (true, 0, 0));
     let landed = (out[1][0], out[2][511], disk.faults());
     if wrote {
-        assert_eq!(rt; landed, (5, 6, 0));
+        assert!(rt; landed == (5, 6, 0));
     } else {
         assert!(rt; landed == (0, 0, 1) || landed == (5, 0, 1));
     }
@@ -51,8 +51,8 @@ fn refused_memory_is_a_counted_fault(rt: HostRuntime) -> Result<(), Fail> {
     };
     if disk.sectors() == 2 {
         match disk.room(0) {
-            Ok(()) => assert_eq!(rt; put(&mut disk, 0, 7), Ok(())),
-            Err(refusal) => assert_eq!(rt; refusal, Refusal::Memory),
+            Ok(()) => assert!(rt; put(&mut disk, 0, 7) == Ok(())),
+            Err(refusal) => assert!(rt; refusal == Refusal::Memory),
         }
         assert_eq!(rt; disk.faults(), 0);
         let (faults, byte) = if put(&mut disk, 1, 8).is_ok() {
@@ -60,8 +60,8 @@ fn refused_memory_is_a_counted_fault(rt: HostRuntime) -> Result<(), Fail> {
         } else {
             (1, 0)
         };
-        assert_eq!(rt; disk.faults(), faults);
-        assert_eq!(rt; got(&mut disk, 1), Ok(byte));
+        assert!(rt; disk.faults() == faults);
+        assert!(rt; got(&mut disk, 1) == Ok(byte));
     }
     Ok(())
 }

@@ -144,7 +144,7 @@ fn a_block_has_fewer_sharers_than_2_to_the_20(rt: HostRuntime) -> Result<(), Fai
     let (cells, pass) = Cells::new(rt.alloc(), 1)?;
     let (mut pass, shared) = crowd(&cells, pass, (1 << 20) - 1);
     assert!(rt; shared);
-    assert_eq!(rt; cells.look(&mut pass, Word::Cell(OBlock(0))), (1 << 21) - 2);
+    assert!(rt; cells.look(&mut pass, Word::Cell(OBlock(0))) == (1 << 21) - 2);
     assert!(rt; matches!(cells.try_share(&mut pass, OBlock(0)), Err(Refusal::Busy)));
     Ok(())
 }
