@@ -2,4 +2,5 @@ pub mod Devices
 pub mod Neighbours
 pub mod Sectors
 pub mod Crashes
+pub mod FailedSyncs
 pub mod Leaving

@@ -8,6 +8,7 @@
 mod crash;
 mod crash_choice;
 mod disk;
+mod failing;
 mod file;
 mod memory;
 mod pending;

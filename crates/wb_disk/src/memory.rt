@@ -3,10 +3,11 @@
 ghost use Rattle.std.specs.Prelude.{◌≡◌, ◌<◌, ◌≤◌, ◌+◌, ◌↔◌, [], ◌∷◌, ◌++◌, IsOk, IsTrue, IfOk, OnOk, OnErr, IfErr, length};
 ghost use Rattle.std.specs.Bool.{OnTrue, OnFalse};
 ghost use Rattle.wb_types.specs.declared.refusal.Refusal.TheVariants.{Memory as OutOfMemory};
-ghost use Rattle.wb_disk.specs.Device.{Gives, written, synced, OneMore, Crashed};
+ghost use Rattle.wb_disk.specs.Device.{Gives, written, synced, OneMore, Crashed, PartlySynced};
 ghost use Rattle.wb_disk.specs.Extents.{GivesEach, written_each};
 ghost use Rattle.wb_disk.specs.Memory.{blank, zeros, HasRoom, HasRoomFor, DiffersOnlyAt, FrontWritten};
 ghost use Rattle.wb_disk.specs.Crash.{Applies, crashed};
+ghost use Rattle.wb_disk.specs.Failing.{MayFail, lands, synced_where};
 ghost use Rattle.wb_disk.specs.Stored.{histories, capacities};
 
 use crate::crash::mark_chosen;
@@ -109,6 +110,28 @@ impl MemDisk {
         ensures kept { self.new ≡ self.old }
     {
         mark_chosen(&mut self.sectors, device, choice)
+    }
+
+    /// A sync that fails, of the disk as this device: a sector on which the choice lets it land has its newest content
+    /// alone, another its whole list. It is a fault that counts. It takes no memory, and goes over all sectors.
+    ///
+    /// False, and nothing changes, where a sync of this device cannot fail so: another device is named, or a sector
+    /// that the disk has not got, or another number than 0 and 1.
+    #[must_use]
+    pub fn fail_sync(&mut self, device: Dev, choice: &CrashChoice) -> bool
+        ensures may { IsTrue result ↔ MayFail device choice.now (length self.old.contents) }
+        ensures contents { OnTrue result (self.new.contents ≡ synced_where (lands device choice.now) self.old.contents) }
+        ensures outcome { OnTrue result (PartlySynced self.old.contents self.new.contents) }
+        ensures faults { OnTrue result (OneMore self.old.faults self.new.faults) }
+        ensures capacity { self.new.capacity ≡ self.old.capacity }
+        ensures kept { OnFalse result (self.new ≡ self.old) }
+    {
+        if !choice.may_fail(device, self.sectors()) {
+            return false;
+        }
+        self.faults = self.faults.wrapping_add(1);
+        settle_landing(&mut self.sectors, device, choice);
+        true
     }
 }
 
@@ -214,6 +237,18 @@ impl Disk for MemDisk {
     }
 
     ghost whole = { λ d h. refl };
+}
+
+/// Settles the sectors on which the choice lets a failing sync land.
+fn settle_landing(sectors: &mut [Pending], device: Dev, choice: &CrashChoice)
+    ensures contents { histories sectors.new ≡ synced_where (lands device choice.now) (histories sectors.old) }
+    ensures capacity { capacities sectors.new ≡ capacities sectors.old }
+{
+    for (at, pending) in sectors.iter_mut().enumerate() {
+        if choice.has_landed(device, at as u64) {
+            pending.settle();
+        }
+    }
 }
 
 /// One sector of zeros more.

@@ -1,6 +1,7 @@
 //! What no contract says: that memory and files serve, and what a file that fails leaves.
 
 mod crash;
+mod failed_sync;
 mod fake_file;
 mod file;
 mod memory;

@@ -22,7 +22,8 @@ use Rattle.wb_world.specs.declared.event.Event.TheVariants.{Start, Step, FaultSt
 use Rattle.wb_world.specs.declared.event.What.{What}
 use Rattle.wb_world.specs.declared.event.What.TheVariants.{Skipped, Started, Stopped}
 use Rattle.wb_world.specs.declared.event.Record.{Record}
-use Rattle.wb_world.specs.World.{Shape, State, Actor, Plain, OfSome, IsOnDevice, MayFail, MayStop, DoesNotApply, lands, start, resting, stepped, device_by, words_then, card_then, task_then, job_refusal, extent_of, MayBe, May, IsRun, after_what, after_happening, after_all, Happening, records_of}
+use Rattle.wb_disk.specs.Failing.{MayFail, lands}
+use Rattle.wb_world.specs.World.{Shape, State, Actor, Plain, OfSome, IsOnDevice, MayStop, DoesNotApply, start, resting, stepped, device_by, words_then, card_then, task_then, job_refusal, extent_of, MayBe, May, IsRun, after_what, after_happening, after_all, Happening, records_of}
 use Rattle.wb_world.specs.Life.{Life, actors_of, actors_seen, state_of, chosen_for, happening_of, happenings, IsWhere, Happens, GoesOn}
 use Rattle.wb_world.specs.Performing.{Steps, Falters, IsManned, crew_then, started_or, free_outcome, task_given}
 use Rattle.wb_types.proofs.Cutting.{pieces_cut}
@@ -203,7 +204,7 @@ module _ (shape : Shape) (longest : ℕ) (device : List History) (crew : CrewSta
       Happens shape longest (state_of device crew true members) (FaultStep a choice) what read (state_of device' crew true (slice_set members a n))
   falter_happens choice what read device' f s = by_task m.task refl s
     where
-      why : (doing : Job × Plan) → m.task ≡ Some doing → ((IsOnDevice (want doing.1) → ⊥) ⊎ (MayFail choice (length device) → ⊥)) → DoesNotApply (state_of device crew true members) (FaultStep a choice)
+      why : (doing : Job × Plan) → m.task ≡ Some doing → ((IsOnDevice (want doing.1) → ⊥) ⊎ (MayFail Origin choice (length device) → ⊥)) → DoesNotApply (state_of device crew true members) (FaultStep a choice)
       why doing e (inl off) = inl (λ h. off (the_task doing e (λ (d : Job × Plan). IsOnDevice (want d.1)) h))
       why doing e (inr cannot) = inr cannot
 
@@ -212,11 +213,11 @@ module _ (shape : Shape) (longest : ℕ) (device : List History) (crew : CrewSta
           let same = stays (s.task_is ∙ sym e) in
           rw (s.device_is, same) (passes shape longest (state_of device crew true members) (FaultStep a choice) what read (inl (λ h. has_none e _ h)) s.what_is f)
       by_task (Some doing) e (inl s) =
-          let leads = went_leads doing (want doing.1) Fault (lands choice) e s.task_is in
+          let leads = went_leads doing (want doing.1) Fault (lands Origin choice) e s.task_is in
           let kept = crew_stays (want doing.1) s.on_device in
           rw (s.what_is, f, s.device_is) (record {
             may = (s.may, has_task doing e _ (refl, s.on_device, refl));
-            leads = subst (λ (c : CrewState). state_of (device_by (lands choice) device doing.0 (want doing.1)) c true (slice_set members a n) ≡ Rattle.wb_world.specs.World.went (lands choice) (state_of device crew true members) a (want doing.1) Fault) kept leads;
+            leads = subst (λ (c : CrewState). state_of (device_by (lands Origin choice) device doing.0 (want doing.1)) c true (slice_set members a n) ≡ Rattle.wb_world.specs.World.went (lands Origin choice) (state_of device crew true members) a (want doing.1) Fault) kept leads;
           })
       by_task (Some doing) e (inr s) =
           let same = stays (s.0.task_is ∙ sym e) in

@@ -15,7 +15,9 @@ use Rattle.wb_world.specs.declared.job.Job.{Job}
 use Rattle.wb_world.specs.declared.event.Event.TheVariants.{Step, FaultStep}
 use Rattle.wb_world.specs.declared.event.What.{What}
 use Rattle.wb_world.specs.declared.event.What.TheVariants.{Stepped}
-use Rattle.wb_world.specs.World.{Shape, State, Actor, Plain, sector_count, task_job, lands, stepped, changed_by, device_by, after_what}
+use Rattle.wb_types.specs.declared.mode.Dev.TheVariants.{Origin}
+use Rattle.wb_disk.specs.Failing.{lands}
+use Rattle.wb_world.specs.World.{Shape, State, Actor, Plain, sector_count, task_job, stepped, changed_by, device_by, after_what}
 use Rattle.wb_world.specs.Clerk.{Notes, Doing, noted_what, noted_step}
 use Rattle.wb_world.specs.Headline.{AnswersRightly}
 use Rattle.wb_world.proofs.Lists.{get_set_same, get_set_other}
@@ -169,6 +171,6 @@ abbrev pub GoodFault : Shape → State → Notes → ℕ → Choice → What →
 GoodFault shape w n a choice what = Invariant shape (after_what shape w (FaultStep a choice) what Plain) (noted_what shape n (FaultStep a choice) what [])
 
 pub good_fault : (shape : Shape) (w : State) (n : Notes) (a : ℕ) (choice : Choice) (x : Actor) (doing : Doing) (next : Want) (got : Got) → slice_get w.actors a ≡ Some x → slice_get n.doings a ≡ Some (Some doing) →
-    Invariant shape (stepped w a x next got (changed_by w.device x.task (λ job. device_by (lands choice) w.device job next))) (noted_step shape n a (Some (Some doing)) next got []) →
+    Invariant shape (stepped w a x next got (changed_by w.device x.task (λ job. device_by (lands Origin choice) w.device job next))) (noted_step shape n a (Some (Some doing)) next got []) →
     GoodFault shape w n a choice (Stepped next got)
 good_fault shape w n a choice x doing next got e d k = rw (e, d) k

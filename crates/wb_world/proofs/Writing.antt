@@ -16,7 +16,8 @@ use Rattle.wb_tasks.specs.declared.step.Got.{Got}
 use Rattle.wb_tasks.specs.declared.step.Got.TheVariants.{Done, Fault}
 use Rattle.wb_world.specs.declared.job.Job.TheVariants.{Write}
 use Rattle.wb_world.specs.declared.event.What.TheVariants.{Stepped}
-use Rattle.wb_world.specs.World.{Shape, State, task_job, lands}
+use Rattle.wb_disk.specs.Failing.{lands}
+use Rattle.wb_world.specs.World.{Shape, State, task_job}
 use Rattle.wb_world.specs.Clerk.{Notes, Doing, Position, Entering, enter, enter_each, entering, device_note, write_note, next_position}
 use Rattle.wb_world.proofs.Lists.{get_set_same, get_set_other}
 use Rattle.wb_world.proofs.Contents.{AllWritten, AllLastWritten, last_more, both_written, both_last, alone_written, alone_last}
@@ -196,9 +197,9 @@ write_failed shape w n a choice card extent content cut doing e left k =
     let more : AllLastWritten w.device n.histories (stale_of shape (slice_set w.actors a y)) =
     λ other. last_more (slice_get w.device other) (slice_get n.histories other) (stale_of shape w.actors other) (stale_of shape (slice_set w.actors a y) other) (stale.1 other) (k.kept.last k.standing other) in
     good_fault shape w n a choice x doing (Device (WriteExtent Origin e)) Fault k.actor k.noted
-    (wrote shape w n a card extent content cut doing e left (Failing (Io Origin)) (written_where (lands choice) w.device e.first (replicate e.count content)) Fault k (record {
+    (wrote shape w n a card extent content cut doing e left (Failing (Io Origin)) (written_where (lands Origin choice) w.device e.first (replicate e.count content)) Fault k (record {
       stands = record { held_is = s.held_is; job_is = s.job_is; owns = refl; kept_is = s.kept_is; so_far = tt; lies = tt; inside = s.inside; may = s.may };
-      holds = each_written (lands choice) content e.first e.count w.device (entering n doing) k.kept.holds;
-      last = each_last (lands choice) content e.first e.count w.device (entering n doing) (stale_of shape (slice_set w.actors a y)) (λ at l b f. stale.0 at l b) k.kept.holds more;
-      size = length-written_where (lands choice) w.device e.first (replicate e.count content);
+      holds = each_written (lands Origin choice) content e.first e.count w.device (entering n doing) k.kept.holds;
+      last = each_last (lands Origin choice) content e.first e.count w.device (entering n doing) (stale_of shape (slice_set w.actors a y)) (λ at l b f. stale.0 at l b) k.kept.holds more;
+      size = length-written_where (lands Origin choice) w.device e.first (replicate e.count content);
     }))

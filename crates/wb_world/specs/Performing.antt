@@ -21,7 +21,8 @@ use Rattle.wb_world.specs.declared.event.What.TheVariants.{Skipped, Refused, Sta
 use Rattle.wb_world.specs.declared.job.Job.{Job}
 use Rattle.wb_world.specs.declared.job.Job.TheVariants.{Read, Write}
 use Rattle.wb_world.specs.declared.member.Member.{Member}
-use Rattle.wb_world.specs.World.{Actor, Gives, IsOnDevice, MayFail, lands, device_by, task_then, Shape, task_job, extent_of, job_refusal}
+use Rattle.wb_disk.specs.Failing.{MayFail, lands}
+use Rattle.wb_world.specs.World.{Actor, Gives, IsOnDevice, device_by, task_then, Shape, task_job, extent_of, job_refusal}
 
 -- A step of a job that can be done: one on the origin alone, over sectors that are there.
 abbrev pub IsPossible : List History → Job → Want → Type 0
@@ -75,16 +76,16 @@ Steps device crew a (Some doing) what read device' crew' task' = StepsOn device 
 -- one that fails, on the device
 pub record FailsOn (choice : Choice) (device : List History) (job : Job) (plan : Plan) (what : What) (device' : List History) (task' : Option (Job × Plan)) : Type 0 where
   pub what_is : what ≡ Stepped (want plan) Fault
-  pub may : MayFail choice (length device)
+  pub may : MayFail Origin choice (length device)
   pub on_device : IsOnDevice (want plan)
-  pub device_is : device' ≡ device_by (lands choice) device job (want plan)
+  pub device_is : device' ≡ device_by (lands Origin choice) device job (want plan)
   pub task_is : task' ≡ task_then (Some (job, plan)) (want plan) Fault
 
 abbrev pub Falters : Choice → List History → Option (Job × Plan) → What → List History → Option (Job × Plan) → Type 0
 Falters choice device None what device' task' = Passes device None what device' task'
 Falters choice device (Some doing) what device' task' =
     FailsOn choice device doing.0 doing.1 what device' task'
-    ⊎ (Passes device (Some doing) what device' task' × ((¬ IsOnDevice (want doing.1)) ⊎ (¬ MayFail choice (length device))))
+    ⊎ (Passes device (Some doing) what device' task' × ((¬ IsOnDevice (want doing.1)) ⊎ (¬ MayFail Origin choice (length device))))
 
 -- An actor has what it needs for what is left of its task, and its next step can be done; one without a task holds nothing.
 abbrev pub TaskSuits : ℕ → Card → Option (Job × Plan) → Type 0

@@ -7,6 +7,7 @@ use Rattle.wb_types.specs.declared.refusal.Refusal.{Refusal}
 use Rattle.wb_types.specs.declared.refusal.Refusal.TheVariants.{Range, Crosses}
 use Rattle.wb_disk.specs.Device.{Content as Bytes, History}
 use Rattle.wb_disk.specs.Extents.{GivesEach, written_where}
+use Rattle.wb_disk.specs.Failing.{MayFail, lands}
 use Rattle.wb_disk.specs.Memory.{blank}
 use Rattle.wb_disk.specs.Crash.{Choice, Applies, NamesOnly, crashed, named_position}
 use Rattle.wb_disk.specs.declared.crash_choice.Base.{Base}
@@ -115,22 +116,7 @@ job_refusal shape extent = if is_inside shape extent then (if is_in_one_block sh
 
 -- Failing steps.
 
--- Of a failing step a sector that is named with 1 is as after a success, one named with 0 as before it; of one that is not
--- named the base says which.
-abbrev pub base_lands : Base → ℕ
-base_lands Durable = 0
-base_lands Newest = 1
-
-abbrev pub lands : Choice → ℕ → Bool
-lands choice at = named_position Origin choice.named at (base_lands choice.base) == 1
-
 -- There is one device, the origin, so a name of another is of a sector that is not there.
-
--- a step may fail so: the names are of sectors of the origin, and the number that counts for each is 0 or 1
-pub record MayFail (choice : Choice) (sectors : ℕ) : Type 0 where
-  pub here : NamesOnly Origin choice
-  pub inside : All (λ (name : NamedContent). name.sector < sectors) choice.named
-  pub two : All (λ (name : NamedContent). named_position Origin choice.named name.sector 0 ≤ 1) choice.named
 
 -- the device may crash so
 pub record MayStop (choice : Choice) (device : List History) : Type 0 where
@@ -158,7 +144,7 @@ IsOnDevice next = ⊥
 abbrev pub DoesNotApply : State → Event → Type 0
 DoesNotApply w (Start a job) = (slice_get w.actors a ≡ None) ⊎ HasTask w a ⊎ (w.stands ≡ false)
 DoesNotApply w (Step a) = ¬ HasTask w a
-DoesNotApply w (FaultStep a choice) = (¬ AtWork w a (λ job s. IsOnDevice (want s))) ⊎ (¬ MayFail choice (length w.device))
+DoesNotApply w (FaultStep a choice) = (¬ AtWork w a (λ job s. IsOnDevice (want s))) ⊎ (¬ MayFail Origin choice (length w.device))
 DoesNotApply w (Stop choice) = ¬ MayStop choice w.device
 
 -- What a step of a job gives, and what it read: one content a sector, and nothing in any other step. There is one device,
@@ -181,7 +167,7 @@ abbrev pub MayBe : Shape → State → Event → What → List Bytes → Chosen 
 MayBe shape w event Skipped [] Plain = DoesNotApply w event
 MayBe shape w (Start a job) what [] chosen = (¬ DoesNotApply w (Start a job)) × StartGives shape job what chosen
 MayBe shape w (Step a) (Stepped next got) read Plain = AtWork w a (λ job s. (next ≡ want s) × Gives w.device w.words job next got read)
-MayBe shape w (FaultStep a choice) (Stepped next got) [] Plain = MayFail choice (length w.device) × AtWork w a (λ job s. (next ≡ want s) × IsOnDevice next × (got ≡ Fault))
+MayBe shape w (FaultStep a choice) (Stepped next got) [] Plain = MayFail Origin choice (length w.device) × AtWork w a (λ job s. (next ≡ want s) × IsOnDevice next × (got ≡ Fault))
 MayBe shape w (Stop choice) Stopped [] Plain = MayStop choice w.device
 MayBe shape w event what read chosen = ⊥
 
@@ -249,7 +235,7 @@ after_crash w device = record w { device = device; stands = false; actors = map 
 abbrev pub after_what : Shape → State → Event → What → Chosen → State
 after_what shape w (Start a job) Started (Cut cut) = started shape w a job cut
 after_what shape w (Step a) (Stepped next got) chosen = went (λ at. true) w a next got
-after_what shape w (FaultStep a choice) (Stepped next got) chosen = went (lands choice) w a next got
+after_what shape w (FaultStep a choice) (Stepped next got) chosen = went (lands Origin choice) w a next got
 after_what shape w (Stop choice) Stopped chosen = after_crash w (crashed Origin choice w.device)
 after_what shape w event what chosen = w
 

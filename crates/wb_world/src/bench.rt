@@ -12,7 +12,8 @@ ghost use Rattle.std.specs.Bool.{OnTrue, OnFalse};
 ghost use Rattle.wb_disk.specs.Crash.{crashed};
 ghost use Rattle.wb_disk.specs.Extents.{GivesEach};
 ghost use Rattle.wb_world.specs.Performing.{Performs, IsPossible};
-ghost use Rattle.wb_world.specs.World.{device_by, lands, MayStop};
+ghost use Rattle.wb_disk.specs.Failing.{lands};
+ghost use Rattle.wb_world.specs.World.{device_by, MayStop};
 
 use crate::Job;
 use crate::event::{Outcome, What};
@@ -98,7 +99,7 @@ impl Bench {
     /// it; nothing has changed then.
     fn write(&mut self, job: &Job, extent: Extent, choice: &CrashChoice) -> Result<(), Refusal>
         requires { extent.first + extent.count ≤ length self.old.disk.contents }
-        ensures device { OnOk result (self.new.disk.contents ≡ device_by (lands choice.now) self.old.disk.contents job.now (DeviceWant (WriteExtent OriginDevice extent))) }
+        ensures device { OnOk result (self.new.disk.contents ≡ device_by (lands OriginDevice choice.now) self.old.disk.contents job.now (DeviceWant (WriteExtent OriginDevice extent))) }
         ensures crew { self.new.crew ≡ self.old.crew }
         ensures err { OnErr result (self.new.disk.contents ≡ self.old.disk.contents) }
         ensures refusal { IfErr result (λ refusal. refusal ≡ Memory) }
@@ -119,7 +120,7 @@ impl Bench {
         choice: &CrashChoice,
     ) -> Result<(), Refusal>
         requires { IsPossible self.old.disk.contents job.now (DeviceWant step) }
-        ensures ok { OnOk result (self.new.disk.contents ≡ device_by (lands choice.now) self.old.disk.contents job.now (DeviceWant step)) }
+        ensures ok { OnOk result (self.new.disk.contents ≡ device_by (lands OriginDevice choice.now) self.old.disk.contents job.now (DeviceWant step)) }
         ensures crew { self.new.crew ≡ self.old.crew }
         ensures err { OnErr result (self.new.disk.contents ≡ self.old.disk.contents) }
         ensures refusal { IfErr result (λ refusal. refusal ≡ Memory) }

@@ -6,7 +6,6 @@
 
 mod bench;
 mod event;
-mod failing;
 mod job;
 mod law;
 mod member;

@@ -6,11 +6,10 @@ ghost use Rattle.wb_types.specs.declared.refusal.Refusal.TheVariants.{Memory};
 use crate::Job;
 use crate::bench::Bench;
 use crate::event::{Outcome, What};
-use crate::failing::may_fail;
 use crate::start::{refusal_of, task_of};
 use wb_disk::{CrashChoice, Disk};
 use wb_tasks::{Got, RequestTask, Task, Want};
-use wb_types::{Geometry, Refusal};
+use wb_types::{Dev, Geometry, Refusal};
 
 /// What an actor is at: its job and what is left of its task, if it has one. What it knows of the shared words is on
 /// its card in the crew.
@@ -97,7 +96,7 @@ impl Member {
         let Want::Device(step) = want else {
             return Ok(What::Skipped);
         };
-        if !may_fail(choice, bench.disk.sectors()) {
+        if !choice.may_fail(Dev::Origin, bench.disk.sectors()) {
             return Ok(What::Skipped);
         }
         bench.fail(job, step, choice)?;

@@ -4,11 +4,11 @@ ghost use Rattle.std.specs.Prelude.{◌≡◌, ◌≤◌, ◌+◌, OnOk, IfErr, 
 ghost use Rattle.wb_types.specs.declared.refusal.Refusal.TheVariants.{Memory};
 ghost use Rattle.wb_disk.specs.Memory.{HasRoomFor};
 ghost use Rattle.wb_disk.specs.Extents.{written_where};
-ghost use Rattle.wb_world.specs.World.{lands};
+ghost use Rattle.wb_types.specs.declared.mode.Dev.TheVariants.{Origin};
+ghost use Rattle.wb_disk.specs.Failing.{lands};
 
-use crate::failing::has_landed;
 use wb_disk::{CrashChoice, Disk, MemDisk};
-use wb_types::{Content, Extent, Refusal};
+use wb_types::{Content, Dev, Extent, Refusal};
 
 /// Makes room for a write of each of these sectors. `Memory` where there is none; the contents stay.
 pub(crate) fn make_room(disk: &mut MemDisk, extent: Extent) -> Result<(), Refusal>
@@ -34,13 +34,13 @@ pub(crate) fn write_landing(
 )
     requires inside { extent.first + extent.count ≤ length disk.old.contents }
     requires room { HasRoomFor disk.old extent.first extent.count }
-    ensures { disk.new.contents ≡ written_where (lands choice.now) disk.old.contents extent.first (replicate extent.count content.now) }
+    ensures { disk.new.contents ≡ written_where (lands Origin choice.now) disk.old.contents extent.first (replicate extent.count content.now) }
 {
     // The disk's size is a `u64`, so each of these sectors is.
     let _sectors = disk.sectors();
     for k in 0..extent.count {
         let at = extent.first + k;
-        if has_landed(choice, at) {
+        if choice.has_landed(Dev::Origin, at) {
             let _ = disk.write(at, content);
         }
     }

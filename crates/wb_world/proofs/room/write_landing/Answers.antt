@@ -3,7 +3,8 @@ use Rattle.wb_disk.specs.Device.{written}
 use Rattle.wb_disk.specs.Extents.{written_where}
 use Rattle.wb_disk.specs.Memory.{HasRoom}
 use Rattle.wb_disk.proofs.Neighbours.{room_stays}
-use Rattle.wb_world.specs.World.{lands}
+use Rattle.wb_types.specs.declared.mode.Dev.TheVariants.{Origin}
+use Rattle.wb_disk.specs.Failing.{lands}
 use Rattle.wb_world.proofs.Landing.{one_less, done_so}
 use Rattle.wb_world.proofs.room.write_landing.Goals as goal
 use Rattle.wb_world.proofs.room.write_landing.Goals.{then-has_landed, else-has_landed}
@@ -17,7 +18,7 @@ loop-k-preserved c =
     let at = c.args.extent.first + k in
     let old = c.loop-k.disk in
     let content = c.args.content.now in
-    let landing = lands c.args.choice.now in
+    let landing = lands Origin c.args.choice.now in
     let less = one_less landing old.contents c.args.extent.first k c.args.extent.count content c.loop-k-test.true in
     elim c.if-has_landed.branch [
       | then-has_landed w ↦

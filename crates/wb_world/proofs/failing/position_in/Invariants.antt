@@ -1,7 +1,0 @@
-use Rattle.std.proofs.Common.{◌≡◌, drop}
-use Rattle.wb_types.specs.declared.mode.Dev.TheVariants.{Origin}
-use Rattle.wb_disk.specs.Crash.{named_position}
-use Rattle.wb_world.proofs.failing.position_in.Given as goal
-
-abbrev pub invariant-loop-name : goal.invariant-loop-name
-invariant-loop-name l = named_position Origin (drop l.name-index l.named) l.at l.position ≡ named_position Origin l.named l.at l.otherwise
