@@ -2,4 +2,5 @@ pub mod Volume
 pub mod Acts
 pub mod Conditions
 pub mod Promises
+pub mod Devices
 pub mod Examples

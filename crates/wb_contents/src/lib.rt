@@ -10,6 +10,7 @@ ghost use Rattle.wb_disk.specs.Device.{Content};
 ghost use Rattle.wb_contents.specs.Acts.{Act, after_all};
 ghost use Rattle.wb_contents.specs.Conditions.{IsRun};
 ghost use Rattle.wb_contents.specs.Promises.{IsConsistent, IsEntryFrom, first_volume};
+ghost use Rattle.wb_contents.specs.Devices.{ReadIsNewest, WriteIsAct, SyncIsAct, FailedSyncIsAct, CrashIsAct};
 ghost use Rattle.wb_contents.specs.Examples.{blank, nothing, Breaks, two_lives, a_third_life, flushed_one, stale_copy, suspend_root_before_its_syncs, flush_by_an_older_commit, flush_of_syncs_alone, root_before_its_syncs, opening_without_the_origin_sync, committed_cache_block_filled, dirty_block_removed_uncopied, passthrough_over_a_dirty_block};
 
 /// After any run of acts whose conditions are met, over any number of crashes, ends and openings, in any mode: a read gives
@@ -38,4 +39,13 @@ pub fn conditions_are_needed()
 pub fn conditions_can_be_met()
     ensures two_lives { IsRun (first_volume Writeback blank) two_lives }
     ensures a_third_life { IsRun (after_all (first_volume Writeback blank) two_lives) a_third_life }
+{}
+
+/// A device's steps on its list of sectors are acts on the same sectors seen by block and offset.
+pub fn device_steps_are_acts()
+    ensures read { ReadIsNewest }
+    ensures write { WriteIsAct }
+    ensures sync { SyncIsAct }
+    ensures failed_sync { FailedSyncIsAct }
+    ensures crash { CrashIsAct }
 {}
