@@ -6,7 +6,6 @@ ghost use Rattle.std.specs.List.Sorted.{IsNonDecreasingBy};
 mod compared;
 mod plain;
 mod rows;
-mod undone;
 
 use std::alloc::{AllocError, Global};
 use wb_policy::{Order, Policy, Tick};
