@@ -15,7 +15,7 @@ mod node;
 use crate::image::known_of;
 use crate::planning::{Planning, plan_node};
 use crate::{Image, PlacedNode};
-use node::{Node, boxed, settle_all};
+use node::{Node, boxed, filled, settle_all};
 use std::alloc::{Allocator, Global};
 use std::marker::Model;
 use wb_format::{Root, Version};
@@ -195,12 +195,14 @@ impl<A: Allocator + Clone> Tree<A> {
         ensures sound { IfOk result (λ tree. IsSound tree) }
         ensures refused { IfErr result (λ refusal. refusal ≡ OutOfMemory) }
     {
-        let mut tree = Tree::new(alloc, cache_blocks);
-        for block in 0..cache_blocks {
-            if let Some(entry) = entries[block as usize] {
-                tree.set(CBlock(block), entry)?;
-            }
-        }
+        let depth = depth_for(cache_blocks);
+        let root = filled(&alloc, entries, depth, 0)?;
+        let mut tree = Tree {
+            alloc,
+            cache_blocks,
+            depth,
+            root,
+        };
         tree.settle(known);
         Ok(tree)
     }
