@@ -4,7 +4,7 @@
 ghost use Rattle.std.specs.Prelude.{◌≡◌, ◌≢◌, ◌<◌, ◌≤◌, ◌-◌, ◌^◌, ◌++◌, [], ℕ, Some, None, IsSome, is_some, IfOk, IfErr, OnOk, OnErr, length, map, replicate, slice_set};
 ghost use Rattle.wb_types.specs.Limits.{depth_of};
 ghost use Rattle.wb_types.specs.declared.refusal.Refusal.TheVariants.{Memory as OutOfMemory};
-ghost use Rattle.wb_tree.specs.Mapping.{entry_at, exists, place_in, place_of, AreInside, Forgets, IsMapping, IsOnPath, IsSound};
+ghost use Rattle.wb_tree.specs.Mapping.{changed, entry_at, exists, place_in, place_of, AreInside, Forgets, IsMapping, IsOnPath, IsSound};
 ghost use Rattle.wb_tree.specs.Edits.{IsEdited};
 ghost use Rattle.wb_tree.specs.Images.{AreFree, IsImage};
 ghost use Rattle.wb_tree.specs.Fields.{AreApart};
@@ -12,6 +12,7 @@ ghost use Rattle.wb_tree.specs.Settling.{place_told};
 
 mod node;
 
+use crate::counting::count_changed;
 use crate::image::known_of;
 use crate::planning::{Planning, plan_node};
 use crate::{Image, PlacedNode};
@@ -131,6 +132,13 @@ impl<A: Allocator + Clone> Tree<A> {
             return;
         }
         self.root = Some(root);
+    }
+
+    /// How many nodes changed since the last image: so many the next one writes. It visits those and their children.
+    pub fn changed_nodes(&self) -> u32
+        ensures { result ≡ length (changed self.now (depth_of (length self.now.entries))) }
+    {
+        count_changed(self, self.depth, 0)
     }
 
     /// The image of this generation: the nodes that changed since the last one, on the first of the free places, and
