@@ -8,7 +8,10 @@ ghost use Rattle.wb_types.specs.declared.number.Place.{Place as PlaceValue};
 ghost use Rattle.wb_tree.specs.Mapping.{AreInside, IsPlaceOf};
 ghost use Rattle.wb_trial.specs.Own.{AreOwn};
 
+mod trial;
+
 use std::alloc::Global;
+pub use trial::Trial;
 use wb_tree::{Image, Tree};
 use wb_types::{CBlock, Entry, Geometry, OBlock, Place, Refusal};
 
