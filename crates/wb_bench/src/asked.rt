@@ -2,6 +2,7 @@
 
 ghost use Rattle.std.specs.Prelude.{◌≤◌};
 
+use crate::edits::{Edits, Work};
 use crate::shares::{Crowd, Shares};
 use crate::turnover::Turnover;
 
@@ -37,6 +38,7 @@ pub enum Asked<'a> {
     Settles { cache_blocks: u32, accesses: u64 },
     Ticks { cache_blocks: u32, ticks: u64 },
     Turnover(Turnover),
+    Edits(Edits),
     Shares(Shares),
     /// Write a full mapping of so many cache blocks to a file.
     Mapping { file: &'a str, cache_blocks: u32 },
@@ -72,6 +74,13 @@ pub fn read_asked(words: &[String]) -> Option<Asked<'_>> {
                 cache_blocks: cache_blocks.as_str().parse::<u32>().ok()?,
                 rounds: rounds.as_str().parse::<u64>().ok()?,
                 removed: removed.as_str().parse::<u64>().ok()?,
+            }))
+        }
+        [_, tree, cache_blocks, work, rounds] if tree.as_str() == "tree" => {
+            Some(Asked::Edits(Edits {
+                cache_blocks: cache_blocks.as_str().parse::<u32>().ok()?,
+                work: read_work(work.as_str())?,
+                rounds: rounds.as_str().parse::<u64>().ok()?,
             }))
         }
         [_, shares, blocks, threads, rounds] if shares.as_str() == "shares" => {
@@ -111,6 +120,15 @@ fn read_direction(word: &str) -> Option<Direction> {
         "read" => Some(Direction::Read),
         "write" => Some(Direction::Write),
         _ => None,
+    }
+}
+
+fn read_work(word: &str) -> Option<Work> {
+    match word {
+        "get" => Some(Work::Get),
+        "set" => Some(Work::Set),
+        "clear" => Some(Work::Clear),
+        _ => Some(Work::Plan(word.parse::<u32>().ok()?)),
     }
 }
 

@@ -9,6 +9,8 @@
 //! it so many times on so many threads, all the same block or each its own, and prints how many shares there were.
 //! `wb_bench settles CACHE_BLOCKS ACCESSES` settles accesses by Zipf's law over a cache that TinyLfu fills, and prints
 //! how many were hits; `wb_bench ticks CACHE_BLOCKS TICKS` ticks over a full cache, and prints how often one was ordered.
+//! `wb_bench tree CACHE_BLOCKS get|set|clear|CHANGES ROUNDS` looks up, sets or clears a block of a full mapping in each
+//! round, or sets so many blocks and plans an image, and prints the sum of the hints found, or of the nodes written.
 //! `wb_bench FILE mapping CACHE_BLOCKS` makes the file a metadata device that holds a full mapping of so many cache
 //! blocks, and `wb_bench FILE state` reads what it stands for; both print the number of nodes.
 #![tactic(auto)]
@@ -17,6 +19,7 @@ ghost use Rattle.std.specs.Prelude.{◌≡◌, ◌<◌, ◌≤◌};
 
 mod accesses;
 mod asked;
+mod edits;
 mod mapping;
 mod settles;
 mod shares;
@@ -25,6 +28,7 @@ mod unnoted;
 
 use crate::accesses::{add_all, time_reset};
 use crate::asked::{Asked, Direction, Requests, read_asked};
+use crate::edits::edit_all;
 use crate::mapping::{read_mapping, write_mapping};
 use crate::settles::{settle_all, tick_all};
 use crate::shares::share_all;
@@ -48,7 +52,7 @@ const MOST_BLOCKS: u64 = 1_048_576;
 
 /// What it can be asked, on one line.
 const USAGE: &str =
-    "usage: wb_bench FILE read|write SECTORS REQUESTS | sketch CACHE_BLOCKS ADDS|reset | settles CACHE_BLOCKS ACCESSES | ticks CACHE_BLOCKS TICKS | space CACHE_BLOCKS ROUNDS REMOVED | shares same|apart 1|2|4 ROUNDS | FILE mapping CACHE_BLOCKS | FILE state";
+    "usage: wb_bench FILE read|write SECTORS REQUESTS | sketch CACHE_BLOCKS ADDS|reset | settles CACHE_BLOCKS ACCESSES | ticks CACHE_BLOCKS TICKS | space CACHE_BLOCKS ROUNDS REMOVED | tree CACHE_BLOCKS get|set|clear|CHANGES ROUNDS | shares same|apart 1|2|4 ROUNDS | FILE mapping CACHE_BLOCKS | FILE state";
 
 fn main(rt: HostRuntime) -> ExitCode {
     // Before any file is opened.
@@ -76,6 +80,7 @@ fn main(rt: HostRuntime) -> ExitCode {
             None => failed(&rt, "out of memory, or no clock"),
         },
         Asked::Turnover(turnover) => tell_sum(&rt, turn_over(alloc, &turnover)),
+        Asked::Edits(edits) => tell_sum(&rt, edit_all(alloc, &edits)),
         Asked::Settles {
             cache_blocks,
             accesses,

@@ -21,7 +21,7 @@ use Rattle.wb_space.proofs.Noted.{length-noted_alone}
 use Rattle.wb_orders.specs.declared.live_order.LiveOrder.{LiveOrder}
 use Rattle.wb_orders.specs.Orders.{order_at}
 use Rattle.wb_meta.specs.Imaging.{AreUnused}
-use Rattle.wb_meta.proofs.Round.{free_of_used}
+use Rattle.wb_meta.proofs.Round.{free_of_used, unused_for_changed}
 use Rattle.wb_desk.specs.InUse.{AreFlagged}
 use Rattle.wb_desk.specs.Desks.{DeskState, DeskInvariant, IsRight, NamesWhatIs, Names, holdings, is_mapped}
 use Rattle.wb_desk.specs.Fields.{IsIndex, AreParts}
@@ -144,7 +144,7 @@ module _ {P : Type 0} (knows : P → Holdings → Type 0) where
 
   -- the places that the next image is planned with are free for it
   pub free_for : (d : DeskState P) → DeskInvariant knows d → d.space.committing ≡ false → AreFree d.tree d.geometry (next_plan d).free
-  free_for d i idle = free_of_used d.tree d.geometry i.places.committed.used (next_plan d).free
+  free_for d i idle = free_of_used d.tree d.geometry i.places.committed.used (next_plan d).free i.mapping.size
       (λ p is. subst (λ (b : Bool). Contains (if b then i.places.running.used else i.places.committed.used) p) idle (i.places.known p is))
       (unused_for d i.places.committed.used i idle i.places.committed.are)
 
@@ -159,7 +159,7 @@ module _ {P : Type 0} (knows : P → Holdings → Type 0) where
       → IsSound tree → AreInside d.geometry.meta_sectors tree → IsOnUnused d tree image
   on_unused d tree image i idle is sound inside used are = record {
     mapping = i.mapping;
-    free_are = unused_for d used i idle are;
+    free_are = unused_for_changed d.tree d.geometry used (next_plan d).free i.mapping.size (unused_for d used i idle are);
     image_is = is;
     sound = sound;
     inside = inside;

@@ -13,6 +13,7 @@ use Rattle.wb_tree.specs.Mapping.{Mapping, IsMapping, IsSound, IsPlaceOf, AreIns
 use Rattle.wb_tree.specs.Images.{AreFree, ImagePlan, IsImage, Stores}
 use Rattle.wb_tree.specs.declared.image.Image.{Image}
 use Rattle.wb_tree.specs.Reading.{Found, is_reached, nothing_found}
+use Rattle.wb_tree.proofs.Images.Changes.{few_changed}
 use Rattle.wb_tree.proofs.Stored.Edited.{stored-edited, inside-edited, places-edited}
 use Rattle.wb_tree.proofs.Stored.Whole.{reached_below-known}
 use Rattle.wb_tree.specs.Whole.{found_of, marked, reached_below}
@@ -20,7 +21,7 @@ use Rattle.wb_disk.specs.Crashes.{MayLeave, AfterEveryCrash}
 use Rattle.wb_meta.specs.Formats.{IsFormatted}
 use Rattle.wb_meta.specs.Representing.{Represents, RepresentsTree, Stored}
 use Rattle.wb_tree.specs.Edits.{IsEdited}
-use Rattle.wb_meta.specs.Imaging.{DeviceStores, AreUnused, IsNextImage, IsPlanned, Follows}
+use Rattle.wb_meta.specs.Imaging.{DeviceStores, AreUnused, AreUnusedFor, IsNextImage, IsPlanned, Follows}
 use Rattle.wb_meta.specs.Laws.{of_first}
 use Rattle.wb_meta.specs.Reads.{AreApartPlaces, FitsDevice}
 use Rattle.wb_meta.proofs.Counting.{all_contained}
@@ -130,8 +131,8 @@ stored_edited m n device old used stores edited sound = record {
 }
 
 -- places that are not used are free for a tree whose places are
-pub free_of_used : (m : Mapping) (geometry : Geometry) (used free : List Place) → ((place : Place) → IsPlaceOf m place → Contains used place) → AreUnused geometry used free → AreFree m geometry free
-free_of_used m geometry used free known unused = record {
+pub free_of_unused : (m : Mapping) (geometry : Geometry) (used free : List Place) → ((place : Place) → IsPlaceOf m place → Contains used place) → AreUnusedFor m geometry used free → AreFree m geometry free
+free_of_unused m geometry used free known unused = record {
   enough = unused.enough;
   behind = unused.behind;
   inside = unused.inside;
@@ -139,8 +140,23 @@ free_of_used m geometry used free known unused = record {
   unused = λ i place h is. unused.unused i place h (known place is);
 }
 
-pub unused_free : (m : Mapping) (device : List History) (old : Stored) (used free : List Place) → DeviceStores m device old used → AreUnused old.root.geometry used free → AreFree m old.root.geometry free
-unused_free m device old used free stores unused = free_of_used m old.root.geometry used free stores.known_used unused
+-- enough for all nodes are enough for those that changed
+pub unused_for_changed : (m : Mapping) (geometry : Geometry) (used free : List Place) → length m.entries ≡ geometry.cache_blocks → AreUnused geometry used free → AreUnusedFor m geometry used free
+unused_for_changed m geometry used free size unused =
+    let enough = unused.enough in
+    record {
+      enough = omega (arith, enough, few_changed m geometry.cache_blocks size);
+      behind = unused.behind;
+      inside = unused.inside;
+      apart = unused.apart;
+      unused = unused.unused;
+    }
+
+pub free_of_used : (m : Mapping) (geometry : Geometry) (used free : List Place) → length m.entries ≡ geometry.cache_blocks → ((place : Place) → IsPlaceOf m place → Contains used place) → AreUnused geometry used free → AreFree m geometry free
+free_of_used m geometry used free size known unused = free_of_unused m geometry used free known (unused_for_changed m geometry used free size unused)
+
+pub unused_free : (m : Mapping) (device : List History) (old : Stored) (used free : List Place) → DeviceStores m device old used → AreUnusedFor m old.root.geometry used free → AreFree m old.root.geometry free
+unused_free m device old used free stores unused = free_of_unused m old.root.geometry used free stores.known_used unused
 
 pub next_planned : (m n : Mapping) (plan : ImagePlan) (image : Image) (device : List History) (old : Stored) (used : List Place) → DeviceStores m device old used → IsPlanned m n plan image used → Follows plan old → IsNextImage m n plan image device old
 next_planned m n plan image device old used stores planned follows = record {
@@ -149,7 +165,7 @@ next_planned m n plan image device old used stores planned follows = record {
   new_sound = planned.sound;
   inside = planned.inside;
   free_are = subst (λ (g : Geometry). AreFree m g plan.free) follows.same_geometry
-      (unused_free m device old used plan.free stores (subst (λ (g : Geometry). AreUnused g used plan.free) (sym follows.same_geometry) planned.free_are));
+      (unused_free m device old used plan.free stores (subst (λ (g : Geometry). AreUnusedFor m g used plan.free) (sym follows.same_geometry) planned.free_are));
   image_is = planned.image_is;
   size = stores.size ∙ ap (λ (g : Geometry). g.meta_sectors) follows.same_geometry;
   same_geometry = follows.same_geometry;

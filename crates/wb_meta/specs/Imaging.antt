@@ -1,12 +1,12 @@
 -- A tree on a device that represents it, and the next image of the tree.
 use Rattle.std.specs.Prelude.{◌≡◌, ◌≤◌, ◌<◌, ◌+◌, ℕ, true, false, List, [], Some, length, slice_get, Contains}
-use Rattle.wb_types.specs.Limits.{node_count}
+use Rattle.wb_types.specs.Limits.{depth_of, node_count}
 use Rattle.wb_types.specs.declared.geometry.Geometry.{Geometry}
 use Rattle.wb_types.specs.declared.number.Place.{Place}
 use Rattle.wb_disk.specs.Device.{History}
 use Rattle.wb_disk.specs.Crashes.{AfterEveryCrash}
 use Rattle.wb_tree.specs.declared.image.Image.{Image}
-use Rattle.wb_tree.specs.Mapping.{Mapping, IsMapping, IsSound, IsPlaceOf, AreInside}
+use Rattle.wb_tree.specs.Mapping.{Mapping, IsMapping, IsSound, IsPlaceOf, AreInside, changed}
 use Rattle.wb_tree.specs.Reading.{is_reached}
 use Rattle.wb_tree.specs.Images.{AreFree, ImagePlan, IsImage, Stores}
 use Rattle.wb_meta.specs.Representing.{Represents, Stored}
@@ -26,14 +26,22 @@ pub record DeviceStores (m : Mapping) (device : List History) (old : Stored) (us
   pub used_inside : (place : Place) → Contains used place → (2 ≤ place.0) × (place.0 < old.root.geometry.meta_sectors)
   pub used_few : length used ≤ node_count old.root.geometry.cache_blocks
 
--- Places from which an image may take its own: enough for every node that a tree of this geometry can have, behind the
--- slots, on the device, none twice, and none of those that are used.
-pub record AreUnused (geometry : Geometry) (used free : List Place) : Type 0 where
-  pub enough : node_count geometry.cache_blocks ≤ length free
+-- Places from which an image may take its own: at least so many, behind the slots, on the device, none twice, and none of
+-- those that are used.
+pub record HasUnused (count : ℕ) (geometry : Geometry) (used free : List Place) : Type 0 where
+  pub enough : count ≤ length free
   pub behind : (i : ℕ) (place : Place) → slice_get free i ≡ Some place → 2 ≤ place.0
   pub inside : (i : ℕ) (place : Place) → slice_get free i ≡ Some place → place.0 < geometry.meta_sectors
   pub apart : (i j : ℕ) (place : Place) → slice_get free i ≡ Some place → slice_get free j ≡ Some place → i ≡ j
   pub unused : (i : ℕ) (place : Place) → slice_get free i ≡ Some place → ¬ Contains used place
+
+-- enough for the nodes of a tree that changed
+abbrev pub AreUnusedFor : Mapping → Geometry → List Place → List Place → Type 0
+AreUnusedFor m geometry used free = HasUnused (length (changed m (depth_of geometry.cache_blocks))) geometry used free
+
+-- enough for every node that a tree of this geometry can have
+abbrev pub AreUnused : Geometry → List Place → List Place → Type 0
+AreUnused geometry used free = HasUnused (node_count geometry.cache_blocks) geometry used free
 
 -- An image leads from the tree m to the tree n, and the device represents what was stored before and stores m: the image
 -- is the next.
@@ -65,7 +73,7 @@ pub record IsNextImage (m n : Mapping) (plan : ImagePlan) (image : Image) (devic
 -- The image leads from the tree m to the tree n, on places that are not used.
 pub record IsPlanned (m n : Mapping) (plan : ImagePlan) (image : Image) (used : List Place) : Type 0 where
   pub mapping : IsMapping plan.geometry.cache_blocks plan.geometry.origin_blocks m.entries
-  pub free_are : AreUnused plan.geometry used plan.free
+  pub free_are : AreUnusedFor m plan.geometry used plan.free
   pub image_is : IsImage m n plan image
   pub sound : IsSound n
   pub inside : AreInside plan.geometry.meta_sectors n

@@ -19,7 +19,7 @@ use Rattle.wb_meta.specs.Steps.{DoesStep, FailsStep, steps_after}
 use Rattle.wb_meta.specs.Placing.{HavePlaces, MayCommit}
 use Rattle.wb_meta.specs.Commits.{HasCome, HasFailed, IsBeforeRoot}
 use Rattle.wb_meta.specs.Formats.{IsFirstRoot, IsFormatted}
-use Rattle.wb_meta.specs.Imaging.{DeviceStores, AreUnused, IsNextImage, IsPlanned, Follows}
+use Rattle.wb_meta.specs.Imaging.{DeviceStores, AreUnusedFor, IsNextImage, IsPlanned, Follows}
 use Rattle.wb_meta.specs.Openings.{IsOpening}
 use Rattle.wb_meta.specs.Reads.{FitsDevice}
 use Rattle.wb_meta.specs.States.{RepresentsState, HasNoRoot, HasOtherSize, HasFittingRoot, IsDamagedAt, IsRefusedBy, SpeaksOfSectors}
@@ -148,7 +148,7 @@ EditedStores = (m n : Mapping) (device : List History) (old : Stored) (used : Li
 -- places that are not used are free
 abbrev pub UnusedAreFree : Type 0
 UnusedAreFree = (m : Mapping) (device : List History) (old : Stored) (used free : List Place) → DeviceStores m device old used
-    → AreUnused old.root.geometry used free → AreFree m old.root.geometry free
+    → AreUnusedFor m old.root.geometry used free → AreFree m old.root.geometry free
 
 -- an image of the tree, on places that are not used, is the next
 abbrev pub PlannedIsNext : Type 0

@@ -1,2 +1,1 @@
-pub mod OwnTrees
 pub mod OwnPlaces

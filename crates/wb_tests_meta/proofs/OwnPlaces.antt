@@ -6,13 +6,12 @@ use Rattle.std.proofs.lemmas.Bool.{cases_lt, cases_eq}
 use Rattle.std.proofs.lemmas.List.{get_or_past}
 use Rattle.std.proofs.lemmas.List.Elements.{All-contains}
 use Rattle.std.proofs.lemmas.List.FromFn.{length-map-range_with_len}
-use Rattle.wb_types.specs.Limits.{node_count}
 use Rattle.wb_types.specs.declared.entry.Entry.{Entry}
 use Rattle.wb_types.specs.declared.geometry.Geometry.{Geometry}
 use Rattle.wb_types.specs.declared.number.Place.{Place}
 use Rattle.wb_tree.specs.Mapping.{Mapping, IsMapping, IsPlaceOf, Forgets, entry_at}
-use Rattle.wb_meta.specs.Imaging.{AreUnused}
-use Rattle.wb_tests_meta.proofs.OwnTrees.{some_inside, places-numbers}
+use Rattle.wb_meta.specs.Imaging.{HasUnused}
+use Rattle.wb_trial.proofs.OwnTrees.{some_inside, places-numbers}
 
 -- ---- mappings
 
@@ -37,12 +36,12 @@ own-mapping cache_blocks origin_blocks entries size few own = record {
 
 -- ---- places
 
-pub places-unused : (geometry : Geometry) (first count : ℕ) (free : List Place) → free ≡ map (λ number. record { 0 = number }) (range_with_len first count)
-    → (used : List Place) → All (λ place. first ≤ place.0 → first + count ≤ place.0) used → 2 ≤ first → node_count geometry.cache_blocks ≤ count → first + count ≤ geometry.meta_sectors → AreUnused geometry used free
-places-unused geometry first count free e used outside from enough to =
+pub places-unused : (geometry : Geometry) (many first count : ℕ) (free : List Place) → free ≡ map (λ number. record { 0 = number }) (range_with_len first count)
+    → (used : List Place) → All (λ place. first ≤ place.0 → first + count ≤ place.0) used → 2 ≤ first → many ≤ count → first + count ≤ geometry.meta_sectors → HasUnused many geometry used free
+places-unused geometry many first count free e used outside from enough to =
     let made : ℕ → Place = λ number. record { 0 = number } in
     let size : length (map made (range_with_len first count)) ≡ count = length-map-range_with_len made first count in
-    subst (AreUnused geometry used) (sym e) (record {
+    subst (HasUnused many geometry used) (sym e) (record {
       enough = omega arith;
       behind = λ i place h. let n = places-numbers first count i place h in omega (arith, n.0);
       inside = λ i place h. let n = places-numbers first count i place h in omega (arith, n.0, n.1);

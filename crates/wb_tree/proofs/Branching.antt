@@ -3,3 +3,4 @@ pub mod Branches
 pub mod Edits
 pub mod Looks
 pub mod Settled
+pub mod Filling

@@ -1,4 +1,5 @@
 -- What an image writes.
+pub mod Changes
 pub mod Imaging
 pub mod PlanSteps
 pub mod PlanWords

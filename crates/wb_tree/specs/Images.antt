@@ -29,10 +29,10 @@ name_of node = record { level = node.level; index = node.index }
 abbrev pub HasWordsOf : Mapping → Node → Type 0
 HasWordsOf m node = (j : ℕ) → j < 32 → slice_index node.words j ≡ word_at m node.level node.index j
 
--- A list of places from which an image may take its own: enough for every node that a tree of this geometry can have,
--- behind the slots, on the device, none twice, and none at which a node of the tree stands.
+-- A list of places from which an image may take its own: enough for the nodes that changed, behind the slots, on the
+-- device, none twice, and none at which a node of the tree stands.
 pub record AreFree (m : Mapping) (geometry : Geometry) (free : List Place) : Type 0 where
-  pub enough : node_count geometry.cache_blocks ≤ length free
+  pub enough : length (changed m (depth_of geometry.cache_blocks)) ≤ length free
   pub behind : (i : ℕ) (place : Place) → slice_get free i ≡ Some place → 2 ≤ place.0
   pub inside : (i : ℕ) (place : Place) → slice_get free i ≡ Some place → place.0 < geometry.meta_sectors
   pub apart : (i j : ℕ) (place : Place) → slice_get free i ≡ Some place → slice_get free j ≡ Some place → i ≡ j

@@ -10,3 +10,4 @@ pub mod Planning
 pub mod Branches
 pub mod BranchLevels
 pub mod Settling
+pub mod Filling

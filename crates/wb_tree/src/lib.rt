@@ -6,6 +6,7 @@
 #![tactic(auto)]
 
 mod below;
+mod counting;
 mod frame;
 mod frames;
 mod image;

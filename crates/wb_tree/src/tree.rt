@@ -4,7 +4,7 @@
 ghost use Rattle.std.specs.Prelude.{◌≡◌, ◌≢◌, ◌<◌, ◌≤◌, ◌-◌, ◌^◌, ◌++◌, [], ℕ, Some, None, IsSome, is_some, IfOk, IfErr, OnOk, OnErr, length, map, replicate, slice_set};
 ghost use Rattle.wb_types.specs.Limits.{depth_of};
 ghost use Rattle.wb_types.specs.declared.refusal.Refusal.TheVariants.{Memory as OutOfMemory};
-ghost use Rattle.wb_tree.specs.Mapping.{entry_at, exists, place_in, place_of, AreInside, Forgets, IsMapping, IsOnPath, IsSound};
+ghost use Rattle.wb_tree.specs.Mapping.{changed, entry_at, exists, place_in, place_of, AreInside, Forgets, IsMapping, IsOnPath, IsSound};
 ghost use Rattle.wb_tree.specs.Edits.{IsEdited};
 ghost use Rattle.wb_tree.specs.Images.{AreFree, IsImage};
 ghost use Rattle.wb_tree.specs.Fields.{AreApart};
@@ -12,10 +12,11 @@ ghost use Rattle.wb_tree.specs.Settling.{place_told};
 
 mod node;
 
+use crate::counting::count_changed;
 use crate::image::known_of;
 use crate::planning::{Planning, plan_node};
 use crate::{Image, PlacedNode};
-use node::{Node, boxed, settle_all};
+use node::{Node, boxed, filled, settle_all};
 use std::alloc::{Allocator, Global};
 use std::marker::Model;
 use wb_format::{Root, Version};
@@ -133,6 +134,13 @@ impl<A: Allocator + Clone> Tree<A> {
         self.root = Some(root);
     }
 
+    /// How many nodes changed since the last image: so many the next one writes. It visits those and their children.
+    pub fn changed_nodes(&self) -> u32
+        ensures { result ≡ length (changed self.now (depth_of (length self.now.entries))) }
+    {
+        count_changed(self, self.depth, 0)
+    }
+
     /// The image of this generation: the nodes that changed since the last one, on the first of the free places, and
     /// a root with this `clean` flag. After it no node counts as changed. It is on the caller to write it. Of the
     /// nodes it visits those that changed and their children; the list of used places takes a look at every node.
@@ -195,12 +203,14 @@ impl<A: Allocator + Clone> Tree<A> {
         ensures sound { IfOk result (λ tree. IsSound tree) }
         ensures refused { IfErr result (λ refusal. refusal ≡ OutOfMemory) }
     {
-        let mut tree = Tree::new(alloc, cache_blocks);
-        for block in 0..cache_blocks {
-            if let Some(entry) = entries[block as usize] {
-                tree.set(CBlock(block), entry)?;
-            }
-        }
+        let depth = depth_for(cache_blocks);
+        let root = filled(&alloc, entries, depth, 0)?;
+        let mut tree = Tree {
+            alloc,
+            cache_blocks,
+            depth,
+            root,
+        };
         tree.settle(known);
         Ok(tree)
     }

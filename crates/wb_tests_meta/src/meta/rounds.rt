@@ -107,7 +107,7 @@ pub(super) fn plan_at(
 {
     let first = u32::from(free.0);
     let count = u32::from(free.1);
-    if first < 2 || count < geometry.node_count() || geometry.meta_sectors < first + count {
+    if first < 2 || count < tree.changed_nodes() || geometry.meta_sectors < first + count {
         return Err(Refusal::Busy);
     }
     if !are_outside(used, first, first + count) {

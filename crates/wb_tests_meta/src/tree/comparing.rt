@@ -2,9 +2,9 @@
 
 ghost use Rattle.std.specs.Prelude.{◌≡◌, ◌≤◌, ◌<◌, IfOk, length};
 
-use super::images::{change, plan_at};
 use super::*;
 use linked_list_allocator::LocalHeap;
+use wb_trial::{change, plan_at};
 
 /// The sectors of the metadata device.
 const SECTORS: usize = 10_000;
@@ -98,15 +98,9 @@ fn agree(global: Global, cache_blocks: u32, edits: u32) -> Result<bool, Refusal>
             hints[at] = hint;
         }
         let count = count_changed(&hints, &changed, geometry.depth());
-        let free = (2 + PLACES * round, PLACES);
-        let image = plan_at(
-            global,
-            &mut tree,
-            &geometry,
-            u64::from(round) + 1,
-            &used,
-            free,
-        )?;
+        let first = 2 + PLACES * round;
+        let generation = u64::from(round) + 1;
+        let image = plan_at(global, &mut tree, &geometry, generation, &used, first)?;
         for (Place(place), node) in image.nodes.iter() {
             if (*place as usize) < sectors.len() {
                 sectors[*place as usize] = Some(*node);

@@ -61,7 +61,7 @@ split (suc level) index offset from less =
 higher : (level : ℕ) → 1 ≤ level → (level ≡ 1 → ⊥) → (level == 1) ≡ false
 higher level from off = not_same level 1 off
 
-leaf_is : {A : Type 0} (level index : ℕ) (place : Option Place) (words : List (Option Entry)) (kids : List (Option (Box Branch A))) → level ≡ 1 → (branch_of level index place words kids).entries ≡ words
+pub leaf_is : {A : Type 0} (level index : ℕ) (place : Option Place) (words : List (Option Entry)) (kids : List (Option (Box Branch A))) → level ≡ 1 → (branch_of level index place words kids).entries ≡ words
 leaf_is level index place words kids e = rw e refl
 
 pub inner_is : {A : Type 0} (level index : ℕ) (place : Option Place) (words : List (Option Entry)) (kids : List (Option (Box Branch A))) → (level ≡ 1 → ⊥)

@@ -264,8 +264,3 @@ nothing_boxed {A} cache_blocks depth root m nodes none are view sound = record {
         let there : exists m.entries level index ≡ true = sound.known_exist level index place e in
         let empty : exists m.entries level index ≡ false = nothing_there_at_all cache_blocks depth level index root m none are view in
         absurd cc
-
--- where no node is known the list is empty
-pub none_known : (known : List PlacedNode) → ((level index : ℕ) → place_in known level index ≡ None) → known ≡ []
-none_known [] none = refl
-none_known (node ∷ known) none = absurd (let e : Some node.place ≡ None = sym (here_is node known) ∙ none node.level node.index in cc)

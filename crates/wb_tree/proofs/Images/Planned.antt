@@ -45,11 +45,7 @@ pub record CanPlace (m : Mapping) (geometry : Geometry) (free : List Place) : Ty
 few_enough : (m : Mapping) (geometry : Geometry) (free : List Place) → CanPlace m geometry free → length (changed m (levels m)) ≤ length free
 few_enough m geometry free can =
     let are = can.are in
-    let enough = are.enough in
-    let size = can.size in
-    let all = changed_of-few m (nodes_of m.entries (levels m)) in
-    let most = count-nodes m.entries (length m.entries) (omega arith) in
-    omega (arith, all, most, ap node_count size)
+    subst (λ n. length (changed m (depth_of n)) ≤ length free) (sym can.size) are.enough
 
 pub may-plan : (m : Mapping) (geometry : Geometry) (free : List Place) → CanPlace m geometry free → IsMapping geometry.cache_blocks geometry.origin_blocks m.entries → MayPlan m free
 may-plan m geometry free can mapping =

@@ -25,13 +25,6 @@ shown-all count [] h = refl
 shown-all zero (entry ∷ entries) h = absurd (omega arith)
 shown-all (suc count) (entry ∷ entries) h = ap (λ (rest : List (Option Entry)). entry ∷ rest) (shown-all count entries (omega arith))
 
--- as many as there are
-pub shown-length : (count : ℕ) (entries : List (Option Entry)) → length (shown count entries) ≡ length entries
-unfolding shown
-shown-length count [] = refl
-shown-length zero (entry ∷ entries) = ap suc (shown-length zero entries)
-shown-length (suc count) (entry ∷ entries) = ap suc (shown-length count entries)
-
 -- one entry more
 pub shown-set : (count : ℕ) (entries : List (Option Entry)) (entry : Option Entry) → get_or entries count None ≡ entry → set (shown count entries) count entry ≡ shown (suc count) entries
 unfolding shown

@@ -6,7 +6,10 @@ ghost use Rattle.wb_tree.specs.Mapping.{exists, place_in};
 ghost use Rattle.wb_tree.specs.Branches.{rewritten, sole_branch, IsKid};
 ghost use Rattle.wb_tree.specs.Settling.{place_told, CanSettle, IsSettled, IsSettledAt};
 
+mod filling;
+
 use crate::PlacedNode;
+pub(crate) use filling::filled;
 use std::alloc::{AllocError, Allocator};
 use std::marker::Model;
 use wb_types::{Entry, Place};

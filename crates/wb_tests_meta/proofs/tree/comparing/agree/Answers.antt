@@ -2,7 +2,7 @@ use Rattle.std.proofs.Common.{◌≡◌, ◌∙◌, sym, ap, subst, List, length
 use Rattle.std.specs.Prelude.{Contains}
 use Rattle.std.proofs.lemmas.List.{length-set}
 use Rattle.wb_types.specs.declared.number.Place.{Place}
-use Rattle.wb_tests_meta.proofs.OwnTrees.{AreOwn}
+use Rattle.wb_trial.specs.Own.{AreOwn}
 use Rattle.wb_tests_meta.proofs.tree.comparing.agree.Goals as goal
 
 pub loop-preserved : goal.loop-preserved

@@ -2,7 +2,7 @@ use Rattle.std.proofs.Common.{◌≡◌, ◌≤◌, length}
 use Rattle.std.specs.Prelude.{Contains}
 use Rattle.wb_types.specs.declared.number.Place.{Place}
 use Rattle.wb_tree.specs.Mapping.{AreInside, IsPlaceOf}
-use Rattle.wb_tests_meta.proofs.OwnTrees.{AreOwn}
+use Rattle.wb_trial.specs.Own.{AreOwn}
 use Rattle.wb_tests_meta.proofs.tree.comparing.agree.Given as goal
 
 abbrev pub invariant-loop-round : goal.invariant-loop-round

@@ -1,4 +1,4 @@
-use Rattle.wb_tests_meta.proofs.OwnTrees.{none-known}
+use Rattle.wb_trial.proofs.OwnTrees.{none-known}
 use Rattle.wb_tests_meta.proofs.tree.images.a_leaf_alone_is_planned.Goals as goal
 
 pub plan_at-requires-clause-used : goal.plan_at-requires-clause-used

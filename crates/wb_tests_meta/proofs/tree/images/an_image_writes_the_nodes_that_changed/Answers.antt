@@ -3,7 +3,8 @@ use Rattle.std.specs.Prelude.{Contains}
 use Rattle.std.proofs.lemmas.List.{length-replicate}
 use Rattle.wb_types.specs.declared.entry.Entry.{Entry}
 use Rattle.wb_types.specs.declared.number.Place.{Place}
-use Rattle.wb_tests_meta.proofs.OwnTrees.{AreOwn, none-known, none-own}
+use Rattle.wb_trial.specs.Own.{AreOwn}
+use Rattle.wb_trial.proofs.OwnTrees.{none-known, none-own}
 use Rattle.wb_tests_meta.proofs.tree.images.an_image_writes_the_nodes_that_changed.Goals as goal
 
 pub loop-row-init : goal.loop-row-init
@@ -14,12 +15,12 @@ loop-row-init g c = record {
   inside = λ place is. absurd (none-known c.new-tree.result place c.new-tree.ensures.known is);
 }
 
-pub plan_over-requires-clause-used : goal.plan_over-requires-clause-used
-plan_over-requires-clause-used g c place is =
+pub plan_at-requires-clause-used : goal.plan_at-requires-clause-used
+plan_at-requires-clause-used g c place is =
     subst (λ (places : List Place). Contains places place) (sym c.deref.ensures.value) (c.loop-row.invariant.used place (c.in_ok-change.ensures.stays place (c.in_ok-change-2.ensures.stays place is)))
 
-pub plan_over-requires-clause-inside : goal.plan_over-requires-clause-inside
-plan_over-requires-clause-inside g c place is = c.loop-row.invariant.inside place (c.in_ok-change.ensures.stays place (c.in_ok-change-2.ensures.stays place is))
+pub plan_at-requires-clause-inside : goal.plan_at-requires-clause-inside
+plan_at-requires-clause-inside g c place is = c.loop-row.invariant.inside place (c.in_ok-change.ensures.stays place (c.in_ok-change-2.ensures.stays place is))
 
 pub loop-row-preserved : goal.loop-row-preserved
 loop-row-preserved g c = record {

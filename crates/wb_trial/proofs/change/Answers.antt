@@ -1,7 +1,7 @@
 use Rattle.std.proofs.Common.{Result, Ok, Err}
 use Rattle.std.specs.Prelude.{OnOk}
 use Rattle.wb_tree.proofs.Stored.Edited.{places-edited}
-use Rattle.wb_tests_meta.proofs.tree.images.change.Goals as goal
+use Rattle.wb_trial.proofs.change.Goals as goal
 
 on_ok : {T E P : Type 0} (r : Result T E) → P → OnOk r P
 on_ok (Ok x) p = p

@@ -1,0 +1,12 @@
+use Rattle.std.proofs.Common.{◌≡◌, ◌≤◌, ◌∙◌, sym, ap, subst, length, arith}
+use Rattle.wb_tree.specs.Mapping.{Mapping, IsSound, changed}
+use Rattle.wb_tree.specs.Planning.{levels}
+use Rattle.wb_tree.proofs.Branching.Edits.{long-boxes}
+use Rattle.wb_tree.proofs.Branching.Settled.{levels-boxes}
+use Rattle.wb_tree.proofs.tree.Tree.changed_nodes.Goals as goal
+
+pub returns : goal.returns
+returns g c =
+    let b = c.self.inside in
+    let deep : b.depth ≡ levels c.args.self.now = sym (levels-boxes b.cache_blocks b.depth b.root c.self.invariant) ∙ ap (λ (n : Mapping). levels n) c.self.view_is in
+    c.count_changed.ensures.count ∙ ap (λ d. length (changed c.args.self.now d)) deep

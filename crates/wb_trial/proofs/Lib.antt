@@ -1,0 +1,2 @@
+pub mod OwnTrees
+pub mod Trials
