@@ -4,6 +4,8 @@
 
 mod devices;
 mod moving;
+mod running;
 
 pub use devices::Devices;
 pub use moving::{read_extent, sync, write_extent};
+pub use running::RunningCommit;
