@@ -1,1 +1,4 @@
 pub mod Landing
+pub mod Counting
+pub mod Releasing
+pub mod Going

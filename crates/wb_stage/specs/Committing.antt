@@ -1,5 +1,5 @@
 -- What a step of a running commit does: to the commit, and to the metadata device.
-use Rattle.std.specs.Prelude.{◌≡◌, ◌==◌, ◌&&◌, ℕ, Bool, true, false, List, Option, Some, None, is_some, is_none, slice_get}
+use Rattle.std.specs.Prelude.{◌≡◌, ◌==◌, ◌&&◌, ℕ, Bool, true, false, List, is_some, is_none, slice_get}
 use Rattle.wb_types.specs.declared.mode.Dev.TheVariants.{Metadata}
 use Rattle.wb_disk.specs.Device.{History, OneMore}
 use Rattle.wb_tree.specs.declared.image.Image.{Image}

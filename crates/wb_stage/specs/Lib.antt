@@ -1,2 +1,5 @@
 pub mod Moving
 pub mod Committing
+pub mod Asking
+pub mod Stages
+pub mod Led

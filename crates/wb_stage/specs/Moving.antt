@@ -9,6 +9,12 @@ use Rattle.wb_tasks.specs.declared.step.Got.{Got}
 use Rattle.wb_tasks.specs.declared.step.Got.TheVariants.{Done, Fault}
 use Rattle.wb_stage.specs.declared.devices.Devices.{Devices}
 
+-- a step on a device is done, or fails
+abbrev pub IsOutcome : Got → Type 0
+IsOutcome Done = Unit {0}
+IsOutcome Fault = Unit {0}
+IsOutcome got = ⊥
+
 -- A device of this size has the sectors of an extent, and there is room for so many.
 abbrev pub CanMove : ℕ → ℕ → Extent → Type 0
 CanMove size room e = (e.first + e.count ≤ size) × (e.count ≤ room)

@@ -1,10 +1,7 @@
 //! The three devices of a cache.
 
 ghost use Rattle.std.specs.Prelude.{◌≡◌, length};
-ghost use Rattle.wb_tasks.specs.Plan.{Fits};
-ghost use Rattle.wb_tasks.specs.declared.step.Want.TheVariants.{Device};
-ghost use Rattle.wb_tasks.specs.declared.step.DeviceStep.{DeviceStep as Step};
-ghost use Rattle.wb_stage.specs.Moving.{DidRead, DidWrite, DidSync, OthersStay, device_in};
+ghost use Rattle.wb_stage.specs.Moving.{IsOutcome, DidRead, DidWrite, DidSync, OthersStay, device_in};
 
 use crate::moving::{read_extent, sync, write_extent};
 use wb_disk::Disk;
@@ -22,7 +19,7 @@ pub struct Devices<D> {
 impl<D: Disk> Devices<D> {
     /// Reads an extent of a device to the front of these contents.
     pub fn read(&mut self, device: Dev, extent: Extent, into: &mut [Content]) -> Got
-        ensures kind { (step : Step) → Fits (Device step) result }
+        ensures kind { IsOutcome result }
         ensures many { length into.new ≡ length into.old }
         ensures others { OthersStay device self.old self.new }
         ensures size { D.size (device_in device self.new) ≡ D.size (device_in device self.old) }
@@ -37,7 +34,7 @@ impl<D: Disk> Devices<D> {
 
     /// Writes an extent of a device from the front of these contents.
     pub fn write(&mut self, device: Dev, extent: Extent, from: &[Content]) -> Got
-        ensures kind { (step : Step) → Fits (Device step) result }
+        ensures kind { IsOutcome result }
         ensures others { OthersStay device self.old self.new }
         ensures size { D.size (device_in device self.new) ≡ D.size (device_in device self.old) }
         ensures did { D.tells → DidWrite extent result (D.size (device_in device self.old)) from.now (D.contents (device_in device self.old)) (D.faults (device_in device self.old)) (D.contents (device_in device self.new)) (D.faults (device_in device self.new)) }
@@ -51,7 +48,7 @@ impl<D: Disk> Devices<D> {
 
     /// Syncs a device.
     pub fn sync(&mut self, device: Dev) -> Got
-        ensures kind { (step : Step) → Fits (Device step) result }
+        ensures kind { IsOutcome result }
         ensures others { OthersStay device self.old self.new }
         ensures size { D.size (device_in device self.new) ≡ D.size (device_in device self.old) }
         ensures did { D.tells → DidSync result (D.contents (device_in device self.old)) (D.faults (device_in device self.old)) (D.contents (device_in device self.new)) (D.faults (device_in device self.new)) }

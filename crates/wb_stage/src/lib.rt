@@ -2,10 +2,16 @@
 //! of step is performed here once, and who has its own words, devices or buffers builds a stage of these parts.
 #![tactic(auto)]
 
+pub mod asking;
+mod committing;
 mod devices;
 mod moving;
+mod perform;
 mod running;
+mod stage;
 
+pub use committing::{put, sync_metadata};
 pub use devices::Devices;
 pub use moving::{read_extent, sync, write_extent};
 pub use running::RunningCommit;
+pub use stage::CacheStage;

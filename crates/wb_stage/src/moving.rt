@@ -3,10 +3,7 @@
 ghost use Rattle.std.specs.Prelude.{◌≡◌, ◌≤◌, ◌<◌, ◌+◌, ◌^◌, ◌↔◌, length, take, IsTrue, OnOk, OnErr};
 ghost use Rattle.wb_disk.specs.Device.{OneMore};
 ghost use Rattle.wb_disk.specs.Extents.{GivesEach};
-ghost use Rattle.wb_tasks.specs.Plan.{Fits};
-ghost use Rattle.wb_tasks.specs.declared.step.Want.TheVariants.{Device};
-ghost use Rattle.wb_tasks.specs.declared.step.DeviceStep.{DeviceStep as Step};
-ghost use Rattle.wb_stage.specs.Moving.{CanMove, DidRead, DidWrite, DidSync};
+ghost use Rattle.wb_stage.specs.Moving.{IsOutcome, CanMove, DidRead, DidWrite, DidSync};
 
 use wb_disk::{Disk, DiskFault};
 use wb_tasks::Got;
@@ -15,7 +12,7 @@ use wb_types::{Content, Extent};
 /// Reads an extent by one call, to the front of these contents. A fault, and the disk is not asked, where it has not all
 /// of these sectors or there is no room for them; else a fault where the disk failed.
 pub fn read_extent<D: Disk>(disk: &mut D, extent: Extent, into: &mut [Content]) -> Got
-    ensures kind { (step : Step) → Fits (Device step) result }
+    ensures kind { IsOutcome result }
     ensures many { length into.new ≡ length into.old }
     ensures size { D.size disk.new ≡ D.size disk.old }
     ensures did { D.tells → DidRead extent result (D.size disk.old) (D.contents disk.old) (D.faults disk.old) into.new (D.contents disk.new) (D.faults disk.new) }
@@ -33,7 +30,7 @@ pub fn read_extent<D: Disk>(disk: &mut D, extent: Extent, into: &mut [Content]) 
 /// of these sectors or there are too few contents; else a fault where the disk failed.
 #[tactic(auto, using(crate::proofs::Landing::none_landed))]
 pub fn write_extent<D: Disk>(disk: &mut D, extent: Extent, from: &[Content]) -> Got
-    ensures kind { (step : Step) → Fits (Device step) result }
+    ensures kind { IsOutcome result }
     ensures size { D.size disk.new ≡ D.size disk.old }
     ensures did { D.tells → DidWrite extent result (D.size disk.old) from.now (D.contents disk.old) (D.faults disk.old) (D.contents disk.new) (D.faults disk.new) }
 {
@@ -49,7 +46,7 @@ pub fn write_extent<D: Disk>(disk: &mut D, extent: Extent, from: &[Content]) -> 
 
 /// Makes all that was written to a disk durable; a fault where it failed.
 pub fn sync<D: Disk>(disk: &mut D) -> Got
-    ensures kind { (step : Step) → Fits (Device step) result }
+    ensures kind { IsOutcome result }
     ensures size { D.size disk.new ≡ D.size disk.old }
     ensures did { D.tells → DidSync result (D.contents disk.old) (D.faults disk.old) (D.contents disk.new) (D.faults disk.new) }
 {

@@ -1,13 +1,11 @@
 //! A commit that runs.
 
-ghost use Rattle.std.specs.Prelude.{◌≡◌, true, [], IfOk, IfErr};
+ghost use Rattle.std.specs.Prelude.{◌≡◌, true, length, IfOk, IfErr};
 ghost use Rattle.wb_types.specs.declared.refusal.Refusal.TheVariants.{GenerationEnd as NoNextGeneration};
 ghost use Rattle.wb_meta.specs.Placing.{HavePlaces};
 ghost use Rattle.wb_meta.specs.Openings.{IsOpening};
 ghost use Rattle.wb_meta.specs.declared.commit_steps.CommitSteps.TheVariants.{NodesWritten, NodesSynced};
-ghost use Rattle.wb_tasks.specs.Plan.{Fits};
-ghost use Rattle.wb_tasks.specs.declared.step.Want.TheVariants.{Device};
-ghost use Rattle.wb_tasks.specs.declared.step.DeviceStep.{DeviceStep as Step};
+ghost use Rattle.wb_stage.specs.Moving.{IsOutcome};
 ghost use Rattle.wb_stage.specs.Committing.{DidCommit, is_coming, goes_on, steps_then, is_committed};
 
 use std::alloc::Global;
@@ -78,6 +76,13 @@ impl RunningCommit {
         }
     }
 
+    /// How many nodes its image has.
+    pub fn nodes(&self) -> usize
+        ensures { result ≡ length self.now.image.nodes.items }
+    {
+        self.image.nodes.as_slice().len()
+    }
+
     /// Whether all of it was done.
     pub fn is_done(&self) -> bool
         ensures { result ≡ is_committed self.now.steps }
@@ -88,7 +93,7 @@ impl RunningCommit {
     /// Does the next step, which is this one of a table; a fault where the device failed.
     pub fn next<D: Disk>(&mut self, disk: &mut D, step: DeviceStep) -> Got
         requires { goes_on (D.size disk.old) self.old.image self.old.steps step ≡ true }
-        ensures kind { (other : Step) → Fits (Device other) result }
+        ensures kind { IsOutcome result }
         ensures size { D.size disk.new ≡ D.size disk.old }
         ensures image { self.new.image ≡ self.old.image }
         ensures steps { self.new.steps ≡ steps_then result self.old.image self.old.steps }
