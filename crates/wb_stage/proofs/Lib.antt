@@ -2,3 +2,4 @@ pub mod Landing
 pub mod Counting
 pub mod Releasing
 pub mod Going
+pub mod Readying

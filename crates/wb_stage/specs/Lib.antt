@@ -3,3 +3,4 @@ pub mod Committing
 pub mod Asking
 pub mod Stages
 pub mod Led
+pub mod Jobs

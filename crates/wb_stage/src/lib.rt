@@ -5,6 +5,7 @@
 pub mod asking;
 mod committing;
 mod devices;
+mod idle;
 mod moving;
 mod perform;
 mod running;
@@ -12,6 +13,7 @@ mod stage;
 
 pub use committing::{put, sync_metadata};
 pub use devices::Devices;
+pub use idle::IdleStage;
 pub use moving::{read_extent, sync, write_extent};
 pub use running::RunningCommit;
 pub use stage::CacheStage;
