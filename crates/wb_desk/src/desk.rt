@@ -252,17 +252,19 @@ impl<P: Policy> Desk<P> {
 
     /// Whether an order lives, and somebody has taken it.
     pub fn is_live(&self, order: Order) -> bool
-        ensures { OnTrue result (IsLive self.now order) }
+        ensures live { OnTrue result (IsLive self.now order) }
+        ensures other { OnFalse result (¬ IsLive self.now order) }
     {
+        let cache_blocks = self.geometry.cache_blocks;
         let Some(c) = self.cache_block(order) else {
             return false;
         };
         let CBlock(at) = c;
-        if at >= self.geometry.cache_blocks {
+        if at >= cache_blocks {
             return false;
         }
         match self.orders.get(c) {
-            Some(live) => live.order == order && !live.waits,
+            Some(live) => is_same(live.order, order) && !live.waits,
             None => false,
         }
     }
@@ -431,6 +433,13 @@ fn release_block(space: &mut Space, c: CBlock)
     if space.is_kept(c) {
         space.give_back(c);
     }
+}
+
+fn is_same(a: Order, b: Order) -> bool
+    ensures same { OnTrue result (a ≡ b) }
+    ensures other { OnFalse result (a ≢ b) }
+{
+    a == b
 }
 
 /// Whether each range has a cache block, and none past the last.

@@ -1,6 +1,7 @@
 //! The commits of a desk.
 
 ghost use Rattle.std.specs.Prelude.{◌≡◌, true, IfOk, IfErr, OnErr};
+ghost use Rattle.wb_types.specs.Limits.{node_count};
 ghost use Rattle.wb_meta.specs.Placing.{HavePlaces};
 ghost use Rattle.wb_tree.specs.Images.{IsImage};
 ghost use Rattle.wb_desk.specs.Commits.{MayBegin, IsBeginRefused, IsOnUnused, next_plan, commit_begun, commit_ended};
@@ -42,6 +43,20 @@ impl<P: Policy> Desk<P> {
         self.space.begin(&image.used);
         self.coming = image.used.len() as u32;
         Ok(image)
+    }
+
+    /// Whether a commit runs.
+    pub fn is_committing(&self) -> bool
+        ensures { result ≡ self.now.space.committing }
+    {
+        self.space.is_committing()
+    }
+
+    /// How many nodes an image has at most.
+    pub fn most_nodes(&self) -> u32
+        ensures { result ≡ node_count self.now.geometry.cache_blocks }
+    {
+        self.geometry.node_count()
     }
 
     /// Ends the running commit, all of which was written and synced: its image is the committed one. What was removed

@@ -1,0 +1,5 @@
+pub mod Landing
+pub mod Counting
+pub mod Releasing
+pub mod Going
+pub mod Readying

@@ -1,0 +1,6 @@
+pub mod Moving
+pub mod Committing
+pub mod Asking
+pub mod Stages
+pub mod Led
+pub mod Jobs

@@ -1,0 +1,11 @@
+//! Tests of tasks over memory devices and a desk, by public contracts.
+#![tactic(auto)]
+
+#[cfg(test)]
+mod counting;
+#[cfg(test)]
+mod faults;
+#[cfg(test)]
+mod fixture;
+#[cfg(test)]
+mod runs;
