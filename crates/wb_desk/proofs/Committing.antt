@@ -1,14 +1,13 @@
 -- What holds of every desk holds after a commit has begun, and after it has ended.
-use Rattle.std.proofs.Common.{◌≡◌, ◌<◌, ◌^◌, ℕ, Bool, true, false, if◌then◌else◌, List, [], ◌∷◌, Option, Some, None, length, map, get_or, is_some, inl, inr, ◌+◌, ◌%◌, refl, sym, ap, subst, ◌∙◌, arith}
+use Rattle.std.proofs.Common.{◌≡◌, ◌≤◌, ◌<◌, ◌^◌, ℕ, Bool, true, false, if◌then◌else◌, List, [], ◌∷◌, Option, Some, None, length, map, get_or, is_some, inl, inr, ◌+◌, ◌%◌, refl, sym, ap, subst, ◌∙◌, arith}
 use Rattle.std.specs.Prelude.{Contains}
-use Rattle.std.specs.List.{count_by}
 use Rattle.std.proofs.lemmas.List.{length-map}
 use Rattle.std.proofs.Math.ListN.{get_or-map}
 use Rattle.wb_types.specs.declared.entry.Entry.{Entry}
 use Rattle.wb_types.specs.declared.number.CBlock.{CBlock}
 use Rattle.wb_types.specs.declared.number.Place.{Place}
 use Rattle.wb_tree.specs.Mapping.{Mapping, IsMapping, IsSound, AreInside}
-use Rattle.wb_tree.specs.Images.{AreFree, IsImage}
+use Rattle.wb_tree.specs.Images.{AreFree, IsImage, ImagePlan}
 use Rattle.wb_tree.specs.declared.image.Image.{Image}
 use Rattle.wb_policy.specs.declared.order.Order.{Order}
 use Rattle.wb_policy.specs.declared.order.Order.TheVariants.{Promote, Replace, Demote, Clean}
@@ -25,6 +24,10 @@ use Rattle.wb_meta.proofs.Round.{free_of_used, unused_for_changed}
 use Rattle.wb_desk.specs.InUse.{AreFlagged}
 use Rattle.wb_desk.specs.Desks.{DeskState, DeskInvariant, IsRight, NamesWhatIs, Names, holdings, is_mapped}
 use Rattle.wb_desk.specs.Fields.{IsIndex, AreParts}
+use Rattle.wb_types.specs.Limits.{node_count}
+use Rattle.wb_types.specs.declared.geometry.Geometry.{Geometry}
+use Rattle.wb_desk.specs.Marks.{OfImaged}
+use Rattle.wb_desk.proofs.Marking.{ImageFacts, of_imaged, same_some, same_count}
 use Rattle.wb_desk.specs.Commits.{MayBegin, IsOnUnused, next_plan, commit_begun, commit_ended}
 use Rattle.wb_desk.proofs.Acts.{kept_begun, kept_ended}
 use Rattle.wb_desk.proofs.FreePlaces.{unused_places}
@@ -122,6 +125,15 @@ each_left change leaves mapping entries blocks slots n each c l =
     subst (λ (b : Block). IsRight mapping c (get_or entries c None) b (order_at slots c)) (sym (state_left change leaves blocks c))
     (right_left change leaves mapping c (get_or entries c None) (state blocks c) (order_at slots c) (each c l))
 
+-- whose entry was marked
+right_marked : (old new : Holdings) (c : ℕ) (entry now : Option Entry) (block : Block) (slot : Option LiveOrder) → new ≡ old → is_some now ≡ is_some entry
+    → IsRight old c entry block slot → IsRight new c now block slot
+right_marked old new c entry now block slot same some right = record {
+  filled = right.filled ∙ sym some;
+  held = right.held;
+  stands = subst (λ (m : Holdings). NamesWhatIs m block c slot) (sym same) right.stands;
+}
+
 none_used : (used : List Place) → length used ≡ 0 → used ≡ []
 none_used [] e = refl
 none_used (p ∷ ps) e = absurd (omega arith)
@@ -139,36 +151,44 @@ module _ {P : Type 0} (knows : P → Holdings → Type 0) where
       (none_used i.places.running.used (i.places.running.many ∙ i.places.idle idle))
 
   unused_for : (d : DeskState P) (used : List Place) → DeskInvariant knows d → d.space.committing ≡ false
-      → d.space.places.committed ≡ noted used (unused (place_count d.geometry.cache_blocks)) → AreUnused d.geometry used (next_plan d).free
+      → d.space.places.committed ≡ noted used (unused (place_count d.geometry.cache_blocks)) → AreUnused d.geometry used (next_plan d false).free
   unused_for d used i idle are = unused_places d.geometry d.space.places d.nodes used i.places.committed (idle_flags d i idle) i.places.room are
 
   -- the places that the next image is planned with are free for it
-  pub free_for : (d : DeskState P) → DeskInvariant knows d → d.space.committing ≡ false → AreFree d.tree d.geometry (next_plan d).free
-  free_for d i idle = free_of_used d.tree d.geometry i.places.committed.used (next_plan d).free i.mapping.size
+  pub free_for : (d : DeskState P) → DeskInvariant knows d → d.space.committing ≡ false → AreFree d.tree d.geometry (next_plan d false).free
+  free_for d i idle = free_of_used d.tree d.geometry i.places.committed.used (next_plan d false).free i.mapping.size
       (λ p is. subst (λ (b : Bool). Contains (if b then i.places.running.used else i.places.committed.used) p) idle (i.places.known p is))
       (unused_for d i.places.committed.used i idle i.places.committed.are)
 
+  -- and enough for every tree of this size
+  pub many_for : (d : DeskState P) → DeskInvariant knows d → d.space.committing ≡ false → node_count d.geometry.cache_blocks ≤ length (next_plan d false).free
+  many_for d i idle = (unused_for d i.places.committed.used i idle i.places.committed.are).enough
+
   -- the image that was planned with the next generation and these places
-  pub image_for : (d : DeskState P) (tree : Mapping) (generation : ℕ) (free : List Place) (image : Image) → DeskInvariant knows d → generation ≡ d.generation + 1 → free ≡ (next_plan d).free
-      → IsImage d.tree tree (record { geometry = d.geometry; generation = generation; clean = false; free = free }) image → IsImage d.tree tree (next_plan d) image
-  image_for d tree generation free image i next same is =
-      subst (λ (n : ℕ). IsImage d.tree tree (record { geometry = d.geometry; generation = n; clean = false; free = (next_plan d).free }) image) next
-      (subst (λ (ps : List Place). IsImage d.tree tree (record { geometry = d.geometry; generation = generation; clean = false; free = ps }) image) same is)
+  pub image_for : (d : DeskState P) (hint : ℕ → ℕ) (clean : Option (List Bool)) (flag : Bool) (tree : Mapping) (generation : ℕ) (free : List Place) (image : Image) → DeskInvariant knows d → generation ≡ d.generation + 1 → free ≡ (next_plan d false).free
+      → OfImaged hint clean d.tree (λ m. IsImage m tree (record { geometry = d.geometry; generation = generation; clean = flag; free = free }) image)
+      → OfImaged hint clean d.tree (λ m. IsImage m tree (next_plan d flag) image)
+  image_for d hint clean flag tree generation free image i next same is = of_imaged hint clean d.tree _ _
+      (λ m is. subst (λ (n : ℕ). IsImage m tree (record { geometry = d.geometry; generation = n; clean = flag; free = (next_plan d false).free }) image) next
+      (subst (λ (ps : List Place). IsImage m tree (record { geometry = d.geometry; generation = generation; clean = flag; free = ps }) image) same is)) is
 
-  pub on_unused : (d : DeskState P) (tree : Mapping) (image : Image) → DeskInvariant knows d → d.space.committing ≡ false → IsImage d.tree tree (next_plan d) image
-      → IsSound tree → AreInside d.geometry.meta_sectors tree → IsOnUnused d tree image
-  on_unused d tree image i idle is sound inside used are = record {
-    mapping = i.mapping;
-    free_are = unused_for_changed d.tree d.geometry used (next_plan d).free i.mapping.size (unused_for d used i idle are);
-    image_is = is;
-    sound = sound;
-    inside = inside;
-  }
+  pub on_unused : (d : DeskState P) (hint : ℕ → ℕ) (clean : Option (List Bool)) (flag : Bool) (tree : Mapping) (image : Image) → DeskInvariant knows d → d.space.committing ≡ false
+      → OfImaged hint clean d.tree (λ m. IsImage m tree (next_plan d flag) image) → IsMapping d.geometry.cache_blocks d.geometry.origin_blocks tree.entries
+      → IsSound tree → AreInside d.geometry.meta_sectors tree → OfImaged hint clean d.tree (λ m. IsOnUnused d m tree flag image)
+  on_unused d hint clean flag tree image i idle is mapping sound inside = of_imaged hint clean d.tree _ _ (λ m is used are.
+      let kept : IsMapping d.geometry.cache_blocks d.geometry.origin_blocks m.entries = subst (λ (xs : List (Option Entry)). IsMapping d.geometry.cache_blocks d.geometry.origin_blocks xs) is.same_entries mapping in
+      record {
+        mapping = kept;
+        free_are = unused_for_changed m d.geometry used (next_plan d false).free kept.size (unused_for d used i idle are);
+        image_is = is;
+        sound = sound;
+        inside = inside;
+      }) is
 
-  pub begun_kept : (d : DeskState P) (tree : Mapping) (image : Image) → DeskInvariant knows d → MayBegin d → IsImage d.tree tree (next_plan d) image
-      → AreInside d.geometry.meta_sectors tree → DeskInvariant knows (commit_begun d tree image.used.items)
-  begun_kept d tree image i may is inside = record {
-    mapping = subst (λ (xs : List (Option Entry)). IsMapping d.geometry.cache_blocks d.geometry.origin_blocks xs) (sym is.same_entries) i.mapping;
+  pub begun_kept : (d : DeskState P) (tree : Mapping) (plan : ImagePlan) (image : Image) → DeskInvariant knows d → MayBegin d → ImageFacts d.tree tree plan image → plan.geometry ≡ d.geometry
+      → IsMapping d.geometry.cache_blocks d.geometry.origin_blocks tree.entries → AreInside d.geometry.meta_sectors tree → DeskInvariant knows (commit_begun d tree image.used.items)
+  begun_kept d tree plan image i may is sizes mapping inside = record {
+    mapping = mapping;
     blocks = length-map d.space.blocks block_begun ∙ i.blocks;
     slots = i.slots;
     busy = i.busy;
@@ -176,24 +196,25 @@ module _ {P : Type 0} (knows : P → Holdings → Type 0) where
       room = i.places.room;
       inside = inside;
       committed = i.places.committed;
-      running = record { used = image.used.items; are = refl; many = refl; few = is.used_few };
+      running = record { used = image.used.items; are = refl; many = refl; few = subst (λ (g : Geometry). length image.used.items ≤ node_count g.cache_blocks) sizes is.used_few };
       known = λ p at. (is.used_are p).1 at;
       idle = λ e. absurd cc;
     };
     next = λ e. may.next;
-    each = subst (λ (xs : List (Option Entry)). (c : ℕ) → c < d.geometry.cache_blocks
-        → IsRight (origins xs) c (get_or xs c None) (state (map block_begun d.space.blocks) c) (order_at d.orders.slots c)) (sym is.same_entries)
-        (each_left block_begun begins (holdings d) d.tree.entries d.space.blocks d.orders.slots d.geometry.cache_blocks i.each);
-    counted = subst (λ (xs : List (Option Entry)). (d.at_opening + d.promotions) % 2 ^ 64 ≡ (count_by is_some xs + d.demotions) % 2 ^ 64) (sym is.same_entries) i.counted;
-    known = subst (λ (xs : List (Option Entry)). knows d.policy (origins xs)) (sym is.same_entries) i.known;
+    each = λ c l. right_marked (origins d.tree.entries) (origins tree.entries) c (get_or d.tree.entries c None) (get_or tree.entries c None) (state (map block_begun d.space.blocks) c) (order_at d.orders.slots c)
+        is.origins (same_some tree.entries d.tree.entries c is.origins)
+        (each_left block_begun begins (holdings d) d.tree.entries d.space.blocks d.orders.slots d.geometry.cache_blocks i.each c l);
+    counted = subst (λ (n : ℕ). (d.at_opening + d.promotions) % 2 ^ 64 ≡ (n + d.demotions) % 2 ^ 64) (sym (same_count tree.entries d.tree.entries is.origins)) i.counted;
+    known = subst (λ (m : Holdings). knows d.policy m) (sym is.origins) i.known;
   }
 
-  pub begun_parts : (d : DeskState P) (tree : Mapping) (image : Image) (cached : List (Option CBlock)) (mapped : ℕ) → AreParts knows d cached mapped → MayBegin d
-      → IsImage d.tree tree (next_plan d) image → AreInside d.geometry.meta_sectors tree → AreParts knows (commit_begun d tree image.used.items) cached mapped
-  begun_parts d tree image cached mapped parts may is inside = record {
-    desk = begun_kept d tree image parts.desk may is inside;
-    index = subst (λ (xs : List (Option Entry)). IsIndex d.geometry.origin_blocks (origins xs) cached) (sym is.same_entries) parts.index;
-    count = subst (λ (xs : List (Option Entry)). mapped ≡ count_by is_some xs) (sym is.same_entries) parts.count;
+  pub begun_parts : (d : DeskState P) (tree : Mapping) (plan : ImagePlan) (image : Image) (cached : List (Option CBlock)) (mapped : ℕ) → AreParts knows d cached mapped → MayBegin d
+      → ImageFacts d.tree tree plan image → plan.geometry ≡ d.geometry → IsMapping d.geometry.cache_blocks d.geometry.origin_blocks tree.entries
+      → AreInside d.geometry.meta_sectors tree → AreParts knows (commit_begun d tree image.used.items) cached mapped
+  begun_parts d tree plan image cached mapped parts may is sizes mapping inside = record {
+    desk = begun_kept d tree plan image parts.desk may is sizes mapping inside;
+    index = subst (λ (m : Holdings). IsIndex d.geometry.origin_blocks m cached) (sym is.origins) parts.index;
+    count = parts.count ∙ sym (same_count tree.entries d.tree.entries is.origins);
   }
 
   pub ended_kept : (d : DeskState P) → DeskInvariant knows d → d.space.committing ≡ true → DeskInvariant knows (commit_ended d)

@@ -139,7 +139,7 @@ module _ {P : Type 0} where
       }
   call_safe knows d new (BeginCommit used) images i does safe = record {
     each = with_blocks new (map block_begun d.space.blocks) (holdings d) (record { committed = images.committed; running = holdings d }) (blocks_of new (commit_begun d new.tree used) does.2)
-        (ap (λ (es : List (Option Entry)). origins es) does.1) (begun_safe d.space.blocks (holdings d) images safe.each);
+        does.1 (begun_safe d.space.blocks (holdings d) images safe.each);
     idle = λ f. absurd (differs (sym (ap (λ (x : DeskState P). x.space.committing) does.2) ∙ f));
   }
   call_safe knows d new EndCommit images i does safe = record {

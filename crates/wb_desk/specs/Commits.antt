@@ -1,5 +1,5 @@
 -- What a commit makes of a desk, and when it is refused.
-use Rattle.std.specs.Prelude.{◌≡◌, ◌<◌, ◌+◌, ◌^◌, true, false, List, map, take, length}
+use Rattle.std.specs.Prelude.{◌≡◌, ◌<◌, ◌+◌, ◌^◌, Bool, true, false, List, map, take, length}
 use Rattle.wb_types.specs.Limits.{node_count}
 use Rattle.wb_types.specs.declared.number.Place.{Place}
 use Rattle.wb_types.specs.declared.refusal.Refusal.{Refusal}
@@ -24,13 +24,13 @@ IsBeginRefused d GenerationEnd = (d.space.committing ≡ false) × (d.generation
 IsBeginRefused d Memory = MayBegin d
 IsBeginRefused d _ = ⊥
 
--- what the next image is planned with: the next generation, not clean, and the least free places, one for each node that a
--- tree of this size can have
-abbrev pub next_plan : {P : Type 0} → DeskState P → ImagePlan
-next_plan d = record {
+-- what the next image is planned with: the next generation, whether it is clean, and the least free places, one for each node
+-- that a tree of this size can have
+abbrev pub next_plan : {P : Type 0} → DeskState P → Bool → ImagePlan
+next_plan d clean = record {
   geometry = d.geometry;
   generation = d.generation + 1;
-  clean = false;
+  clean = clean;
   free = map place (take (node_count d.geometry.cache_blocks) (free_places d.space.places));
 }
 
@@ -48,9 +48,9 @@ commit_begun d tree used = record d {
 
 -- The image leads from the one tree to the other on places that the committed image does not use, whatever list of its
 -- places was noted.
-abbrev pub IsOnUnused : {P : Type 0} → DeskState P → Mapping → Image → Type 0
-IsOnUnused d tree image = (used : List Place) → d.space.places.committed ≡ noted used (unused (place_count d.geometry.cache_blocks))
-    → IsPlanned d.tree tree (next_plan d) image used
+abbrev pub IsOnUnused : {P : Type 0} → DeskState P → Mapping → Mapping → Bool → Image → Type 0
+IsOnUnused d imaged tree clean image = (used : List Place) → d.space.places.committed ≡ noted used (unused (place_count d.geometry.cache_blocks))
+    → IsPlanned imaged tree (next_plan d clean) image used
 
 -- The running commit ends: its image is the committed one, by the next generation, and what was removed before it began is
 -- free, or reserved where it is claimed.

@@ -3,6 +3,7 @@ pub mod InUse
 pub mod Desks
 pub mod Calls
 pub mod Commits
+pub mod Marks
 pub mod Entries
 pub mod Settling
 pub mod Decisions

@@ -1,5 +1,5 @@
 -- What the calls of a desk make of its images, which no field holds, and which cache blocks no image has.
-use Rattle.std.specs.Prelude.{◌≡◌, false, true, ℕ, Bool, List, [], ◌∷◌, Option, Some, None, slice_set}
+use Rattle.std.specs.Prelude.{◌≡◌, false, true, ℕ, Bool, List, [], ◌∷◌, Option, Some, None, is_some, slice_set}
 use Rattle.wb_types.specs.declared.geometry.Geometry.{Geometry}
 use Rattle.wb_types.specs.declared.message.Key.{Key}
 use Rattle.wb_types.specs.declared.message.Message.{Message}
@@ -17,6 +17,7 @@ use Rattle.wb_desk.specs.Allocation.{ImageSafe, StaysQuarantined, entry_in}
 use Rattle.wb_desk.specs.Desks.{DeskState, DeskInvariant, MayReserve, holdings}
 use Rattle.wb_desk.specs.Calls.{reserved, released, next_order_taken}
 use Rattle.wb_desk.specs.Entries.{MayMap, MayUnmap, HasEntered, HasLeft, entry_of, mapped, unmapped}
+use Rattle.wb_desk.specs.Marks.{OfImaged}
 use Rattle.wb_desk.specs.Commits.{MayBegin, next_plan, commit_begun, commit_ended}
 use Rattle.wb_desk.specs.Messages.{IsTold}
 use Rattle.wb_desk.specs.Opening.{opened}
@@ -51,7 +52,7 @@ Does d (GiveOrder cache order waits) new = MayReserve d cache order × (new ≡ 
 Does d (Release cache) new = new ≡ released d cache
 Does d (Map b cache) new = MayMap d b cache × (new.tree.entries ≡ slice_set d.tree.entries cache.0 (Some (entry_of b))) × (new ≡ mapped d cache new.tree new.policy)
 Does d (Unmap b cache) new = IsMappedAt (holdings d) b.0 cache.0 × (new.tree.entries ≡ slice_set d.tree.entries cache.0 None) × (new ≡ unmapped d cache new.tree new.policy)
-Does d (BeginCommit used) new = MayBegin d × (new.tree.entries ≡ d.tree.entries) × (new ≡ commit_begun d new.tree used)
+Does d (BeginCommit used) new = MayBegin d × (holdings new ≡ holdings d) × (new ≡ commit_begun d new.tree used)
 Does d EndCommit new = (d.space.committing ≡ true) × (new ≡ commit_ended d)
 
 -- A commit that begins has the entries of now in its image; one that ends leaves its image alone.
@@ -108,8 +109,9 @@ QuarantineStays P knows = (d new : DeskState P) (call : Call) → DeskInvariant 
     → StaysQuarantined (IsBeginning call) (call ≡ EndCommit) (state d.space.blocks c) (state new.space.blocks c)
 
 -- What the contracts of the calls say is that they do so.
-abbrev pub BeginningDoes : Type 0 → Type 0
-BeginningDoes P = (d new : DeskState P) (image : Image) → MayBegin d → IsImage d.tree new.tree (next_plan d) image → new ≡ commit_begun d new.tree image.used.items
+abbrev pub BeginningDoes : (P : Type 0) → (P → ℕ → ℕ) → Type 0
+BeginningDoes P hint_of = (d new : DeskState P) (clean : Option (List Bool)) (image : Image) → MayBegin d
+    → OfImaged (hint_of d.policy) clean d.tree (λ imaged. IsImage imaged new.tree (next_plan d (is_some clean)) image) → new ≡ commit_begun d new.tree image.used.items
     → Does d (BeginCommit image.used.items) new
 
 abbrev pub MappingDoes : (P : Type 0) → (P → ℕ → ℕ → P) → Type 0

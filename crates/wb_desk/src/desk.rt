@@ -15,6 +15,7 @@ ghost use Rattle.wb_desk.specs.Messages.{AreRanges, IsTold, IsRefused};
 ghost use Rattle.wb_desk.specs.Calls.{blocks_reserved, reserved, released, next_order_taken};
 
 mod commit;
+mod imaging;
 mod mapping;
 mod settling;
 
@@ -144,6 +145,13 @@ impl<P: Policy> Desk<P> {
             promotions: 0,
             demotions: 0,
         })
+    }
+
+    /// The sizes of the cache.
+    pub fn geometry(&self) -> Geometry
+        ensures { result ≡ self.now.geometry }
+    {
+        self.geometry
     }
 
     /// The entry of a cache block.

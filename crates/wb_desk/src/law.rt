@@ -36,7 +36,7 @@ pub fn images_stay_safe<P: Policy>()
     ensures opening { OpenedIsSafe P }
     ensures calls { CallsAreSafe P P.knows }
     ensures quarantine { QuarantineStays P P.knows }
-    ensures beginning { BeginningDoes P }
+    ensures beginning { BeginningDoes P P.hint_of }
     ensures mapping { MappingDoes P P.with_entry }
     ensures unmapping { UnmappingDoes P P.without_entry }
     ensures telling { TellingDoes P P.with_setting }

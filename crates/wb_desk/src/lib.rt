@@ -7,8 +7,6 @@ mod decisions;
 mod desk;
 mod law;
 mod opening;
-#[cfg(test)]
-mod tests;
 
 pub use counts::Counts;
 pub use decisions::decisions_law;

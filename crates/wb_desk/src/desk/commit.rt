@@ -1,12 +1,15 @@
 //! The commits of a desk.
 
-ghost use Rattle.std.specs.Prelude.{◌≡◌, true, IfOk, IfErr, OnErr};
+ghost use Rattle.std.specs.Prelude.{◌≡◌, true, IfOk, IfErr, OnErr, is_some, length};
+ghost use Rattle.std.specs.Option.{IfSome, option_map};
 ghost use Rattle.wb_types.specs.Limits.{node_count};
 ghost use Rattle.wb_meta.specs.Placing.{HavePlaces};
 ghost use Rattle.wb_tree.specs.Images.{IsImage};
+ghost use Rattle.wb_desk.specs.Marks.{OfImaged};
 ghost use Rattle.wb_desk.specs.Commits.{MayBegin, IsBeginRefused, IsOnUnused, next_plan, commit_begun, commit_ended};
 
 use super::Desk;
+use super::imaging::plan;
 use std::alloc::Global;
 use wb_meta::{Image, image_law};
 use wb_policy::Policy;
@@ -17,13 +20,19 @@ impl<P: Policy> Desk<P> {
     /// place, and a root of the next generation, not clean. The entries are those of now; what is removed from now on is
     /// quarantined until a later commit ends.
     ///
+    /// With the dirty bits that were seen, by cache block, the image is clean: its entries have these bits, and the policy's
+    /// hints, and so have the desk's from then on. Such an image writes every node.
+    ///
     /// `Busy` where a commit runs, `GenerationEnd` where there is no next generation, `Memory` where there is none for the
     /// image. Then nothing changed.
-    pub fn begin_commit(&mut self, alloc: Global) -> Result<Image, Refusal>
+    pub fn begin_commit(&mut self, alloc: Global, clean: Option<&[bool]>) -> Result<Image, Refusal>
+        requires { IfSome clean (λ dirty. length dirty.now ≡ self.old.geometry.cache_blocks) }
         ensures may { IfOk result (λ _. MayBegin self.old) }
         ensures state { IfOk result (λ image. self.new ≡ commit_begun self.old self.new.tree image.used.items) }
-        ensures image { IfOk result (IsImage self.old.tree self.new.tree (next_plan self.old)) }
-        ensures unused { IfOk result (IsOnUnused self.old self.new.tree) }
+        ensures image { IfOk result (λ image. OfImaged (P.hint_of self.old.policy) (option_map (λ dirty. dirty.now) clean.entry) self.old.tree (λ imaged.
+            IsImage imaged self.new.tree (next_plan self.old (is_some clean.entry)) image)) }
+        ensures unused { IfOk result (λ image. OfImaged (P.hint_of self.old.policy) (option_map (λ dirty. dirty.now) clean.entry) self.old.tree (λ imaged.
+            IsOnUnused self.old imaged self.new.tree (is_some clean.entry) image)) }
         ensures places { IfOk result (λ image. HavePlaces image.nodes.items self.old.geometry.meta_sectors) }
         ensures err { OnErr result (self.new ≡ self.old) }
         ensures refused { IfErr result (IsBeginRefused self.old) }
@@ -38,7 +47,15 @@ impl<P: Policy> Desk<P> {
         let free = self
             .space
             .free_places(alloc, geometry.node_count() as usize)?;
-        let image = self.tree.plan(alloc, &geometry, generation, false, &free)?;
+        let image = plan(
+            alloc,
+            &mut self.tree,
+            &self.policy,
+            &geometry,
+            generation,
+            clean,
+            &free,
+        )?;
         image_law();
         self.space.begin(&image.used);
         self.coming = image.used.len() as u32;

@@ -1,0 +1,261 @@
+-- Entries that are marked with dirty bits and hints, and what an image of them is made of.
+use Rattle.std.proofs.Common.{◌≡◌, ◌<◌, ◌≤◌, ◌+◌, ◌↔◌, inl, inr, ℕ, zero, suc, Bool, false, List, [], ◌∷◌, Option, Some, None, length, get_or, set, replicate, cond, is_some, get_or-set_same, get_or-set_other, refl, sym, ap, subst, ◌∙◌, arith}
+use Rattle.std.specs.Prelude.{Contains}
+use Rattle.std.specs.List.{count_by}
+use Rattle.std.specs.Option.{option_map}
+use Rattle.std.proofs.lemmas.Bool.{cases_eq, cases_lt}
+use Rattle.std.proofs.lemmas.List.{length-set, length-replicate, get_or-replicate, get_or_past, ext_get_or}
+use Rattle.std.proofs.lemmas.List.Sums.{sum_by-cons}
+use Rattle.wb_types.specs.Limits.{node_count}
+use Rattle.wb_types.specs.declared.entry.Entry.{Entry}
+use Rattle.wb_types.specs.declared.geometry.Geometry.{Geometry}
+use Rattle.wb_types.specs.declared.number.Place.{Place}
+use Rattle.wb_tree.specs.Mapping.{Mapping, IsMapping, IsSound, IsPlaceOf, place_in}
+use Rattle.wb_tree.specs.Edits.{IsEdited}
+use Rattle.wb_tree.specs.Images.{AreFree, IsImage, ImagePlan}
+use Rattle.wb_tree.specs.declared.image.Image.{Image}
+use Rattle.wb_tree.specs.declared.placed.PlacedNode.{PlacedNode}
+use Rattle.wb_tree.proofs.Images.Changes.{few_changed}
+use Rattle.wb_tree.proofs.Stored.Edited.{places-edited}
+use Rattle.wb_policy.specs.Law.{origins}
+use Rattle.wb_desk.specs.Marks.{marked_entry, marked, AreMarked, OfImaged}
+
+-- ---- entries
+
+length-marked : (hint : ℕ → ℕ) (dirty : List Bool) (es : List (Option Entry)) → length (marked hint dirty es) ≡ length es
+length-marked hint dirty [] = refl
+length-marked hint [] (e ∷ es) = ap suc (length-marked hint [] es)
+length-marked hint (b ∷ dirty) (e ∷ es) = ap suc (length-marked hint dirty es)
+
+get_or-marked : (hint : ℕ → ℕ) (dirty : List Bool) (es : List (Option Entry)) (c : ℕ)
+    → get_or (marked hint dirty es) c None ≡ marked_entry hint (get_or dirty c false) (get_or es c None)
+get_or-marked hint dirty [] c = refl
+get_or-marked hint [] (e ∷ es) zero = refl
+get_or-marked hint [] (e ∷ es) (suc c) = get_or-marked hint [] es c
+get_or-marked hint (b ∷ dirty) (e ∷ es) zero = refl
+get_or-marked hint (b ∷ dirty) (e ∷ es) (suc c) = get_or-marked hint dirty es c
+
+origin-marked : (hint : ℕ → ℕ) (bit : Bool) (e : Option Entry) → option_map (λ (x : Entry). x.origin.0) (marked_entry hint bit e) ≡ option_map (λ (x : Entry). x.origin.0) e
+origin-marked hint bit None = refl
+origin-marked hint bit (Some e) = refl
+
+-- the origin blocks stay
+pub origins-marked : (hint : ℕ → ℕ) (dirty : List Bool) (es : List (Option Entry)) → origins (marked hint dirty es) ≡ origins es
+origins-marked hint dirty [] = refl
+origins-marked hint [] (e ∷ es) = ap (λ (x : Option ℕ). x ∷ origins (marked hint [] es)) (origin-marked hint false e)
+    ∙ ap (λ (xs : List (Option ℕ)). option_map (λ (x : Entry). x.origin.0) e ∷ xs) (origins-marked hint [] es)
+origins-marked hint (b ∷ dirty) (e ∷ es) = ap (λ (x : Option ℕ). x ∷ origins (marked hint dirty es)) (origin-marked hint b e)
+    ∙ ap (λ (xs : List (Option ℕ)). option_map (λ (x : Entry). x.origin.0) e ∷ xs) (origins-marked hint dirty es)
+
+is_some-origin : (e : Option Entry) → is_some (option_map (λ (x : Entry). x.origin.0) e) ≡ is_some e
+is_some-origin None = refl
+is_some-origin (Some e) = refl
+
+-- which cache blocks have an entry follows from the origin blocks
+some-at : (es : List (Option Entry)) (c : ℕ) → is_some (get_or (origins es) c None) ≡ is_some (get_or es c None)
+some-at [] c = refl
+some-at (e ∷ es) zero = is_some-origin e
+some-at (e ∷ es) (suc c) = some-at es c
+
+pub same_some : (xs ys : List (Option Entry)) (c : ℕ) → origins xs ≡ origins ys → is_some (get_or xs c None) ≡ is_some (get_or ys c None)
+same_some xs ys c same = sym (some-at xs c) ∙ ap (λ (m : List (Option ℕ)). is_some (get_or m c None)) same ∙ some-at ys c
+
+count-origins : (es : List (Option Entry)) → count_by is_some (origins es) ≡ count_by is_some es
+count-origins [] = refl
+count-origins (e ∷ es) = omega (
+  arith,
+  sum_by-cons (λ (x : Option ℕ). cond (is_some x) 1 0) (option_map (λ (x : Entry). x.origin.0) e) (origins es),
+  sum_by-cons (λ (x : Option Entry). cond (is_some x) 1 0) e es,
+  ap {B = ℕ} (λ (b : Bool). cond b 1 0) (is_some-origin e),
+  count-origins es,
+)
+
+pub same_count : (xs ys : List (Option Entry)) → origins xs ≡ origins ys → count_by is_some xs ≡ count_by is_some ys
+same_count xs ys same = sym (count-origins xs) ∙ ap (λ (m : List (Option ℕ)). count_by is_some m) same ∙ count-origins ys
+
+-- ---- trees
+
+-- The first so many entries were marked, in a tree that had none and of which no node is known.
+pub record AreMarkedUpTo (hint : ℕ → ℕ) (dirty : List Bool) (entries : List (Option Entry)) (n c : ℕ) (m : Mapping) : Type 0 where
+  pub size : length m.entries ≡ n
+  pub before : (k : ℕ) → k < c → get_or m.entries k None ≡ marked_entry hint (get_or dirty k false) (get_or entries k None)
+  pub after : (k : ℕ) → c ≤ k → get_or m.entries k None ≡ None
+  pub hints : (k : ℕ) (e : Entry) → get_or m.entries k None ≡ Some e → e.hint ≤ 16
+  pub unknown : (p : Place) → IsPlaceOf m p → ⊥
+  pub sound : IsSound m
+
+none_at : (n k : ℕ) → get_or (replicate n None) k (let d : Option Entry = None in d) ≡ None
+none_at n k = elim (cases_lt k n) [
+  | inl i ↦ get_or-replicate {A = Option Entry} n k None None i
+  | inr p ↦ get_or_past (replicate n None) k None (omega (arith, p, length-replicate {A = Option Entry} n None))
+]
+
+nothing : (x : Entry) → (let d : Option Entry = None in d) ≡ Some x → ⊥
+nothing x s = cc
+
+pub none_marked : (hint : ℕ → ℕ) (dirty : List Bool) (entries : List (Option Entry)) (n : ℕ) (m : Mapping) → m.entries ≡ replicate n None → m.known ≡ [] → IsSound m
+    → AreMarkedUpTo hint dirty entries n 0 m
+none_marked hint dirty entries n m empty unknown sound = record {
+  size = ap (λ (xs : List (Option Entry)). length xs) empty ∙ length-replicate {A = Option Entry} n None;
+  before = λ k l. absurd (omega (arith, l));
+  after = λ k l. at k;
+  hints = λ k e g. absurd (nothing e (sym (at k) ∙ g));
+  unknown = λ p is. none_there m.known unknown is.level is.index p is.known;
+  sound = sound;
+}
+  where
+    at : (k : ℕ) → get_or m.entries k None ≡ None
+    at k = ap (λ (xs : List (Option Entry)). get_or xs k None) empty ∙ none_at n k
+
+    none_there : (known : List PlacedNode) → known ≡ [] → (level index : ℕ) (p : Place) → place_in known level index ≡ Some p → ⊥
+    none_there [] e level index p k = absurd cc
+    none_there (x ∷ xs) e level index p k = absurd cc
+
+-- a cache block without an entry is passed over
+pub one_passed : (hint : ℕ → ℕ) (dirty : List Bool) (entries : List (Option Entry)) (n c : ℕ) (m : Mapping) → AreMarkedUpTo hint dirty entries n c m → get_or entries c None ≡ None
+    → AreMarkedUpTo hint dirty entries n (c + 1) m
+one_passed hint dirty entries n c m u none = record {
+  size = u.size;
+  before = λ k l. elim (cases_lt k c) [
+    | inl i ↦ u.before k i
+    | inr p ↦ here k (omega (arith, l, p))
+  ];
+  after = λ k l. u.after k (omega (arith, l));
+  hints = u.hints;
+  unknown = u.unknown;
+  sound = u.sound;
+}
+  where
+    here : (k : ℕ) → k ≡ c → get_or m.entries k None ≡ marked_entry hint (get_or dirty k false) (get_or entries k None)
+    here k q = u.after k (omega (arith, q)) ∙ ap (λ (e : Option Entry). marked_entry hint (get_or dirty k false) e) (sym (ap (λ (i : ℕ). get_or entries i None) q ∙ none))
+
+-- and one with an entry gets it, marked
+pub one_marked : (hint : ℕ → ℕ) (dirty : List Bool) (entries : List (Option Entry)) (n c : ℕ) (m new : Mapping) (e : Entry) (bit : Bool) (mark : ℕ)
+    → AreMarkedUpTo hint dirty entries n c m → c < n → get_or entries c None ≡ Some e → get_or dirty c false ≡ bit → hint e.origin.0 ≡ mark → mark ≤ 16
+    → new.entries ≡ set m.entries c (Some (record { origin = e.origin; dirty = bit; hint = mark })) → IsEdited m new → IsSound new
+    → AreMarkedUpTo hint dirty entries n (c + 1) new
+one_marked hint dirty entries n c m new e bit mark u within is seen told few set_is edited sound = record {
+  size = ap (λ (xs : List (Option Entry)). length xs) set_is ∙ length-set m.entries c (Some now) ∙ u.size;
+  before = λ k l. elim (cases_eq k c) [
+    | inl q ↦ here k q ∙ sym (there k q)
+    | inr p ↦ other k p ∙ u.before k (omega (arith, l, p))
+  ];
+  after = λ k l. other k (λ q. omega (arith, q, l)) ∙ u.after k (omega (arith, l));
+  hints = λ k x g. elim (cases_eq k c) [
+    | inl q ↦ subst (λ (y : Entry). y.hint ≤ 16) (some_entry now x (sym (here k q) ∙ g)) few
+    | inr p ↦ u.hints k x (sym (other k p) ∙ g)
+  ];
+  unknown = λ p at. u.unknown p (places-edited m new p edited at);
+  sound = sound;
+}
+  where
+    now : Entry
+    now = record { origin = e.origin; dirty = bit; hint = mark }
+
+    some_entry : (x y : Entry) → (let d : Option Entry = Some x in d) ≡ Some y → x ≡ y
+    some_entry x y s = cc
+
+    here : (k : ℕ) → k ≡ c → get_or new.entries k None ≡ Some now
+    here k q = ap (λ (xs : List (Option Entry)). get_or xs k None) set_is ∙ ap (λ (i : ℕ). get_or (set m.entries c (Some now)) i None) q
+        ∙ get_or-set_same m.entries c (Some now) None (omega (arith, within, u.size))
+
+    other : (k : ℕ) → (k ≡ c → ⊥) → get_or new.entries k None ≡ get_or m.entries k None
+    other k p = ap (λ (xs : List (Option Entry)). get_or xs k None) set_is ∙ get_or-set_other m.entries c k (Some now) None p
+
+    there : (k : ℕ) → k ≡ c → marked_entry hint (get_or dirty k false) (get_or entries k None) ≡ Some now
+    there k q = ap (λ (i : ℕ). marked_entry hint (get_or dirty i false) (get_or entries i None)) q
+        ∙ ap (λ (x : Option Entry). marked_entry hint (get_or dirty c false) x) is
+        ∙ ap (λ (b : Bool). Some (record { origin = e.origin; dirty = b; hint = hint e.origin.0 })) seen
+        ∙ ap (λ (h : ℕ). Some (record { origin = e.origin; dirty = bit; hint = h })) told
+
+-- ---- all of them
+
+pub up_to_all : (hint : ℕ → ℕ) (dirty : List Bool) (entries : List (Option Entry)) (n c : ℕ) (m : Mapping) → c ≤ n → n ≤ c → AreMarkedUpTo hint dirty entries n c m → AreMarkedUpTo hint dirty entries n n m
+up_to_all hint dirty entries n c m from to u = subst (λ (k : ℕ). AreMarkedUpTo hint dirty entries n k m) (omega (arith, from, to)) u
+
+module _ (hint : ℕ → ℕ) (dirty : List Bool) (old : Mapping) (n : ℕ) (m : Mapping) (u : AreMarkedUpTo hint dirty old.entries n n m) (size : length old.entries ≡ n) where
+  entries_are : m.entries ≡ marked hint dirty old.entries
+  entries_are = ext_get_or None m.entries (marked hint dirty old.entries) (u.size ∙ sym size ∙ sym (length-marked hint dirty old.entries))
+      (λ k l. u.before k (omega (arith, l, u.size)) ∙ sym (get_or-marked hint dirty old.entries k))
+
+  pub all_marked : AreMarked hint dirty old m
+  all_marked = record {
+    entries = entries_are;
+    edited = record {
+      stays = λ level index p at. absurd (u.unknown p (record { level = level; index = index; known = at }));
+      words = λ level index j p at l. absurd (u.unknown p (record { level = level; index = index; known = at }));
+    };
+    sound = u.sound;
+  }
+
+  pub marked_mapping : (origin_blocks : ℕ) → IsMapping n origin_blocks old.entries → IsMapping n origin_blocks m.entries
+  marked_mapping origin_blocks is = record {
+    size = u.size;
+    within = λ b e g. let w = was b e g in (subst (λ (k : ℕ). k < origin_blocks) (ap (λ (o : _). o.0) w.2) (is.within b w.0 w.1).0, u.hints b e g);
+    once = λ b k e x g q same. let w = was b e g in let v = was k x q in is.once b k w.0 v.0 w.1 v.1 (w.2 ∙ same ∙ sym v.2);
+  }
+    where
+      from_mark : (bit : Bool) (x : Option Entry) (e : Entry) → marked_entry hint bit x ≡ Some e → (w : Entry) × (x ≡ Some w) × (w.origin ≡ e.origin)
+      from_mark bit None e q = absurd (nothing e q)
+      from_mark bit (Some x) e q = (x, refl, origin_of x e q)
+        where
+          origin_of : (x e : Entry) → (let d : Option Entry = Some (record { origin = x.origin; dirty = bit; hint = hint x.origin.0 }) in d) ≡ Some e → x.origin ≡ e.origin
+          origin_of x e q = cc
+
+      was : (b : ℕ) (e : Entry) → get_or m.entries b None ≡ Some e → (w : Entry) × (get_or old.entries b None ≡ Some w) × (w.origin ≡ e.origin)
+      was b e g = from_mark (get_or dirty b false) (get_or old.entries b None) e
+          (sym (ap (λ (xs : List (Option Entry)). get_or xs b None) entries_are ∙ get_or-marked hint dirty old.entries b) ∙ g)
+
+-- places that are free for a tree, and enough for every tree of its size, are so for one of which no node is known
+pub free_anew : (old m : Mapping) (geometry : Geometry) (free : List Place) → ((p : Place) → IsPlaceOf m p → ⊥) → length m.entries ≡ geometry.cache_blocks → node_count geometry.cache_blocks ≤ length free
+    → AreFree old geometry free → AreFree m geometry free
+free_anew old m geometry free unknown size many f = record {
+  enough = omega (arith, many, few_changed m geometry.cache_blocks size);
+  behind = f.behind;
+  inside = f.inside;
+  apart = f.apart;
+  unused = λ i p there at. unknown p at;
+}
+
+-- ---- images
+
+-- what an image leads to, whether it is clean or not
+pub record ImageFacts (old tree : Mapping) (plan : ImagePlan) (image : Image) : Type 0 where
+  pub origins : origins tree.entries ≡ origins old.entries
+  pub used_are : (place : Place) → Contains image.used.items place ↔ IsPlaceOf tree place
+  pub used_few : length image.used.items ≤ node_count plan.geometry.cache_blocks
+
+pub image_facts : (hint : ℕ → ℕ) (clean : Option (List Bool)) (old tree : Mapping) (plan : ImagePlan) (image : Image)
+    → OfImaged hint clean old (λ imaged. IsImage imaged tree plan image) → ImageFacts old tree plan image
+image_facts hint None old tree plan image is = record { origins = ap (λ (es : List (Option Entry)). origins es) is.same_entries; used_are = is.used_are; used_few = is.used_few }
+image_facts hint (Some dirty) old tree plan image is = record {
+  origins = ap (λ (es : List (Option Entry)). origins es) (is.2.same_entries ∙ is.1.entries) ∙ origins-marked hint dirty old.entries;
+  used_are = is.2.used_are;
+  used_few = is.2.used_few;
+}
+
+-- what follows of each tree that an image may be made of is so of the one that it is made of
+pub of_imaged : (hint : ℕ → ℕ) (clean : Option (List Bool)) (old : Mapping) (P Q : Mapping → Type 0) → ((m : Mapping) → P m → Q m) → OfImaged hint clean old P → OfImaged hint clean old Q
+of_imaged hint None old P Q f so = f old so
+of_imaged hint (Some dirty) old P Q f so = (so.0, so.1, f so.0 so.2)
+
+-- and after edits
+free_edited : (old m : Mapping) (geometry : Geometry) (free : List Place) → IsEdited old m → length m.entries ≡ geometry.cache_blocks → node_count geometry.cache_blocks ≤ length free
+    → AreFree old geometry free → AreFree m geometry free
+free_edited old m geometry free edited size many f = record {
+  enough = omega (arith, many, few_changed m geometry.cache_blocks size);
+  behind = f.behind;
+  inside = f.inside;
+  apart = f.apart;
+  unused = λ i p there at. f.unused i p there (places-edited old m p edited at);
+}
+
+-- so what follows of each image on free places is so of one of marked entries
+pub of_free : (hint : ℕ → ℕ) (clean : Option (List Bool)) (old tree : Mapping) (plan : ImagePlan) (image : Image) (Q : Type 0)
+    → ((m : Mapping) → AreFree m plan.geometry plan.free → IsImage m tree plan image → Q)
+    → length old.entries ≡ plan.geometry.cache_blocks → node_count plan.geometry.cache_blocks ≤ length plan.free → AreFree old plan.geometry plan.free
+    → OfImaged hint clean old (λ imaged. IsImage imaged tree plan image) → Q
+of_free hint None old tree plan image Q law size many free is = law old free is
+of_free hint (Some dirty) old tree plan image Q law size many free is =
+    let same : length is.0.entries ≡ plan.geometry.cache_blocks = ap (λ (es : List (Option Entry)). length es) is.1.entries ∙ length-marked hint dirty old.entries ∙ size in
+    law is.0 (free_edited old is.0 plan.geometry plan.free is.1.edited same many free) is.2

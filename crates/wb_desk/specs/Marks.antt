@@ -1,0 +1,28 @@
+-- Dirty bits and hints that are stored with the entries, and the images that store them.
+use Rattle.std.specs.Prelude.{◌≡◌, ℕ, Bool, false, List, [], ◌∷◌, Option, Some, None}
+use Rattle.wb_types.specs.declared.entry.Entry.{Entry}
+use Rattle.wb_tree.specs.Mapping.{Mapping, IsSound}
+use Rattle.wb_tree.specs.Edits.{IsEdited}
+
+-- an entry with this dirty bit, and with the hint of its origin block
+abbrev pub marked_entry : (ℕ → ℕ) → Bool → Option Entry → Option Entry
+marked_entry hint dirty None = None
+marked_entry hint dirty (Some e) = Some (record { origin = e.origin; dirty = dirty; hint = hint e.origin.0 })
+
+-- each entry with the bit of its cache block
+abbrev pub marked : (ℕ → ℕ) → List Bool → List (Option Entry) → List (Option Entry)
+marked hint dirty [] = []
+marked hint [] (e ∷ es) = marked_entry hint false e ∷ marked hint [] es
+marked hint (bit ∷ dirty) (e ∷ es) = marked_entry hint bit e ∷ marked hint dirty es
+
+-- The entries were marked, by edits of the tree.
+pub record AreMarked (hint : ℕ → ℕ) (dirty : List Bool) (old new : Mapping) : Type 0 where
+  pub entries : new.entries ≡ marked hint dirty old.entries
+  pub edited : IsEdited old new
+  pub sound : IsSound new
+
+-- Something is so of the tree that an image is made of: the tree as it is, or for a clean image, where the dirty bits that were
+-- seen are given, the tree marked with them and with hints.
+abbrev pub OfImaged : (ℕ → ℕ) → Option (List Bool) → Mapping → (Mapping → Type 0) → Type 0
+OfImaged hint None old so = so old
+OfImaged hint (Some dirty) old so = (imaged : Mapping) × AreMarked hint dirty old imaged × so imaged

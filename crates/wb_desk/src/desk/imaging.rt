@@ -1,0 +1,79 @@
+//! Images that a desk takes of its tree.
+
+ghost use Rattle.std.specs.Prelude.{◌≡◌, ◌≤◌, IfOk, IfErr, OnErr, is_some, length};
+ghost use Rattle.std.specs.Option.{IfSome, option_map};
+ghost use Rattle.wb_types.specs.Limits.{node_count};
+ghost use Rattle.wb_types.specs.declared.number.Place.{Place as APlace};
+ghost use Rattle.wb_tree.specs.Mapping.{IsMapping, IsSound, IsPlaceOf, AreInside};
+ghost use Rattle.wb_tree.specs.Images.{AreFree, IsImage};
+ghost use Rattle.wb_desk.specs.Marks.{AreMarked, OfImaged};
+
+use std::alloc::Global;
+use wb_policy::Policy;
+use wb_tree::{Image, Tree};
+use wb_types::{CBlock, Entry, Geometry, Place, Refusal};
+
+/// The next image of a tree, as it is, or for a clean root marked with these dirty bits and the policy's hints. `Memory`
+/// where there is none for it, and then the tree is as it was.
+pub(super) fn plan<P: Policy>(
+    alloc: Global,
+    tree: &mut Tree<Global>,
+    policy: &P,
+    geometry: &Geometry,
+    generation: u64,
+    clean: Option<&[bool]>,
+    free: &[Place],
+) -> Result<Image, Refusal>
+    requires mapping { IsMapping geometry.now.cache_blocks geometry.now.origin_blocks tree.old.entries }
+    requires inside { AreInside geometry.now.meta_sectors tree.old }
+    requires free { AreFree tree.old geometry.now free.now }
+    requires many { node_count geometry.now.cache_blocks ≤ length free.now }
+    requires seen { IfSome clean (λ dirty. length dirty.now ≡ geometry.now.cache_blocks) }
+    ensures image { IfOk result (λ image. OfImaged (P.hint_of policy.now) (option_map (λ dirty. dirty.now) clean.entry) tree.old (λ imaged.
+        IsImage imaged tree.new (record { geometry = geometry.now; generation = generation; clean = is_some clean.entry; free = free.now }) image)) }
+    ensures err { OnErr result (tree.new ≡ tree.old) }
+    ensures refused { IfErr result (λ e. e ≡ Refusal.Memory) }
+    ensures mapping { IsMapping geometry.now.cache_blocks geometry.now.origin_blocks tree.new.entries }
+    ensures sound { IfOk result (λ _. IsSound tree.new) }
+    ensures inside { AreInside geometry.now.meta_sectors tree.new }
+{
+    match clean {
+        None => tree.plan(alloc, geometry, generation, false, free),
+        Some(dirty) => {
+            let mut imaged = marked(alloc, tree, policy, geometry, dirty)?;
+            let image = imaged.plan(alloc, geometry, generation, true, free)?;
+            *tree = imaged;
+            Ok(image)
+        }
+    }
+}
+
+/// The tree with these dirty bits and the policy's hints, made anew, so that every node counts as changed. `Memory` where
+/// there is none for it.
+fn marked<P: Policy>(
+    alloc: Global,
+    tree: &Tree<Global>,
+    policy: &P,
+    geometry: &Geometry,
+    dirty: &[bool],
+) -> Result<Tree<Global>, Refusal>
+    requires mapping { IsMapping geometry.now.cache_blocks geometry.now.origin_blocks tree.now.entries }
+    requires seen { length dirty.now ≡ geometry.now.cache_blocks }
+    ensures marked { IfOk result (AreMarked (P.hint_of policy.now) dirty.now tree.now) }
+    ensures mapping { IfOk result (λ t. IsMapping geometry.now.cache_blocks geometry.now.origin_blocks t.entries) }
+    ensures anew { IfOk result (λ t. (place : APlace) → IsPlaceOf t place → ⊥) }
+    ensures refused { IfErr result (λ e. e ≡ Refusal.Memory) }
+{
+    let mut marked = Tree::new(alloc, geometry.cache_blocks);
+    for c in 0..geometry.cache_blocks {
+        if let Some(entry) = tree.get(CBlock(c)) {
+            let entry = Entry {
+                origin: entry.origin,
+                dirty: dirty[c as usize],
+                hint: policy.hint(entry.origin),
+            };
+            marked.set(CBlock(c), entry)?;
+        }
+    }
+    Ok(marked)
+}
