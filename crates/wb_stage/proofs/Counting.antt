@@ -1,5 +1,5 @@
 -- An image has no more nodes than there are places for it.
-use Rattle.std.proofs.Common.{◌≡◌, ◌≤◌, ◌∙◌, ℕ, zero, suc, List, [], ◌∷◌, length, map, take, arith, refl, sym, ap}
+use Rattle.std.proofs.Common.{◌≡◌, ◌≤◌, ◌∙◌, ℕ, zero, suc, false, List, [], ◌∷◌, length, map, take, arith, refl, sym, ap}
 use Rattle.wb_types.specs.Limits.{node_count}
 use Rattle.wb_types.specs.declared.number.Place.{Place}
 use Rattle.wb_format.specs.declared.node.Node.{Node}
@@ -24,10 +24,10 @@ take_few zero xs = omega arith
 take_few (suc n) [] = omega arith
 take_few (suc n) (x ∷ xs) = let rest = take_few n xs in omega (arith, rest)
 
-pub few_nodes : {P : Type 0} (d : DeskState P) (m n : Mapping) (image : Image) → IsImage m n (next_plan d) image → length image.nodes.items ≤ node_count d.geometry.cache_blocks
+pub few_nodes : {P : Type 0} (d : DeskState P) (m n : Mapping) (image : Image) → IsImage m n (next_plan d false) image → length image.nodes.items ≤ node_count d.geometry.cache_blocks
 few_nodes d m n image is =
     let nodes = image.nodes.items in
-    let free = (next_plan d).free in
+    let free = (next_plan d false).free in
     let all : length nodes ≡ length (take (length nodes) free) = sym (map_length (λ (node : Place × Node). node.0) nodes) ∙ ap (λ (ps : List Place). length ps) is.places_are in
     let some = take_some (length nodes) free in
     let mapped = map_length place (take (node_count d.geometry.cache_blocks) (free_places d.space.places)) in

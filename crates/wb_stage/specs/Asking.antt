@@ -1,5 +1,5 @@
 -- What a step on the desk does to it.
-use Rattle.std.specs.Prelude.{◌≡◌, ◌≤◌, ◌==◌, ◌||◌, ℕ, Bool, List, [], ◌∷◌, Option, Some, None, if◌then◌else◌}
+use Rattle.std.specs.Prelude.{◌≡◌, ◌≤◌, ◌==◌, ◌||◌, ℕ, Bool, false, List, [], ◌∷◌, Option, Some, None, if◌then◌else◌}
 use Rattle.wb_types.specs.Limits.{node_count}
 use Rattle.wb_types.specs.declared.number.OBlock.{OBlock}
 use Rattle.wb_types.specs.declared.number.CBlock.{CBlock}
@@ -50,8 +50,8 @@ DidRelease held b d d' = IsGivenUp (order_of b held) d d'
 pub record HasBegun {P : Type 0} (d : DeskState P) (image : Image) (d' : DeskState P) : Type 0 where
   pub may : MayBegin d
   pub state : d' ≡ commit_begun d d'.tree image.used.items
-  pub image_is : IsImage d.tree d'.tree (next_plan d) image
-  pub unused : IsOnUnused d d'.tree image
+  pub image_is : IsImage d.tree d'.tree (next_plan d false) image
+  pub unused : IsOnUnused d d.tree d'.tree false image
 
 -- None began: the desk refused it, where so many nodes are enough for every image, and nothing changed.
 abbrev pub IsUnbegun : {P : Type 0} → DeskState P → ℕ → Refusal → DeskState P → Type 0

@@ -66,7 +66,7 @@ pub fn begin<P: Policy>(
     if desk.most_nodes() > most {
         return Err(Refusal::Memory);
     }
-    let image = desk.begin_commit(alloc)?;
+    let image = desk.begin_commit(alloc, None)?;
     Ok(RunningCommit::new(image))
 }
 

@@ -229,7 +229,7 @@ fn is_not_mapped(cache: &mut Cache) -> bool
 fn is_busy(alloc: Global, cache: &mut Cache) -> bool
     requires { cache.old.stage.crew.blocks ≡ 10 }
 {
-    if cache.stage.desk.begin_commit(alloc).is_err() {
+    if cache.stage.desk.begin_commit(alloc, None).is_err() {
         return false;
     }
     play(cache, &Job::Flush, 64) == Some(Answer::Refused(Refusal::Busy))
