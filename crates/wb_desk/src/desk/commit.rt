@@ -1,6 +1,6 @@
 //! The commits of a desk.
 
-ghost use Rattle.std.specs.Prelude.{◌≡◌, true, IfOk, IfErr, OnErr, is_some, length};
+ghost use Rattle.std.specs.Prelude.{◌≡◌, ◌<◌, ◌+◌, ◌^◌, true, IfOk, IfErr, OnErr, is_some, length};
 ghost use Rattle.std.specs.Option.{IfSome, option_map};
 ghost use Rattle.wb_types.specs.Limits.{node_count};
 ghost use Rattle.wb_meta.specs.Placing.{HavePlaces};
@@ -83,8 +83,16 @@ impl<P: Policy> Desk<P> {
         ensures { self.new ≡ commit_ended self.old }
     {
         self.space.end();
-        self.generation += 1;
+        self.generation = next(self.generation);
         self.nodes = self.coming;
         self.coming = 0;
     }
+}
+
+/// The generation that comes after one that is not the last.
+fn next(generation: u64) -> u64
+    requires { generation + 1 < 2 ^ 64 }
+    ensures { result ≡ generation + 1 }
+{
+    1 + generation
 }

@@ -1,6 +1,6 @@
 //! Entries that come and go.
 
-ghost use Rattle.std.specs.Prelude.{◌≡◌, ◌<◌, Some, None, length, slice_get, OnOk, OnErr, IfErr};
+ghost use Rattle.std.specs.Prelude.{◌≡◌, ◌<◌, ◌+◌, ◌%◌, ◌^◌, Some, None, length, slice_get, OnOk, OnErr, IfErr};
 ghost use Rattle.std.specs.Bool.{OnTrue, OnFalse};
 ghost use Rattle.wb_policy.specs.Law.{origins, IsMappedAt, IsUnmapped};
 ghost use Rattle.wb_orders.specs.Orders.{order_at};
@@ -30,7 +30,7 @@ impl<P: Policy> Desk<P> {
         let OBlock(at) = b;
         self.cached[at as usize] = Some(c);
         self.mapped += 1;
-        self.promotions = self.promotions.wrapping_add(1);
+        self.promotions = one_more(self.promotions);
         Ok(())
     }
 
@@ -49,7 +49,7 @@ impl<P: Policy> Desk<P> {
         let OBlock(at) = b;
         self.cached[at as usize] = None;
         self.mapped -= 1;
-        self.demotions = self.demotions.wrapping_add(1);
+        self.demotions = one_more(self.demotions);
     }
 
     /// Whether an order that somebody has taken brings this block into this cache block, which is reserved.
@@ -78,6 +78,13 @@ impl<P: Policy> Desk<P> {
         };
         is_removed(self.orders.get(c))
     }
+}
+
+/// A counter that goes round at 2^64 has counted one more.
+fn one_more(count: u64) -> u64
+    ensures { result ≡ (count + 1) % 2 ^ 64 }
+{
+    count.wrapping_add(1)
 }
 
 /// Whether an order brings this block into its cache block.

@@ -12,5 +12,5 @@ index_mut-requires g c =
 pub invariant_of-self-2 : goal.invariant_of-self-2
 invariant_of-self-2 g c =
     let may = subst (λ (d : DeskState _). MayMap d c.args.b c.args.c) (sym c.self.view_is) c.requires in
-    rw (c.end.ensures.state, c.map.ensures) (mapped_parts g.P.Policy.knows _ c.args.b c.args.c c.enter.new.tree c.enter.new.policy c.self.inside.cached.items c.self.inside.mapped
+    rw (c.end.ensures.state, c.map.ensures, c.one_more-self-inside.ensures) (mapped_parts g.P.Policy.knows _ c.args.b c.args.c c.enter.new.tree c.enter.new.policy c.self.inside.cached.items c.self.inside.mapped
     c.self.invariant c.end.ensures.orders may c.in_ok-enter.ensures.tree c.in_ok-enter.ensures.knows)

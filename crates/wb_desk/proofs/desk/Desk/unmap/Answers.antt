@@ -20,7 +20,7 @@ pub invariant_of-self : goal.invariant_of-self
 invariant_of-self g c =
     let at = subst (λ (d : DeskState _). IsMappedAt (holdings d) c.args.b.0 c.in-Some.c.0) (sym c.self.view_is) c.in-Some.ensures.mapped in
     let may = subst (λ (d : DeskState _). MayUnmap d c.args.b) (sym c.self.view_is) c.requires in
-    rw (c.remove.ensures, c.end_removal-kept.ensures.orders, c.end_removal-kept.ensures.kept) (unmapped_parts g.P.Policy.knows _ c.args.b c.in-Some.c c.leave.new.tree c.leave.new.policy
+    rw (c.remove.ensures, c.one_more-self-inside.ensures, c.end_removal-kept.ensures.orders, c.end_removal-kept.ensures.kept) (unmapped_parts g.P.Policy.knows _ c.args.b c.in-Some.c c.leave.new.tree c.leave.new.policy
     c.self.inside.cached.items c.self.inside.mapped c.self.invariant at (removed_there g.P.Policy.knows _ c.args.b c.in-Some.c c.self.invariant.desk at may) c.leave.ensures.tree c.leave.ensures.knows)
 
 pub returns : goal.returns
@@ -29,7 +29,7 @@ returns g c = λ may.
     let e = found_there g.P.Policy.knows c.args.self.now c.args.b c.in-Some.c i c.in-Some.ensures.mapped may in
     let changed = subst (λ (d : DeskState _). IsChangedAt d.tree c.leave.new.tree c.in-Some.c.0 None) c.self.view_is c.leave.ensures.tree in (
       subst (λ (k : CBlock). IsChangedAt c.args.self.now.tree c.leave.new.tree k.0 None) e changed,
-      rw (c.remove.ensures, c.end_removal-kept.ensures.orders, c.end_removal-kept.ensures.kept, c.leave.ensures.policy)
+      rw (c.remove.ensures, c.one_more-self-inside.ensures, c.end_removal-kept.ensures.orders, c.end_removal-kept.ensures.kept, c.leave.ensures.policy)
           (ap (λ (d : DeskState _). unmapped d c.in-Some.c c.leave.new.tree (g.P.Policy.without_entry d.policy c.args.b.0)) c.self.view_is
           ∙ ap (λ (k : CBlock). unmapped c.args.self.now k c.leave.new.tree (g.P.Policy.without_entry c.args.self.now.policy c.args.b.0)) e),
     )
