@@ -8,13 +8,12 @@ use Rattle.wb_disk.specs.Device.{Content}
 use Rattle.wb_format.specs.declared.node.Node.{Node}
 use Rattle.wb_format.specs.declared.root.Root.{Root}
 use Rattle.wb_tree.specs.declared.placed.PlacedNode.{PlacedNode}
-use Rattle.wb_tree.specs.Reading.{Found, Reading, Nodes, ReadsAs, AreNodes, ◌then◌, each_step, entry_in, entry_read, may_map, child_read, names_child, is_node_of, reached_at, words_read, node_read, is_reached, nothing_found, top_read, tree_read}
+use Rattle.wb_tree.specs.Reading.{Found, Reading, Nodes, ReadsAs, ◌then◌, each_step, entry_in, entry_read, may_map, child_read, names_child, is_node_of, reached_at, words_read, node_read, is_reached, nothing_found, top_read}
 use Rattle.wb_format.proofs.Values.{one_node}
 use Rattle.wb_tree.proofs.Reading.ReachedLemmas.{is_reached-push}
 use Rattle.wb_tree.proofs.Reading.Steps.{then_ok, test_ok}
 use Rattle.wb_types.proofs.Truth.{yes}
 use Rattle.wb_tree.specs.Loading.{AgreeAt}
-use Rattle.wb_meta.specs.Representing.{Represents}
 use Rattle.wb_types.proofs.Truth.{or_true}
 
 -- what was reached is still reached, and where the same is read there, another reading gives the same

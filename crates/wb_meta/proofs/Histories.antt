@@ -1,16 +1,16 @@
 -- What writes, syncs and crashes make of contents that are all of one kind.
-use Rattle.std.proofs.Common.{◌≡◌, ◌≢◌, ◌⊎◌, ℕ, List, [], ◌∷◌, ◌++◌, Some, length, map, refl, sym, ◌∙◌, ap, arith, slice_set, subst, inl, inr}
+use Rattle.std.proofs.Common.{◌≡◌, ◌≢◌, ◌⊎◌, ℕ, List, [], ◌∷◌, ◌++◌, Some, length, refl, sym, ◌∙◌, ap, arith, slice_set, subst, inl, inr}
 use Rattle.std.specs.Prelude.{Contains}
 use Rattle.std.specs.List.{slice_get}
 use Rattle.std.proofs.lemmas.List.{length-map}
 use Rattle.std.proofs.lemmas.List.Elements.{Contains-append_cases}
 use Rattle.std.proofs.lemmas.Option.{slice_get_cases}
 use Rattle.std.proofs.lemmas.Grind.{common_steps}
-use Rattle.wb_disk.specs.Device.{Content, History, entries, newest, last_of, added, only, written, grown, synced, PartlySynced, Crashed}
+use Rattle.wb_disk.specs.Device.{Content, History, entries, newest, last_of, added, only, written, grown, synced, PartlySynced}
 use Rattle.wb_disk.specs.Crashes.{MayLeave}
 use Rattle.wb_disk.proofs.Leaving.{newest_there}
 use Rattle.wb_meta.specs.Commits.{Every, Newest, WasThere, Grew}
-use Rattle.wb_types.proofs.Lists.{element_beside, set_cases, map_there, Contains-one, Contains-first, Contains-behind}
+use Rattle.wb_types.proofs.Lists.{element_beside, set_cases, map_there, Contains-one}
 
 last_pushed : (c : Content) (ds : List Content) (d : Content) → last_of c (ds ++ d ∷ []) ≡ d
 last_pushed c [] d = refl

@@ -15,7 +15,7 @@ use Rattle.wb_format.specs.NodeWords.{entry_word}
 use Rattle.wb_format.proofs.Values.{one_root}
 use Rattle.wb_tree.specs.declared.image.Image.{Image}
 use Rattle.wb_tree.specs.Mapping.{Mapping, NodeName, IsMapping, IsSound, AreInside, place_of, exists, changed}
-use Rattle.wb_tree.specs.Reading.{Found, IsNewestRoot}
+use Rattle.wb_tree.specs.Reading.{IsNewestRoot}
 use Rattle.wb_tree.specs.Images.{AreFree, ImagePlan, IsImage, StoresNode, Stores, HasWordsOf, name_of, place_word, word_at}
 use Rattle.wb_tree.proofs.Nodes.Names.{has, same_name}
 use Rattle.wb_tree.proofs.Nodes.Listed.{unknown_changed}

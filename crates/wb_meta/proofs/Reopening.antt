@@ -1,16 +1,15 @@
 -- The root that an opening writes, over the same tree: the tree is read by it as before.
-use Rattle.std.proofs.Common.{◌≡◌, ◌≢◌, ◌≤◌, ◌<◌, ◌+◌, ◌*◌, ◌%◌, ◌==◌, ◌&&◌, ◌∙◌, ◌⊎◌, sym, ap, subst, refl, ℕ, zero, suc, Bool, true, false, cond, List, [], ◌∷◌, Option, Some, None, Ok, Err, length, slice_get, nat_le, arith, inl, inr}
+use Rattle.std.proofs.Common.{◌≡◌, ◌≢◌, ◌≤◌, ◌<◌, ◌+◌, ◌*◌, ◌%◌, ◌==◌, ◌&&◌, ◌∙◌, sym, ap, subst, refl, ℕ, zero, suc, Bool, true, false, List, Option, Some, None, Ok, Err, length, slice_get, nat_le, arith, inl, inr}
 use Rattle.std.specs.Prelude.{slice_index, if◌then◌else◌}
 use Rattle.std.proofs.lemmas.Bool.{cases_eq, leb-true, le-leb}
 use Rattle.std.proofs.lemmas.Option.{slice_get_cases, slice_get_within}
 use Rattle.wb_types.specs.Limits.{depth_of, node_count}
-use Rattle.wb_types.specs.declared.entry.Entry.{Entry}
 use Rattle.wb_types.specs.declared.number.Place.{Place}
 use Rattle.wb_disk.specs.Device.{Content, History}
 use Rattle.wb_disk.specs.Crashes.{AfterEveryCrash}
 use Rattle.wb_format.specs.declared.node.Node.{Node}
 use Rattle.wb_format.specs.declared.root.Root.{Root}
-use Rattle.wb_tree.specs.Reading.{Found, Reading, Nodes, ◌then◌, each_step, entry_in, entry_read, child_read, is_node_of, reached_at, words_read, node_read, nothing_found, top_read, tree_read, names_child, is_reached, ReadsAs}
+use Rattle.wb_tree.specs.Reading.{Found, Reading, Nodes, ◌then◌, each_step, child_read, is_node_of, reached_at, words_read, node_read, nothing_found, top_read, tree_read, names_child, is_reached, ReadsAs}
 use Rattle.wb_format.specs.Layout.{SpellsRoot}
 use Rattle.wb_format.proofs.Values.{one_root}
 use Rattle.wb_tree.specs.declared.image.Image.{Image}
@@ -19,7 +18,7 @@ use Rattle.wb_tree.specs.Mapping.{Mapping, AreInside}
 use Rattle.wb_meta.specs.Imaging.{DeviceStores}
 use Rattle.wb_meta.specs.Laws.{Wanted}
 use Rattle.wb_meta.specs.Openings.{IsOpening, reopened}
-use Rattle.wb_meta.specs.Representing.{Represents, RepresentsAndStores, Stored}
+use Rattle.wb_meta.specs.Representing.{Represents, Stored}
 use Rattle.wb_meta.specs.Placing.{HavePlaces, IsPlaced, MayCommit}
 use Rattle.wb_tree.proofs.Reading.Steps.{then_ok, test_ok}
 

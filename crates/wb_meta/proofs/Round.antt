@@ -1,16 +1,15 @@
 -- What a device stores that was formatted, or read, or edited, or committed to; and how an image follows on another.
-use Rattle.std.proofs.Common.{◌≡◌, ◌≤◌, ◌<◌, ◌+◌, ◌∙◌, sym, ap, subst, refl, ℕ, zero, suc, Bool, true, false, List, [], ◌∷◌, Option, Some, None, cond, nat_eq, length, map, replicate, slice_get, slice_set, arith}
+use Rattle.std.proofs.Common.{◌≡◌, ◌≤◌, ◌<◌, ◌∙◌, sym, ap, subst, refl, ℕ, zero, suc, Bool, true, false, List, [], ◌∷◌, Some, None, cond, nat_eq, length, map, replicate, arith}
 use Rattle.std.specs.Prelude.{Contains}
 use Rattle.std.proofs.lemmas.Bool.{eqb-true, false_from_ne_true}
 use Rattle.wb_types.specs.Limits.{depth_of, node_count}
-use Rattle.wb_types.specs.declared.entry.Entry.{Entry}
 use Rattle.wb_types.specs.declared.geometry.Geometry.{Geometry}
 use Rattle.wb_types.specs.declared.number.Place.{Place}
-use Rattle.wb_disk.specs.Device.{Content, History, Crashed, last_of, newest, only, synced}
+use Rattle.wb_disk.specs.Device.{Content, History, newest}
 use Rattle.wb_format.specs.declared.root.Root.{Root}
 use Rattle.wb_tree.specs.declared.placed.PlacedNode.{PlacedNode}
-use Rattle.wb_tree.specs.Mapping.{Mapping, IsMapping, IsSound, IsPlaceOf, AreInside, Forgets, empty_mapping}
-use Rattle.wb_tree.specs.Images.{AreFree, ImagePlan, IsImage, Stores}
+use Rattle.wb_tree.specs.Mapping.{Mapping, IsSound, IsPlaceOf, AreInside, empty_mapping}
+use Rattle.wb_tree.specs.Images.{AreFree, ImagePlan, Stores}
 use Rattle.wb_tree.specs.declared.image.Image.{Image}
 use Rattle.wb_tree.specs.Reading.{Found, is_reached, nothing_found}
 use Rattle.wb_tree.proofs.Images.Changes.{few_changed}
@@ -27,7 +26,7 @@ use Rattle.wb_meta.specs.Reads.{AreApartPlaces, FitsDevice}
 use Rattle.wb_meta.proofs.Counting.{all_contained}
 use Rattle.wb_meta.specs.States.{RepresentsState, places_of}
 use Rattle.wb_meta.proofs.Storing.{same_place}
-use Rattle.wb_types.proofs.Lists.{element_beside, map_there, Contains-one, Contains-first, Contains-behind}
+use Rattle.wb_types.proofs.Lists.{Contains-first, Contains-behind}
 
 -- ---- formatted
 

@@ -1,5 +1,5 @@
 -- What each step of a commit leaves.
-use Rattle.std.proofs.Common.{◌≡◌, ◌≢◌, ◌≤◌, ◌<◌, ◌+◌, ◌%◌, ℕ, List, [], Option, Some, None, length, refl, sym, ◌∙◌, ap, arith, subst, inl, inr}
+use Rattle.std.proofs.Common.{◌≡◌, ◌≢◌, ◌≤◌, ◌<◌, ◌+◌, ◌%◌, ℕ, List, Option, Some, None, length, refl, sym, ◌∙◌, ap, arith, subst, inl, inr}
 use Rattle.std.specs.List.{slice_get}
 use Rattle.std.proofs.lemmas.Option.{slice_get_cases}
 use Rattle.std.specs.Prelude.{Result, Ok, Err, OnErr}
@@ -13,7 +13,7 @@ use Rattle.wb_meta.specs.declared.commit_steps.CommitSteps.TheVariants.{NodesWri
 use Rattle.wb_meta.specs.Steps.{Puts, MayPut, DoesStep, FailsStep, NodeOrSync, MayNodeOrSync, after_node, slot_of, steps_after}
 use Rattle.wb_meta.specs.Placing.{HavePlaces, IsNodeHere, IsOfImage, FitsNodes, FitsRoot}
 use Rattle.wb_meta.specs.Commits.{Newest, Grew, WroteNodes, SyncedNodes, MayHaveRoot, WroteRoot, SyncedRoot, HasCome, HasFailed}
-use Rattle.wb_meta.proofs.Histories.{Newest-every, Every-written, Newest-written, Every-synced, Every-partly, Grew-none, Grew-wider, Grew-written, Grew-synced, Grew-partly}
+use Rattle.wb_meta.proofs.Histories.{Newest-every, Every-written, Newest-written, Every-synced, Every-partly, Grew-wider, Grew-written, Grew-synced, Grew-partly}
 
 none_listed : (nodes : List (Place × Node)) (count : ℕ) → slice_get nodes count ≡ None → length nodes ≤ count
 none_listed nodes count none = elim (slice_get_cases nodes count).1 [

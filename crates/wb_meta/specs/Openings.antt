@@ -1,5 +1,5 @@
 -- The root that an opening writes.
-use Rattle.std.specs.Prelude.{◌≡◌, ◌+◌, false, List, []}
+use Rattle.std.specs.Prelude.{◌≡◌, ◌+◌, false, []}
 use Rattle.wb_format.specs.declared.root.Root.{Root}
 use Rattle.wb_tree.specs.declared.image.Image.{Image}
 

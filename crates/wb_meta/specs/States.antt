@@ -1,5 +1,5 @@
 -- What is read of sectors, and why nothing is read of others.
-use Rattle.std.specs.Prelude.{◌≡◌, ◌≢◌, ℕ, true, Some, Err, List, length, map, slice_get}
+use Rattle.std.specs.Prelude.{◌≡◌, ◌≢◌, ℕ, Some, Err, List, length, map, slice_get}
 use Rattle.wb_types.specs.declared.number.Place.{Place}
 use Rattle.wb_types.specs.declared.refusal.Refusal.{Refusal}
 use Rattle.wb_types.specs.declared.refusal.Refusal.TheVariants.{Io, Memory, NotFormatted, Mismatch, Damaged}
@@ -9,7 +9,7 @@ use Rattle.wb_format.specs.declared.root.Root.{Root}
 use Rattle.wb_format.specs.Layout.{IsValidIn}
 use Rattle.wb_tree.specs.declared.placed.PlacedNode.{PlacedNode}
 use Rattle.wb_tree.specs.Mapping.{Mapping}
-use Rattle.wb_tree.specs.Reading.{Found, Nodes, IsNewestRoot, is_reached, tree_read}
+use Rattle.wb_tree.specs.Reading.{Found, Nodes, IsNewestRoot, tree_read}
 use Rattle.wb_tree.specs.Images.{Stores}
 use Rattle.wb_tree.specs.Loaded.{IsLoaded}
 use Rattle.wb_meta.specs.Representing.{Represents, ReadThere}

@@ -1,15 +1,13 @@
 -- Trees in which each cache block has the origin block of its own number, and places one after the other.
-use Rattle.std.proofs.Common.{◌≡◌, ◌≢◌, ◌≤◌, ◌<◌, ◌+◌, ◌⊎◌, ◌∙◌, sym, ap, subst, refl, ℕ, zero, suc, Bool, true, false, List, Option, Some, None, map, length, arith, inl, inr}
-use Rattle.std.specs.Prelude.{All, Contains, slice_get, slice_index_or}
+use Rattle.std.proofs.Common.{◌≡◌, ◌≤◌, ◌<◌, ◌+◌, ◌∙◌, sym, ap, subst, ℕ, List, Option, Some, None, map, length, arith}
+use Rattle.std.specs.Prelude.{All, slice_index_or}
 use Rattle.std.specs.List.{range_with_len}
-use Rattle.std.proofs.lemmas.Bool.{cases_lt, cases_eq}
-use Rattle.std.proofs.lemmas.List.{get_or_past}
 use Rattle.std.proofs.lemmas.List.Elements.{All-contains}
 use Rattle.std.proofs.lemmas.List.FromFn.{length-map-range_with_len}
 use Rattle.wb_types.specs.declared.entry.Entry.{Entry}
 use Rattle.wb_types.specs.declared.geometry.Geometry.{Geometry}
 use Rattle.wb_types.specs.declared.number.Place.{Place}
-use Rattle.wb_tree.specs.Mapping.{Mapping, IsMapping, IsPlaceOf, Forgets, entry_at}
+use Rattle.wb_tree.specs.Mapping.{IsMapping}
 use Rattle.wb_meta.specs.Imaging.{HasUnused}
 use Rattle.wb_trial.proofs.OwnTrees.{some_inside, places-numbers}
 

@@ -1,8 +1,8 @@
 -- The nodes of all levels, summed level by level.
-use Rattle.std.proofs.Common.{◌≡◌, ◌≤◌, ◌<◌, ◌+◌, ◌-◌, ◌*◌, ◌/◌, ◌%◌, ◌^◌, ℕ, zero, suc, refl, arith, min, add-one}
+use Rattle.std.proofs.Common.{◌≡◌, ◌≤◌, ◌<◌, ◌+◌, ◌*◌, ◌^◌, ℕ, zero, suc, refl, arith, add-one}
 use Rattle.std.proofs.Math.Nat.{div-le_self}
 use Rattle.std.specs.Int.{div_ceil}
-use Rattle.wb_types.specs.Limits.{depth_of, nodes_at, nodes_up_to, node_count}
+use Rattle.wb_types.specs.Limits.{depth_of, nodes_up_to, node_count}
 
 -- the span of the level above, below the greatest depth
 pub span_below : (level : ℕ) → level < 4 → (32 ^ level * 32 ≡ 32 ^ (level + 1)) × (32 ^ level * 32 ≤ 1048576) × (0 < 32 ^ level)

@@ -1,7 +1,6 @@
 -- The least number of levels, by the number of cache blocks.
-use Rattle.std.proofs.Common.{◌≡◌, ◌≤◌, ◌<◌, ◌+◌, ◌-◌, ◌*◌, ◌/◌, ◌^◌, ℕ, zero, suc, refl, arith}
-use Rattle.std.proofs.lemmas.Grind.{common_steps}
-use Rattle.wb_types.specs.Limits.{IsDepth, depth_of, nodes_at, nodes_up_to, node_count}
+use Rattle.std.proofs.Common.{◌≤◌, ◌<◌, ◌^◌, ℕ, zero, suc, arith}
+use Rattle.wb_types.specs.Limits.{IsDepth}
 
 pub IsDepth-one : (blocks : ℕ) → blocks ≤ 32 → IsDepth blocks 1
 IsDepth-one blocks h = record { some = omega arith; enough = omega arith; least = λ level l e. l }

@@ -1,5 +1,5 @@
 -- How many nodes changed.
-use Rattle.std.proofs.Common.{◌≡◌, ◌≤◌, ◌<◌, ◌+◌, ◌-◌, ◌*◌, ◌^◌, ◌∙◌, ◌++◌, sym, ap, refl, subst, ℕ, zero, suc, true, false, List, [], ◌∷◌, Option, None, Some, length, is_some, arith}
+use Rattle.std.proofs.Common.{◌≡◌, ◌≤◌, ◌<◌, ◌+◌, ◌-◌, ◌*◌, ◌^◌, ◌∙◌, ◌++◌, sym, ap, refl, ℕ, zero, suc, true, false, List, [], ◌∷◌, Option, None, Some, length, is_some, arith}
 use Rattle.std.proofs.lemmas.List.{length-append}
 use Rattle.std.proofs.Math.Nat.{add-mul, mul-le-mul_right, pow-succ'}
 use Rattle.wb_types.specs.Limits.{depth_of, node_count}

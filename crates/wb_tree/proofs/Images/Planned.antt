@@ -21,7 +21,7 @@ use Rattle.wb_tree.proofs.Nodes.Names.{IsBelow, has, same_name, nodes_below-belo
 use Rattle.wb_tree.proofs.Nodes.Placing.{IsPlaced, placed-apart, placed-some, placed-had, placed-is, placed-none, placed-take}
 use Rattle.wb_tree.proofs.Nodes.Listed.{exists_listed, unknown_changed}
 use Rattle.wb_tree.proofs.Nodes.Knowing.{known-behind, same_names}
-use Rattle.wb_tree.proofs.Images.PlanSteps.{changed-apart, changed-exist, changed_of-all, changed_of-few, planned-known, planned-new}
+use Rattle.wb_tree.proofs.Images.PlanSteps.{changed-apart, changed-exist, changed_of-all, planned-known, planned-new}
 use Rattle.wb_tree.proofs.Images.Imaging.{WritesChanged}
 use Rattle.wb_tree.proofs.Branching.Looks.{place_right}
 use Rattle.wb_types.proofs.Truth.{either_true, yes}

@@ -1,7 +1,5 @@
-use Rattle.std.proofs.Common.{◌≡◌, ◌≤◌, ◌<◌, ◌+◌, ◌-◌, ◌*◌, ◌∙◌, true, None, sym, ap, subst, arith}
+use Rattle.std.proofs.Common.{◌≡◌, ◌≤◌, ◌-◌, ◌*◌, ◌∙◌, sym, ap, subst, arith}
 use Rattle.std.specs.Prelude.{is_some}
-use Rattle.wb_tree.specs.Mapping.{exists, place_of}
-use Rattle.wb_tree.specs.Settling.{place_told}
 use Rattle.wb_tree.proofs.Branching.Branches.{not_one}
 use Rattle.wb_tree.proofs.Nodes.Listing.{exists-before}
 use Rattle.wb_tree.proofs.Images.Changes.{AreCounted, counted_small, is_none, leaf_changed, node_changed, node_most, none_counted, none_known, none_shut, one_counted, some_power}

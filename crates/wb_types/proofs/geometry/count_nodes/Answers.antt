@@ -1,6 +1,5 @@
-use Rattle.std.proofs.Common.{◌≡◌, ◌≤◌, ◌+◌, ◌*◌, ◌^◌, arith, refl, sym}
+use Rattle.std.proofs.Common.{◌≡◌, ◌+◌, ◌*◌, ◌^◌, arith, refl, sym}
 use Rattle.std.specs.Int.{div_ceil}
-use Rattle.wb_types.specs.Limits.{nodes_up_to}
 use Rattle.wb_types.proofs.Counting.{span_below, nodes_up_to-zero, nodes_up_to-more, node_count-levels, div_ceil-le}
 use Rattle.wb_types.proofs.geometry.count_nodes.Goals as goal
 

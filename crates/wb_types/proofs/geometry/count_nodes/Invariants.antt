@@ -1,4 +1,4 @@
-use Rattle.std.proofs.Common.{◌≡◌, ◌≤◌, ◌*◌, ◌^◌, ℕ}
+use Rattle.std.proofs.Common.{◌≡◌, ◌≤◌, ◌*◌, ◌^◌}
 use Rattle.wb_types.specs.Limits.{nodes_up_to}
 use Rattle.wb_types.proofs.geometry.count_nodes.Given as goal
 

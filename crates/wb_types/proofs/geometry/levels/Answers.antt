@@ -1,7 +1,7 @@
 use Rattle.std.proofs.Common.{arith}
 use Rattle.std.proofs.lemmas.Bool.Decides.{nat_tests}
 use Rattle.wb_types.specs.Limits.{depth_of}
-use Rattle.wb_types.proofs.Levels.{IsDepth-one, IsDepth-two, IsDepth-three, IsDepth-four}
+use Rattle.wb_types.proofs.Levels.{IsDepth-three, IsDepth-four}
 use Rattle.wb_types.proofs.geometry.levels.Goals as goal
 
 pub returns-then-cache_blocks-le32-clause-value : goal.returns-then-cache_blocks-le32-clause-value

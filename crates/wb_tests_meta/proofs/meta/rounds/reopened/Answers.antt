@@ -1,5 +1,4 @@
-use Rattle.std.proofs.Common.{◌≡◌, ◌∙◌, false, List, [], ap, sym, subst, length, map}
-use Rattle.wb_types.specs.declared.number.Place.{Place}
+use Rattle.std.proofs.Common.{◌≡◌, ◌∙◌, List, ap, sym, subst, length, map}
 use Rattle.wb_disk.specs.Device.{History, newest, synced}
 use Rattle.wb_disk.specs.Crashes.{MayLeave}
 use Rattle.wb_disk.proofs.Leaving.{left-synced, newest-synced}

@@ -1,12 +1,10 @@
-use Rattle.std.proofs.Common.{◌≡◌, ◌+◌, ◌∙◌, ℕ, List, [], Option, None, ap, sym, subst, length, replicate, arith}
+use Rattle.std.proofs.Common.{◌≡◌, ◌+◌, ◌∙◌, ℕ, List, [], Option, None, ap, sym, subst, length, replicate}
 use Rattle.std.specs.Prelude.{Contains}
 use Rattle.wb_types.specs.declared.entry.Entry.{Entry}
-use Rattle.wb_types.specs.declared.geometry.Geometry.{Geometry}
 use Rattle.wb_types.specs.declared.number.Place.{Place}
 use Rattle.wb_disk.specs.Device.{History}
 use Rattle.wb_tree.specs.declared.placed.PlacedNode.{PlacedNode}
 use Rattle.wb_tree.specs.Mapping.{Mapping, empty_mapping}
-use Rattle.wb_tree.specs.Images.{ImagePlan}
 use Rattle.wb_tree.specs.Whole.{found_of}
 use Rattle.wb_tree.proofs.Stored.Edited.{places-edited}
 use Rattle.wb_meta.specs.Imaging.{DeviceStores, IsPlanned, Follows}

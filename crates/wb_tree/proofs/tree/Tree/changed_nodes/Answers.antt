@@ -1,7 +1,6 @@
-use Rattle.std.proofs.Common.{◌≡◌, ◌≤◌, ◌∙◌, sym, ap, subst, length, arith}
-use Rattle.wb_tree.specs.Mapping.{Mapping, IsSound, changed}
+use Rattle.std.proofs.Common.{◌≡◌, ◌∙◌, sym, ap, length}
+use Rattle.wb_tree.specs.Mapping.{Mapping, changed}
 use Rattle.wb_tree.specs.Planning.{levels}
-use Rattle.wb_tree.proofs.Branching.Edits.{long-boxes}
 use Rattle.wb_tree.proofs.Branching.Settled.{levels-boxes}
 use Rattle.wb_tree.proofs.tree.Tree.changed_nodes.Goals as goal
 
