@@ -21,18 +21,18 @@ returns-then-at-cache_blocks-clause-other g c live =
 pub returns-then-is_same-clause-other : goal.returns-then-is_same-clause-other
 returns-then-is_same-clause-other g c =
     waits_not c.in-Some-get.live.waits (IsLive c.args.self.now c.args.order → ⊥) (λ (waits : c.in-Some-get.live.waits ≡ true). λ (live : IsLive c.args.self.now c.args.order).
-      let i = subst (λ (d : DeskState _). DeskInvariant g.P.Policy.knows d) c.self.view_is c.self.invariant.desk in
-      let s = shown g.P.Policy.knows c.args.self.now c.args.order c.in-Some.c c.get.result i c.in-Some.ensures.takes (c.get.ensures ∙ ap (λ (d : DeskState _). order_at d.orders.slots c.in-Some.c.0) c.self.view_is) live in
-      let here = subst (λ (o : Option LiveOrder). Shows c.args.order o) c.in-Some-get.is s in
-      true≢false (sym waits ∙ here.1))
+    let i = subst (λ (d : DeskState _). DeskInvariant g.P.Policy.knows d) c.self.view_is c.self.invariant.desk in
+    let s = shown g.P.Policy.knows c.args.self.now c.args.order c.in-Some.c c.get.result i c.in-Some.ensures.takes (c.get.ensures ∙ ap (λ (d : DeskState _). order_at d.orders.slots c.in-Some.c.0) c.self.view_is) live in
+    let here = subst (λ (o : Option LiveOrder). Shows c.args.order o) c.in-Some-get.is s in
+    true≢false (sym waits ∙ here.1))
 
 pub returns-else-is_same-clause-other : goal.returns-else-is_same-clause-other
 returns-else-is_same-clause-other g c =
     subst (λ (b : Bool). OnFalse b (IsLive c.args.self.now c.args.order → ⊥)) (sym c.if-is_same.false) (λ (live : IsLive c.args.self.now c.args.order).
-      let i = subst (λ (d : DeskState _). DeskInvariant g.P.Policy.knows d) c.self.view_is c.self.invariant.desk in
-      let s = shown g.P.Policy.knows c.args.self.now c.args.order c.in-Some.c c.get.result i c.in-Some.ensures.takes (c.get.ensures ∙ ap (λ (d : DeskState _). order_at d.orders.slots c.in-Some.c.0) c.self.view_is) live in
-      let here = subst (λ (o : Option LiveOrder). Shows c.args.order o) c.in-Some-get.is s in
-      c.if-is_same.ensures.other here.0)
+    let i = subst (λ (d : DeskState _). DeskInvariant g.P.Policy.knows d) c.self.view_is c.self.invariant.desk in
+    let s = shown g.P.Policy.knows c.args.self.now c.args.order c.in-Some.c c.get.result i c.in-Some.ensures.takes (c.get.ensures ∙ ap (λ (d : DeskState _). order_at d.orders.slots c.in-Some.c.0) c.self.view_is) live in
+    let here = subst (λ (o : Option LiveOrder). Shows c.args.order o) c.in-Some-get.is s in
+    c.if-is_same.ensures.other here.0)
 
 pub returns-in-None-clause-other : goal.returns-in-None-clause-other
 returns-in-None-clause-other g c live =
