@@ -3,3 +3,4 @@ pub mod Counting
 pub mod Releasing
 pub mod Going
 pub mod Readying
+pub mod Stopping

@@ -4,3 +4,4 @@ pub mod Asking
 pub mod Stages
 pub mod Led
 pub mod Jobs
+pub mod Opened

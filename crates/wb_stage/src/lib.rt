@@ -7,7 +7,9 @@ mod committing;
 mod devices;
 mod idle;
 mod moving;
+mod opening;
 mod perform;
+mod reading;
 mod running;
 mod stage;
 
@@ -15,5 +17,6 @@ pub use committing::{put, sync_metadata};
 pub use devices::Devices;
 pub use idle::IdleStage;
 pub use moving::{read_extent, sync, write_extent};
+pub use opening::Opening;
 pub use running::RunningCommit;
 pub use stage::CacheStage;

@@ -1,0 +1,18 @@
+use Rattle.std.proofs.Common.{refl}
+use Rattle.wb_stage.proofs.Stopping.{of_root}
+use Rattle.wb_stage.proofs.opening.Opening.has_read.Goals as goal
+
+pub returns-in-Ok-clause-come : goal.returns-in-Ok-clause-come
+returns-in-Ok-clause-come c = (
+  refl,
+  of_root _ c.args.steps c.args.root c.requires.newest c.requires.fits,
+  record {
+    is_done = c.requires.done;
+    root = c.args.root;
+    newest = c.requires.newest;
+    next = c.in-Ok.commit;
+    commit_is = refl;
+    opens = c.in-Ok.ensures.image;
+    steps = c.in-Ok.ensures.steps;
+  },
+)
