@@ -1,14 +1,13 @@
 -- Where an order lives, its slot says so.
-use Rattle.std.proofs.Common.{◌≡◌, ◌∙◌, ◌<◌, ◌≤◌, ℕ, Bool, true, false, not, Option, Some, None, arith, refl, sym, subst, ap, length}
+use Rattle.std.proofs.Common.{◌≡◌, ◌∙◌, ◌≤◌, Bool, true, false, not, Option, Some, None, arith, refl, sym, subst, ap}
 use Rattle.std.specs.Bool.{OnFalse}
-use Rattle.std.proofs.lemmas.Bool.{true≢false}
 use Rattle.wb_types.specs.declared.number.CBlock.{CBlock}
 use Rattle.wb_policy.specs.declared.order.Order.{Order}
 use Rattle.wb_policy.specs.Law.{Holdings}
 use Rattle.wb_orders.specs.declared.live_order.LiveOrder.{LiveOrder}
 use Rattle.wb_orders.specs.Orders.{order_at}
 use Rattle.wb_desk.specs.Desks.{DeskState, DeskInvariant, IsLive, Takes, holdings}
-use Rattle.wb_desk.proofs.Kept.{found_at, takes_there, live_within}
+use Rattle.wb_desk.proofs.Kept.{found_at, live_within}
 
 -- the slot has this order, and somebody has taken it
 abbrev pub Shows : Order → Option LiveOrder → Type 0

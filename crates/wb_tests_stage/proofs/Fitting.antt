@@ -1,5 +1,5 @@
 -- What fits a device fits one of the size that its root names.
-use Rattle.std.proofs.Common.{◌≡◌, ℕ, List, sym, subst}
+use Rattle.std.proofs.Common.{ℕ, List, sym, subst}
 use Rattle.wb_types.specs.declared.number.Place.{Place}
 use Rattle.wb_format.specs.declared.root.Root.{Root}
 use Rattle.wb_tree.specs.Mapping.{Mapping}

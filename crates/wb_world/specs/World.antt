@@ -1,5 +1,5 @@
 -- A world as a pure machine: its states, what an event does in a state, and what runs there are.
-use Rattle.std.specs.Prelude.{◌≡◌, ◌≤◌, ◌<◌, ◌+◌, ◌-◌, ◌*◌, ◌/◌, ◌&&◌, ◌==◌, ◌⊎◌, ℕ, Bool, true, false, List, [], ◌∷◌, Option, Some, None, All, length, map, replicate, slice_get, slice_set, if◌then◌else◌, nat_le}
+use Rattle.std.specs.Prelude.{◌≡◌, ◌≤◌, ◌+◌, ◌-◌, ◌*◌, ◌/◌, ◌&&◌, ◌==◌, ◌⊎◌, ℕ, Bool, true, false, List, [], ◌∷◌, Option, Some, None, length, map, replicate, slice_get, slice_set, if◌then◌else◌, nat_le}
 use Rattle.wb_types.specs.declared.extent.Extent.{Extent}
 use Rattle.wb_types.specs.Extents.{IsCutInto}
 use Rattle.wb_types.specs.declared.mode.Dev.TheVariants.{Origin}
@@ -9,10 +9,7 @@ use Rattle.wb_disk.specs.Device.{Content as Bytes, History}
 use Rattle.wb_disk.specs.Extents.{GivesEach, written_where}
 use Rattle.wb_disk.specs.Failing.{MayFail, lands}
 use Rattle.wb_disk.specs.Memory.{blank}
-use Rattle.wb_disk.specs.Crash.{Choice, Applies, NamesOnly, crashed, named_position}
-use Rattle.wb_disk.specs.declared.crash_choice.Base.{Base}
-use Rattle.wb_disk.specs.declared.crash_choice.Base.TheVariants.{Durable, Newest}
-use Rattle.wb_disk.specs.declared.crash_choice.NamedContent.{NamedContent}
+use Rattle.wb_disk.specs.Crash.{Choice, Applies, NamesOnly, crashed}
 use Rattle.wb_tasks.specs.Tables.{BlockJob, Reading, Writing, OnBlock, BlockRange}
 use Rattle.wb_tasks.specs.Plan.{Plan, table, want, after, got_of}
 use Rattle.wb_words.specs.SharedWords.{Words, fresh_words}
