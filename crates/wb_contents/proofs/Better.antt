@@ -3,7 +3,8 @@ use Rattle.std.proofs.lemmas.Bool.{cases_eq}
 use Rattle.wb_disk.specs.Device.{Content, History, entries, newest, added, only}
 use Rattle.wb_contents.specs.Promises.{IsEntryFrom, AllEntriesFrom}
 use Rattle.wb_contents.specs.Volume.{changed, changed_at}
-use Rattle.wb_contents.proofs.Positions.{last_of-append, at_more, at_last, at_lower, put_same, put_other, more_cases, only_one, last_in}
+use Rattle.wb_disk.proofs.Leaving.{newest_there}
+use Rattle.wb_contents.proofs.Positions.{last_of-append, at_more, at_last, at_lower, changed_same, changed_other, more_cases, only_one}
 
 -- A history and a list go on: no position is lost, and what is new in the list stands from this position on.
 pub record IsNoWorse (f : ℕ) (g h g' h' : History) : Type 0 where
@@ -46,25 +47,25 @@ better_copied f g h x a = record {
 pub better_synced : (f : ℕ) (g h : History) → IsNoWorse f g h g (only (newest h))
 better_synced f g h = record {
   book = λ k c a. a;
-  contents = λ c m. inl (subst (λ (y : Content). Contains (entries h) y) (only_one (newest h) c m) (last_in h.first h.later));
+  contents = λ c m. inl (subst (λ (y : Content). Contains (entries h) y) (only_one (newest h) c m) (newest_there h));
   last = inl refl;
 }
 
-pub put_at_same : (f : ℕ → ℕ → History) (i o : ℕ) (h : History) → changed_at f i o h i o ≡ h
-put_at_same f i o h = ap (λ (g : ℕ → History). g o) (put_same f i (changed (f i) o h)) ∙ put_same (f i) o h
+pub changed_at_same : (f : ℕ → ℕ → History) (i o : ℕ) (h : History) → changed_at f i o h i o ≡ h
+changed_at_same f i o h = ap (λ (g : ℕ → History). g o) (changed_same f i (changed (f i) o h)) ∙ changed_same (f i) o h
 
-pub put_at_row : (f : ℕ → ℕ → History) (i o i' o' : ℕ) (h : History) → i' ≢ i → changed_at f i o h i' o' ≡ f i' o'
-put_at_row f i o i' o' h n = ap (λ (g : ℕ → History). g o') (put_other f i i' (changed (f i) o h) n)
+pub changed_at_row : (f : ℕ → ℕ → History) (i o i' o' : ℕ) (h : History) → i' ≢ i → changed_at f i o h i' o' ≡ f i' o'
+changed_at_row f i o i' o' h n = ap (λ (g : ℕ → History). g o') (changed_other f i i' (changed (f i) o h) n)
 
-pub put_at_column : (f : ℕ → ℕ → History) (i o o' : ℕ) (h : History) → o' ≢ o → changed_at f i o h i o' ≡ f i o'
-put_at_column f i o o' h n = ap (λ (g : ℕ → History). g o') (put_same f i (changed (f i) o h)) ∙ put_other (f i) o o' h n
+pub changed_at_column : (f : ℕ → ℕ → History) (i o o' : ℕ) (h : History) → o' ≢ o → changed_at f i o h i o' ≡ f i o'
+changed_at_column f i o o' h n = ap (λ (g : ℕ → History). g o') (changed_same f i (changed (f i) o h)) ∙ changed_other (f i) o o' h n
 
 -- one location changed: there, and elsewhere
 pub by_place : (P : ℕ → ℕ → History → Type 0) (f : ℕ → ℕ → History) (i o i' o' : ℕ) (h : History) → (i' ≡ i → o' ≡ o → P i o h) → ((i' ≢ i) ⊎ (o' ≢ o) → P i' o' (f i' o')) → P i' o' (changed_at f i o h i' o')
 by_place P f i o i' o' h here there = elim (cases_eq i' i) [
-  | inr n ↦ subst (λ (x : History). P i' o' x) (sym (put_at_row f i o i' o' h n)) (there (inl n))
+  | inr n ↦ subst (λ (x : History). P i' o' x) (sym (changed_at_row f i o i' o' h n)) (there (inl n))
   | inl e ↦ elim (cases_eq o' o) [
-    | inl s ↦ subst (λ (j : ℕ). P j o' (changed_at f i o h j o')) (sym e) (subst (λ (p : ℕ). P i p (changed_at f i o h i p)) (sym s) (subst (λ (x : History). P i o x) (sym (put_at_same f i o h)) (here e s)))
-    | inr n ↦ subst (λ (j : ℕ). P j o' (changed_at f i o h j o')) (sym e) (subst (λ (x : History). P i o' x) (sym (put_at_column f i o o' h n)) (subst (λ (j : ℕ). P j o' (f j o')) e (there (inr n))))
+    | inl s ↦ subst (λ (j : ℕ). P j o' (changed_at f i o h j o')) (sym e) (subst (λ (p : ℕ). P i p (changed_at f i o h i p)) (sym s) (subst (λ (x : History). P i o x) (sym (changed_at_same f i o h)) (here e s)))
+    | inr n ↦ subst (λ (j : ℕ). P j o' (changed_at f i o h j o')) (sym e) (subst (λ (x : History). P i o' x) (sym (changed_at_column f i o o' h n)) (subst (λ (j : ℕ). P j o' (f j o')) e (there (inr n))))
   ]
 ]

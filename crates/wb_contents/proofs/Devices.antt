@@ -12,7 +12,7 @@ use Rattle.wb_disk.specs.Failing.{sync_landed, synced_from, synced_where}
 use Rattle.wb_contents.specs.Volume.{changed_at}
 use Rattle.wb_contents.specs.Acts.{all_synced, partly_synced, only_chosen}
 use Rattle.wb_contents.specs.Devices.{by_block, ReadIsNewest, WriteIsAct, SyncIsAct, FailedSyncIsAct, CrashIsAct}
-use Rattle.wb_contents.proofs.Positions.{last_in}
+use Rattle.wb_disk.proofs.Leaving.{newest_there}
 use Rattle.wb_contents.proofs.Sectors.{Elsewhere, here_is, elsewhere_is}
 
 funext : {X Y : Type 0} (f g : X → Y) → ((x : X) → f x ≡ g x) → f ≡ g
@@ -121,7 +121,7 @@ one_kept h g (c, m, e) = (e ∙ ap (λ x. only x) (sym (ap newest e)), subst (λ
 
 kept_or : (z : Content) (x y : Option History) → ((h g : History) → x ≡ Some h → y ≡ Some g → MayKeep h g) → ((h : History) → x ≡ Some h → y ≡ None → ⊥) → ((g : History) → x ≡ None → y ≡ Some g → ⊥) →
     IsKept (unwrap_or x (only z)) (unwrap_or y (only z))
-kept_or z None None each old new = (refl, last_in z [])
+kept_or z None None each old new = (refl, newest_there (only z))
 kept_or z (Some h) None each old new = absurd (old h refl refl)
 kept_or z None (Some g) each old new = absurd (new g refl refl)
 kept_or z (Some h) (Some g) each old new = one_kept h g (each h g refl refl)
@@ -140,7 +140,7 @@ crash_is_act size blank device crashed c = record {
   pending = λ b o. (kept b o).1;
 } where
   here : (b o : ℕ) (t : Bool) → IsKept (cond t (at_number blank device (b * size + o)) (only blank)) (cond t (at_number blank crashed (b * size + o)) (only blank))
-  here b o false = (refl, last_in blank [])
+  here b o false = (refl, newest_there (only blank))
   here b o true = kept_or blank (slice_get device (b * size + o)) (slice_get crashed (b * size + o)) (λ h g e f. c.each (b * size + o) h g e f)
       (λ h e n. both device crashed (b * size + o) h c.size e n) (λ g n e. both crashed device (b * size + o) g (sym c.size) e n)
 

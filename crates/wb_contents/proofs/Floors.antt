@@ -5,8 +5,8 @@ use Rattle.wb_contents.specs.Promises.{IsEntryFrom, AllEntriesFrom}
 use Rattle.wb_contents.specs.Volume.{Locations, at_location, changed, changed_at}
 use Rattle.wb_contents.specs.Conditions.{IsUnnamed}
 use Rattle.wb_contents.specs.Acts.{all_synced, partly_synced}
-use Rattle.wb_contents.proofs.Positions.{at_within, put_same, put_other}
-use Rattle.wb_contents.proofs.Better.{IsNoWorse, all_better, newest_better, better_same, better_noted, better_added, better_copied, better_synced, by_place, put_at_same}
+use Rattle.wb_contents.proofs.Positions.{at_within, changed_same, changed_other}
+use Rattle.wb_contents.proofs.Better.{IsNoWorse, all_better, newest_better, better_same, better_noted, better_added, better_copied, better_synced, by_place, changed_at_same}
 
 -- What the floors rest on: no life, dirty bit or mode.
 pub record Floored : Type 0 where
@@ -39,8 +39,8 @@ pub record KeepsFloors (d : Floored) : Type 0 where
   pub running_newest : (b o : ℕ) → IsEntryFrom (d.running_floor b o) (d.histories b o) (newest (there d d.running b o))
   -- the mapping's location has a finished write or a later one
   pub mapping_newest : (b o : ℕ) → IsEntryFrom (d.finished b o) (d.histories b o) (newest (there d d.mapping b o))
-  pub seen_finished : (b o : ℕ) → d.running_floor b o ≤ d.finished b o
-  pub marks_seen : (b o : ℕ) → d.committed_floor b o ≤ d.running_floor b o
+  pub running_finished : (b o : ℕ) → d.running_floor b o ≤ d.finished b o
+  pub committed_running : (b o : ℕ) → d.committed_floor b o ≤ d.running_floor b o
   -- no two blocks have one cache block in any of the three
   pub home : ℕ → Option ℕ
   pub home_of_mapping : HasHomes home d.mapping
@@ -55,14 +55,14 @@ pub kept_by : (d : Floored) (origin cache histories : ℕ → ℕ → History) (
     ((p : Option ℕ) (b o : ℕ) → ((k : ℕ) → p ≡ Some k → i.home k ≡ Some b) → IsNoWorse (d.finished b o) (d.histories b o) (at_location d.origin d.cache p b o) (histories b o) (at_location origin cache p b o)) →
     KeepsFloors (gone_on d origin cache histories)
 kept_by d origin cache histories i better = record {
-  committed_allowed = λ b o. all_better (d.committed_floor b o) (d.finished b o) (d.histories b o) (there d d.committed b o) (histories b o) (at_location origin cache (d.committed b) b o) (let s = i.seen_finished b o in let m = i.marks_seen b o in omega arith) (better (d.committed b) b o (λ k e. i.home_of_committed b k e)) (i.committed_allowed b o);
-  running_allowed = λ r b o. all_better (d.running_floor b o) (d.finished b o) (d.histories b o) (there d d.running b o) (histories b o) (at_location origin cache (d.running b) b o) (i.seen_finished b o) (better (d.running b) b o (λ k e. i.home_of_running b k e)) (i.running_allowed r b o);
-  running_cache = λ b k o s e. all_better (d.running_floor b o) (d.finished b o) (d.histories b o) (d.cache k o) (histories b o) (cache k o) (i.seen_finished b o) (better (Some k) b o (λ j f. i.home_of_running b j (e ∙ f))) (i.running_cache b k o s e);
-  running_origin = λ b o s e. all_better (d.running_floor b o) (d.finished b o) (d.histories b o) (d.origin b o) (histories b o) (origin b o) (i.seen_finished b o) (better None b o (λ j f. absurd (cc))) (i.running_origin b o s e);
-  running_newest = λ b o. newest_better (d.running_floor b o) (d.finished b o) (d.histories b o) (there d d.running b o) (histories b o) (at_location origin cache (d.running b) b o) (i.seen_finished b o) (better (d.running b) b o (λ k e. i.home_of_running b k e)) (i.running_newest b o);
+  committed_allowed = λ b o. all_better (d.committed_floor b o) (d.finished b o) (d.histories b o) (there d d.committed b o) (histories b o) (at_location origin cache (d.committed b) b o) (let s = i.running_finished b o in let m = i.committed_running b o in omega arith) (better (d.committed b) b o (λ k e. i.home_of_committed b k e)) (i.committed_allowed b o);
+  running_allowed = λ r b o. all_better (d.running_floor b o) (d.finished b o) (d.histories b o) (there d d.running b o) (histories b o) (at_location origin cache (d.running b) b o) (i.running_finished b o) (better (d.running b) b o (λ k e. i.home_of_running b k e)) (i.running_allowed r b o);
+  running_cache = λ b k o s e. all_better (d.running_floor b o) (d.finished b o) (d.histories b o) (d.cache k o) (histories b o) (cache k o) (i.running_finished b o) (better (Some k) b o (λ j f. i.home_of_running b j (e ∙ f))) (i.running_cache b k o s e);
+  running_origin = λ b o s e. all_better (d.running_floor b o) (d.finished b o) (d.histories b o) (d.origin b o) (histories b o) (origin b o) (i.running_finished b o) (better None b o (λ j f. absurd (cc))) (i.running_origin b o s e);
+  running_newest = λ b o. newest_better (d.running_floor b o) (d.finished b o) (d.histories b o) (there d d.running b o) (histories b o) (at_location origin cache (d.running b) b o) (i.running_finished b o) (better (d.running b) b o (λ k e. i.home_of_running b k e)) (i.running_newest b o);
   mapping_newest = λ b o. newest_better (d.finished b o) (d.finished b o) (d.histories b o) (there d d.mapping b o) (histories b o) (at_location origin cache (d.mapping b) b o) (omega arith) (better (d.mapping b) b o (λ k e. i.home_of_mapping b k e)) (i.mapping_newest b o);
-  seen_finished = i.seen_finished;
-  marks_seen = i.marks_seen;
+  running_finished = i.running_finished;
+  committed_running = i.committed_running;
   home = i.home;
   home_of_mapping = i.home_of_mapping;
   home_of_committed = i.home_of_committed;
@@ -92,13 +92,13 @@ through_kept d b k o x m at i = kept_by d d.origin (changed_at d.cache k o (adde
 pub home_more : (home : ℕ → Option ℕ) (locations : Locations) (k b : ℕ) → home k ≡ None → HasHomes home locations → HasHomes (changed home k (Some b)) locations
 home_more home locations k b nothing i b' j e = elim (cases_eq j k) [
   | inl s ↦ let here : home k ≡ Some b' = ap home (sym s) ∙ i b' j e in absurd (cc)
-  | inr n ↦ put_other home k j (Some b) n ∙ i b' j e
+  | inr n ↦ changed_other home k j (Some b) n ∙ i b' j e
 ]
 
 pub home_less : (home : ℕ → Option ℕ) (locations : Locations) (k : ℕ) → IsUnnamed locations k → HasHomes home locations → HasHomes (changed home k None) locations
 home_less home locations k free i b' j e = elim (cases_eq j k) [
   | inl s ↦ absurd (free b' (e ∙ ap (λ v. Some v) s))
-  | inr n ↦ put_other home k j None n ∙ i b' j e
+  | inr n ↦ changed_other home k j None n ∙ i b' j e
 ]
 
 -- an unused cache block has no home
@@ -110,7 +110,7 @@ freed d k m c r i = (
     home_of_committed = home_less i.home d.committed k c i.home_of_committed;
     home_of_running = home_less i.home d.running k r i.home_of_running;
   },
-  put_same i.home k None,
+  changed_same i.home k None,
 )
 
 -- a sector of a free cache block gets anything
@@ -155,7 +155,7 @@ noted_at d b o b' o' c h = by_place (λ b' o' g. IsNoWorse (d.finished b' o') (d
     (λ e f. better_noted (d.finished b o) (d.histories b o) h c) (λ n. better_same (d.finished b' o') (d.histories b' o') h)
 
 pub added_at : (d : Floored) (b o : ℕ) (c : Content) (h : History) → d.finished b o ≤ length (d.histories b o).later → IsNoWorse (d.finished b o) (d.histories b o) h (changed_at d.histories b o (added (d.histories b o) c) b o) (added h c)
-added_at d b o c h m = subst (λ (g : History). IsNoWorse (d.finished b o) (d.histories b o) h g (added h c)) (sym (put_at_same d.histories b o (added (d.histories b o) c))) (better_added (d.finished b o) (d.histories b o) h c m)
+added_at d b o c h m = subst (λ (g : History). IsNoWorse (d.finished b o) (d.histories b o) h g (added h c)) (sym (changed_at_same d.histories b o (added (d.histories b o) c))) (better_added (d.finished b o) (d.histories b o) h c m)
 
 pub finished_bound : (d : Floored) (b o : ℕ) → KeepsFloors d → d.finished b o ≤ length (d.histories b o).later
 finished_bound d b o i = at_within (d.finished b o) (d.histories b o) (newest (there d d.mapping b o)) (i.mapping_newest b o)

@@ -4,7 +4,8 @@ use Rattle.wb_disk.specs.Device.{Content, History, entries, newest, only}
 use Rattle.wb_contents.specs.Promises.{IsEntryFrom, AllEntriesFrom}
 use Rattle.wb_contents.specs.Volume.{Locations, at_location, changed, changed_at}
 use Rattle.wb_contents.specs.Acts.{all_synced}
-use Rattle.wb_contents.proofs.Positions.{put_same, put_other, only_one, last_in}
+use Rattle.wb_contents.proofs.Positions.{changed_same, changed_other, only_one}
+use Rattle.wb_disk.proofs.Leaving.{newest_there}
 use Rattle.wb_contents.proofs.Floors.{Floored, KeepsFloors, HasHomes, there, home_more, shorter_kept, shorter_synced, shorter_same}
 
 -- the image is taken of the mapping
@@ -16,8 +17,8 @@ begin_kept d unrooted i = record {
   running_origin = λ b o s e. absurd (cc);
   running_newest = i.mapping_newest;
   mapping_newest = i.mapping_newest;
-  seen_finished = λ b o. omega arith;
-  marks_seen = λ b o. let s = i.seen_finished b o in let m = i.marks_seen b o in omega arith;
+  running_finished = λ b o. omega arith;
+  committed_running = λ b o. let s = i.running_finished b o in let m = i.committed_running b o in omega arith;
   home = i.home;
   home_of_mapping = i.home_of_mapping;
   home_of_committed = i.home_of_committed;
@@ -32,8 +33,8 @@ sync_cache_kept d i = let j = shorter_kept d d.origin (all_synced d.cache) (shor
   running_origin = j.running_origin;
   running_newest = j.running_newest;
   mapping_newest = j.mapping_newest;
-  seen_finished = i.seen_finished;
-  marks_seen = i.marks_seen;
+  running_finished = i.running_finished;
+  committed_running = i.committed_running;
   home = j.home;
   home_of_mapping = j.home_of_mapping;
   home_of_committed = j.home_of_committed;
@@ -48,8 +49,8 @@ sync_origin_kept d i = let j = shorter_kept d (all_synced d.origin) d.cache (sho
   running_origin = λ b o s e c m. subst (λ (x : Content). IsEntryFrom (d.running_floor b o) (d.histories b o) x) (ap (λ p. newest (at_location d.origin d.cache p b o)) e ∙ only_one (newest (d.origin b o)) c m) (i.running_newest b o);
   running_newest = j.running_newest;
   mapping_newest = j.mapping_newest;
-  seen_finished = i.seen_finished;
-  marks_seen = i.marks_seen;
+  running_finished = i.running_finished;
+  committed_running = i.committed_running;
   home = j.home;
   home_of_mapping = j.home_of_mapping;
   home_of_committed = j.home_of_committed;
@@ -69,8 +70,8 @@ root_kept d s t i = record {
   running_origin = i.running_origin;
   running_newest = i.running_newest;
   mapping_newest = i.mapping_newest;
-  seen_finished = i.seen_finished;
-  marks_seen = i.marks_seen;
+  running_finished = i.running_finished;
+  committed_running = i.committed_running;
   home = i.home;
   home_of_mapping = i.home_of_mapping;
   home_of_committed = i.home_of_committed;
@@ -85,8 +86,8 @@ end_kept d r i = record {
   running_origin = i.running_origin;
   running_newest = i.running_newest;
   mapping_newest = i.mapping_newest;
-  seen_finished = i.seen_finished;
-  marks_seen = λ b o. omega arith;
+  running_finished = i.running_finished;
+  committed_running = λ b o. omega arith;
   home = i.home;
   home_of_mapping = i.home_of_mapping;
   home_of_committed = i.home_of_running;
@@ -99,9 +100,6 @@ IsWithin g h = (c : Content) → Contains (entries g) c → Contains (entries h)
 
 pub all_within : (k : ℕ) (g h h' : History) → IsWithin h' h → AllEntriesFrom k g h → AllEntriesFrom k g h'
 all_within k g h h' w a c m = a c (w c m)
-
-pub newest_in : (h : History) → Contains (entries h) (newest h)
-newest_in h = last_in h.first h.later
 
 pub within_only : (h : History) (c : Content) → Contains (entries h) c → IsWithin (only c) h
 within_only h c m d n = subst (λ (x : Content). Contains (entries h) x) (only_one c d n) m
@@ -124,8 +122,8 @@ ended_kept d origin' cache' locations home homes wo wc a = record {
   running_origin = λ b o s e. absurd (cc);
   running_newest = fresh;
   mapping_newest = fresh;
-  seen_finished = λ b o. omega arith;
-  marks_seen = λ b o. omega arith;
+  running_finished = λ b o. omega arith;
+  committed_running = λ b o. omega arith;
   home = home;
   home_of_mapping = homes;
   home_of_committed = homes;
@@ -135,7 +133,7 @@ ended_kept d origin' cache' locations home homes wo wc a = record {
   allowed b o = all_within (d.committed_floor b o) (d.histories b o) (there d locations b o) (at_location origin' cache' (locations b) b o) (within_place d.origin d.cache origin' cache' wo wc (locations b) b o) (a b o)
 
   fresh : (b o : ℕ) → IsEntryFrom (d.committed_floor b o) (d.histories b o) (newest (at_location origin' cache' (locations b) b o))
-  fresh b o = allowed b o (newest (at_location origin' cache' (locations b) b o)) (newest_in (at_location origin' cache' (locations b) b o))
+  fresh b o = allowed b o (newest (at_location origin' cache' (locations b) b o)) (newest_there (at_location origin' cache' (locations b) b o))
 
 -- the opening's root: the same locations
 pub open_root_kept : (d : Floored) → KeepsFloors d → KeepsFloors (record d { running = d.committed; running_floor = d.committed_floor; root_written = true })
@@ -144,10 +142,10 @@ open_root_kept d i = record {
   running_allowed = λ r. i.committed_allowed;
   running_cache = λ b k o s e. subst (λ (p : Option ℕ). AllEntriesFrom (d.committed_floor b o) (d.histories b o) (at_location d.origin d.cache p b o)) e (i.committed_allowed b o);
   running_origin = λ b o s e. subst (λ (p : Option ℕ). AllEntriesFrom (d.committed_floor b o) (d.histories b o) (at_location d.origin d.cache p b o)) e (i.committed_allowed b o);
-  running_newest = λ b o. i.committed_allowed b o (newest (there d d.committed b o)) (newest_in (there d d.committed b o));
+  running_newest = λ b o. i.committed_allowed b o (newest (there d d.committed b o)) (newest_there (there d d.committed b o));
   mapping_newest = i.mapping_newest;
-  seen_finished = λ b o. let s = i.seen_finished b o in let m = i.marks_seen b o in omega arith;
-  marks_seen = λ b o. omega arith;
+  running_finished = λ b o. let s = i.running_finished b o in let m = i.committed_running b o in omega arith;
+  committed_running = λ b o. omega arith;
   home = i.home;
   home_of_mapping = i.home_of_mapping;
   home_of_committed = i.home_of_committed;
@@ -174,8 +172,8 @@ begun_kept d qo qc i = record {
   running_origin = λ b o s e. absurd (cc);
   running_newest = λ b o. (0, omega arith, refl);
   mapping_newest = λ b o. (0, omega arith, refl);
-  seen_finished = λ b o. omega arith;
-  marks_seen = λ b o. omega arith;
+  running_finished = λ b o. omega arith;
+  committed_running = λ b o. omega arith;
   home = i.home;
   home_of_mapping = i.home_of_committed;
   home_of_committed = i.home_of_committed;
@@ -192,16 +190,16 @@ map_kept d b k m copied i nothing = record {
   running_newest = i.running_newest;
   mapping_newest = λ b' o. elim (cases_eq b' b) [
     | inl e ↦ subst (λ (v : ℕ). IsEntryFrom (d.finished v o) (d.histories v o) (newest (at_location d.origin d.cache (changed d.mapping b (Some k) v) v o))) (sym e)
-        (rw (put_same d.mapping b (Some k)) (subst (λ (x : Content). IsEntryFrom (d.finished b o) (d.histories b o) x) (ap (λ p. newest (at_location d.origin d.cache p b o)) m ∙ sym (copied o)) (i.mapping_newest b o)))
-    | inr n ↦ subst (λ (p : Option ℕ). IsEntryFrom (d.finished b' o) (d.histories b' o) (newest (at_location d.origin d.cache p b' o))) (sym (put_other d.mapping b b' (Some k) n)) (i.mapping_newest b' o)
+        (rw (changed_same d.mapping b (Some k)) (subst (λ (x : Content). IsEntryFrom (d.finished b o) (d.histories b o) x) (ap (λ p. newest (at_location d.origin d.cache p b o)) m ∙ sym (copied o)) (i.mapping_newest b o)))
+    | inr n ↦ subst (λ (p : Option ℕ). IsEntryFrom (d.finished b' o) (d.histories b' o) (newest (at_location d.origin d.cache p b' o))) (sym (changed_other d.mapping b b' (Some k) n)) (i.mapping_newest b' o)
   ];
-  seen_finished = i.seen_finished;
-  marks_seen = i.marks_seen;
+  running_finished = i.running_finished;
+  committed_running = i.committed_running;
   home = changed i.home k (Some b);
   home_of_mapping = λ b' j e. elim (cases_eq b' b) [
-    | inl s ↦ let some : Some k ≡ Some j = sym (put_same d.mapping b (Some k)) ∙ ap (changed d.mapping b (Some k)) (sym s) ∙ e in let same : k ≡ j = cc in
-        ap (changed i.home k (Some b)) (sym same) ∙ put_same i.home k (Some b) ∙ ap (λ v. Some v) (sym s)
-    | inr n ↦ home_more i.home d.mapping k b nothing i.home_of_mapping b' j (sym (put_other d.mapping b b' (Some k) n) ∙ e)
+    | inl s ↦ let some : Some k ≡ Some j = sym (changed_same d.mapping b (Some k)) ∙ ap (changed d.mapping b (Some k)) (sym s) ∙ e in let same : k ≡ j = cc in
+        ap (changed i.home k (Some b)) (sym same) ∙ changed_same i.home k (Some b) ∙ ap (λ v. Some v) (sym s)
+    | inr n ↦ home_more i.home d.mapping k b nothing i.home_of_mapping b' j (sym (changed_other d.mapping b b' (Some k) n) ∙ e)
   ];
   home_of_committed = home_more i.home d.committed k b nothing i.home_of_committed;
   home_of_running = home_more i.home d.running k b nothing i.home_of_running;
@@ -217,15 +215,15 @@ unmap_kept d b k m copied i = record {
   running_newest = i.running_newest;
   mapping_newest = λ b' o. elim (cases_eq b' b) [
     | inl e ↦ subst (λ (v : ℕ). IsEntryFrom (d.finished v o) (d.histories v o) (newest (at_location d.origin d.cache (changed d.mapping b None v) v o))) (sym e)
-        (rw (put_same d.mapping b None) (subst (λ (x : Content). IsEntryFrom (d.finished b o) (d.histories b o) x) (ap (λ p. newest (at_location d.origin d.cache p b o)) m ∙ copied o) (i.mapping_newest b o)))
-    | inr n ↦ subst (λ (p : Option ℕ). IsEntryFrom (d.finished b' o) (d.histories b' o) (newest (at_location d.origin d.cache p b' o))) (sym (put_other d.mapping b b' None n)) (i.mapping_newest b' o)
+        (rw (changed_same d.mapping b None) (subst (λ (x : Content). IsEntryFrom (d.finished b o) (d.histories b o) x) (ap (λ p. newest (at_location d.origin d.cache p b o)) m ∙ copied o) (i.mapping_newest b o)))
+    | inr n ↦ subst (λ (p : Option ℕ). IsEntryFrom (d.finished b' o) (d.histories b' o) (newest (at_location d.origin d.cache p b' o))) (sym (changed_other d.mapping b b' None n)) (i.mapping_newest b' o)
   ];
-  seen_finished = i.seen_finished;
-  marks_seen = i.marks_seen;
+  running_finished = i.running_finished;
+  committed_running = i.committed_running;
   home = i.home;
   home_of_mapping = λ b' j e. elim (cases_eq b' b) [
-    | inl s ↦ let nothing : changed d.mapping b None b' ≡ None = rw s (put_same d.mapping b None) in absurd (cc)
-    | inr n ↦ i.home_of_mapping b' j (sym (put_other d.mapping b b' None n) ∙ e)
+    | inl s ↦ let nothing : changed d.mapping b None b' ≡ None = rw s (changed_same d.mapping b None) in absurd (cc)
+    | inr n ↦ i.home_of_mapping b' j (sym (changed_other d.mapping b b' None n) ∙ e)
   ];
   home_of_committed = i.home_of_committed;
   home_of_running = i.home_of_running;
@@ -234,13 +232,13 @@ unmap_kept d b k m copied i = record {
 -- a number of one sector rose
 pub rose : (f : ℕ → ℕ → ℕ) (b o p : ℕ) → f b o ≤ p → (b' o' : ℕ) → f b' o' ≤ changed f b (changed (f b) o p) b' o'
 rose f b o p m b' o' = elim (cases_eq b' b) [
-  | inr n ↦ let same : changed f b (changed (f b) o p) b' o' ≡ f b' o' = ap (λ (g : ℕ → ℕ). g o') (put_other f b b' (changed (f b) o p) n) in omega arith
+  | inr n ↦ let same : changed f b (changed (f b) o p) b' o' ≡ f b' o' = ap (λ (g : ℕ → ℕ). g o') (changed_other f b b' (changed (f b) o p) n) in omega arith
   | inl e ↦
-      let row : changed f b (changed (f b) o p) b' o' ≡ changed (f b) o p o' = ap (λ v. changed f b (changed (f b) o p) v o') e ∙ ap (λ (g : ℕ → ℕ). g o') (put_same f b (changed (f b) o p)) in
+      let row : changed f b (changed (f b) o p) b' o' ≡ changed (f b) o p o' = ap (λ v. changed f b (changed (f b) o p) v o') e ∙ ap (λ (g : ℕ → ℕ). g o') (changed_same f b (changed (f b) o p)) in
       let was : f b' o' ≡ f b o' = ap (λ v. f v o') e in
       elim (cases_eq o' o) [
-        | inl s ↦ let here : changed (f b) o p o' ≡ p = ap (changed (f b) o p) s ∙ put_same (f b) o p in let old : f b o' ≡ f b o = ap (f b) s in omega arith
-        | inr n ↦ let there : changed (f b) o p o' ≡ f b o' = put_other (f b) o o' p n in omega arith
+        | inl s ↦ let here : changed (f b) o p o' ≡ p = ap (changed (f b) o p) s ∙ changed_same (f b) o p in let old : f b o' ≡ f b o = ap (f b) s in omega arith
+        | inr n ↦ let there : changed (f b) o p o' ≡ f b o' = changed_other (f b) o o' p n in omega arith
       ]
 ]
 
@@ -253,8 +251,8 @@ finish_kept d b o f m a i = record {
   running_origin = i.running_origin;
   running_newest = i.running_newest;
   mapping_newest = go;
-  seen_finished = λ b' o'. let r = rose d.finished b o f m b' o' in let s = i.seen_finished b' o' in omega arith;
-  marks_seen = i.marks_seen;
+  running_finished = λ b' o'. let r = rose d.finished b o f m b' o' in let s = i.running_finished b' o' in omega arith;
+  committed_running = i.committed_running;
   home = i.home;
   home_of_mapping = i.home_of_mapping;
   home_of_committed = i.home_of_committed;
@@ -265,11 +263,11 @@ finish_kept d b o f m a i = record {
 
   go : (b' o' : ℕ) → P b' o' (changed d.finished b (changed (d.finished b) o f) b' o')
   go b' o' = elim (cases_eq b' b) [
-    | inr n ↦ subst (λ (g : ℕ → ℕ). P b' o' (g o')) (sym (put_other d.finished b b' (changed (d.finished b) o f) n)) (i.mapping_newest b' o')
+    | inr n ↦ subst (λ (g : ℕ → ℕ). P b' o' (g o')) (sym (changed_other d.finished b b' (changed (d.finished b) o f) n)) (i.mapping_newest b' o')
     | inl e ↦ subst (λ (v : ℕ). P v o' (changed d.finished b (changed (d.finished b) o f) v o')) (sym e)
-        (subst (λ (g : ℕ → ℕ). P b o' (g o')) (sym (put_same d.finished b (changed (d.finished b) o f)))
+        (subst (λ (g : ℕ → ℕ). P b o' (g o')) (sym (changed_same d.finished b (changed (d.finished b) o f)))
         (elim (cases_eq o' o) [
-          | inl s ↦ subst (λ (v : ℕ). P b v (changed (d.finished b) o f v)) (sym s) (subst (λ (k : ℕ). P b o k) (sym (put_same (d.finished b) o f)) a)
-          | inr n ↦ subst (λ (k : ℕ). P b o' k) (sym (put_other (d.finished b) o o' f n)) (i.mapping_newest b o')
+          | inl s ↦ subst (λ (v : ℕ). P b v (changed (d.finished b) o f v)) (sym s) (subst (λ (k : ℕ). P b o k) (sym (changed_same (d.finished b) o f)) a)
+          | inr n ↦ subst (λ (k : ℕ). P b o' k) (sym (changed_other (d.finished b) o o' f n)) (i.mapping_newest b o')
         ]))
   ]

@@ -1,7 +1,7 @@
 use Rattle.std.proofs.Common.{◌≡◌, ◌≢◌, ◌≤◌, ◌+◌, ◌==◌, ◌⊎◌, inl, inr, ℕ, zero, suc, List, [], ◌∷◌, ◌++◌, Bool, true, false, cond, max, Some, length, slice_get, refl, ap, arith, Contains, add-one}
 use Rattle.std.proofs.lemmas.Bool.{cases_order, eq-eqb, eqb-true}
 use Rattle.std.proofs.lemmas.Option.{slice_get_within}
-use Rattle.std.proofs.lemmas.List.Elements.{Contains-push_cases, Contains-push, Contains-append_right}
+use Rattle.std.proofs.lemmas.List.Elements.{Contains-push_cases}
 use Rattle.wb_disk.specs.Device.{Content, History, entries, last_of, added, only}
 use Rattle.wb_contents.specs.Promises.{IsEntryFrom}
 use Rattle.wb_contents.specs.Volume.{changed}
@@ -33,8 +33,8 @@ at_last k g d b = (length g.later + 1, b, rw add-one (get_seam g.later d))
 pub at_lower : (j k : ℕ) (g : History) (c : Content) → j ≤ k → IsEntryFrom k g c → IsEntryFrom j g c
 at_lower j k g c b i = (i.0, omega (arith, i.1), i.2)
 
-pub put_same : {X : Type 0} (f : ℕ → X) (i : ℕ) (y : X) → changed f i y i ≡ y
-put_same f i y = ap (λ t. cond t y (f i)) (eq-eqb i i refl)
+pub changed_same : {X : Type 0} (f : ℕ → X) (i : ℕ) (y : X) → changed f i y i ≡ y
+changed_same f i y = ap (λ t. cond t y (f i)) (eq-eqb i i refl)
 
 pub differ : (a b : ℕ) → a ≢ b → (a == b) ≡ false
 differ a b n = go (a == b) refl where
@@ -42,8 +42,8 @@ differ a b n = go (a == b) refl where
   go true e = absurd (n (eqb-true a b e))
   go false e = e
 
-pub put_other : {X : Type 0} (f : ℕ → X) (i j : ℕ) (y : X) → j ≢ i → changed f i y j ≡ f j
-put_other f i j y n = ap (λ t. cond t y (f j)) (differ j i n)
+pub changed_other : {X : Type 0} (f : ℕ → X) (i j : ℕ) (y : X) → j ≢ i → changed f i y j ≡ f j
+changed_other f i j y n = ap (λ t. cond t y (f j)) (differ j i n)
 
 -- each content of a list that got one more
 pub more_cases : (h : History) (c d : Content) → Contains (entries (added h c)) d → Contains (entries h) d ⊎ (c ≡ d)
@@ -57,10 +57,6 @@ greater j k g c a b = elim (cases_order j k) [
   | inl e ↦ at_lower (max j k) j g c (omega arith) a
   | inr o ↦ elim o [ inl l ↦ at_lower (max j k) k g c (omega arith) b | inr l ↦ at_lower (max j k) j g c (omega arith) a ]
 ]
-
-pub last_in : (c : Content) (ds : List Content) → Contains (c ∷ ds) (last_of c ds)
-last_in c [] = Contains-push [] c
-last_in c (d ∷ ds) = Contains-append_right (c ∷ []) (d ∷ ds) (last_of d ds) (last_in d ds)
 
 pub get_last : (c : Content) (ds : List Content) → slice_get (c ∷ ds) (length ds) ≡ Some (last_of c ds)
 get_last c [] = refl

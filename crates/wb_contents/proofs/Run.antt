@@ -8,10 +8,11 @@ use Rattle.wb_contents.specs.Conditions.{IsCopied, MayAct, IsRun}
 use Rattle.wb_contents.specs.Promises.{IsEntryFrom, AllEntriesFrom, first_volume, route, visible, IsConsistent}
 use Rattle.wb_contents.proofs.Positions.{get_last, at_lower, only_one}
 use Rattle.wb_contents.proofs.Floors.{Floored, KeepsFloors, HasHomes, shorter_same, shorter_synced, shorter_partly, shorter_kept, write_origin_kept, write_cache_kept, lost_kept, copied_kept, through_kept, fill_kept, freed, finished_bound}
-use Rattle.wb_contents.proofs.Images.{IsWithin, within_only, newest_in, begin_kept, sync_cache_kept, sync_origin_kept, root_kept, end_kept, ended_kept, open_root_kept, begun_kept, map_kept, unmap_kept, finish_kept}
-use Rattle.wb_contents.proofs.Flushes.{Tally, KeepsFlushes, finish_flushes, begin_flushes, end_flushes, left_flushes, root_flushes, first_flushes, start_flushes, answer_flushes}
-use Rattle.wb_contents.proofs.Sectors.{KeepsLatest, write_origin_latest, write_cache_latest, through_latest, half_write_latest, lose_latest, empty_latest, fill_latest, shorter_latest, map_latest, unmap_latest, soil_latest, wash_latest, left_latest, opened_latest, clean_copied}
-use Rattle.wb_contents.proofs.Sealed.{KeepsClean, IsSameOnClean, sealed_live, shorter_sealed, cache_sealed, origin_sealed, suspend_sealed, root_sealed, end_sealed, left_sealed, open_root_sealed, same_newest}
+use Rattle.wb_disk.proofs.Leaving.{newest_there}
+use Rattle.wb_contents.proofs.Images.{IsWithin, within_only, begin_kept, sync_cache_kept, sync_origin_kept, root_kept, end_kept, ended_kept, open_root_kept, begun_kept, map_kept, unmap_kept, finish_kept}
+use Rattle.wb_contents.proofs.Flushes.{Tally, KeepsFlushes, finish_flushes, begin_flushes, end_flushes, ended_flushes, root_flushes, first_flushes, start_flushes, answer_flushes}
+use Rattle.wb_contents.proofs.Sectors.{KeepsLatest, write_origin_latest, write_cache_latest, through_latest, half_write_latest, failed_write_latest, copied_back_latest, fill_latest, shorter_latest, map_latest, unmap_latest, made_dirty_latest, made_clean_latest, ended_latest, opened_latest, clean_copied}
+use Rattle.wb_contents.proofs.Sealed.{KeepsClean, IsSameOnClean, sealed_live, shorter_sealed, cache_sealed, origin_sealed, suspend_sealed, root_sealed, end_sealed, ended_clean, open_root_sealed, same_newest}
 
 abbrev pub ground : Volume → Floored
 ground d = record {
@@ -38,9 +39,6 @@ pub record KeepsAll (d : Volume) : Type 0 where
   pub latest : KeepsLatest d
   pub seals : KeepsClean d
 
-pub same_latest : (d : Volume) → KeepsLatest d → KeepsLatest (record d { finished = d.finished })
-same_latest d i = record { sectors = i.sectors; passed = i.passed }
-
 -- the location of a mapping's sector has the history's last entry
 pub last_at : (d : Volume) (b o : ℕ) → (c : Content) → c ≡ newest (d.histories b o) → IsEntryFrom (length (d.histories b o).later) (d.histories b o) c
 last_at d b o c e = (length (d.histories b o).later, omega arith, get_last (d.histories b o).first (d.histories b o).later ∙ ap (λ x. Some x) (sym e))
@@ -55,7 +53,7 @@ write_all d None b o c e l m i = record {
 write_all d (Some k) b o c e l m i = record {
   flushes = i.flushes;
   floors = write_cache_kept (ground d) b o k c e i.floors;
-  latest = write_cache_latest d b o k c i.floors.home i.floors.home_of_mapping e (elim m [ inl nothing ↦ let bad : None ≡ Some k = sym nothing ∙ e in absurd (cc) | inr soiled ↦ soiled ]) i.latest;
+  latest = write_cache_latest d b o k c i.floors.home i.floors.home_of_mapping e (elim m [ inl nothing ↦ let bad : None ≡ Some k = sym nothing ∙ e in absurd (cc) | inr marked_dirty ↦ marked_dirty ]) i.latest;
   seals = sealed_live (sector_written d (Some k) b o c) l (i.seals.open_committed l) (i.seals.open_running l);
 }
 
@@ -70,7 +68,7 @@ through_all d (Some k) b o e l half i = record {
 
 -- what an image that metadata may stand for has
 pub found_floors : (d : Volume) (t : Bool) → (t ≡ true → d.root_written ≡ true) → KeepsAll d → (b o : ℕ) → AllEntriesFrom (d.committed_floor b o) (d.histories b o) (location d (image_found d t).locations b o)
-found_floors d true r i b o c m = at_lower (d.committed_floor b o) (d.running_floor b o) (d.histories b o) c (i.floors.marks_seen b o) (i.floors.running_allowed (r refl) b o c m)
+found_floors d true r i b o c m = at_lower (d.committed_floor b o) (d.running_floor b o) (d.histories b o) c (i.floors.committed_running b o) (i.floors.running_allowed (r refl) b o c m)
 found_floors d false r i b o c m = i.floors.committed_allowed b o c m
 
 pub found_homes : (d : Volume) (t : Bool) → (i : KeepsAll d) → HasHomes i.floors.home (image_found d t).locations
@@ -81,12 +79,12 @@ pub found_same : (d : Volume) (t : Bool) → (t ≡ true → d.root_written ≡ 
 found_same d true r i = i.seals.running_same (r refl)
 found_same d false r i = i.seals.committed_same
 
-pub left_all : (d : Volume) (origin cache : ℕ → ℕ → History) (t : Bool) → (t ≡ true → d.root_written ≡ true) → ((b o : ℕ) → IsWithin (origin b o) (d.origin b o)) → ((k o : ℕ) → IsWithin (cache k o) (d.cache k o)) → KeepsAll d → KeepsAll (life_ended d origin cache (image_found d t))
-left_all d origin cache t r wo wc i = record {
-  flushes = left_flushes (tally d) i.flushes;
+pub ended_all : (d : Volume) (origin cache : ℕ → ℕ → History) (t : Bool) → (t ≡ true → d.root_written ≡ true) → ((b o : ℕ) → IsWithin (origin b o) (d.origin b o)) → ((k o : ℕ) → IsWithin (cache k o) (d.cache k o)) → KeepsAll d → KeepsAll (life_ended d origin cache (image_found d t))
+ended_all d origin cache t r wo wc i = record {
+  flushes = ended_flushes (tally d) i.flushes;
   floors = ended_kept (ground d) origin cache (image_found d t).locations i.floors.home (found_homes d t i) wo wc (found_floors d t r i);
-  latest = left_latest d origin cache (image_found d t);
-  seals = left_sealed d origin cache (image_found d t) (found_same d t r i) wo wc;
+  latest = ended_latest d origin cache (image_found d t);
+  seals = ended_clean d origin cache (image_found d t) (found_same d t r i) wo wc;
 }
 
 pub unmap_all : (d : Volume) (b k : ℕ) → d.live ≡ true → d.mapping b ≡ Some k → IsCopied d b k → KeepsAll d → KeepsAll (after d (Unmap b))
@@ -101,7 +99,7 @@ pub act_kept : (d : Volume) (x : Act) → MayAct d x → KeepsAll d → KeepsAll
 act_kept d (Write b o c) m i = write_all d (d.mapping b) b o c refl m.0 m.1 i
 act_kept d (Write_origin b o c) m i = record { flushes = i.flushes; floors = write_origin_kept (ground d) b o c i.floors; latest = half_write_latest d b o c i.latest; seals = sealed_live (after d (Write_origin b o c)) m (i.seals.open_committed m) (i.seals.open_running m) }
 act_kept d (Write_cache b o) m i = through_all d (d.mapping b) b o refl m.0 m.1 i
-act_kept d (Fail_write b o c) m i = record { flushes = i.flushes; floors = lost_kept (ground d) b o c i.floors; latest = lose_latest d b o c i.latest; seals = sealed_live (after d (Fail_write b o c)) m (i.seals.open_committed m) (i.seals.open_running m) }
+act_kept d (Fail_write b o c) m i = record { flushes = i.flushes; floors = lost_kept (ground d) b o c i.floors; latest = failed_write_latest d b o c i.latest; seals = sealed_live (after d (Fail_write b o c)) m (i.seals.open_committed m) (i.seals.open_running m) }
 act_kept d (Finish b o) m i = record {
   flushes = finish_flushes (tally d) b o (length (d.histories b o).later) (finished_bound (ground d) b o i.floors) i.flushes;
   floors = finish_kept (ground d) b o (length (d.histories b o).later) (finished_bound (ground d) b o i.floors) (last_at d b o (newest (location d d.mapping b o)) ((i.latest.sectors b o).latest m)) i.floors;
@@ -117,7 +115,7 @@ act_kept d (Fill_cache k o c) m i = let j = freed (ground d) k m.1.0 m.1.1 m.1.2
 act_kept d (Copy_back b o) m i = record {
   flushes = i.flushes;
   floors = copied_kept (ground d) b o (newest (location d d.mapping b o)) (i.floors.mapping_newest b o) i.floors;
-  latest = empty_latest d b o m.1 i.latest;
+  latest = copied_back_latest d b o m.1 i.latest;
   seals = sealed_live (after d (Copy_back b o)) m.0 (i.seals.open_committed m.0) (i.seals.open_running m.0);
 }
 act_kept d (Map b k) m i = let j = freed (ground d) k m.1.0 m.1.1 m.1.2 i.floors in record {
@@ -133,13 +131,13 @@ act_kept d (Unmap b) m i = let k = m.1.0 in elim m.1.2 [
 act_kept d (Make_dirty b) m i = record {
   flushes = i.flushes;
   floors = i.floors;
-  latest = soil_latest d b m i.latest;
+  latest = made_dirty_latest d b m i.latest;
   seals = record { open_committed = i.seals.open_committed; open_running = i.seals.open_running; committed_same = i.seals.committed_same; running_equal = i.seals.running_equal; running_same = i.seals.running_same; quiet_cache = i.seals.quiet_cache; quiet_origin = i.seals.quiet_origin };
 }
 act_kept d (Make_clean b) m i = record {
   flushes = i.flushes;
   floors = i.floors;
-  latest = wash_latest d b m.1.0 m.1.1 m.1.2 i.latest;
+  latest = made_clean_latest d b m.1.0 m.1.1 m.1.2 i.latest;
   seals = sealed_live (after d (Make_clean b)) m.0 (i.seals.open_committed m.0) (i.seals.open_running m.0);
 }
 act_kept d Begin_commit m i = record {
@@ -174,7 +172,7 @@ act_kept d (Fail_origin_sync choice) m i = record {
   seals = shorter_sealed d (partly_synced choice d.origin) d.cache (shorter_partly choice d.origin) (shorter_same d.cache) i.seals;
 }
 act_kept d Write_root m i = record { flushes = i.flushes; floors = root_kept (ground d) m.0 m.1 i.floors; latest = record { sectors = i.latest.sectors; passed = i.latest.passed }; seals = root_sealed d m.0 m.1 i.seals }
-act_kept d End_commit m i = record { flushes = end_flushes (tally d) i.floors.marks_seen i.flushes; floors = end_kept (ground d) m i.floors; latest = record { sectors = i.latest.sectors; passed = i.latest.passed }; seals = end_sealed d m i.seals }
+act_kept d End_commit m i = record { flushes = end_flushes (tally d) i.floors.committed_running i.flushes; floors = end_kept (ground d) m i.floors; latest = record { sectors = i.latest.sectors; passed = i.latest.passed }; seals = end_sealed d m i.seals }
 act_kept d (Begin_flush a) m i = record {
   flushes = start_flushes (tally d) a i.flushes;
   floors = i.floors;
@@ -187,8 +185,8 @@ act_kept d (End_flush a) m i = record {
   latest = record { sectors = i.latest.sectors; passed = i.latest.passed };
   seals = record { open_committed = i.seals.open_committed; open_running = i.seals.open_running; committed_same = i.seals.committed_same; running_equal = i.seals.running_equal; running_same = i.seals.running_same; quiet_cache = i.seals.quiet_cache; quiet_origin = i.seals.quiet_origin };
 }
-act_kept d (Crash origin cache t) m i = left_all d (only_chosen origin) (only_chosen cache) t m.0 (λ b o. within_only (d.origin b o) (origin b o) (m.1 b o)) (λ k o. within_only (d.cache k o) (cache k o) (m.2 k o)) i
-act_kept d (Find_image t) m i = left_all d d.origin d.cache t m (λ b o c e. e) (λ k o c e. e) i
+act_kept d (Crash origin cache t) m i = ended_all d (only_chosen origin) (only_chosen cache) t m.0 (λ b o. within_only (d.origin b o) (origin b o) (m.1 b o)) (λ k o. within_only (d.cache k o) (cache k o) (m.2 k o)) i
+act_kept d (Find_image t) m i = ended_all d d.origin d.cache t m (λ b o c e. e) (λ k o c e. e) i
 act_kept d Write_opening_root m i = record { flushes = root_flushes (tally d) i.flushes; floors = open_root_kept (ground d) i.floors; latest = record { sectors = i.latest.sectors; passed = i.latest.passed }; seals = open_root_sealed d i.seals }
 act_kept d (Open mode) m i = record {
   flushes = first_flushes;
@@ -211,8 +209,8 @@ first_kept m c = record {
     running_origin = λ b o s e. absurd (cc);
     running_newest = λ b o. (0, omega arith, refl);
     mapping_newest = λ b o. (0, omega arith, refl);
-    seen_finished = λ b o. omega arith;
-    marks_seen = λ b o. omega arith;
+    running_finished = λ b o. omega arith;
+    committed_running = λ b o. omega arith;
     home = λ k. None;
     home_of_mapping = λ b k e. absurd (cc);
     home_of_committed = λ b k e. absurd (cc);
@@ -231,8 +229,8 @@ read_is d Passthrough (Some k) b o e f i w = sym (ap (λ p. newest (at_location 
 
 pub holds : (d : Volume) → KeepsAll d → IsConsistent d
 holds d i = record {
-  committed_allowed = λ b o c m. at_lower (d.floor b o) (d.committed_floor b o) (d.histories b o) c (i.flushes.acked_marks b o) (i.floors.committed_allowed b o c m);
-  running_allowed = λ r b o c m. at_lower (d.floor b o) (d.committed_floor b o) (d.histories b o) c (i.flushes.acked_marks b o) (found_floors d true (λ e. r) i b o c m);
+  committed_allowed = λ b o c m. at_lower (d.floor b o) (d.committed_floor b o) (d.histories b o) c (i.flushes.floor_committed b o) (i.floors.committed_allowed b o c m);
+  running_allowed = λ r b o c m. at_lower (d.floor b o) (d.committed_floor b o) (d.histories b o) c (i.flushes.floor_committed b o) (found_floors d true (λ e. r) i b o c m);
   latest = λ b o w. read_is d d.mode (d.mapping b) b o refl refl i.latest w ∙ (i.latest.sectors b o).latest w;
-  shown = λ m may b o. (at_lower (d.floor b o) (d.committed_floor b o) (d.histories b o) (visible d b o) (i.flushes.acked_marks b o) (i.floors.committed_allowed b o (visible d b o) (newest_in (location d d.committed.locations b o))), refl);
+  shown = λ m may b o. (at_lower (d.floor b o) (d.committed_floor b o) (d.histories b o) (visible d b o) (i.flushes.floor_committed b o) (i.floors.committed_allowed b o (visible d b o) (newest_there (location d d.committed.locations b o))), refl);
 }

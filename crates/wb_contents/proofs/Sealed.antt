@@ -5,7 +5,8 @@ use Rattle.wb_contents.specs.Conditions.{IsAllWhole}
 use Rattle.wb_contents.specs.Acts.{life_ended, all_synced}
 use Rattle.wb_contents.proofs.Positions.{only_one}
 use Rattle.wb_contents.proofs.Floors.{IsShorter}
-use Rattle.wb_contents.proofs.Images.{IsWithin, newest_in, IsQuiet}
+use Rattle.wb_disk.proofs.Leaving.{newest_there}
+use Rattle.wb_contents.proofs.Images.{IsWithin, IsQuiet}
 use Rattle.wb_contents.proofs.Sectors.{KeepsLatest, shorter_newest, was_false}
 
 -- two sectors hold one content, whichever a crash leaves
@@ -32,7 +33,7 @@ pub record KeepsClean (d : Volume) : Type 0 where
   pub quiet_origin : d.live ≡ false → d.origin_synced ≡ true → (b o : ℕ) → IsQuiet (d.origin b o)
 
 pub same_newest : (g h : History) → IsSameContent g h → newest g ≡ newest h
-same_newest g h s = s (newest g) (newest h) (newest_in g) (newest_in h)
+same_newest g h s = s (newest g) (newest h) (newest_there g) (newest_there h)
 
 pub same_within : (g h g' h' : History) → IsWithin g' g → IsWithin h' h → IsSameContent g h → IsSameContent g' h'
 same_within g h g' h' wg wh s x y m n = s x y (wg x m) (wh y n)
@@ -43,7 +44,7 @@ same_quiet g h qg qh e x y m n = qg x m ∙ e ∙ sym (qh y n)
 pub shorter_within : (f g : ℕ → ℕ → History) → IsShorter f g → (i o : ℕ) → IsWithin (g i o) (f i o)
 shorter_within f g s i o c m = elim (s i o) [
   | inl e ↦ subst (λ (h : History). Contains (entries h) c) e m
-  | inr e ↦ subst (λ (x : Content). Contains (entries (f i o)) x) (only_one (newest (f i o)) c (subst (λ (h : History). Contains (entries h) c) e m)) (newest_in (f i o))
+  | inr e ↦ subst (λ (x : Content). Contains (entries (f i o)) x) (only_one (newest (f i o)) c (subst (λ (h : History). Contains (entries h) c) e m)) (newest_there (f i o))
 ]
 
 pub quiet_only : (c : Content) → IsQuiet (only c)
@@ -136,8 +137,8 @@ end_sealed d r i = record {
   quiet_origin = i.quiet_origin;
 }
 
-pub left_sealed : (d : Volume) (origin cache : ℕ → ℕ → History) (image : Image) → IsSameOnClean d.origin d.cache image → ((b o : ℕ) → IsWithin (origin b o) (d.origin b o)) → ((k o : ℕ) → IsWithin (cache k o) (d.cache k o)) → KeepsClean (life_ended d origin cache image)
-left_sealed d origin cache image same wo wc = record {
+pub ended_clean : (d : Volume) (origin cache : ℕ → ℕ → History) (image : Image) → IsSameOnClean d.origin d.cache image → ((b o : ℕ) → IsWithin (origin b o) (d.origin b o)) → ((k o : ℕ) → IsWithin (cache k o) (d.cache k o)) → KeepsClean (life_ended d origin cache image)
+ended_clean d origin cache image same wo wc = record {
   open_committed = λ e. absurd (cc);
   open_running = λ e. absurd (cc);
   committed_same = all;

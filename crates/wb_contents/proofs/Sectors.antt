@@ -6,7 +6,7 @@ use Rattle.wb_types.specs.declared.mode.Mode.{Mode}
 use Rattle.wb_types.specs.declared.mode.Mode.TheVariants.{Writeback, Passthrough}
 use Rattle.wb_contents.specs.Acts.{sector_written, written_through, life_ended, life_begun}
 use Rattle.wb_contents.specs.Conditions.{IsUnnamed, IsCopied, IsAllWhole, Admits}
-use Rattle.wb_contents.proofs.Positions.{put_same, put_other, last_of-append}
+use Rattle.wb_contents.proofs.Positions.{changed_same, changed_other, last_of-append}
 use Rattle.wb_contents.proofs.Floors.{HasHomes, IsShorter}
 
 -- the newest contents of a sector: on the location that the mapping names, on the origin, in the history
@@ -23,13 +23,13 @@ abbrev pub Elsewhere : ℕ → ℕ → ℕ → ℕ → Type 0
 Elsewhere b o b' o' = (b' ≢ b) ⊎ (o' ≢ o)
 
 pub here_is : {X : Type 0} (f : ℕ → ℕ → X) (i o : ℕ) (x : X) → changed_at f i o x i o ≡ x
-here_is f i o x = ap (λ g. g o) (put_same f i (changed (f i) o x)) ∙ put_same (f i) o x
+here_is f i o x = ap (λ g. g o) (changed_same f i (changed (f i) o x)) ∙ changed_same (f i) o x
 
 pub elsewhere_is : {X : Type 0} (f : ℕ → ℕ → X) (i o i' o' : ℕ) (x : X) → Elsewhere i o i' o' → changed_at f i o x i' o' ≡ f i' o'
-elsewhere_is f i o i' o' x (inl n) = ap (λ g. g o') (put_other f i i' (changed (f i) o x) n)
+elsewhere_is f i o i' o' x (inl n) = ap (λ g. g o') (changed_other f i i' (changed (f i) o x) n)
 elsewhere_is f i o i' o' x (inr n) = elim (cases_eq i' i) [
-  | inr m ↦ ap (λ g. g o') (put_other f i i' (changed (f i) o x) m)
-  | inl e ↦ subst (λ (j : ℕ). changed_at f i o x j o' ≡ f j o') (sym e) (ap (λ g. g o') (put_same f i (changed (f i) o x)) ∙ put_other (f i) o o' x n)
+  | inr m ↦ ap (λ g. g o') (changed_other f i i' (changed (f i) o x) m)
+  | inl e ↦ subst (λ (j : ℕ). changed_at f i o x j o' ≡ f j o') (sym e) (ap (λ g. g o') (changed_same f i (changed (f i) o x)) ∙ changed_other (f i) o o' x n)
 ]
 
 pub by_sector : (P : ℕ → ℕ → Type 0) (b o : ℕ) → P b o → ((b' o' : ℕ) → Elsewhere b o b' o' → P b' o') → (b' o' : ℕ) → P b' o'
@@ -115,11 +115,11 @@ pub newest_elsewhere : (f : ℕ → ℕ → History) (b o b' o' : ℕ) (h : Hist
 newest_elsewhere f b o b' o' h n = ap newest (elsewhere_is f b o b' o' h n)
 
 pub write_cache_latest : (d : Volume) (b o k : ℕ) (c : Content) (home : ℕ → Option ℕ) → HasHomes home d.mapping → d.mapping b ≡ Some k → d.dirty b ≡ true → KeepsLatest d → KeepsLatest (sector_written d (Some k) b o c)
-write_cache_latest d b o k c home homes m soiled i = at_one d b o d.origin cache' (changed_at d.histories b o (added (d.histories b o) c)) standing'
+write_cache_latest d b o k c home homes m marked_dirty i = at_one d b o d.origin cache' (changed_at d.histories b o (added (d.histories b o) c)) standing'
     (record {
       latest = λ e. ap (λ p. newest (at_location d.origin cache' p b o)) m ∙ newest_here d.cache k o c ∙ sym (newest_here d.histories b o c);
       half = λ e. let whole : standing' b o ≡ Whole = here_is d.standing b o Whole in let bad : Half ≡ Whole = sym e ∙ whole in absurd (not_half bad);
-      clean = λ f e. let bad : true ≡ false = sym soiled ∙ f in absurd (cc);
+      clean = λ f e. let bad : true ≡ false = sym marked_dirty ∙ f in absurd (cc);
     })
     (λ b' o' n. refl)
     (λ b' o' j n e. newest_elsewhere d.cache k o j o' (added (d.cache k o) c) (away home d.mapping b o k b' o' j homes m e n))
@@ -159,8 +159,8 @@ half_write_latest d b o c i = at_one d b o (changed_at d.origin b o (added (d.or
     (λ b' o' n. newest_elsewhere d.histories b o b' o' (added (d.histories b o) c) n)
     (λ b' o' n. elsewhere_is d.standing b o b' o' Half n) i
 
-pub lose_latest : (d : Volume) (b o : ℕ) (c : Content) → KeepsLatest d → KeepsLatest (record d { histories = changed_at d.histories b o (added (d.histories b o) c); standing = changed_at d.standing b o Torn })
-lose_latest d b o c i = at_one d b o d.origin d.cache (changed_at d.histories b o (added (d.histories b o) c)) (changed_at d.standing b o Torn)
+pub failed_write_latest : (d : Volume) (b o : ℕ) (c : Content) → KeepsLatest d → KeepsLatest (record d { histories = changed_at d.histories b o (added (d.histories b o) c); standing = changed_at d.standing b o Torn })
+failed_write_latest d b o c i = at_one d b o d.origin d.cache (changed_at d.histories b o (added (d.histories b o) c)) (changed_at d.standing b o Torn)
     (record {
       latest = λ e. let bad : Torn ≡ Whole = sym (here_is d.standing b o Torn) ∙ e in absurd (cc);
       half = λ e. let bad : Torn ≡ Half = sym (here_is d.standing b o Torn) ∙ e in absurd (cc);
@@ -171,8 +171,8 @@ lose_latest d b o c i = at_one d b o d.origin d.cache (changed_at d.histories b 
     (λ b' o' n. elsewhere_is d.standing b o b' o' Torn n) i
 
 -- a sector that is whole is copied to the origin
-pub empty_latest : (d : Volume) (b o : ℕ) → d.standing b o ≡ Whole → KeepsLatest d → KeepsLatest (record d { origin = changed_at d.origin b o (added (d.origin b o) (newest (location d d.mapping b o))) })
-empty_latest d b o whole i = at_one d b o origin' d.cache d.histories d.standing
+pub copied_back_latest : (d : Volume) (b o : ℕ) → d.standing b o ≡ Whole → KeepsLatest d → KeepsLatest (record d { origin = changed_at d.origin b o (added (d.origin b o) (newest (location d d.mapping b o))) })
+copied_back_latest d b o whole i = at_one d b o origin' d.cache d.histories d.standing
     (let now : newest (origin' b o) ≡ x = newest_here d.origin b o x in let same : newest (at_location origin' d.cache (d.mapping b) b o) ≡ x = go (d.mapping b) refl in record {
       latest = λ e. same ∙ (i.sectors b o).latest whole;
       half = λ e. let bad : Half ≡ Whole = sym e ∙ whole in absurd (not_half bad);
@@ -218,52 +218,52 @@ moved d b p dirty = record d { mapping = changed d.mapping b p; dirty = dirty }
 pub map_latest : (d : Volume) (b k : ℕ) → d.mapping b ≡ None → IsCopied d b k → KeepsLatest d → KeepsLatest (record d { mapping = changed d.mapping b (Some k); dirty = changed d.dirty b false })
 map_latest d b k m copied i = record {
   sectors = by_block (λ b'. (o : ℕ) → Sector (newest (at_location d.origin d.cache (changed d.mapping b (Some k) b') b' o)) (newest (d.origin b' o)) (newest (d.histories b' o)) (d.standing b' o) (changed d.dirty b false b')) b
-      (λ o. let here : newest (at_location d.origin d.cache (changed d.mapping b (Some k) b) b o) ≡ newest (d.origin b o) = ap (λ p. newest (at_location d.origin d.cache p b o)) (put_same d.mapping b (Some k)) ∙ copied o in
+      (λ o. let here : newest (at_location d.origin d.cache (changed d.mapping b (Some k) b) b o) ≡ newest (d.origin b o) = ap (λ p. newest (at_location d.origin d.cache p b o)) (changed_same d.mapping b (Some k)) ∙ copied o in
       let was : newest (location d d.mapping b o) ≡ newest (d.origin b o) = ap (λ p. newest (at_location d.origin d.cache p b o)) m in record {
         latest = λ e. here ∙ sym was ∙ (i.sectors b o).latest e;
         half = (i.sectors b o).half;
         clean = λ f e. here;
       })
       (λ b' n o. same_sector (newest (location d d.mapping b' o)) (newest (at_location d.origin d.cache (changed d.mapping b (Some k) b') b' o)) (newest (d.origin b' o)) (newest (d.origin b' o)) (newest (d.histories b' o)) (newest (d.histories b' o)) (d.standing b' o) (d.standing b' o) (d.dirty b') (changed d.dirty b false b')
-      (ap (λ p. newest (at_location d.origin d.cache p b' o)) (put_other d.mapping b b' (Some k) n)) refl refl refl (put_other d.dirty b b' false n) (i.sectors b' o));
+      (ap (λ p. newest (at_location d.origin d.cache p b' o)) (changed_other d.mapping b b' (Some k) n)) refl refl refl (changed_other d.dirty b b' false n) (i.sectors b' o));
   passed = λ pass. by_block (λ b'. (j : ℕ) → changed d.mapping b (Some k) b' ≡ Some j → changed d.dirty b false b' ≡ false) b
-      (λ j e. put_same d.dirty b false) (λ b' n j e. put_other d.dirty b b' false n ∙ i.passed pass b' j (sym (put_other d.mapping b b' (Some k) n) ∙ e));
+      (λ j e. changed_same d.dirty b false) (λ b' n j e. changed_other d.dirty b b' false n ∙ i.passed pass b' j (sym (changed_other d.mapping b b' (Some k) n) ∙ e));
 }
 
 pub unmap_latest : (d : Volume) (b k : ℕ) → d.mapping b ≡ Some k → IsCopied d b k → KeepsLatest d → KeepsLatest (record d { mapping = changed d.mapping b None })
 unmap_latest d b k m copied i = record {
   sectors = by_block (λ b'. (o : ℕ) → Sector (newest (at_location d.origin d.cache (changed d.mapping b None b') b' o)) (newest (d.origin b' o)) (newest (d.histories b' o)) (d.standing b' o) (d.dirty b')) b
-      (λ o. let here : newest (at_location d.origin d.cache (changed d.mapping b None b) b o) ≡ newest (d.origin b o) = ap (λ p. newest (at_location d.origin d.cache p b o)) (put_same d.mapping b None) in
+      (λ o. let here : newest (at_location d.origin d.cache (changed d.mapping b None b) b o) ≡ newest (d.origin b o) = ap (λ p. newest (at_location d.origin d.cache p b o)) (changed_same d.mapping b None) in
       let was : newest (location d d.mapping b o) ≡ newest (d.origin b o) = ap (λ p. newest (at_location d.origin d.cache p b o)) m ∙ copied o in record {
         latest = λ e. here ∙ sym was ∙ (i.sectors b o).latest e;
         half = (i.sectors b o).half;
         clean = λ f e. here;
       })
       (λ b' n o. same_sector (newest (location d d.mapping b' o)) (newest (at_location d.origin d.cache (changed d.mapping b None b') b' o)) (newest (d.origin b' o)) (newest (d.origin b' o)) (newest (d.histories b' o)) (newest (d.histories b' o)) (d.standing b' o) (d.standing b' o) (d.dirty b') (d.dirty b')
-      (ap (λ p. newest (at_location d.origin d.cache p b' o)) (put_other d.mapping b b' None n)) refl refl refl refl (i.sectors b' o));
+      (ap (λ p. newest (at_location d.origin d.cache p b' o)) (changed_other d.mapping b b' None n)) refl refl refl refl (i.sectors b' o));
   passed = λ pass. by_block (λ b'. (j : ℕ) → changed d.mapping b None b' ≡ Some j → d.dirty b' ≡ false) b
-      (λ j e. let bad : None ≡ Some j = sym (put_same d.mapping b None) ∙ e in absurd (cc)) (λ b' n j e. i.passed pass b' j (sym (put_other d.mapping b b' None n) ∙ e));
+      (λ j e. let bad : None ≡ Some j = sym (changed_same d.mapping b None) ∙ e in absurd (cc)) (λ b' n j e. i.passed pass b' j (sym (changed_other d.mapping b b' None n) ∙ e));
 }
 
-pub soil_latest : (d : Volume) (b : ℕ) → d.mode ≡ Writeback → KeepsLatest d → KeepsLatest (record d { dirty = changed d.dirty b true })
-soil_latest d b back i = record {
+pub made_dirty_latest : (d : Volume) (b : ℕ) → d.mode ≡ Writeback → KeepsLatest d → KeepsLatest (record d { dirty = changed d.dirty b true })
+made_dirty_latest d b back i = record {
   sectors = by_block (λ b'. (o : ℕ) → Sector (newest (location d d.mapping b' o)) (newest (d.origin b' o)) (newest (d.histories b' o)) (d.standing b' o) (changed d.dirty b true b')) b
-      (λ o. record { latest = (i.sectors b o).latest; half = (i.sectors b o).half; clean = λ f e. let bad : true ≡ false = sym (put_same d.dirty b true) ∙ f in absurd (cc) })
-      (λ b' n o. record { latest = (i.sectors b' o).latest; half = (i.sectors b' o).half; clean = λ f e. (i.sectors b' o).clean (sym (put_other d.dirty b b' true n) ∙ f) e });
+      (λ o. record { latest = (i.sectors b o).latest; half = (i.sectors b o).half; clean = λ f e. let bad : true ≡ false = sym (changed_same d.dirty b true) ∙ f in absurd (cc) })
+      (λ b' n o. record { latest = (i.sectors b' o).latest; half = (i.sectors b' o).half; clean = λ f e. (i.sectors b' o).clean (sym (changed_other d.dirty b b' true n) ∙ f) e });
   passed = λ pass. let bad : Writeback ≡ Passthrough = sym back ∙ pass in absurd (cc);
 }
 
-pub wash_latest : (d : Volume) (b k : ℕ) → d.mapping b ≡ Some k → (d.dirty b ≡ false) ⊎ IsCopied d b k → KeepsLatest d → KeepsLatest (record d { dirty = changed d.dirty b false })
-wash_latest d b k m washed i = record {
+pub made_clean_latest : (d : Volume) (b k : ℕ) → d.mapping b ≡ Some k → (d.dirty b ≡ false) ⊎ IsCopied d b k → KeepsLatest d → KeepsLatest (record d { dirty = changed d.dirty b false })
+made_clean_latest d b k m washed i = record {
   sectors = by_block (λ b'. (o : ℕ) → Sector (newest (location d d.mapping b' o)) (newest (d.origin b' o)) (newest (d.histories b' o)) (d.standing b' o) (changed d.dirty b false b')) b
       (λ o. record { latest = (i.sectors b o).latest; half = (i.sectors b o).half; clean = λ f e. elim washed [ inl was ↦ (i.sectors b o).clean was e | inr copied ↦ ap (λ p. newest (at_location d.origin d.cache p b o)) m ∙ copied o ] })
-      (λ b' n o. record { latest = (i.sectors b' o).latest; half = (i.sectors b' o).half; clean = λ f e. (i.sectors b' o).clean (sym (put_other d.dirty b b' false n) ∙ f) e });
+      (λ b' n o. record { latest = (i.sectors b' o).latest; half = (i.sectors b' o).half; clean = λ f e. (i.sectors b' o).clean (sym (changed_other d.dirty b b' false n) ∙ f) e });
   passed = λ pass. by_block (λ b'. (j : ℕ) → d.mapping b' ≡ Some j → changed d.dirty b false b' ≡ false) b
-      (λ j e. put_same d.dirty b false) (λ b' n j e. put_other d.dirty b b' false n ∙ i.passed pass b' j e);
+      (λ j e. changed_same d.dirty b false) (λ b' n j e. changed_other d.dirty b b' false n ∙ i.passed pass b' j e);
 }
 
-pub left_latest : (d : Volume) (origin cache : ℕ → ℕ → History) (image : Image) → KeepsLatest (life_ended d origin cache image)
-left_latest d origin cache image = record {
+pub ended_latest : (d : Volume) (origin cache : ℕ → ℕ → History) (image : Image) → KeepsLatest (life_ended d origin cache image)
+ended_latest d origin cache image = record {
   sectors = λ b o. record { latest = λ e. absurd (cc); half = λ e. absurd (cc); clean = λ f e. absurd (cc) };
   passed = λ pass. absurd (cc);
 }

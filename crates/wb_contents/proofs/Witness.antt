@@ -1,7 +1,7 @@
 use Rattle.std.proofs.Common.{◌≡◌, inl, inr, ℕ, zero, suc, [], ◌∷◌, Bool, true, false, cond, Option, Some, None, refl, sym, ap, subst, ◌∙◌, arith, Contains}
 use Rattle.wb_contents.proofs.Sectors.{by_sector, elsewhere_is}
 use Rattle.std.proofs.lemmas.Bool.{cases_eq}
-use Rattle.wb_contents.proofs.Positions.{put_other}
+use Rattle.wb_contents.proofs.Positions.{changed_other}
 use Rattle.wb_contents.specs.Examples.{blank, nothing, one, one_kept, Breaks, suspend_root_before_its_syncs, flush_by_an_older_commit, flush_of_syncs_alone, root_before_its_syncs, opening_without_the_origin_sync, committed_cache_block_filled, dirty_block_removed_uncopied, passthrough_over_a_dirty_block, two, two_lives, a_third_life, flushed_one, stale_copy}
 use Rattle.wb_disk.specs.Device.{Content, History, entries, newest, added, only}
 use Rattle.wb_contents.specs.Acts.{all_synced, after_all}
@@ -65,8 +65,8 @@ may_keep = by_sector (λ k o. Contains (entries (with_two k o)) (one_kept k o)) 
     let f : one_kept k o ≡ nothing = elsewhere_is blank 0 0 k o one n in
     subst (λ (h : History). Contains (entries h) (one_kept k o)) (sym e) (subst (λ (c : Content). Contains (entries (only [])) c) (sym f) (0, omega arith, refl)))
 
-pub good_runs : IsRun (first_volume Writeback blank) two_lives
-good_runs = (
+pub two_lives_run : IsRun (first_volume Writeback blank) two_lives
+two_lives_run = (
   (refl, ((λ b e. absurd (cc)), (λ b e. absurd (cc)), (λ b e. absurd (cc))), refl, (λ o. refl)),
   (
     refl,
@@ -128,9 +128,6 @@ good_runs = (
   ),
 )
 
-pub good_ends : (newest ((after_all (first_volume Writeback blank) two_lives).cache 0 0) ≡ two) × (newest ((after_all (first_volume Writeback blank) two_lives).origin 0 0) ≡ two) × ((after_all (first_volume Writeback blank) two_lives).histories 0 0 ≡ added (only one) two)
-good_ends = (refl, refl, refl)
-
 abbrev pub mid : ℕ → ℕ → History
 mid k o = only (one_kept k o)
 
@@ -150,17 +147,17 @@ all_whole = by_sector (λ b o. changed_at (changed_at whole 0 0 Half) 0 0 Whole 
 abbrev pub nowhere : ℕ → Option ℕ
 nowhere b = None
 
-abbrev pub soiled : ℕ → Bool
-soiled b = true
+abbrev pub marked_dirty : ℕ → Bool
+marked_dirty b = true
 
-pub admitted : (b k : ℕ) → changed nowhere 0 (Some 0) b ≡ Some k → cond (changed soiled 0 false b) false true ≡ true
+pub admitted : (b k : ℕ) → changed nowhere 0 (Some 0) b ≡ Some k → cond (changed marked_dirty 0 false b) false true ≡ true
 admitted b k e = elim (cases_eq b 0) [
-  | inl s ↦ subst (λ (v : ℕ). cond (changed soiled 0 false v) false true ≡ true) (sym s) refl
-  | inr n ↦ let bad : None ≡ Some k = sym (put_other nowhere 0 b (Some 0) n) ∙ e in absurd (cc)
+  | inl s ↦ subst (λ (v : ℕ). cond (changed marked_dirty 0 false v) false true ≡ true) (sym s) refl
+  | inr n ↦ let bad : None ≡ Some k = sym (changed_other nowhere 0 b (Some 0) n) ∙ e in absurd (cc)
 ]
 
-pub more_runs : IsRun (after_all (first_volume Writeback blank) two_lives) a_third_life
-more_runs = (
+pub a_third_life_runs : IsRun (after_all (first_volume Writeback blank) two_lives) a_third_life
+a_third_life_runs = (
   (refl, (0, refl, inr copied)),
   (
     (refl, refl, all_whole),

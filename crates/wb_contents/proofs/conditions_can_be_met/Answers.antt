@@ -1,5 +1,5 @@
-use Rattle.wb_contents.proofs.Witness.{good_runs, more_runs}
+use Rattle.wb_contents.proofs.Witness.{two_lives_run, a_third_life_runs}
 use Rattle.wb_contents.proofs.conditions_can_be_met.Goals as goal
 
 pub returns : goal.returns
-returns c = record { two_lives = good_runs; a_third_life = more_runs }
+returns c = record { two_lives = two_lives_run; a_third_life = a_third_life_runs }
