@@ -1,6 +1,6 @@
 -- Which root and tree a metadata device may be read as, through commits, faults, crashes and openings: one state or, once
 -- a root was put over it, one of two.
-use Rattle.std.specs.Prelude.{◌≡◌, ◌⊎◌, ℕ, List, Option, Some, None, length, map}
+use Rattle.std.specs.Prelude.{◌≡◌, ◌⊎◌, List, Option, Some, None, length, map}
 use Rattle.wb_types.specs.declared.geometry.Geometry.{Geometry}
 use Rattle.wb_types.specs.declared.number.Place.{Place}
 use Rattle.wb_disk.specs.Device.{Content, History, newest}
