@@ -2,7 +2,7 @@
 use Rattle.std.specs.Prelude.{◌≡◌, ◌≤◌, ◌<◌, ℕ, Option, Some, None, List, slice_index_or, slice_set}
 use Rattle.wb_types.specs.declared.entry.Entry.{Entry}
 use Rattle.wb_types.specs.declared.number.Place.{Place}
-use Rattle.wb_tree.specs.Mapping.{Mapping, IsMapping, IsSound, IsPlaceOf, Forgets, place_of}
+use Rattle.wb_tree.specs.Mapping.{Mapping, IsMapping, IsSound, IsPlaceOf, IsOnPath, Forgets, place_of}
 use Rattle.wb_tree.specs.Images.{Stores, word_at}
 
 -- Edits of one entry each, one after the other and any number of them, lead from the one tree to the other: a node that
@@ -11,6 +11,14 @@ pub record IsEdited (old new : Mapping) : Type 0 where
   pub stays : (level index : ℕ) (place : Place) → place_of new level index ≡ Some place → place_of old level index ≡ Some place
   pub words : (level index j : ℕ) (place : Place) → place_of new level index ≡ Some place → j < 32
       → word_at old level index j ≡ word_at new level index j
+
+-- The entry of one cache block came or went: the nodes above it count as changed, and the others stand where they stood.
+pub record IsChangedAt (old new : Mapping) (c : ℕ) (entry : Option Entry) : Type 0 where
+  pub entries : new.entries ≡ slice_set old.entries c entry
+  pub forgets : Forgets old new c
+  pub others : (level index : ℕ) → (IsOnPath c level index → ⊥) → place_of new level index ≡ place_of old level index
+  pub edited : IsEdited old new
+  pub sound : IsSound new
 
 -- An entry may come into a mapping at a cache block: its origin block is there, its hint is 16 at most, and no other
 -- cache block has that origin block.

@@ -11,7 +11,7 @@ use Rattle.wb_types.specs.declared.number.Place.{Place}
 use Rattle.wb_types.proofs.Truth.{yes}
 use Rattle.wb_tree.specs.declared.placed.PlacedNode.{PlacedNode}
 use Rattle.wb_tree.specs.Mapping.{Mapping, Forgets, IsOnPath, IsSound, place_in, place_of}
-use Rattle.wb_tree.specs.Edits.{IsEdited}
+use Rattle.wb_tree.specs.Edits.{IsChangedAt, IsEdited}
 use Rattle.wb_tree.specs.Fields.{AreApart}
 use Rattle.wb_tree.specs.Branches.{AreBoxes, Branch, IsSlot, boxes_of, entries_in, forget, known_in, rewritten, sole_branch}
 use Rattle.wb_tree.proofs.Reading.Grown.{up_block}
@@ -230,18 +230,11 @@ next_set depth kid new block entry slot less e =
 
 -- ---- what a change of one entry promises
 
-pub record IsEdit (old new : Mapping) (block : ℕ) (v : Option Entry) : Type 0 where
-  pub entries : new.entries ≡ slice_set old.entries block v
-  pub forgets : Forgets old new block
-  pub stays_off : (level index : ℕ) → (IsOnPath block level index → ⊥) → place_of new level index ≡ place_of old level index
-  pub edited : IsEdited old new
-  pub sound : IsSound new
-
-changed-edit : (m : Mapping) (block : ℕ) (v : Option Entry) → IsSound m → IsEdit m (changed_at m block v) block v
+changed-edit : (m : Mapping) (block : ℕ) (v : Option Entry) → IsSound m → IsChangedAt m (changed_at m block v) block v
 changed-edit m block v sound = record {
   entries = refl;
   forgets = changed-forgets m block v;
-  stays_off = λ level index off. forgot_off block m.known level index off;
+  others = λ level index off. forgot_off block m.known level index off;
   edited = edited-once m (changed_at m block v) block v sound (changed-sound m block v sound) refl (changed-forgets m block v);
   sound = changed-sound m block v sound;
 }
@@ -251,11 +244,11 @@ inside-boxes cache_blocks depth root old block are view less =
     subst (λ n. block < n) (ap (λ (m : Mapping). length m.entries) (sym view) ∙ long-boxes cache_blocks depth root are) less
 
 pub next-edit : {A : Type 0} (cache_blocks depth : ℕ) (root next : Option (Box Branch A)) (old : Mapping) (block : ℕ) (v : Option Entry) → AreBoxes cache_blocks depth root → boxes_of cache_blocks depth root ≡ old → block < length old.entries → IsNext depth root block v next
-    → IsEdit old (boxes_of cache_blocks depth next) block v
+    → IsChangedAt old (boxes_of cache_blocks depth next) block v
 next-edit cache_blocks depth root next old block v are view less is =
     let e : boxes_of cache_blocks depth next ≡ changed_at old block v =
     next-tree cache_blocks depth root next block v (inside-boxes cache_blocks depth root old block are view less) is ∙ ap (λ m. changed_at m block v) view in
-    subst (λ m. IsEdit old m block v) (sym e) (changed-edit old block v (subst IsSound view are.sound))
+    subst (λ m. IsChangedAt old m block v) (sym e) (changed-edit old block v (subst IsSound view are.sound))
 
 -- the entry is there already
 pub same-edit : (m : Mapping) (block : ℕ) (o v : Option Entry) → o ≡ get_or m.entries block None → o ≡ v → m.entries ≡ slice_set m.entries block v

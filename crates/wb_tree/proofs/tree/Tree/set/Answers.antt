@@ -41,7 +41,7 @@ returns-in_ok-done-in-Some g c =
     (ap (λ o. boxes_of b.cache_blocks b.depth o) (sym root) ∙ c.self.view_is) c.requires
     (next_set b.depth c.in-Some.root (with_value c.in-Some.root c.set-done.new.self) c.args.c.0 c.args.entry (subst (IsSlot b.depth 0) root c.self.invariant.top) (omega arith)
     (c.in_ok-done-in-Some.ensures.ok ∙ ap (λ v. rewritten v c.args.c.0 (Some c.args.entry)) c.deref_mut.ensures.value)) in
-    record { entries = edit.entries; same = λ there. absurd (not_option c.get.result c.args.entry (sym c.eq.ensures ∙ c.if-eq.false) (c.get.ensures.entry ∙ there)); forgets = λ _. edit.forgets; stays_off = edit.stays_off; edited = edit.edited; err = tt; refused = tt; sound = edit.sound }
+    record { entries = edit.entries; same = λ there. absurd (not_option c.get.result c.args.entry (sym c.eq.ensures ∙ c.if-eq.false) (c.get.ensures.entry ∙ there)); forgets = λ _. edit.forgets; stays_off = edit.others; edited = edit.edited; err = tt; refused = tt; sound = edit.sound }
 
 pub returns-in_ok-boxed-in-None : goal.returns-in_ok-boxed-in-None
 returns-in_ok-boxed-in-None g c =
@@ -52,4 +52,4 @@ returns-in_ok-boxed-in-None g c =
     let edit = next-edit b.cache_blocks b.depth None (Some c.in_ok-boxed-in-None.field-0) c.args.self.now c.args.c.0 (Some c.args.entry) (subst (AreBoxes b.cache_blocks b.depth) root c.self.invariant)
     (ap (λ o. boxes_of b.cache_blocks b.depth o) (sym root) ∙ c.self.view_is) c.requires
     (next_new b.depth c.in_ok-boxed-in-None.field-0 c.args.c.0 c.args.entry c.self.invariant.from c.self.invariant.to (omega arith) c.in_ok-boxed-in-None.ensures) in
-    record { entries = edit.entries; same = λ there. absurd (not_option c.get.result c.args.entry (sym c.eq.ensures ∙ c.if-eq.false) (c.get.ensures.entry ∙ there)); forgets = λ _. edit.forgets; stays_off = edit.stays_off; edited = edit.edited; err = tt; refused = tt; sound = edit.sound }
+    record { entries = edit.entries; same = λ there. absurd (not_option c.get.result c.args.entry (sym c.eq.ensures ∙ c.if-eq.false) (c.get.ensures.entry ∙ there)); forgets = λ _. edit.forgets; stays_off = edit.others; edited = edit.edited; err = tt; refused = tt; sound = edit.sound }
