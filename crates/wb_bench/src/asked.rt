@@ -124,12 +124,16 @@ fn read_direction(word: &str) -> Option<Direction> {
 }
 
 fn read_work(word: &str) -> Option<Work> {
-    match word {
-        "get" => Some(Work::Get),
-        "set" => Some(Work::Set),
-        "clear" => Some(Work::Clear),
-        _ => Some(Work::Plan(word.parse::<u32>().ok()?)),
+    if word == "get" {
+        return Some(Work::Get);
     }
+    if word == "set" {
+        return Some(Work::Set);
+    }
+    if word == "clear" {
+        return Some(Work::Clear);
+    }
+    Some(Work::Plan(word.parse::<u32>().ok()?))
 }
 
 fn read_crowd(word: &str) -> Option<Crowd> {

@@ -50,9 +50,18 @@ const STREAM_FAILED: u8 = 4;
 /// The most blocks that a run goes over.
 const MOST_BLOCKS: u64 = 1_048_576;
 
-/// What it can be asked, on one line.
-const USAGE: &str =
-    "usage: wb_bench FILE read|write SECTORS REQUESTS | sketch CACHE_BLOCKS ADDS|reset | settles CACHE_BLOCKS ACCESSES | ticks CACHE_BLOCKS TICKS | space CACHE_BLOCKS ROUNDS REMOVED | tree CACHE_BLOCKS get|set|clear|CHANGES ROUNDS | shares same|apart 1|2|4 ROUNDS | FILE mapping CACHE_BLOCKS | FILE state";
+/// What it can be asked.
+const USAGE: [&str; 9] = [
+    "usage: wb_bench FILE read|write SECTORS REQUESTS",
+    "       wb_bench sketch CACHE_BLOCKS ADDS|reset",
+    "       wb_bench settles CACHE_BLOCKS ACCESSES",
+    "       wb_bench ticks CACHE_BLOCKS TICKS",
+    "       wb_bench space CACHE_BLOCKS ROUNDS REMOVED",
+    "       wb_bench tree CACHE_BLOCKS get|set|clear|CHANGES ROUNDS",
+    "       wb_bench shares same|apart 1|2|4 ROUNDS",
+    "       wb_bench FILE mapping CACHE_BLOCKS",
+    "       wb_bench FILE state",
+];
 
 fn main(rt: HostRuntime) -> ExitCode {
     // Before any file is opened.
@@ -188,7 +197,9 @@ fn drive_all(asked: &Requests<'_>, blocks: u64, owner: &mut Owner<FileDisk, Unno
 }
 
 fn usage(rt: &HostRuntime) -> ExitCode {
-    let _ = eprintln!(rt; "{USAGE}");
+    for line in USAGE {
+        let _ = eprintln!(rt; "{line}");
+    }
     ExitCode::from(2)
 }
 
