@@ -6,8 +6,6 @@
 
 mod live_order;
 mod live_orders;
-#[cfg(test)]
-mod tests;
 
 pub use live_order::LiveOrder;
 pub use live_orders::LiveOrders;

@@ -7,11 +7,9 @@
 
 mod doorkeeper;
 mod law;
-mod place;
+pub mod place;
 mod row;
 mod sketch;
-#[cfg(test)]
-mod tests;
 
 pub use law::estimate_law;
 pub use row::halve;

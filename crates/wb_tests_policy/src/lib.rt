@@ -5,6 +5,10 @@
 #[cfg(test)]
 mod bits;
 #[cfg(test)]
+mod orders;
+#[cfg(test)]
 mod policy;
+#[cfg(test)]
+mod sketch;
 #[cfg(test)]
 mod space;

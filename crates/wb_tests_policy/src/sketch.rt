@@ -2,10 +2,10 @@
 
 mod plain;
 
-use crate::place::{DOOR1, DOOR2, ROW1, ROW2, ROW3, ROW4, place};
-use crate::{Sketch, halve};
 use plain::Plain;
 use std::test::Fail;
+use wb_sketch::place::{DOOR1, DOOR2, ROW1, ROW2, ROW3, ROW4, place};
+use wb_sketch::{Sketch, halve};
 use wb_types::OBlock;
 
 /// What a sketch says of block 7 after so many accesses to it alone: estimate, sample and, for a sketch of

@@ -1,6 +1,6 @@
 //! What no contract says: that memory serves, and that orders come and go as they were worked by hand.
 
-use crate::LiveOrders;
+use wb_orders::LiveOrders;
 use wb_policy::Order;
 use wb_types::{CBlock, OBlock, Refusal};
 
