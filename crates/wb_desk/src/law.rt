@@ -3,7 +3,7 @@
 ghost use Rattle.std.specs.Prelude.{◌≡◌, ◌≢◌, ◌⊎◌, ℕ, List, Some};
 ghost use Rattle.wb_desk.specs.Allocation.{Allocation, Act, AllocationInvariant, IsActRun, after_acts, after_act, MayAct, StaysOrEnds, NoneTwice, BlockMap, at_opening, entry_in};
 ghost use Rattle.wb_space.specs.Blocks.{state};
-ghost use Rattle.wb_desk.specs.Safety.{OpenedIsSafe, CallsAreSafe, QuarantineStays, BeginningDoes, MappingDoes, UnmappingDoes, TellingDoes};
+ghost use Rattle.wb_desk.specs.Safety.{OpenedIsSafe, CallsAreSafe, QuarantineStays, BeginningDoes, MappingDoes, UnmappingDoes, TellingDoes, TakingDoes, ReservingDoes, ReleasingDoes, EndingDoes};
 
 use wb_policy::Policy;
 use wb_space::Block;
@@ -31,7 +31,7 @@ pub fn allocation_keeps_its_invariant()
 /// `opening`: it is so of the entries that an opening read. `calls`: it stays so, where a commit takes the entries of its
 /// beginning as its image, and leaves it alone when it ends. `quarantine`: a quarantined block leaves its quarantine only at
 /// the end of a commit that began after its removal. The others: what the contracts of the calls say is what is
-/// supposed of them there.
+/// supposed of them there. `settle` and `tick` say so themselves, of the calls that follow from them.
 pub fn images_stay_safe<P: Policy>()
     ensures opening { OpenedIsSafe P }
     ensures calls { CallsAreSafe P P.knows }
@@ -40,4 +40,8 @@ pub fn images_stay_safe<P: Policy>()
     ensures mapping { MappingDoes P P.with_entry }
     ensures unmapping { UnmappingDoes P P.without_entry }
     ensures telling { TellingDoes P P.with_setting }
+    ensures taking { TakingDoes P }
+    ensures reserving { ReservingDoes P }
+    ensures releasing { ReleasingDoes P }
+    ensures ending { EndingDoes P }
 {}
