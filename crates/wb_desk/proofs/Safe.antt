@@ -86,7 +86,7 @@ differs : true ≡ false → ⊥
 differs e = absurd cc
 
 -- which origin blocks stand in the entries after one came or went
-origins-set : (entries new : List (Option Entry)) (c : ℕ) (entry : Option Entry) → new ≡ set entries c entry → origins new ≡ set (origins entries) c (option_map (λ e. e.origin.0) entry)
+pub origins-set : (entries new : List (Option Entry)) (c : ℕ) (entry : Option Entry) → new ≡ set entries c entry → origins new ≡ set (origins entries) c (option_map (λ e. e.origin.0) entry)
 origins-set entries new c entry e = ap (λ (es : List (Option Entry)). origins es) e ∙ map-set (option_map (λ x. x.origin.0)) entries c entry
 
 module _ {P : Type 0} where

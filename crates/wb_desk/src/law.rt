@@ -4,6 +4,7 @@ ghost use Rattle.std.specs.Prelude.{◌≡◌, ◌≢◌, ◌⊎◌, ℕ, List, 
 ghost use Rattle.wb_desk.specs.Allocation.{Allocation, Act, AllocationInvariant, IsActRun, after_acts, after_act, MayAct, StaysOrEnds, NoneTwice, BlockMap, at_opening, entry_in};
 ghost use Rattle.wb_space.specs.Blocks.{state};
 ghost use Rattle.wb_desk.specs.Safety.{OpenedIsSafe, CallsAreSafe, QuarantineStays, BeginningDoes, MappingDoes, UnmappingDoes, TellingDoes, TakingDoes, ReservingDoes, ReleasingDoes, EndingDoes};
+ghost use Rattle.wb_desk.specs.Acting.{OpeningBegins, CallsAreActs};
 
 use wb_policy::Policy;
 use wb_space::Block;
@@ -44,4 +45,15 @@ pub fn images_stay_safe<P: Policy>()
     ensures reserving { ReservingDoes P }
     ensures releasing { ReleasingDoes P }
     ensures ending { EndingDoes P }
+{}
+
+/// What a desk and its images are after every list of calls, as the acts speak of them. So all that
+/// `allocation_keeps_its_invariant` says of them holds, too: no two live orders share an origin block or a cache block, and each
+/// with those given before it is within the threshold of when it was given.
+///
+/// `opening`: a desk that has just been opened is what the acts begin with. `calls`: each call is a list of acts, each of which may
+/// be then, and what they make is what the call made. And what holds of all live orders, by cache block, holds after each call.
+pub fn calls_are_acts<P: Policy>()
+    ensures opening { OpeningBegins P }
+    ensures calls { CallsAreActs P P.knows }
 {}
