@@ -65,6 +65,7 @@ impl<A: Allocator + Clone> Tree<A> {
     /// The same tree, with what is known of its nodes, in boxes of its own. `Memory` where there is no room for it.
     pub fn copied(&self) -> Result<Tree<A>, Refusal>
         ensures same { IfOk result (λ tree. tree ≡ self.now) }
+        ensures sound { IsSound self.now }
         ensures refused { IfErr result (λ refusal. refusal ≡ OutOfMemory) }
     {
         let root = match &self.root {

@@ -1,5 +1,5 @@
 -- Boxes that hold the same as others.
-use Rattle.std.proofs.Common.{◌≡◌, ◌<◌, ◌≤◌, ◌+◌, ◌-◌, ◌*◌, ◌^◌, ◌==◌, ◌∙◌, sym, ap, subst, refl, ℕ, Bool, Option, Some, None, Box, List, [], ◌∷◌, ◌++◌, length, map, take, drop, get_or, cond, append_assoc, arith}
+use Rattle.std.proofs.Common.{◌≡◌, ◌<◌, ◌≤◌, ◌+◌, ◌-◌, ◌*◌, ◌^◌, ◌==◌, ◌∙◌, sym, ap, subst, refl, ℕ, Bool, Option, Some, None, Box, List, [], ◌∷◌, ◌++◌, length, map, drop, get_or, cond, append_assoc, arith}
 use Rattle.std.specs.List.{flat_map}
 use Rattle.std.specs.Option.{option_map}
 use Rattle.std.proofs.lemmas.List.{length-map, drop_all, drop_more, append-nil}
@@ -8,9 +8,7 @@ use Rattle.std.proofs.Math.ListN.{get_or-map}
 use Rattle.wb_types.specs.declared.entry.Entry.{Entry}
 use Rattle.wb_types.specs.declared.number.Place.{Place}
 use Rattle.wb_tree.specs.declared.placed.PlacedNode.{PlacedNode}
-use Rattle.wb_tree.specs.Mapping.{Mapping, IsSound}
-use Rattle.wb_tree.specs.Fields.{AreApart}
-use Rattle.wb_tree.specs.Branches.{AreBoxes, Branch, IsKid, IsNode, IsSlot, boxes_of, branch_of, entries_below, entries_in, known_below, known_in, placed_here}
+use Rattle.wb_tree.specs.Branches.{Branch, IsKid, IsNode, IsSlot, branch_of, entries_below, entries_in, known_below, known_in, placed_here}
 
 no_branch : (b : Branch) → (let x : Option Branch = None in x) ≡ Some b → ⊥
 no_branch b e = cc
@@ -98,24 +96,3 @@ module _ {A : Type 0} where
   pub all_copied : (all copies : List (Option (Box Branch A))) (i : ℕ) → length all ≤ i → values copies ++ values (drop i all) ≡ values all → values all ≡ values copies
   all_copied all copies i past same =
       sym same ∙ ap (λ (xs : List (Option (Box Branch A))). values copies ++ values xs) (drop_all i all past) ∙ append-nil (values copies)
-
-  -- ---- trees
-
-  pub boxes_alike : (cache_blocks depth : ℕ) (o p : Option (Box Branch A)) → value_in o ≡ value_in p → boxes_of cache_blocks depth o ≡ boxes_of cache_blocks depth p
-  boxes_alike cache_blocks depth None None e = refl
-  boxes_alike cache_blocks depth None (Some k) e = absurd (no_branch k.value e)
-  boxes_alike cache_blocks depth (Some k) None e = absurd (no_branch k.value (sym e))
-  boxes_alike cache_blocks depth (Some k) (Some j) e = ap (λ (b : Branch). let m : Mapping = record { entries = take cache_blocks b.entries; known = b.known } in m) (same_branch k.value j.value e)
-
-  pub tree_alike : (cache_blocks depth : ℕ) (o p : Option (Box Branch A)) → value_in o ≡ value_in p → AreBoxes cache_blocks depth o → AreBoxes cache_blocks depth p
-  tree_alike cache_blocks depth o p e are = record {
-    few = are.few;
-    from = are.from;
-    to = are.to;
-    levels = are.levels;
-    enough = are.enough;
-    top = slot_alike depth 0 o p e are.top;
-    sound = subst (λ (m : Mapping). IsSound m) (boxes_alike cache_blocks depth o p e) are.sound;
-    once = subst (λ (ns : List PlacedNode). AreApart ns) (known_one o p e) are.once;
-    ends = ap (λ (es : List (Option Entry)). drop cache_blocks es) (sym (entries_one (32 ^ depth) o p e)) ∙ are.ends;
-  }
