@@ -1,5 +1,5 @@
 -- Entries that are marked with dirty bits and hints, and what an image of them is made of.
-use Rattle.std.proofs.Common.{◌≡◌, ◌<◌, ◌≤◌, ◌+◌, ◌/◌, ◌^◌, ◌↔◌, inl, inr, ℕ, zero, suc, Bool, false, List, [], ◌∷◌, Option, Some, None, length, get_or, set, replicate, cond, is_some, get_or-set_same, get_or-set_other, refl, sym, ap, subst, ◌∙◌, arith}
+use Rattle.std.proofs.Common.{◌≡◌, ◌<◌, ◌≤◌, ◌+◌, ◌/◌, ◌^◌, ◌↔◌, inl, inr, ℕ, zero, suc, Bool, false, List, [], ◌∷◌, Option, Some, None, length, get_or, set, replicate, cond, if◌then◌else◌, is_some, get_or-set_same, get_or-set_other, refl, sym, ap, subst, ◌∙◌, arith}
 use Rattle.std.specs.Prelude.{Contains}
 use Rattle.std.specs.List.{count_by}
 use Rattle.std.specs.Option.{option_map}
@@ -10,7 +10,7 @@ use Rattle.wb_types.specs.Limits.{node_count}
 use Rattle.wb_types.specs.declared.entry.Entry.{Entry}
 use Rattle.wb_types.specs.declared.geometry.Geometry.{Geometry}
 use Rattle.wb_types.specs.declared.number.Place.{Place}
-use Rattle.wb_tree.specs.Mapping.{Mapping, IsMapping, IsSound, IsOnPath, IsPlaceOf, place_of}
+use Rattle.wb_tree.specs.Mapping.{Mapping, IsMapping, NodeName, IsSound, IsOnPath, IsPlaceOf, changed, changed_of, nodes_of, place_of}
 use Rattle.wb_tree.specs.Edits.{IsEdited}
 use Rattle.wb_tree.specs.Images.{AreFree, IsImage, ImagePlan}
 use Rattle.wb_tree.specs.declared.image.Image.{Image}
@@ -246,3 +246,16 @@ of_free hint None old tree plan image Q law size many free is = law old free is
 of_free hint (Some dirty) old tree plan image Q law size many free is =
     let same : length is.0.entries ≡ plan.geometry.cache_blocks = ap (λ (es : List (Option Entry)). length es) is.1.entries ∙ length-marked hint dirty old.entries ∙ size in
     law is.0 (free_edited old is.0 plan.geometry plan.free is.1.edited same many free) is.2
+
+-- ---- nodes that are not written
+
+same_changed : (old new : Mapping) (nodes : List NodeName) → ((level index : ℕ) → place_of new level index ≡ place_of old level index) → changed_of new nodes ≡ changed_of old nodes
+same_changed old new [] same = refl
+same_changed old new (node ∷ nodes) same =
+    ap (λ (o : Option Place). if is_some o then changed_of new nodes else node ∷ changed_of new nodes) (same node.level node.index)
+    ∙ ap (λ (xs : List NodeName). if is_some (place_of old node.level node.index) then xs else node ∷ xs) (same_changed old new nodes same)
+
+pub no_mark : (hint : ℕ → ℕ) (dirty : List Bool) (old new : Mapping) (depth : ℕ) → AreMarked hint dirty old new → new.entries ≡ old.entries → changed new depth ≡ changed old depth
+no_mark hint dirty old new depth are same =
+    same_changed old new (nodes_of new.entries depth) (λ level index. are.stays level index (λ c on. ap (λ (es : List (Option Entry)). get_or es c None) same))
+    ∙ ap (λ (es : List (Option Entry)). changed_of old (nodes_of es depth)) same

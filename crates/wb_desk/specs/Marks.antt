@@ -1,7 +1,7 @@
 -- Dirty bits and hints that are stored with the entries, and the images that store them.
 use Rattle.std.specs.Prelude.{◌≡◌, ℕ, Bool, false, List, [], ◌∷◌, Option, Some, None}
 use Rattle.wb_types.specs.declared.entry.Entry.{Entry}
-use Rattle.wb_tree.specs.Mapping.{Mapping, IsOnPath, IsSound, entry_at, place_of}
+use Rattle.wb_tree.specs.Mapping.{Mapping, IsOnPath, IsSound, changed, entry_at, place_of}
 use Rattle.wb_tree.specs.Edits.{IsEdited}
 
 -- an entry with this dirty bit, and with the hint of its origin block
@@ -32,3 +32,8 @@ pub record AreMarked (hint : ℕ → ℕ) (dirty : List Bool) (old new : Mapping
 abbrev pub OfImaged : (ℕ → ℕ) → Option (List Bool) → Mapping → (Mapping → Type 0) → Type 0
 OfImaged hint None old so = so old
 OfImaged hint (Some dirty) old so = (imaged : Mapping) × AreMarked hint dirty old imaged × so imaged
+
+-- Marks that no entry differs by leave the nodes that count as changed.
+abbrev pub SameMarksChangeNoNode : Type 0
+SameMarksChangeNoNode = (hint : ℕ → ℕ) (dirty : List Bool) (old new : Mapping) (depth : ℕ) → AreMarked hint dirty old new → new.entries ≡ old.entries
+    → changed new depth ≡ changed old depth

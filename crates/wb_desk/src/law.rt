@@ -4,6 +4,7 @@ ghost use Rattle.std.specs.Prelude.{◌≡◌, ◌≢◌, ◌⊎◌, ℕ, List, 
 ghost use Rattle.wb_desk.specs.Allocation.{Allocation, Act, AllocationInvariant, IsActRun, after_acts, after_act, MayAct, StaysOrEnds, NoneTwice, BlockMap, at_opening, entry_in};
 ghost use Rattle.wb_space.specs.Blocks.{state};
 ghost use Rattle.wb_desk.specs.Safety.{OpenedIsSafe, CallsAreSafe, QuarantineStays, BeginningDoes, MappingDoes, UnmappingDoes, TellingDoes, TakingDoes, ReservingDoes, ReleasingDoes, EndingDoes};
+ghost use Rattle.wb_desk.specs.Marks.{SameMarksChangeNoNode};
 ghost use Rattle.wb_desk.specs.Acting.{OpeningBegins, CallsAreActs};
 
 use wb_policy::Policy;
@@ -56,4 +57,10 @@ pub fn images_stay_safe<P: Policy>()
 pub fn calls_are_acts<P: Policy>()
     ensures opening { OpeningBegins P }
     ensures calls { CallsAreActs P P.knows }
+{}
+
+/// A clean image writes the nodes that had changed before, and those above an entry whose dirty bit or hint is another now. So
+/// where no entry differs, and no node had changed, it writes none.
+pub fn same_marks_change_no_node()
+    ensures { SameMarksChangeNoNode }
 {}
