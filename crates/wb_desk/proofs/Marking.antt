@@ -1,5 +1,5 @@
 -- Entries that are marked with dirty bits and hints, and what an image of them is made of.
-use Rattle.std.proofs.Common.{◌≡◌, ◌<◌, ◌≤◌, ◌+◌, ◌↔◌, inl, inr, ℕ, zero, suc, Bool, false, List, [], ◌∷◌, Option, Some, None, length, get_or, set, replicate, cond, is_some, get_or-set_same, get_or-set_other, refl, sym, ap, subst, ◌∙◌, arith}
+use Rattle.std.proofs.Common.{◌≡◌, ◌<◌, ◌≤◌, ◌+◌, ◌/◌, ◌^◌, ◌↔◌, inl, inr, ℕ, zero, suc, Bool, false, List, [], ◌∷◌, Option, Some, None, length, get_or, set, replicate, cond, if◌then◌else◌, is_some, get_or-set_same, get_or-set_other, refl, sym, ap, subst, ◌∙◌, arith}
 use Rattle.std.specs.Prelude.{Contains}
 use Rattle.std.specs.List.{count_by}
 use Rattle.std.specs.Option.{option_map}
@@ -10,13 +10,13 @@ use Rattle.wb_types.specs.Limits.{node_count}
 use Rattle.wb_types.specs.declared.entry.Entry.{Entry}
 use Rattle.wb_types.specs.declared.geometry.Geometry.{Geometry}
 use Rattle.wb_types.specs.declared.number.Place.{Place}
-use Rattle.wb_tree.specs.Mapping.{Mapping, IsMapping, IsSound, IsPlaceOf, place_in}
+use Rattle.wb_tree.specs.Mapping.{Mapping, IsMapping, NodeName, IsSound, IsOnPath, IsPlaceOf, changed, changed_of, nodes_of, place_of}
 use Rattle.wb_tree.specs.Edits.{IsEdited}
 use Rattle.wb_tree.specs.Images.{AreFree, IsImage, ImagePlan}
 use Rattle.wb_tree.specs.declared.image.Image.{Image}
 use Rattle.wb_tree.specs.declared.placed.PlacedNode.{PlacedNode}
 use Rattle.wb_tree.proofs.Images.Changes.{few_changed}
-use Rattle.wb_tree.proofs.Stored.Edited.{places-edited}
+use Rattle.wb_tree.proofs.Stored.Edited.{places-edited, edited-none, edited-more}
 use Rattle.wb_policy.specs.Law.{origins}
 use Rattle.wb_desk.specs.Marks.{marked_entry, marked, AreMarked, OfImaged}
 
@@ -75,46 +75,37 @@ same_count xs ys same = sym (count-origins xs) ∙ ap (λ (m : List (Option ℕ)
 
 -- ---- trees
 
--- The first so many entries were marked, in a tree that had none and of which no node is known.
-pub record AreMarkedUpTo (hint : ℕ → ℕ) (dirty : List Bool) (entries : List (Option Entry)) (n c : ℕ) (m : Mapping) : Type 0 where
+-- The first so many entries were marked, and the others are as they were; and a node is known where it was unless an entry below
+-- it differs.
+pub record AreMarkedUpTo (hint : ℕ → ℕ) (dirty : List Bool) (old : Mapping) (n c : ℕ) (m : Mapping) : Type 0 where
   pub size : length m.entries ≡ n
-  pub before : (k : ℕ) → k < c → get_or m.entries k None ≡ marked_entry hint (get_or dirty k false) (get_or entries k None)
-  pub after : (k : ℕ) → c ≤ k → get_or m.entries k None ≡ None
+  pub before : (k : ℕ) → k < c → get_or m.entries k None ≡ marked_entry hint (get_or dirty k false) (get_or old.entries k None)
+  pub after : (k : ℕ) → c ≤ k → get_or m.entries k None ≡ get_or old.entries k None
   pub hints : (k : ℕ) (e : Entry) → get_or m.entries k None ≡ Some e → e.hint ≤ 16
-  pub unknown : (p : Place) → IsPlaceOf m p → ⊥
+  pub edited : IsEdited old m
+  pub stays : (level index : ℕ) → ((k : ℕ) → IsOnPath k level index → marked_entry hint (get_or dirty k false) (get_or old.entries k None) ≡ get_or old.entries k None)
+      → place_of m level index ≡ place_of old level index
   pub sound : IsSound m
-
-none_at : (n k : ℕ) → get_or (replicate n None) k (let d : Option Entry = None in d) ≡ None
-none_at n k = elim (cases_lt k n) [
-  | inl i ↦ get_or-replicate {A = Option Entry} n k None None i
-  | inr p ↦ get_or_past (replicate n None) k None (omega (arith, p, length-replicate {A = Option Entry} n None))
-]
 
 nothing : (x : Entry) → (let d : Option Entry = None in d) ≡ Some x → ⊥
 nothing x s = cc
 
-pub none_marked : (hint : ℕ → ℕ) (dirty : List Bool) (entries : List (Option Entry)) (n : ℕ) (m : Mapping) → m.entries ≡ replicate n None → m.known ≡ [] → IsSound m
-    → AreMarkedUpTo hint dirty entries n 0 m
-none_marked hint dirty entries n m empty unknown sound = record {
-  size = ap (λ (xs : List (Option Entry)). length xs) empty ∙ length-replicate {A = Option Entry} n None;
+pub none_marked : (hint : ℕ → ℕ) (dirty : List Bool) (old : Mapping) (n origin_blocks : ℕ) (m : Mapping) → m ≡ old → IsMapping n origin_blocks old.entries → IsSound old
+    → AreMarkedUpTo hint dirty old n 0 m
+none_marked hint dirty old n origin_blocks m same is sound = subst (λ (x : Mapping). AreMarkedUpTo hint dirty old n 0 x) (sym same) (record {
+  size = is.size;
   before = λ k l. absurd (omega (arith, l));
-  after = λ k l. at k;
-  hints = λ k e g. absurd (nothing e (sym (at k) ∙ g));
-  unknown = λ p is. none_there m.known unknown is.level is.index p is.known;
+  after = λ k l. refl;
+  hints = λ k e g. (is.within k e g).1;
+  edited = edited-none old;
+  stays = λ level index all. refl;
   sound = sound;
-}
-  where
-    at : (k : ℕ) → get_or m.entries k None ≡ None
-    at k = ap (λ (xs : List (Option Entry)). get_or xs k None) empty ∙ none_at n k
-
-    none_there : (known : List PlacedNode) → known ≡ [] → (level index : ℕ) (p : Place) → place_in known level index ≡ Some p → ⊥
-    none_there [] e level index p k = absurd cc
-    none_there (x ∷ xs) e level index p k = absurd cc
+})
 
 -- a cache block without an entry is passed over
-pub one_passed : (hint : ℕ → ℕ) (dirty : List Bool) (entries : List (Option Entry)) (n c : ℕ) (m : Mapping) → AreMarkedUpTo hint dirty entries n c m → get_or entries c None ≡ None
-    → AreMarkedUpTo hint dirty entries n (c + 1) m
-one_passed hint dirty entries n c m u none = record {
+pub one_passed : (hint : ℕ → ℕ) (dirty : List Bool) (old : Mapping) (n c : ℕ) (m : Mapping) → AreMarkedUpTo hint dirty old n c m → get_or old.entries c None ≡ None
+    → AreMarkedUpTo hint dirty old n (c + 1) m
+one_passed hint dirty old n c m u none = record {
   size = u.size;
   before = λ k l. elim (cases_lt k c) [
     | inl i ↦ u.before k i
@@ -122,19 +113,23 @@ one_passed hint dirty entries n c m u none = record {
   ];
   after = λ k l. u.after k (omega (arith, l));
   hints = u.hints;
-  unknown = u.unknown;
+  edited = u.edited;
+  stays = u.stays;
   sound = u.sound;
 }
   where
-    here : (k : ℕ) → k ≡ c → get_or m.entries k None ≡ marked_entry hint (get_or dirty k false) (get_or entries k None)
-    here k q = u.after k (omega (arith, q)) ∙ ap (λ (e : Option Entry). marked_entry hint (get_or dirty k false) e) (sym (ap (λ (i : ℕ). get_or entries i None) q ∙ none))
+    here : (k : ℕ) → k ≡ c → get_or m.entries k None ≡ marked_entry hint (get_or dirty k false) (get_or old.entries k None)
+    here k q = u.after k (omega (arith, q)) ∙ ap (λ (i : ℕ). get_or old.entries i None) q ∙ none
+        ∙ ap (λ (e : Option Entry). marked_entry hint (get_or dirty k false) e) (sym (ap (λ (i : ℕ). get_or old.entries i None) q ∙ none))
 
 -- and one with an entry gets it, marked
-pub one_marked : (hint : ℕ → ℕ) (dirty : List Bool) (entries : List (Option Entry)) (n c : ℕ) (m new : Mapping) (e : Entry) (bit : Bool) (mark : ℕ)
-    → AreMarkedUpTo hint dirty entries n c m → c < n → get_or entries c None ≡ Some e → get_or dirty c false ≡ bit → hint e.origin.0 ≡ mark → mark ≤ 16
-    → new.entries ≡ set m.entries c (Some (record { origin = e.origin; dirty = bit; hint = mark })) → IsEdited m new → IsSound new
-    → AreMarkedUpTo hint dirty entries n (c + 1) new
-one_marked hint dirty entries n c m new e bit mark u within is seen told few set_is edited sound = record {
+pub one_marked : (hint : ℕ → ℕ) (dirty : List Bool) (old : Mapping) (n c : ℕ) (m new : Mapping) (e : Entry) (bit : Bool) (mark : ℕ)
+    → AreMarkedUpTo hint dirty old n c m → c < n → get_or old.entries c None ≡ Some e → get_or dirty c false ≡ bit → hint e.origin.0 ≡ mark → mark ≤ 16
+    → new.entries ≡ set m.entries c (Some (record { origin = e.origin; dirty = bit; hint = mark }))
+    → (get_or m.entries c None ≡ Some (record { origin = e.origin; dirty = bit; hint = mark }) → new ≡ m)
+    → ((level index : ℕ) → (IsOnPath c level index → ⊥) → place_of new level index ≡ place_of m level index) → IsEdited m new → IsSound new
+    → AreMarkedUpTo hint dirty old n (c + 1) new
+one_marked hint dirty old n c m new e bit mark u within is seen told few set_is same off edited sound = record {
   size = ap (λ (xs : List (Option Entry)). length xs) set_is ∙ length-set m.entries c (Some now) ∙ u.size;
   before = λ k l. elim (cases_eq k c) [
     | inl q ↦ here k q ∙ sym (there k q)
@@ -145,7 +140,11 @@ one_marked hint dirty entries n c m new e bit mark u within is seen told few set
     | inl q ↦ subst (λ (y : Entry). y.hint ≤ 16) (some_entry now x (sym (here k q) ∙ g)) few
     | inr p ↦ u.hints k x (sym (other k p) ∙ g)
   ];
-  unknown = λ p at. u.unknown p (places-edited m new p edited at);
+  edited = edited-more old m new u.edited edited;
+  stays = λ level index all. elim (cases_eq (c / 32 ^ level) index) [
+    | inl on ↦ ap (λ (x : Mapping). place_of x level index) (same (u.after c (omega arith) ∙ sym (all c on) ∙ there c refl)) ∙ u.stays level index all
+    | inr not ↦ off level index not ∙ u.stays level index all
+  ];
   sound = sound;
 }
   where
@@ -162,18 +161,18 @@ one_marked hint dirty entries n c m new e bit mark u within is seen told few set
     other : (k : ℕ) → (k ≡ c → ⊥) → get_or new.entries k None ≡ get_or m.entries k None
     other k p = ap (λ (xs : List (Option Entry)). get_or xs k None) set_is ∙ get_or-set_other m.entries c k (Some now) None p
 
-    there : (k : ℕ) → k ≡ c → marked_entry hint (get_or dirty k false) (get_or entries k None) ≡ Some now
-    there k q = ap (λ (i : ℕ). marked_entry hint (get_or dirty i false) (get_or entries i None)) q
+    there : (k : ℕ) → k ≡ c → marked_entry hint (get_or dirty k false) (get_or old.entries k None) ≡ Some now
+    there k q = ap (λ (i : ℕ). marked_entry hint (get_or dirty i false) (get_or old.entries i None)) q
         ∙ ap (λ (x : Option Entry). marked_entry hint (get_or dirty c false) x) is
         ∙ ap (λ (b : Bool). Some (record { origin = e.origin; dirty = b; hint = hint e.origin.0 })) seen
         ∙ ap (λ (h : ℕ). Some (record { origin = e.origin; dirty = bit; hint = h })) told
 
 -- ---- all of them
 
-pub up_to_all : (hint : ℕ → ℕ) (dirty : List Bool) (entries : List (Option Entry)) (n c : ℕ) (m : Mapping) → c ≤ n → n ≤ c → AreMarkedUpTo hint dirty entries n c m → AreMarkedUpTo hint dirty entries n n m
-up_to_all hint dirty entries n c m from to u = subst (λ (k : ℕ). AreMarkedUpTo hint dirty entries n k m) (omega (arith, from, to)) u
+pub up_to_all : (hint : ℕ → ℕ) (dirty : List Bool) (old : Mapping) (n c : ℕ) (m : Mapping) → c ≤ n → n ≤ c → AreMarkedUpTo hint dirty old n c m → AreMarkedUpTo hint dirty old n n m
+up_to_all hint dirty old n c m from to u = subst (λ (k : ℕ). AreMarkedUpTo hint dirty old n k m) (omega (arith, from, to)) u
 
-module _ (hint : ℕ → ℕ) (dirty : List Bool) (old : Mapping) (n : ℕ) (m : Mapping) (u : AreMarkedUpTo hint dirty old.entries n n m) (size : length old.entries ≡ n) where
+module _ (hint : ℕ → ℕ) (dirty : List Bool) (old : Mapping) (n : ℕ) (m : Mapping) (u : AreMarkedUpTo hint dirty old n n m) (size : length old.entries ≡ n) where
   entries_are : m.entries ≡ marked hint dirty old.entries
   entries_are = ext_get_or None m.entries (marked hint dirty old.entries) (u.size ∙ sym size ∙ sym (length-marked hint dirty old.entries))
       (λ k l. u.before k (omega (arith, l, u.size)) ∙ sym (get_or-marked hint dirty old.entries k))
@@ -181,10 +180,9 @@ module _ (hint : ℕ → ℕ) (dirty : List Bool) (old : Mapping) (n : ℕ) (m :
   pub all_marked : AreMarked hint dirty old m
   all_marked = record {
     entries = entries_are;
-    edited = record {
-      stays = λ level index p at. absurd (u.unknown p (record { level = level; index = index; known = at }));
-      words = λ level index j p at l. absurd (u.unknown p (record { level = level; index = index; known = at }));
-    };
+    edited = u.edited;
+    stays = λ level index all. u.stays level index
+        (λ k on. sym (get_or-marked hint dirty old.entries k) ∙ sym (ap (λ (xs : List (Option Entry)). get_or xs k None) entries_are) ∙ all k on);
     sound = u.sound;
   }
 
@@ -205,17 +203,6 @@ module _ (hint : ℕ → ℕ) (dirty : List Bool) (old : Mapping) (n : ℕ) (m :
       was : (b : ℕ) (e : Entry) → get_or m.entries b None ≡ Some e → (w : Entry) × (get_or old.entries b None ≡ Some w) × (w.origin ≡ e.origin)
       was b e g = from_mark (get_or dirty b false) (get_or old.entries b None) e
           (sym (ap (λ (xs : List (Option Entry)). get_or xs b None) entries_are ∙ get_or-marked hint dirty old.entries b) ∙ g)
-
--- places that are free for a tree, and enough for every tree of its size, are so for one of which no node is known
-pub free_anew : (old m : Mapping) (geometry : Geometry) (free : List Place) → ((p : Place) → IsPlaceOf m p → ⊥) → length m.entries ≡ geometry.cache_blocks → node_count geometry.cache_blocks ≤ length free
-    → AreFree old geometry free → AreFree m geometry free
-free_anew old m geometry free unknown size many f = record {
-  enough = omega (arith, many, few_changed m geometry.cache_blocks size);
-  behind = f.behind;
-  inside = f.inside;
-  apart = f.apart;
-  unused = λ i p there at. unknown p at;
-}
 
 -- ---- images
 
@@ -240,7 +227,7 @@ of_imaged hint None old P Q f so = f old so
 of_imaged hint (Some dirty) old P Q f so = (so.0, so.1, f so.0 so.2)
 
 -- and after edits
-free_edited : (old m : Mapping) (geometry : Geometry) (free : List Place) → IsEdited old m → length m.entries ≡ geometry.cache_blocks → node_count geometry.cache_blocks ≤ length free
+pub free_edited : (old m : Mapping) (geometry : Geometry) (free : List Place) → IsEdited old m → length m.entries ≡ geometry.cache_blocks → node_count geometry.cache_blocks ≤ length free
     → AreFree old geometry free → AreFree m geometry free
 free_edited old m geometry free edited size many f = record {
   enough = omega (arith, many, few_changed m geometry.cache_blocks size);
@@ -259,3 +246,16 @@ of_free hint None old tree plan image Q law size many free is = law old free is
 of_free hint (Some dirty) old tree plan image Q law size many free is =
     let same : length is.0.entries ≡ plan.geometry.cache_blocks = ap (λ (es : List (Option Entry)). length es) is.1.entries ∙ length-marked hint dirty old.entries ∙ size in
     law is.0 (free_edited old is.0 plan.geometry plan.free is.1.edited same many free) is.2
+
+-- ---- nodes that are not written
+
+same_changed : (old new : Mapping) (nodes : List NodeName) → ((level index : ℕ) → place_of new level index ≡ place_of old level index) → changed_of new nodes ≡ changed_of old nodes
+same_changed old new [] same = refl
+same_changed old new (node ∷ nodes) same =
+    ap (λ (o : Option Place). if is_some o then changed_of new nodes else node ∷ changed_of new nodes) (same node.level node.index)
+    ∙ ap (λ (xs : List NodeName). if is_some (place_of old node.level node.index) then xs else node ∷ xs) (same_changed old new nodes same)
+
+pub no_mark : (hint : ℕ → ℕ) (dirty : List Bool) (old new : Mapping) (depth : ℕ) → AreMarked hint dirty old new → new.entries ≡ old.entries → changed new depth ≡ changed old depth
+no_mark hint dirty old new depth are same =
+    same_changed old new (nodes_of new.entries depth) (λ level index. are.stays level index (λ c on. ap (λ (es : List (Option Entry)). get_or es c None) same))
+    ∙ ap (λ (es : List (Option Entry)). changed_of old (nodes_of es depth)) same

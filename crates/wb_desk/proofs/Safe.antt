@@ -1,5 +1,6 @@
 -- No call of a desk makes an image unsafe.
-use Rattle.std.proofs.Common.{◌≡◌, ◌<◌, inl, inr, ℕ, Bool, true, false, is_some, List, [], ◌∷◌, Option, Some, None, length, map, get_or, set, refl, sym, ap, subst, ◌∙◌, arith, get_or-set_same, slice_get}
+use Rattle.std.proofs.Common.{◌≡◌, ◌<◌, inl, inr, ℕ, Bool, true, false, is_some, List, [], ◌∷◌, ◌++◌, Option, Some, None, length, map, get_or, set, refl, sym, ap, subst, ◌∙◌, arith, get_or-set_same, slice_get}
+use Rattle.std.specs.Bool.{OnTrue, OnFalse}
 use Rattle.std.specs.Option.{option_map}
 use Rattle.std.proofs.lemmas.List.{length-map, map-set}
 use Rattle.std.proofs.Math.ListN.{get_or-map}
@@ -21,15 +22,16 @@ use Rattle.wb_policy.specs.Law.{Holdings, origins}
 use Rattle.wb_space.specs.declared.block.Block.{Block}
 use Rattle.wb_space.specs.declared.block.Block.TheVariants.{Free, Mapped, Reserved, Quarantined}
 use Rattle.wb_space.specs.Blocks.{state, released as block_released, opened_block, commit_begun as block_begun, commit_ended as block_ended}
-use Rattle.wb_orders.specs.Orders.{order_at}
+use Rattle.wb_orders.specs.declared.live_order.LiveOrder.{LiveOrder}
+use Rattle.wb_orders.specs.Orders.{IsTaken, order_at}
 use Rattle.wb_desk.specs.Allocation.{Allocation, ImageSafe, StaysQuarantined, entry_in}
-use Rattle.wb_desk.specs.Desks.{DeskState, DeskInvariant, IsLawful, IsFreeFor, holdings, is_mapped}
+use Rattle.wb_desk.specs.Desks.{DeskState, DeskInvariant, IsLawful, IsFreeFor, IsLive, MayReserve, holdings, is_mapped}
 use Rattle.wb_desk.specs.Calls.{blocks_reserved, reserved, released, next_order_taken}
 use Rattle.wb_desk.specs.Messages.{IsTold}
 use Rattle.wb_desk.specs.Entries.{MayMap, MayUnmap, HasEntered, HasLeft, entry_of, mapped, unmapped, keeps}
 use Rattle.wb_desk.specs.Commits.{commit_begun, commit_ended}
 use Rattle.wb_desk.specs.Opening.{opened}
-use Rattle.wb_desk.specs.Safety.{HeldImages, AreSafe, Call, TakeOrder, Tell, GiveOrder, Release, Map, Unmap, BeginCommit, EndCommit, Does, AreCalls, IsBeginning, images_after, images_since, desk_after}
+use Rattle.wb_desk.specs.Safety.{HeldImages, AreSafe, Call, TakeOrder, Tell, GiveOrder, Release, Map, Unmap, BeginCommit, EndCommit, Does, AreCalls, IsBeginning, AreDecisions, IsDecided, images_after, images_since, desk_after}
 use Rattle.wb_desk.proofs.Index.{entry_for}
 use Rattle.wb_desk.proofs.Acts.{same_stays, stays_given_back, stays_begun, stays_ended, set_stays, from_block, block_sound, entry_sound, sound_given_back, sound_begun, sound_ended}
 
@@ -84,7 +86,7 @@ differs : true ≡ false → ⊥
 differs e = absurd cc
 
 -- which origin blocks stand in the entries after one came or went
-origins-set : (entries new : List (Option Entry)) (c : ℕ) (entry : Option Entry) → new ≡ set entries c entry → origins new ≡ set (origins entries) c (option_map (λ e. e.origin.0) entry)
+pub origins-set : (entries new : List (Option Entry)) (c : ℕ) (entry : Option Entry) → new ≡ set entries c entry → origins new ≡ set (origins entries) c (option_map (λ e. e.origin.0) entry)
 origins-set entries new c entry e = ap (λ (es : List (Option Entry)). origins es) e ∙ map-set (option_map (λ x. x.origin.0)) entries c entry
 
 module _ {P : Type 0} where
@@ -118,9 +120,9 @@ module _ {P : Type 0} where
     idle = still new (reserved d cache order waits) images does.1 safe.idle;
   }
   call_safe knows d new (Release cache) images i does safe = record {
-    each = with_blocks new (set d.space.blocks cache.0 (block_released (state d.space.blocks cache.0))) (holdings d) images (blocks_of new (released d cache) does) (holdings_of new (released d cache) does)
+    each = with_blocks new (set d.space.blocks cache.0 (block_released (state d.space.blocks cache.0))) (holdings d) images (blocks_of new (released d cache) does.1) (holdings_of new (released d cache) does.1)
         (released_safe d.space.blocks (holdings d) images cache.0 safe.each);
-    idle = still new (released d cache) images does safe.idle;
+    idle = still new (released d cache) images does.1 safe.idle;
   }
   call_safe knows d new (Map b cache) images i does safe = record {
     each = with_blocks new (set d.space.blocks cache.0 Mapped) (set (holdings d) cache.0 (Some b.0)) images (blocks_of new (mapped d cache new.tree new.policy) does.2)
@@ -131,11 +133,11 @@ module _ {P : Type 0} where
   }
   call_safe knows d new (Unmap b cache) images i does safe =
       let within : cache.0 < length (holdings d) = slice_get_within (holdings d) cache.0 (Some b.0) does.0 in record {
-        each = with_blocks new (set d.space.blocks cache.0 (Quarantined (keeps (order_at d.orders.slots cache.0)) false)) (set (holdings d) cache.0 None) images (blocks_of new (unmapped d cache new.tree new.policy) does.2)
-            (origins-set d.tree.entries new.tree.entries cache.0 None does.1)
+        each = with_blocks new (set d.space.blocks cache.0 (Quarantined (keeps (order_at d.orders.slots cache.0)) false)) (set (holdings d) cache.0 None) images (blocks_of new (unmapped d cache new.tree new.policy) does.3)
+            (origins-set d.tree.entries new.tree.entries cache.0 None does.2)
             (unmapped_safe d.space.blocks (holdings d) images cache.0 (keeps (order_at d.orders.slots cache.0))
             (omega (arith, within, i.blocks, i.mapping.size, length-map d.tree.entries (option_map (λ x. x.origin.0)))) within safe.each);
-        idle = still new (unmapped d cache new.tree new.policy) images does.2 safe.idle;
+        idle = still new (unmapped d cache new.tree new.policy) images does.3 safe.idle;
       }
   call_safe knows d new (BeginCommit used) images i does safe = record {
     each = with_blocks new (map block_begun d.space.blocks) (holdings d) (record { committed = images.committed; running = holdings d }) (blocks_of new (commit_begun d new.tree used) does.2)
@@ -204,7 +206,7 @@ module _ {P : Type 0} where
   quarantine_stays knows d new Tell i does c = stays_by _ _ d new d.space.blocks c (ap (λ (x : DeskState P). x.space.blocks) does) (same_stays _ _ (state d.space.blocks c))
   quarantine_stays knows d new (GiveOrder cache order waits) i does c = stays_by _ _ d new (blocks_reserved d.space.blocks order) c (ap (λ (x : DeskState P). x.space.blocks) does.1)
       (reserved_stays _ _ d.space.blocks order c (free_for_order d cache order does.0.lawful))
-  quarantine_stays knows d new (Release cache) i does c = stays_by _ _ d new (set d.space.blocks cache.0 (block_released (state d.space.blocks cache.0))) c (ap (λ (x : DeskState P). x.space.blocks) does)
+  quarantine_stays knows d new (Release cache) i does c = stays_by _ _ d new (set d.space.blocks cache.0 (block_released (state d.space.blocks cache.0))) c (ap (λ (x : DeskState P). x.space.blocks) does.1)
       (set_stays _ _ d.space.blocks cache.0 (block_released (state d.space.blocks cache.0)) c (stays_given_back _ _ (state d.space.blocks cache.0)))
   quarantine_stays knows d new (Map b cache) i does c = stays_by _ _ d new (set d.space.blocks cache.0 Mapped) c (ap (λ (x : DeskState P). x.space.blocks) does.2)
       (set_stays _ _ d.space.blocks cache.0 Mapped c (from_block _ _ d.space.blocks cache.0 Reserved Mapped does.0.reserved tt))
@@ -212,7 +214,7 @@ module _ {P : Type 0} where
       let keep : Bool = keeps (order_at d.orders.slots cache.0) in
       let entry = entry_for d.tree.entries b.0 cache.0 does.0 in
       let within : cache.0 < d.geometry.cache_blocks = omega (arith, slice_get_within (holdings d) cache.0 (Some b.0) does.0, i.mapping.size, length-map d.tree.entries (option_map (λ x. x.origin.0))) in
-      stays_by _ _ d new (set d.space.blocks cache.0 (Quarantined keep false)) c (ap (λ (x : DeskState P). x.space.blocks) does.2)
+      stays_by _ _ d new (set d.space.blocks cache.0 (Quarantined keep false)) c (ap (λ (x : DeskState P). x.space.blocks) does.3)
       (set_stays _ _ d.space.blocks cache.0 (Quarantined keep false) c
       (mapped_leaves _ _ (state d.space.blocks cache.0) keep ((i.each cache.0 within).filled ∙ ap is_some entry.there)))
   quarantine_stays knows d new (BeginCommit used) i does c = stays_by _ _ d new (map block_begun d.space.blocks) c (ap (λ (x : DeskState P). x.space.blocks) does.2)
@@ -232,4 +234,37 @@ module _ {P : Type 0} where
   mapped_does with_entry d new b c may entered = (may, entered.0.entries, entered.1 ∙ ap (λ (p : P). mapped d c new.tree p) (sym (ap (λ (x : DeskState P). x.policy) entered.1)))
 
   pub unmapped_does : (without_entry : P → ℕ → P) (d new : DeskState P) (b : OBlock) (may : MayUnmap d b) → HasLeft without_entry d b may.cache new → Does d (Unmap b may.cache) new
-  unmapped_does without_entry d new b may left = (may.mapped, left.0.entries, left.1 ∙ ap (λ (p : P). unmapped d may.cache new.tree p) (sym (ap (λ (x : DeskState P). x.policy) left.1)))
+  unmapped_does without_entry d new b may left = (may.mapped, may.removed, left.0.entries, left.1 ∙ ap (λ (p : P). unmapped d may.cache new.tree p) (sym (ap (λ (x : DeskState P). x.policy) left.1)))
+
+  pub released_does : (d new : DeskState P) (order : Order) (live : IsLive d order) → new ≡ released d live.cache → Does d (Release live.cache) new
+  released_does d new order live is = (subst (λ (slot : Option LiveOrder). IsTaken slot) (sym live.there) live.taken, is)
+
+-- ---- calls that follow from accesses and ticks
+
+module _ {P : Type 0} (knows : P → Holdings → Type 0) where
+  -- one list of calls after another
+  calls_then : (d m : DeskState P) (first second : List (Call × DeskState P)) → AreCalls knows d first → AreDecisions first → desk_after d first ≡ m
+      → AreCalls knows m second → AreDecisions second
+      → AreCalls knows d (first ++ second) × AreDecisions (first ++ second) × (desk_after d (first ++ second) ≡ desk_after m second)
+  calls_then d m [] second are decide e others rest =
+      (subst (λ (x : DeskState P). AreCalls knows x second) (sym e) others, rest, ap (λ (x : DeskState P). desk_after x second) e)
+  calls_then d m (c ∷ first) second are decide e others rest = let h = calls_then c.1 m first second are.2 decide.1 e others rest in
+      ((are.0, are.1, h.0), (decide.0, h.1), h.2)
+
+  pub decided_then : (d m new : DeskState P) → IsDecided knows d m → IsDecided knows m new → IsDecided knows d new
+  decided_then d m new a b = let h = calls_then d m a.0 b.0 a.1 a.2 a.3 b.1 b.2 in (a.0 ++ b.0, h.0, h.1, h.2 ∙ b.3)
+
+  pub none_decided : (d new : DeskState P) → new ≡ d → IsDecided knows d new
+  none_decided d new e = ([], tt, tt, sym e)
+
+  -- the policy was asked
+  pub asked_decided : (d new : DeskState P) (p : P) → DeskInvariant knows d → new ≡ record d { policy = p } → IsDecided knows d new
+  asked_decided d new p i e = ((Tell, new) ∷ [], (i, told, tt), (tt, tt), refl)
+    where
+      told : new ≡ record d { threshold = new.threshold; policy = new.policy }
+      told = e ∙ ap (λ (x : DeskState P). record d { threshold = x.threshold; policy = x.policy }) (sym e)
+
+  pub given_decided : (d new : DeskState P) (r : Bool) (order : Order) → DeskInvariant knows d
+      → OnTrue r ((c : CBlock) × MayReserve d c order × (new ≡ reserved d c order true)) → OnFalse r (new ≡ d) → IsDecided knows d new
+  given_decided d new true order i given same = ((GiveOrder given.0 order true, new) ∷ [], (i, (given.1, given.2), tt), (refl, tt), refl)
+  given_decided d new false order i given same = none_decided d new same

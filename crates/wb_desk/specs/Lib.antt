@@ -10,4 +10,5 @@ pub mod Decisions
 pub mod Fields
 pub mod Opening
 pub mod Safety
+pub mod Acting
 pub mod Messages

@@ -13,10 +13,11 @@ use Rattle.wb_tree.specs.declared.image.Image.{Image}
 use Rattle.wb_policy.specs.declared.order.Order.{Order}
 use Rattle.wb_policy.specs.Law.{Holdings, IsMappedAt, origins}
 use Rattle.wb_space.specs.Blocks.{state}
+use Rattle.wb_orders.specs.Orders.{IsTaken, order_at}
 use Rattle.wb_desk.specs.Allocation.{ImageSafe, StaysQuarantined, entry_in}
-use Rattle.wb_desk.specs.Desks.{DeskState, DeskInvariant, MayReserve, holdings}
+use Rattle.wb_desk.specs.Desks.{DeskState, DeskInvariant, MayReserve, IsLive, holdings}
 use Rattle.wb_desk.specs.Calls.{reserved, released, next_order_taken}
-use Rattle.wb_desk.specs.Entries.{MayMap, MayUnmap, HasEntered, HasLeft, entry_of, mapped, unmapped}
+use Rattle.wb_desk.specs.Entries.{MayMap, MayUnmap, HasEntered, HasLeft, IsRemoved, entry_of, mapped, unmapped}
 use Rattle.wb_desk.specs.Marks.{OfImaged}
 use Rattle.wb_desk.specs.Commits.{MayBegin, next_plan, commit_begun, commit_ended}
 use Rattle.wb_desk.specs.Messages.{IsTold}
@@ -49,9 +50,9 @@ abbrev pub Does : {P : Type 0} → DeskState P → Call → DeskState P → Type
 Does d TakeOrder new = new ≡ next_order_taken d
 Does d Tell new = new ≡ record d { threshold = new.threshold; policy = new.policy }
 Does d (GiveOrder cache order waits) new = MayReserve d cache order × (new ≡ reserved d cache order waits)
-Does d (Release cache) new = new ≡ released d cache
+Does d (Release cache) new = IsTaken (order_at d.orders.slots cache.0) × (new ≡ released d cache)
 Does d (Map b cache) new = MayMap d b cache × (new.tree.entries ≡ slice_set d.tree.entries cache.0 (Some (entry_of b))) × (new ≡ mapped d cache new.tree new.policy)
-Does d (Unmap b cache) new = IsMappedAt (holdings d) b.0 cache.0 × (new.tree.entries ≡ slice_set d.tree.entries cache.0 None) × (new ≡ unmapped d cache new.tree new.policy)
+Does d (Unmap b cache) new = IsMappedAt (holdings d) b.0 cache.0 × IsRemoved (order_at d.orders.slots cache.0) × (new.tree.entries ≡ slice_set d.tree.entries cache.0 None) × (new ≡ unmapped d cache new.tree new.policy)
 Does d (BeginCommit used) new = MayBegin d × (holdings new ≡ holdings d) × (new ≡ commit_begun d new.tree used)
 Does d EndCommit new = (d.space.committing ≡ true) × (new ≡ commit_ended d)
 
@@ -80,6 +81,25 @@ desk_after d (c ∷ calls) = desk_after c.1 calls
 abbrev pub images_since : {P : Type 0} → DeskState P → HeldImages → List (Call × DeskState P) → HeldImages
 images_since d images [] = images
 images_since d images (c ∷ calls) = images_since c.1 (images_after d images c.0) calls
+
+-- What follows from an access or a tick: the policy changes, and orders are given, which wait.
+abbrev pub IsDecision : Call → Type 0
+IsDecision TakeOrder = ⊥
+IsDecision Tell = Unit {0}
+IsDecision (GiveOrder cache order waits) = waits ≡ true
+IsDecision (Release cache) = ⊥
+IsDecision (Map b cache) = ⊥
+IsDecision (Unmap b cache) = ⊥
+IsDecision (BeginCommit used) = ⊥
+IsDecision EndCommit = ⊥
+
+abbrev pub AreDecisions : {P : Type 0} → List (Call × DeskState P) → Type 0
+AreDecisions [] = Unit {0}
+AreDecisions (c ∷ calls) = IsDecision c.0 × AreDecisions calls
+
+-- One desk comes from the other by such calls alone.
+abbrev pub IsDecided : {P : Type 0} → (P → Holdings → Type 0) → DeskState P → DeskState P → Type 0
+IsDecided {P} knows d new = (calls : List (Call × DeskState P)) × AreCalls knows d calls × AreDecisions calls × (desk_after d calls ≡ new)
 
 -- ---- laws
 
@@ -122,3 +142,15 @@ UnmappingDoes P without_entry = (d new : DeskState P) (b : OBlock) (may : MayUnm
 
 abbrev pub TellingDoes : (P : Type 0) → (P → Key → ℕ → Option P) → Type 0
 TellingDoes P with_setting = (d new : DeskState P) (message : Message) → IsTold with_setting d message new → Does d Tell new
+
+abbrev pub TakingDoes : Type 0 → Type 0
+TakingDoes P = (d new : DeskState P) → new ≡ next_order_taken d → Does d TakeOrder new
+
+abbrev pub ReservingDoes : Type 0 → Type 0
+ReservingDoes P = (d new : DeskState P) (c : CBlock) (order : Order) → MayReserve d c order → new ≡ reserved d c order false → Does d (GiveOrder c order false) new
+
+abbrev pub ReleasingDoes : Type 0 → Type 0
+ReleasingDoes P = (d new : DeskState P) (order : Order) (live : IsLive d order) → new ≡ released d live.cache → Does d (Release live.cache) new
+
+abbrev pub EndingDoes : Type 0 → Type 0
+EndingDoes P = (d new : DeskState P) → d.space.committing ≡ true → new ≡ commit_ended d → Does d EndCommit new

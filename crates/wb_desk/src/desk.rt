@@ -303,12 +303,13 @@ impl<P: Policy> Desk<P> {
     fn may_reserve(&self, order: Order) -> Option<CBlock>
         ensures may { IfSome result (λ c. MayReserve self.now c order) }
         ensures other { IfNone result ((c : CBlock) → ¬ MayReserve self.now c order) }
+        ensures desk { DeskInvariant P.knows self.now }
     {
-        let c = self.cache_block(order)?;
         let is_allowed = match self.mode {
             Mode::Passthrough => false,
             Mode::Writeback | Mode::Writethrough => true,
         };
+        let c = self.cache_block(order)?;
         let sectors = self.sectors(order);
         if !is_allowed {
             return None;

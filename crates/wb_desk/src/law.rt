@@ -3,7 +3,9 @@
 ghost use Rattle.std.specs.Prelude.{◌≡◌, ◌≢◌, ◌⊎◌, ℕ, List, Some};
 ghost use Rattle.wb_desk.specs.Allocation.{Allocation, Act, AllocationInvariant, IsActRun, after_acts, after_act, MayAct, StaysOrEnds, NoneTwice, BlockMap, at_opening, entry_in};
 ghost use Rattle.wb_space.specs.Blocks.{state};
-ghost use Rattle.wb_desk.specs.Safety.{OpenedIsSafe, CallsAreSafe, QuarantineStays, BeginningDoes, MappingDoes, UnmappingDoes, TellingDoes};
+ghost use Rattle.wb_desk.specs.Safety.{OpenedIsSafe, CallsAreSafe, QuarantineStays, BeginningDoes, MappingDoes, UnmappingDoes, TellingDoes, TakingDoes, ReservingDoes, ReleasingDoes, EndingDoes};
+ghost use Rattle.wb_desk.specs.Marks.{SameMarksChangeNoNode};
+ghost use Rattle.wb_desk.specs.Acting.{OpeningBegins, CallsAreActs};
 
 use wb_policy::Policy;
 use wb_space::Block;
@@ -31,7 +33,7 @@ pub fn allocation_keeps_its_invariant()
 /// `opening`: it is so of the entries that an opening read. `calls`: it stays so, where a commit takes the entries of its
 /// beginning as its image, and leaves it alone when it ends. `quarantine`: a quarantined block leaves its quarantine only at
 /// the end of a commit that began after its removal. The others: what the contracts of the calls say is what is
-/// supposed of them there.
+/// supposed of them there. `settle` and `tick` say so themselves, of the calls that follow from them.
 pub fn images_stay_safe<P: Policy>()
     ensures opening { OpenedIsSafe P }
     ensures calls { CallsAreSafe P P.knows }
@@ -40,4 +42,25 @@ pub fn images_stay_safe<P: Policy>()
     ensures mapping { MappingDoes P P.with_entry }
     ensures unmapping { UnmappingDoes P P.without_entry }
     ensures telling { TellingDoes P P.with_setting }
+    ensures taking { TakingDoes P }
+    ensures reserving { ReservingDoes P }
+    ensures releasing { ReleasingDoes P }
+    ensures ending { EndingDoes P }
+{}
+
+/// What a desk and its images are after every list of calls, as the acts speak of them. So all that
+/// `allocation_keeps_its_invariant` says of them holds, too: no two live orders share an origin block or a cache block, and each
+/// with those given before it is within the threshold of when it was given.
+///
+/// `opening`: a desk that has just been opened is what the acts begin with. `calls`: each call is a list of acts, each of which may
+/// be then, and what they make is what the call made. And what holds of all live orders, by cache block, holds after each call.
+pub fn calls_are_acts<P: Policy>()
+    ensures opening { OpeningBegins P }
+    ensures calls { CallsAreActs P P.knows }
+{}
+
+/// A clean image writes the nodes that had changed before, and those above an entry whose dirty bit or hint is another now. So
+/// where no entry differs, and no node had changed, it writes none.
+pub fn same_marks_change_no_node()
+    ensures { SameMarksChangeNoNode }
 {}

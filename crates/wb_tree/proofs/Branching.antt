@@ -4,3 +4,4 @@ pub mod Edits
 pub mod Looks
 pub mod Settled
 pub mod Filling
+pub mod Copied

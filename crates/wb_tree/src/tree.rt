@@ -62,6 +62,24 @@ impl<A: Allocator + Clone> Tree<A> {
         }
     }
 
+    /// The same tree, with what is known of its nodes, in boxes of its own. `Memory` where there is no room for it.
+    pub fn copied(&self) -> Result<Tree<A>, Refusal>
+        ensures same { IfOk result (λ tree. tree ≡ self.now) }
+        ensures sound { IsSound self.now }
+        ensures refused { IfErr result (λ refusal. refusal ≡ OutOfMemory) }
+    {
+        let root = match &self.root {
+            Some(root) => Some(root.copied(&self.alloc)?),
+            None => None,
+        };
+        Ok(Tree {
+            alloc: self.alloc.clone()?,
+            cache_blocks: self.cache_blocks,
+            depth: self.depth,
+            root,
+        })
+    }
+
     /// The entry of a cache block, which is one of the tree's.
     pub fn get(&self, c: CBlock) -> Option<Entry>
         requires { c.0 < length self.now.entries }

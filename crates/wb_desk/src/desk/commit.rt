@@ -21,7 +21,8 @@ impl<P: Policy> Desk<P> {
     /// quarantined until a later commit ends.
     ///
     /// With the dirty bits that were seen, by cache block, the image is clean: its entries have these bits, and the policy's
-    /// hints, and so have the desk's from then on. Such an image writes every node.
+    /// hints, and so have the desk's from then on. Only nodes above an entry that differs count as changed for that: where none
+    /// changed, none is written.
     ///
     /// `Busy` where a commit runs, `GenerationEnd` where there is no next generation, `Memory` where there is none for the
     /// image. Then nothing changed.

@@ -3,8 +3,7 @@
 ghost use Rattle.std.specs.Prelude.{◌≡◌, ◌≤◌, IfOk, IfErr, OnErr, is_some, length};
 ghost use Rattle.std.specs.Option.{IfSome, option_map};
 ghost use Rattle.wb_types.specs.Limits.{node_count};
-ghost use Rattle.wb_types.specs.declared.number.Place.{Place as APlace};
-ghost use Rattle.wb_tree.specs.Mapping.{IsMapping, IsSound, IsPlaceOf, AreInside};
+ghost use Rattle.wb_tree.specs.Mapping.{IsMapping, IsSound, AreInside};
 ghost use Rattle.wb_tree.specs.Images.{AreFree, IsImage};
 ghost use Rattle.wb_desk.specs.Marks.{AreMarked, OfImaged};
 
@@ -40,7 +39,7 @@ pub(super) fn plan<P: Policy>(
     match clean {
         None => tree.plan(alloc, geometry, generation, false, free),
         Some(dirty) => {
-            let mut imaged = marked(alloc, tree, policy, geometry, dirty)?;
+            let mut imaged = marked(tree, policy, geometry, dirty)?;
             let image = imaged.plan(alloc, geometry, generation, true, free)?;
             *tree = imaged;
             Ok(image)
@@ -48,10 +47,9 @@ pub(super) fn plan<P: Policy>(
     }
 }
 
-/// The tree with these dirty bits and the policy's hints, made anew, so that every node counts as changed. `Memory` where
-/// there is none for it.
+/// The tree with these dirty bits and the policy's hints, in boxes of its own: only nodes above an entry that differs count as
+/// changed for that. `Memory` where there is none for it.
 fn marked<P: Policy>(
-    alloc: Global,
     tree: &Tree<Global>,
     policy: &P,
     geometry: &Geometry,
@@ -61,10 +59,9 @@ fn marked<P: Policy>(
     requires seen { length dirty.now ≡ geometry.now.cache_blocks }
     ensures marked { IfOk result (AreMarked (P.hint_of policy.now) dirty.now tree.now) }
     ensures mapping { IfOk result (λ t. IsMapping geometry.now.cache_blocks geometry.now.origin_blocks t.entries) }
-    ensures anew { IfOk result (λ t. (place : APlace) → IsPlaceOf t place → ⊥) }
     ensures refused { IfErr result (λ e. e ≡ Refusal.Memory) }
 {
-    let mut marked = Tree::new(alloc, geometry.cache_blocks);
+    let mut marked = tree.copied()?;
     for c in 0..geometry.cache_blocks {
         if let Some(entry) = tree.get(CBlock(c)) {
             let entry = Entry {

@@ -1,9 +1,34 @@
 //! Clean images.
 
-use super::{Call, are_answered, are_answered_by};
+use super::{Call, are_answered, are_answered_by, empty};
+use std::alloc::Global;
 use std::test::Fail;
-use wb_policy::{Order, TinyLfu};
-use wb_types::{CBlock, Mode, OBlock, Place};
+use wb_desk::Desk;
+use wb_policy::{Order, Quiet, TinyLfu};
+use wb_types::{CBlock, Mode, OBlock, Place, Refusal};
+
+/// Where no node changed, and all dirty bits and hints are those of the entries, a clean image writes none; and one that marks
+/// block 3 dirty writes the one leaf.
+const UNCHANGED: [(Call, bool); 6] = [
+    (Call::Begin, true),
+    (Call::End, true),
+    (
+        Call::Image(Some([true, false, true, true]), (9, 0, Some(Place(2)), 1)),
+        true,
+    ),
+    (Call::End, true),
+    (
+        Call::Image(Some([false, true, false, false]), (10, 1, Some(Place(3)), 1)),
+        true,
+    ),
+    (Call::Entry(1, Some((3, true, 0))), true),
+];
+
+#[test]
+fn a_clean_image_of_what_did_not_change_writes_no_node(rt: HostRuntime) -> Result<(), Fail> {
+    assert!(rt; are_answered(rt.alloc(), 7, Mode::Writeback, &[], &UNCHANGED)?);
+    Ok(())
+}
 
 /// The entries of a clean image have the dirty bits that were seen, and so have the desk's; a cache block without an entry
 /// has none. A commit without such bits leaves them.
@@ -50,5 +75,40 @@ const HINTED: [(Call, bool); 9] = [
 #[test]
 fn a_clean_image_has_the_hints_of_the_policy(rt: HostRuntime) -> Result<(), Fail> {
     assert!(rt; are_answered_by::<TinyLfu>(rt.alloc(), Mode::Writeback, &HINTED)?);
+    Ok(())
+}
+
+/// How many nodes a clean image writes that marks the last of so many cache blocks dirty, after a commit, and none of the others:
+/// block 0 is cached in the first and block 1 in the last.
+fn nodes_of_one_mark(alloc: Global, cache_blocks: u32) -> Result<usize, Refusal> {
+    let mut desk = empty::<Quiet>(alloc, u64::from(cache_blocks), 2, Mode::Writeback)?;
+    let last = desk.geometry().cache_blocks - 1;
+    bring(&mut desk, OBlock(0), CBlock(0))?;
+    bring(&mut desk, OBlock(1), CBlock(last))?;
+    let _image = desk.begin_commit(alloc, None)?;
+    if desk.is_committing() {
+        desk.end_commit();
+    }
+    let mut dirty = vec![in alloc; false; desk.geometry().cache_blocks as usize]?;
+    if let Some(bit) = dirty.last_mut() {
+        *bit = true;
+    }
+    let image = desk.begin_commit(alloc, Some(dirty.as_slice()))?;
+    Ok(image.nodes.len())
+}
+
+fn bring(desk: &mut Desk<Quiet>, b: OBlock, c: CBlock) -> Result<(), Refusal> {
+    desk.reserve(Order::Promote(b, c))?;
+    if desk.may_map(b, c) {
+        desk.map(b, c)?;
+    }
+    Ok(())
+}
+
+/// One leaf with the top above it, of the two leaves of 64 cache blocks; of 32 the one leaf.
+#[test]
+fn one_dirty_bit_writes_the_nodes_above_it(rt: HostRuntime) -> Result<(), Fail> {
+    assert!(rt; nodes_of_one_mark(rt.alloc(), 64)? == 2);
+    assert!(rt; nodes_of_one_mark(rt.alloc(), 32)? == 1);
     Ok(())
 }

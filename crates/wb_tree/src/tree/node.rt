@@ -6,6 +6,7 @@ ghost use Rattle.wb_tree.specs.Mapping.{exists, place_in};
 ghost use Rattle.wb_tree.specs.Branches.{rewritten, sole_branch, IsKid};
 ghost use Rattle.wb_tree.specs.Settling.{place_told, CanSettle, IsSettled, IsSettledAt};
 
+mod copying;
 mod filling;
 
 use crate::PlacedNode;

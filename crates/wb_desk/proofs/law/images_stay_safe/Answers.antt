@@ -1,4 +1,4 @@
-use Rattle.wb_desk.proofs.Safe.{opened_safe, calls_safe, quarantine_stays, mapped_does, unmapped_does, told_does}
+use Rattle.wb_desk.proofs.Safe.{opened_safe, calls_safe, quarantine_stays, mapped_does, unmapped_does, told_does, released_does}
 use Rattle.wb_desk.proofs.Marking.{image_facts}
 use Rattle.wb_desk.proofs.law.images_stay_safe.Goals as goal
 
@@ -22,3 +22,15 @@ returns-clause-unmapping g c = unmapped_does g.P.Policy.without_entry
 
 pub returns-clause-telling : goal.returns-clause-telling
 returns-clause-telling g c = told_does g.P.Policy.with_setting
+
+pub returns-clause-taking : goal.returns-clause-taking
+returns-clause-taking g c = λ d new is. is
+
+pub returns-clause-reserving : goal.returns-clause-reserving
+returns-clause-reserving g c = λ d new k order may is. (may, is)
+
+pub returns-clause-releasing : goal.returns-clause-releasing
+returns-clause-releasing g c = released_does
+
+pub returns-clause-ending : goal.returns-clause-ending
+returns-clause-ending g c = λ d new runs is. (runs, is)

@@ -2,7 +2,8 @@ use Rattle.std.proofs.Common.{◌≡◌, ℕ, length, map, take, is_some, refl, 
 use Rattle.std.specs.Option.{option_map}
 use Rattle.wb_desk.specs.Desks.{DeskState}
 use Rattle.wb_desk.specs.Marks.{OfImaged}
-use Rattle.wb_desk.specs.Commits.{IsOnUnused}
+use Rattle.wb_tree.specs.Images.{IsImage}
+use Rattle.wb_desk.specs.Commits.{IsOnUnused, next_plan}
 use Rattle.wb_meta.specs.Placing.{HavePlaces}
 use Rattle.wb_space.specs.Places.{free_places, place}
 use Rattle.wb_desk.proofs.Marking.{image_facts, of_free}
@@ -24,6 +25,12 @@ invariant_of-self-2 g c =
     rw (c.begin.ensures, c.deref-2.ensures.value, many, length_flags _ _ _ c.self.invariant.desk.places.running) (begun_parts g.P.Policy.knows _ c.plan.new.tree _ c.in_ok-image.image c.self.inside.cached.items c.self.inside.mapped
     (record { desk = c.self.invariant.desk; index = c.self.invariant.index; count = c.self.invariant.count }) (record { idle = idle; next = omega arith })
     (image_facts _ _ c.self.inside.tree c.plan.new.tree _ c.in_ok-image.image c.in_ok-image.ensures.image) refl c.in_ok-image.ensures.mapping c.in_ok-image.ensures.inside)
+
+pub returns-clause-image : goal.returns-clause-image
+returns-clause-image g c =
+    let free = c.deref.ensures.value ∙ c.in_ok-free.ensures.ok ∙ ap (λ (n : ℕ). map place (take n (free_places c.self.inside.space.places))) c.node_count.ensures.value in
+    subst (λ (d : DeskState _). OfImaged (g.P.Policy.hint_of d.policy) (option_map (λ dirty. dirty.now) c.args.clean) d.tree (λ m. IsImage m c.plan.new.tree (next_plan d (is_some c.args.clean)) c.in_ok-image.image)) c.self.view_is
+    (image_for g.P.Policy.knows _ _ _ _ c.plan.new.tree c.in-Some.generation c.deref.result.now c.in_ok-image.image c.self.invariant.desk (omega arith) free c.in_ok-image.ensures.image)
 
 pub returns-clause-unused : goal.returns-clause-unused
 returns-clause-unused g c =

@@ -4,6 +4,7 @@ use Rattle.wb_policy.specs.declared.situation.Settled.{Settled as Access}
 use Rattle.wb_space.specs.Blocks.{is_free}
 use Rattle.wb_desk.specs.Desks.{DeskState, DeskInvariant, holdings}
 use Rattle.wb_desk.proofs.Giving.{may_give}
+use Rattle.wb_desk.proofs.Safe.{asked_decided}
 use Rattle.wb_desk.proofs.desk.Desk.decide.Goals as goal
 
 pub returns-clause-state : goal.returns-clause-state
@@ -33,3 +34,9 @@ returns-clause-lawful g c =
       room = c.room.ensures.room;
       busy = c.busy.ensures ∙ ap (λ (d : DeskState _). d.orders.busy) c.self.view_is;
     }) (c.settle.ensures.law (holdings c.args.self.now) told)
+
+pub returns-clause-calls : goal.returns-clause-calls
+returns-clause-calls g c =
+    let i = subst (λ (d : DeskState _). DeskInvariant g.P.Policy.knows d) c.self.view_is c.self.invariant.desk in
+    asked_decided g.P.Policy.knows c.args.self.now _ c.settle.new.self i
+    (ap (λ (d : DeskState _). let n : DeskState _ = record d { policy = c.settle.new.self } in n) c.self.view_is)

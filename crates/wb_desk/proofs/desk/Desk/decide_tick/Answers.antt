@@ -1,6 +1,7 @@
 use Rattle.std.proofs.Common.{◌∙◌, refl, ap, subst}
 use Rattle.wb_desk.specs.Desks.{DeskState, DeskInvariant, holdings}
 use Rattle.wb_desk.proofs.Giving.{asked_at, may_clean}
+use Rattle.wb_desk.proofs.Safe.{asked_decided}
 use Rattle.wb_desk.proofs.desk.Desk.decide_tick.Goals as goal
 
 pub returns-clause-state : goal.returns-clause-state
@@ -14,3 +15,9 @@ returns-clause-lawful g c =
     may_clean g.P.Policy.knows c.args.self.now c.self.inside.mode c.busy.result.now c.tick.result i c.room.ensures.orders
     (ap (λ (d : DeskState _). d.mode) c.self.view_is) (c.busy.ensures ∙ ap (λ (d : DeskState _). d.orders.busy) c.self.view_is)
     (c.tick.ensures.law (holdings c.args.self.now) told c.requires.mapped)
+
+pub returns-clause-calls : goal.returns-clause-calls
+returns-clause-calls g c =
+    let i = subst (λ (d : DeskState _). DeskInvariant g.P.Policy.knows d) c.self.view_is c.self.invariant.desk in
+    asked_decided g.P.Policy.knows c.args.self.now _ c.tick.new.self i
+    (ap (λ (d : DeskState _). let n : DeskState _ = record d { policy = c.tick.new.self } in n) c.self.view_is)
