@@ -30,7 +30,8 @@ use Rattle.wb_orders.proofs.Kept.{within_of}
 use Rattle.wb_desk.specs.InUse.{PlacesInvariant}
 use Rattle.wb_desk.specs.Desks.{DeskState, DeskInvariant, IsRight, NamesWhatIs, Names, holdings, is_mapped, mapped_now}
 use Rattle.wb_desk.specs.Fields.{IsIndex, AreParts}
-use Rattle.wb_desk.specs.Entries.{IsChangedAt, MayMap, Brings, entry_of, mapped}
+use Rattle.wb_desk.specs.Entries.{MayMap, Brings, entry_of, mapped}
+use Rattle.wb_tree.specs.Edits.{IsChangedAt}
 use Rattle.wb_desk.proofs.Index.{mapped_there}
 use Rattle.wb_desk.proofs.Kept.{Each, length_unmarked}
 

@@ -23,7 +23,8 @@ use Rattle.wb_orders.specs.declared.live_order.LiveOrder.{LiveOrder}
 use Rattle.wb_orders.specs.Orders.{Orders, order_at, without_order}
 use Rattle.wb_desk.specs.Desks.{DeskState, DeskInvariant, IsRight, NamesWhatIs, Names, holdings, is_mapped, mapped_now}
 use Rattle.wb_desk.specs.Fields.{IsIndex, AreParts}
-use Rattle.wb_desk.specs.Entries.{IsChangedAt, MayUnmap, IsRemoved, Removes, keeps, is_replacement, orders_past, orders_left, unmapped}
+use Rattle.wb_desk.specs.Entries.{MayUnmap, IsRemoved, Removes, keeps, is_replacement, orders_past, orders_left, unmapped}
+use Rattle.wb_tree.specs.Edits.{IsChangedAt}
 use Rattle.wb_desk.proofs.Index.{entry_for, mapped_once, same_cache}
 use Rattle.wb_desk.proofs.Kept.{Each, length_unmarked}
 use Rattle.wb_desk.proofs.Entering.{one_entry_changes, mapped_elsewhere, set_origin, set_there, places_edited}

@@ -3,8 +3,8 @@ use Rattle.std.specs.Prelude.{◌≡◌, ◌+◌, ◌%◌, ◌^◌, ℕ, Bool, t
 use Rattle.wb_types.specs.declared.entry.Entry.{Entry}
 use Rattle.wb_types.specs.declared.number.CBlock.{CBlock}
 use Rattle.wb_types.specs.declared.number.OBlock.{OBlock}
-use Rattle.wb_tree.specs.Mapping.{Mapping, Forgets, IsOnPath, IsSound, place_of}
-use Rattle.wb_tree.specs.Edits.{IsEdited}
+use Rattle.wb_tree.specs.Mapping.{Mapping}
+use Rattle.wb_tree.specs.Edits.{IsChangedAt}
 use Rattle.wb_policy.specs.declared.order.Order.{Order}
 use Rattle.wb_policy.specs.declared.order.Order.TheVariants.{Promote, Replace, Demote, Clean}
 use Rattle.wb_policy.specs.Law.{IsMappedAt}
@@ -12,14 +12,6 @@ use Rattle.wb_space.specs.declared.block.Block.TheVariants.{Mapped, Reserved, Qu
 use Rattle.wb_orders.specs.declared.live_order.LiveOrder.{LiveOrder}
 use Rattle.wb_orders.specs.Orders.{Orders, order_at, without_order}
 use Rattle.wb_desk.specs.Desks.{DeskState, holdings}
-
--- The entry of one cache block came or went: the nodes above it count as changed, and the others stand where they stood.
-pub record IsChangedAt (old new : Mapping) (c : ℕ) (entry : Option Entry) : Type 0 where
-  pub entries : new.entries ≡ slice_set old.entries c entry
-  pub forgets : Forgets old new c
-  pub others : (level index : ℕ) → (IsOnPath c level index → ⊥) → place_of new level index ≡ place_of old level index
-  pub edited : IsEdited old new
-  pub sound : IsSound new
 
 -- ---- an entry comes
 

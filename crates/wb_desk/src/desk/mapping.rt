@@ -4,7 +4,8 @@ ghost use Rattle.std.specs.Prelude.{◌≡◌, ◌<◌, ◌+◌, ◌%◌, ◌^�
 ghost use Rattle.std.specs.Bool.{OnTrue, OnFalse};
 ghost use Rattle.wb_policy.specs.Law.{origins, IsMappedAt, IsUnmapped};
 ghost use Rattle.wb_orders.specs.Orders.{order_at};
-ghost use Rattle.wb_desk.specs.Entries.{MayMap, MayUnmap, HasEntered, HasLeft, IsChangedAt, IsRemoved, Brings, Removes, entry_of, keeps, orders_left};
+ghost use Rattle.wb_desk.specs.Entries.{MayMap, MayUnmap, HasEntered, HasLeft, IsRemoved, Brings, Removes, entry_of, keeps, orders_left};
+ghost use Rattle.wb_tree.specs.Edits.{IsChangedAt};
 
 use super::Desk;
 use std::alloc::Global;

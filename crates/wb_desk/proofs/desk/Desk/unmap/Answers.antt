@@ -2,7 +2,8 @@ use Rattle.std.proofs.Common.{arith, sym, subst, ap, ◌∙◌, None}
 use Rattle.wb_types.specs.declared.number.CBlock.{CBlock}
 use Rattle.wb_policy.specs.Law.{IsMappedAt}
 use Rattle.wb_desk.specs.Desks.{DeskState, DeskInvariant, holdings}
-use Rattle.wb_desk.specs.Entries.{IsChangedAt, MayUnmap, unmapped}
+use Rattle.wb_desk.specs.Entries.{MayUnmap, unmapped}
+use Rattle.wb_tree.specs.Edits.{IsChangedAt}
 use Rattle.wb_desk.proofs.Leaving.{mapped_within, found_there, removed_there, some_mapped, unmapped_parts}
 use Rattle.wb_desk.proofs.desk.Desk.unmap.Goals as goal
 
