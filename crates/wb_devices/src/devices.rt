@@ -1,7 +1,7 @@
 //! The three devices of a cache.
 
 ghost use Rattle.std.specs.Prelude.{◌≡◌, length};
-ghost use Rattle.wb_stage.specs.Moving.{IsOutcome, DidRead, DidWrite, DidSync, OthersStay, device_in};
+ghost use Rattle.wb_devices.specs.Moving.{IsOutcome, DidRead, DidWrite, DidSync, OthersStay, device_in};
 
 use crate::moving::{read_extent, sync, write_extent};
 use wb_disk::Disk;

@@ -5,10 +5,10 @@ use Rattle.wb_tasks.specs.declared.step.DeviceStep.{DeviceStep}
 use Rattle.wb_tasks.specs.declared.step.Want.TheVariants.{Device}
 use Rattle.wb_tasks.specs.declared.step.Got.{Got}
 use Rattle.wb_tasks.specs.declared.step.Got.TheVariants.{Done, Fault}
-use Rattle.wb_stage.specs.declared.running.RunningCommit.{RunningCommit}
-use Rattle.wb_stage.specs.Moving.{IsOutcome}
-use Rattle.wb_stage.specs.Committing.{goes_on, steps_then}
-use Rattle.wb_stage.specs.Stages.{Goes}
+use Rattle.wb_devices.specs.declared.running.RunningCommit.{RunningCommit}
+use Rattle.wb_devices.specs.Moving.{IsOutcome}
+use Rattle.wb_devices.specs.Committing.{goes_on, steps_then}
+use Rattle.wb_devices.specs.Stepping.{Goes}
 
 pub outcome_fits : (step : DeviceStep) (got : Got) → IsOutcome got → Fits (Device step) got
 outcome_fits step Done h = tt

@@ -12,7 +12,7 @@ use Rattle.wb_meta.specs.declared.commit_steps.CommitSteps.TheVariants.{NodesSyn
 use Rattle.wb_meta.specs.declared.read_steps.ReadSteps.{ReadSteps}
 use Rattle.wb_tasks.specs.declared.step.Got.{Got}
 use Rattle.wb_tasks.specs.declared.step.Got.TheVariants.{Done, Fault, Refused, More}
-use Rattle.wb_stage.specs.declared.running.RunningCommit.{RunningCommit}
+use Rattle.wb_devices.specs.declared.running.RunningCommit.{RunningCommit}
 
 -- a device that failed is a fault, anything else a refusal
 abbrev pub got_of_refusal : Refusal → Got

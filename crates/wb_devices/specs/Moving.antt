@@ -7,7 +7,7 @@ use Rattle.wb_disk.specs.Device.{History, Content as Bytes, OneMore, synced, Par
 use Rattle.wb_disk.specs.Extents.{GivesEach, written_each, PartlyWritten}
 use Rattle.wb_tasks.specs.declared.step.Got.{Got}
 use Rattle.wb_tasks.specs.declared.step.Got.TheVariants.{Done, Fault}
-use Rattle.wb_stage.specs.declared.devices.Devices.{Devices}
+use Rattle.wb_devices.specs.declared.devices.Devices.{Devices}
 
 -- a step on a device is done, or fails
 abbrev pub IsOutcome : Got → Type 0

@@ -5,8 +5,8 @@ ghost use Rattle.wb_types.specs.declared.refusal.Refusal.TheVariants.{Generation
 ghost use Rattle.wb_meta.specs.Placing.{HavePlaces};
 ghost use Rattle.wb_meta.specs.Openings.{IsOpening};
 ghost use Rattle.wb_meta.specs.declared.commit_steps.CommitSteps.TheVariants.{NodesWritten, NodesSynced};
-ghost use Rattle.wb_stage.specs.Moving.{IsOutcome};
-ghost use Rattle.wb_stage.specs.Committing.{DidCommit, is_coming, goes_on, steps_then, is_committed};
+ghost use Rattle.wb_devices.specs.Moving.{IsOutcome};
+ghost use Rattle.wb_devices.specs.Committing.{DidCommit, is_coming, goes_on, steps_then, is_committed};
 
 use std::alloc::Global;
 use wb_disk::Disk;

@@ -3,7 +3,7 @@
 ghost use Rattle.std.specs.Prelude.{◌≡◌, ◌≤◌, ◌<◌, ◌+◌, ◌^◌, ◌↔◌, length, take, IsTrue, OnOk, OnErr};
 ghost use Rattle.wb_disk.specs.Device.{OneMore};
 ghost use Rattle.wb_disk.specs.Extents.{GivesEach};
-ghost use Rattle.wb_stage.specs.Moving.{IsOutcome, CanMove, DidRead, DidWrite, DidSync};
+ghost use Rattle.wb_devices.specs.Moving.{IsOutcome, CanMove, DidRead, DidWrite, DidSync};
 
 use wb_disk::{Disk, DiskFault};
 use wb_tasks::Got;

@@ -7,7 +7,7 @@ ghost use Rattle.wb_tasks.specs.declared.step.Want.TheVariants.{Device};
 ghost use Rattle.wb_tasks.specs.declared.step.DeviceStep.TheVariants.{ReadMetadata};
 ghost use Rattle.wb_meta.specs.Reads.{AreStepsOn, IsDone, known_root};
 ghost use Rattle.wb_meta.specs.States.{IsOfReading};
-ghost use Rattle.wb_stage.specs.Opened.{DidOpen, HasCome, IsOf, got_of_refusal};
+ghost use Rattle.wb_devices.specs.Opened.{DidOpen, HasCome, IsOf, got_of_refusal};
 
 use crate::opening::Opening;
 use crate::running::RunningCommit;

@@ -3,8 +3,8 @@
 ghost use Rattle.std.specs.Prelude.{◌≡◌};
 ghost use Rattle.wb_types.specs.declared.mode.Dev.TheVariants.{Metadata};
 ghost use Rattle.wb_tasks.specs.declared.step.DeviceStep.TheVariants.{Sync};
-ghost use Rattle.wb_stage.specs.Moving.{IsOutcome, DidSync};
-ghost use Rattle.wb_stage.specs.Stages.{Goes, DidPut};
+ghost use Rattle.wb_devices.specs.Moving.{IsOutcome, DidSync};
+ghost use Rattle.wb_devices.specs.Stepping.{Goes, DidPut};
 
 use crate::moving::sync;
 use crate::running::RunningCommit;

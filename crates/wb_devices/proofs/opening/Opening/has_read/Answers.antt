@@ -1,6 +1,6 @@
 use Rattle.std.proofs.Common.{refl}
-use Rattle.wb_stage.proofs.Stopping.{of_root}
-use Rattle.wb_stage.proofs.opening.Opening.has_read.Goals as goal
+use Rattle.wb_devices.proofs.Stopping.{of_root}
+use Rattle.wb_devices.proofs.opening.Opening.has_read.Goals as goal
 
 pub returns-in-Ok-clause-come : goal.returns-in-Ok-clause-come
 returns-in-Ok-clause-come c = (

@@ -1,4 +1,4 @@
-use Rattle.wb_stage.proofs.opening.Opening.new.Goals as goal
+use Rattle.wb_devices.proofs.opening.Opening.new.Goals as goal
 
 pub returns-clause-on : goal.returns-clause-on
 returns-clause-on c = c.new.ensures.on c.args.geometry.meta_sectors

@@ -13,8 +13,8 @@ use Rattle.wb_disk.specs.Device.{History}
 use Rattle.wb_format.specs.declared.root.Root.{Root}
 use Rattle.wb_meta.specs.Reads.{ReadingGoesOn, known_root}
 use Rattle.wb_meta.specs.declared.read_steps.ReadSteps.{ReadSteps}
-use Rattle.wb_stage.specs.declared.running.RunningCommit.{RunningCommit}
-use Rattle.wb_stage.specs.Opened.{DidOpen, HasCome, IsOf, got_of_refusal}
+use Rattle.wb_devices.specs.declared.running.RunningCommit.{RunningCommit}
+use Rattle.wb_devices.specs.Opened.{DidOpen, HasCome, IsOf, got_of_refusal}
 
 pub fits_reading : (refusal : Refusal) (left : ℕ) → IsOfReading refusal → Fits (Device (ReadMetadata left)) (got_of_refusal refusal)
 fits_reading (Io Metadata) left h = tt

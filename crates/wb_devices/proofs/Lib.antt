@@ -1,0 +1,3 @@
+pub mod Landing
+pub mod Going
+pub mod Stopping

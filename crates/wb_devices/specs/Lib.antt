@@ -1,0 +1,4 @@
+pub mod Moving
+pub mod Committing
+pub mod Stepping
+pub mod Opened
