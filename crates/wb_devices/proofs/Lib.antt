@@ -1,3 +1,4 @@
 pub mod Landing
 pub mod Going
 pub mod Stopping
+pub mod Serving

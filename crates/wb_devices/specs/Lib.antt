@@ -2,3 +2,5 @@ pub mod Moving
 pub mod Committing
 pub mod Stepping
 pub mod Opened
+pub mod Openings
+pub mod OpeningLed

@@ -7,6 +7,8 @@ mod committing;
 mod devices;
 mod moving;
 mod opening;
+mod opening_stage;
+mod performing;
 mod reading;
 mod running;
 
@@ -14,4 +16,5 @@ pub use committing::{put, sync_metadata};
 pub use devices::Devices;
 pub use moving::{read_extent, sync, write_extent};
 pub use opening::Opening;
+pub use opening_stage::OpeningStage;
 pub use running::RunningCommit;

@@ -1,8 +1,7 @@
 //! What an opening reads of the metadata, and the root that it writes.
 
-ghost use Rattle.std.specs.Prelude.{◌≡◌, List, None, IfSome};
-ghost use Rattle.wb_meta.specs.Reads.{AreStepsOn, HasRead};
-ghost use Rattle.wb_disk.specs.Device.{Content};
+ghost use Rattle.std.specs.Prelude.{◌≡◌};
+ghost use Rattle.wb_devices.specs.Openings.{MayGoOn, HasNotBegun};
 
 use crate::running::RunningCommit;
 use std::alloc::Global;
@@ -24,9 +23,8 @@ impl Opening {
     /// An opening that has read nothing.
     pub fn new(alloc: Global, geometry: Geometry) -> Opening
         ensures geometry { result.geometry ≡ geometry }
-        ensures on { IfSome result.reading (AreStepsOn geometry.meta_sectors) }
-        ensures begins { IfSome result.reading (λ steps. (sectors : List Content) → HasRead sectors steps) }
-        ensures commit { result.commit ≡ None }
+        ensures goes_on { MayGoOn result }
+        ensures begins { HasNotBegun result }
     {
         Opening {
             geometry,
