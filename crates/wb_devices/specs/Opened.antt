@@ -1,5 +1,5 @@
 -- What a step of an opening that reads metadata does.
-use Rattle.std.specs.Prelude.{◌≡◌, ◌≢◌, ◌≤◌, ◌⊎◌, ℕ, List, Option, Some, None}
+use Rattle.std.specs.Prelude.{◌≡◌, ◌≢◌, ◌≤◌, ◌⊎◌, ◌+◌, ◌^◌, ℕ, List, Option, Some, None}
 use Rattle.wb_types.specs.declared.geometry.Geometry.{Geometry}
 use Rattle.wb_types.specs.declared.refusal.Refusal.{Refusal}
 use Rattle.wb_types.specs.declared.refusal.Refusal.TheVariants.{Mismatch, GenerationEnd, Io}
@@ -34,9 +34,9 @@ pub record HasNextRoot {A : Type 0} (now : ReadSteps A) (commit : Option Running
 abbrev pub IsOf : {A : Type 0} → Geometry → ReadSteps A → Type 0
 IsOf geometry now = (root : Root) → known_root now ≡ Some root → root.geometry ≡ geometry
 
--- why a reading that has come so far is refused here: its root is of another geometry, or has no next one
+-- why a reading that has come so far is refused here: its root is of another geometry, or is of the last generation
 abbrev pub IsUnfit : {A : Type 0} → Geometry → ReadSteps A → Refusal → Type 0
-IsUnfit geometry now refusal = ((refusal ≡ Mismatch) × ((root : Root) × (known_root now ≡ Some root) × (root.geometry ≢ geometry))) ⊎ ((refusal ≡ GenerationEnd) × IsDone now)
+IsUnfit geometry now refusal = ((refusal ≡ Mismatch) × ((root : Root) × (known_root now ≡ Some root) × (root.geometry ≢ geometry))) ⊎ ((refusal ≡ GenerationEnd) × IsDone now × ((root : Root) × (known_root now ≡ Some root) × (root.generation + 1 ≡ 2 ^ 64)))
 
 -- What becomes of an opening whose reading has come so far, where so many sectors more may be read.
 abbrev pub HasCome : {A : Type 0} → Geometry → ℕ → ReadSteps A → Option RunningCommit → Got → Option (ReadSteps A) → Option RunningCommit → Type 0

@@ -1,4 +1,4 @@
-use Rattle.std.proofs.Common.{refl}
+use Rattle.std.proofs.Common.{refl, inr}
 use Rattle.wb_devices.proofs.Stopping.{of_root}
 use Rattle.wb_devices.proofs.opening.Opening.has_read.Goals as goal
 
@@ -16,3 +16,6 @@ returns-in-Ok-clause-come c = (
     steps = c.in-Ok.ensures.steps;
   },
 )
+
+pub returns-in-Err-clause-come : goal.returns-in-Err-clause-come
+returns-in-Err-clause-come c = (c.requires.none, refl, inr (c.in-Err.ensures.refused.0, c.requires.done, (c.args.root, c.requires.newest, c.in-Err.ensures.refused.1)))
