@@ -33,14 +33,14 @@ from left s (step ∷ steps) job suits f =
 pub opens_only : (s : Plan) (left : ℕ) (steps : List (Want × Got)) → s ≡ table (Opening left) → AreFirst s steps → IsOpenings (want (left_by s steps))
 opens_only s left steps begun f = from left s steps (ap (λ (t : Plan). t.job) begun) (subst (λ (t : Plan). Suits 0 t blank_card) (sym begun) (opening_begins 0 left blank_card refl)) f
 
--- wherever its steps lead, the reading is one of metadata of its geometry
+-- wherever its steps lead, the reading is one of the metadata device
 module _ {D : Type 0} (tells : Type 0) (size : D → ℕ) (contents : D → List History) (faults : D → ℕ) where
-  goes_on_then : (old : OpeningStage D) (w : Want) (got : Got) (new : OpeningStage D) → LedOpening tells size contents faults old w got new → MayGoOn new.opening
+  goes_on_then : (old : OpeningStage D) (w : Want) (got : Got) (new : OpeningStage D) → LedOpening tells size contents faults old w got new → MayGoOn (size new.devices.metadata) new.opening
   goes_on_then old (Device step) got new l = l.3
   goes_on_then old (Cell step) got new l = absurd l
   goes_on_then old (Desk step) got new l = absurd l
   goes_on_then old (End answer) got new l = absurd l
 
-  pub goes_on_still : (old : OpeningStage D) (steps : List (Want × Got)) (new : OpeningStage D) → MayGoOn old.opening → Leads (LedOpening tells size contents faults) old steps new → MayGoOn new.opening
-  goes_on_still old [] new h e = subst (λ (s : OpeningStage D). MayGoOn s.opening) e h
+  pub goes_on_still : (old : OpeningStage D) (steps : List (Want × Got)) (new : OpeningStage D) → MayGoOn (size old.devices.metadata) old.opening → Leads (LedOpening tells size contents faults) old steps new → MayGoOn (size new.devices.metadata) new.opening
+  goes_on_still old [] new h e = subst (λ (s : OpeningStage D). MayGoOn (size s.devices.metadata) s.opening) e h
   goes_on_still old (step ∷ steps) new h l = goes_on_still l.0 steps new (goes_on_then old step.0 step.1 l.0 l.1) l.2

@@ -38,7 +38,6 @@ of_root geometry now root known fits other also =
     let same : root ≡ other = cc in
     subst (λ (r : Root). r.geometry ≡ geometry) same fits
 
-pub did_open : {A : Type 0} (tells : Type 0) (geometry : Geometry) (left size : ℕ) (before : Option (ReadSteps A)) (was now : ReadSteps A) (device : List History) (faults faults' : ℕ) (commit commit' : Option RunningCommit) (got : Got) (after : Option (ReadSteps A)) → before ≡ Some was → size ≡ geometry.meta_sectors → (tells → ReadingGoesOn was device now) → (tells → faults' ≡ faults) → HasCome geometry left now commit got after commit' → DidOpen tells geometry left size before device faults commit got after faults' commit'
-did_open {A} tells geometry left size before was now device faults faults' commit commit' got after is sized on same come =
-    subst (λ (b : Option (ReadSteps A)). DidOpen tells geometry left size b device faults commit got after faults' commit') (sym is)
-    ((λ s. inl (now, on, same, come)), (λ not_sized. absurd (not_sized sized)))
+pub did_open : {A : Type 0} (tells : Type 0) (geometry : Geometry) (left : ℕ) (before : Option (ReadSteps A)) (was now : ReadSteps A) (device : List History) (faults faults' : ℕ) (commit commit' : Option RunningCommit) (got : Got) (after : Option (ReadSteps A)) → before ≡ Some was → (tells → ReadingGoesOn was device now) → (tells → faults' ≡ faults) → HasCome geometry left now commit got after commit' → DidOpen tells geometry left before device faults commit got after faults' commit'
+did_open {A} tells geometry left before was now device faults faults' commit commit' got after is on same come =
+    subst (λ (b : Option (ReadSteps A)). DidOpen tells geometry left b device faults commit got after faults' commit') (sym is) (inl (now, on, same, come))

@@ -52,13 +52,7 @@ DidRead {A} tells geometry left was device faults commit got after faults' commi
     ((now : ReadSteps A) × (tells → ReadingGoesOn was device now) × (tells → faults' ≡ faults) × HasCome geometry left now commit got after commit')
     ⊎ ((refusal : Refusal) × (tells → StopsBy was device refusal) × (tells → CountsFault refusal faults faults') × (got ≡ got_of_refusal refusal) × (after ≡ None) × (commit' ≡ commit))
 
--- nothing was read, since the opening was over or the device has another size
-abbrev pub DidNothing : {A : Type 0} → ℕ → Option RunningCommit → Got → Option (ReadSteps A) → ℕ → Option RunningCommit → Type 0
-DidNothing faults commit got after faults' commit' = (got ≡ Fault) × (after ≡ None) × (faults' ≡ faults) × (commit' ≡ commit)
-
--- What a step of an opening did, from the reading that was there.
-abbrev pub DidOpen : {A : Type 0} → Type 0 → Geometry → ℕ → ℕ → Option (ReadSteps A) → List History → ℕ → Option RunningCommit → Got → Option (ReadSteps A) → ℕ → Option RunningCommit → Type 0
-DidOpen tells geometry left size None device faults commit got after faults' commit' = DidNothing faults commit got after faults' commit'
-DidOpen tells geometry left size (Some was) device faults commit got after faults' commit' =
-    (size ≡ geometry.meta_sectors → DidRead tells geometry left was device faults commit got after faults' commit')
-    × (size ≢ geometry.meta_sectors → DidNothing faults commit got after faults' commit')
+-- What a step of an opening did, from the reading that was there: with none, the opening was over, and nothing was read.
+abbrev pub DidOpen : {A : Type 0} → Type 0 → Geometry → ℕ → Option (ReadSteps A) → List History → ℕ → Option RunningCommit → Got → Option (ReadSteps A) → ℕ → Option RunningCommit → Type 0
+DidOpen tells geometry left None device faults commit got after faults' commit' = (got ≡ Fault) × (after ≡ None) × (faults' ≡ faults) × (commit' ≡ commit)
+DidOpen tells geometry left (Some was) device faults commit got after faults' commit' = DidRead tells geometry left was device faults commit got after faults' commit'

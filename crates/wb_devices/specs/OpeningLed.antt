@@ -16,14 +16,14 @@ use Rattle.wb_devices.specs.declared.opening.Opening.{Opening}
 use Rattle.wb_devices.specs.declared.opening_stage.OpeningStage.{OpeningStage}
 
 -- it serves the steps of an opening, and no others
-abbrev pub IsReadyToOpen : {D : Type 0} → OpeningStage D → Want → Type 0
-IsReadyToOpen stage want = IsOpenings want × MayGoOn stage.opening
+abbrev pub IsReadyToOpen : {D : Type 0} → (D → ℕ) → OpeningStage D → Want → Type 0
+IsReadyToOpen size stage want = IsOpenings want × MayGoOn (size stage.devices.metadata) stage.opening
 
 -- What a step does to the opening, and to its device, from and to these contents and counts of faults: a step that reads
 -- metadata changes no device; any other leaves what was read, and the commit goes on with its own steps.
 abbrev pub DidForOpening : Type 0 → Opening → DeviceStep → Got → ℕ → List History → ℕ → Opening → List History → ℕ → Type 0
 DidForOpening tells old (ReadMetadata left) got size device faults new device' faults' =
-    (tells → device' ≡ device) × DidOpen tells old.geometry left size old.reading device faults old.commit got new.reading faults' new.commit
+    (tells → device' ≡ device) × DidOpen tells old.geometry left old.reading device faults old.commit got new.reading faults' new.commit
 DidForOpening tells old step got size device faults new device' faults' =
     (new.reading ≡ old.reading) × CommitGoes size old.commit step got new.commit × (tells → DidStep old.commit step got size device faults [] [] device' faults')
 
@@ -33,6 +33,6 @@ LedOpening tells size contents faults old (Device step) got new =
     OthersStay (device_of step) old.devices new.devices
     × (size (device_in (device_of step) new.devices) ≡ size (device_in (device_of step) old.devices))
     × (new.opening.geometry ≡ old.opening.geometry)
-    × MayGoOn new.opening
+    × MayGoOn (size new.devices.metadata) new.opening
     × DidForOpening tells old.opening step got (size (device_in (device_of step) old.devices)) (contents (device_in (device_of step) old.devices)) (faults (device_in (device_of step) old.devices)) new.opening (contents (device_in (device_of step) new.devices)) (faults (device_in (device_of step) new.devices))
 LedOpening tells size contents faults old want got new = ⊥

@@ -1,5 +1,5 @@
 -- How far an opening is.
-use Rattle.std.specs.Prelude.{◌≡◌, List, Some, None, IfSome}
+use Rattle.std.specs.Prelude.{◌≡◌, ℕ, List, Some, None, IfSome}
 use Rattle.std.specs.declared.alloc.Global.{Global}
 use Rattle.wb_disk.specs.Device.{Content}
 use Rattle.wb_meta.specs.Reads.{AreStepsOn, HasRead}
@@ -13,6 +13,6 @@ pub record HasNotBegun (opening : Opening) : Type 0 where
   pub begins : (sectors : List Content) → HasRead sectors reading
   pub commit : opening.commit ≡ None
 
--- what was read so far is of metadata of its geometry
-abbrev pub MayGoOn : Opening → Type 0
-MayGoOn opening = IfSome opening.reading (AreStepsOn opening.geometry.meta_sectors)
+-- what was read so far is of a device of so many sectors
+abbrev pub MayGoOn : ℕ → Opening → Type 0
+MayGoOn sectors opening = IfSome opening.reading (AreStepsOn sectors)

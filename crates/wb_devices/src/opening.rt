@@ -1,6 +1,6 @@
 //! What an opening reads of the metadata, and the root that it writes.
 
-ghost use Rattle.std.specs.Prelude.{◌≡◌};
+ghost use Rattle.std.specs.Prelude.{◌≡◌, ℕ};
 ghost use Rattle.wb_devices.specs.Openings.{MayGoOn, HasNotBegun};
 
 use crate::running::RunningCommit;
@@ -23,7 +23,7 @@ impl Opening {
     /// An opening that has read nothing.
     pub fn new(alloc: Global, geometry: Geometry) -> Opening
         ensures geometry { result.geometry ≡ geometry }
-        ensures goes_on { MayGoOn result }
+        ensures goes_on { (sectors : ℕ) → MayGoOn sectors result }
         ensures begins { HasNotBegun result }
     {
         Opening {

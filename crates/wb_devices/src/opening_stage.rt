@@ -1,6 +1,6 @@
 //! Where openings are performed.
 
-ghost use Rattle.std.specs.Prelude.{◌≡◌};
+ghost use Rattle.std.specs.Prelude.{◌≡◌, ℕ};
 ghost use Rattle.wb_devices.specs.Openings.{MayGoOn, HasNotBegun};
 
 use crate::devices::Devices;
@@ -22,7 +22,7 @@ impl<D: Disk> OpeningStage<D> {
     pub fn new(alloc: Global, devices: Devices<D>, geometry: Geometry) -> OpeningStage<D>
         ensures devices { result.devices ≡ devices }
         ensures geometry { result.opening.geometry ≡ geometry }
-        ensures goes_on { MayGoOn result.opening }
+        ensures goes_on { (sectors : ℕ) → MayGoOn sectors result.opening }
         ensures begins { HasNotBegun result.opening }
     {
         OpeningStage {

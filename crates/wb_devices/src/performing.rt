@@ -23,12 +23,12 @@ impl<D: Disk> OpeningStage<D> {
     #[tactic(auto, using(crate::proofs::Going::outcome_fits))]
     fn device_step(&mut self, step: DeviceStep) -> Got
         requires step { IsOpenings (OnDevice step) }
-        requires goes_on { MayGoOn self.old.opening }
+        requires goes_on { MayGoOn (D.size self.old.devices.metadata) self.old.opening }
         ensures kind { Fits (OnDevice step) result }
         ensures others { OthersStay (device_of step) self.old.devices self.new.devices }
         ensures size { D.size (device_in (device_of step) self.new.devices) ≡ D.size (device_in (device_of step) self.old.devices) }
         ensures geometry { self.new.opening.geometry ≡ self.old.opening.geometry }
-        ensures goes_on { MayGoOn self.new.opening }
+        ensures goes_on { MayGoOn (D.size self.new.devices.metadata) self.new.opening }
         ensures did { DidForOpening D.tells self.old.opening step result (D.size (device_in (device_of step) self.old.devices)) (D.contents (device_in (device_of step) self.old.devices)) (D.faults (device_in (device_of step) self.old.devices)) self.new.opening (D.contents (device_in (device_of step) self.new.devices)) (D.faults (device_in (device_of step) self.new.devices)) }
     {
         let metadata = &mut self.devices.metadata;
@@ -45,7 +45,7 @@ impl<D: Disk> OpeningStage<D> {
 }
 
 impl<D: Disk> Stage for OpeningStage<D> {
-    ghost ready = { IsReadyToOpen };
+    ghost ready = { IsReadyToOpen D.size };
 
     ghost led = { LedOpening D.tells D.size D.contents D.faults };
 
@@ -62,9 +62,9 @@ impl<D: Disk> OpeningStage<D> {
     /// was to what it is.
     pub fn run<T: Task>(&mut self, task: &mut T) -> Answer
         requires begun { (left : ℕ) × (T.plan task.old ≡ table (OpeningJob left)) }
-        requires goes_on { MayGoOn self.old.opening }
+        requires goes_on { MayGoOn (D.size self.old.devices.metadata) self.old.opening }
         ensures run { (steps : List (WantTerm × GotTerm)) × IsRunOf (T.plan task.old) steps result × Leads (LedOpening D.tells D.size D.contents D.faults) self.old steps self.new }
-        ensures goes_on { MayGoOn self.new.opening }
+        ensures goes_on { MayGoOn (D.size self.new.devices.metadata) self.new.opening }
     {
         drive(task, self)
     }
