@@ -2,3 +2,4 @@ pub mod Landing
 pub mod Going
 pub mod Stopping
 pub mod Serving
+pub mod Ending

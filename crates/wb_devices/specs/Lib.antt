@@ -4,3 +4,4 @@ pub mod Stepping
 pub mod Opened
 pub mod Openings
 pub mod OpeningLed
+pub mod Outcomes

@@ -9,7 +9,8 @@ ghost use Rattle.wb_tasks.specs.declared.step.Want.{Want as WantTerm};
 ghost use Rattle.wb_tasks.specs.declared.step.Want.TheVariants.{Device as OnDevice};
 ghost use Rattle.wb_tasks.specs.declared.step.Got.{Got as GotTerm};
 ghost use Rattle.wb_devices.specs.Moving.{OthersStay, device_in};
-ghost use Rattle.wb_devices.specs.Openings.{MayGoOn};
+ghost use Rattle.wb_devices.specs.Openings.{MayGoOn, HasNotBegun};
+ghost use Rattle.wb_devices.specs.Outcomes.{HasEnded};
 ghost use Rattle.wb_devices.specs.OpeningLed.{IsReadyToOpen, DidForOpening, LedOpening};
 
 use crate::committing::{put, sync_metadata};
@@ -65,6 +66,7 @@ impl<D: Disk> OpeningStage<D> {
         requires goes_on { MayGoOn (D.size self.old.devices.metadata) self.old.opening }
         ensures run { (steps : List (WantTerm × GotTerm)) × IsRunOf (T.plan task.old) steps result × Leads (LedOpening D.tells D.size D.contents D.faults) self.old steps self.new }
         ensures goes_on { MayGoOn (D.size self.new.devices.metadata) self.new.opening }
+        ensures ended { HasNotBegun self.old.opening → HasEnded D.tells D.size D.contents self.old result self.new }
     {
         drive(task, self)
     }
