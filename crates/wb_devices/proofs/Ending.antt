@@ -152,15 +152,15 @@ module _ {D : Type 0} (tells : Type 0) (size : D → ℕ) (contents : D → List
       let coming : is_coming found.next.image found.next.steps (Sync Metadata) ≡ true = rw w.steps refl in
       let later = went_on old found (Sync Metadata) mid.opening.commit coming led.4.1 in
       let whole : IsOpen (size mid.devices.metadata) mid.opening = record {
-            state = found.state;
-            reading_is = led.4.0 ∙ found.reading_is;
-            fits = subst (λ (n : ℕ). FitsDevice n found.state.root found.state.tree found.state.used.items) (sym led.1) found.fits;
-            geometry_is = found.geometry_is ∙ sym led.2;
-            next = later.0;
-            commit_is = later.1;
-            opens = subst (λ (i : Image). IsOpening i found.state.root) (sym later.2) found.opens;
-            is_done = later.3 ∙ ap (λ (s : CommitSteps). steps_after found.next.image s) w.steps;
-          } in
+        state = found.state;
+        reading_is = led.4.0 ∙ found.reading_is;
+        fits = subst (λ (n : ℕ). FitsDevice n found.state.root found.state.tree found.state.used.items) (sym led.1) found.fits;
+        geometry_is = found.geometry_is ∙ sym led.2;
+        next = later.0;
+        commit_is = later.1;
+        opens = subst (λ (i : Image). IsOpening i found.state.root) (sym later.2) found.opens;
+        is_done = later.3 ∙ ap (λ (s : CommitSteps). steps_after found.next.image s) w.steps;
+      } in
       ended (OpeningJob left) Finished mid steps answer new r l (
         whole,
         (λ t. record {
@@ -216,26 +216,26 @@ module _ {D : Type 0} (tells : Type 0) (size : D → ℕ) (contents : D → List
       let later = went_on old found WriteRoot mid.opening.commit coming led.4.1 in
       let all : goes_on (size old.devices.metadata) running.image running.steps WriteRoot ≡ true = rw coming (for_size old found) in
       let puts : (t : tells) → Puts (λ content. SpellsRoot content running.image.root) (slot_of running.image.root).0 Settled (contents mid.devices.metadata) =
-            λ t. let does = put_done _ old.opening.commit running _ _ _ _ found.commit_is all (led.4.2 t) in
-            subst (λ (d : List History). Puts (λ content. SpellsRoot content running.image.root) (slot_of running.image.root).0 d (contents mid.devices.metadata)) (w.metadata t)
-            (subst (λ (s : CommitSteps). DoesStep running.image s (contents old.devices.metadata) (contents mid.devices.metadata)) w.steps does) in
+      λ t. let does = put_done _ old.opening.commit running _ _ _ _ found.commit_is all (led.4.2 t) in
+      subst (λ (d : List History). Puts (λ content. SpellsRoot content running.image.root) (slot_of running.image.root).0 d (contents mid.devices.metadata)) (w.metadata t)
+      (subst (λ (s : CommitSteps). DoesStep running.image s (contents old.devices.metadata) (contents mid.devices.metadata)) w.steps does) in
       let onward : Written mid = record {
-            found = record {
-              state = found.state;
-              reading_is = led.4.0 ∙ found.reading_is;
-              fits = subst (λ (n : ℕ). FitsDevice n found.state.root found.state.tree found.state.used.items) (sym led.1) found.fits;
-              geometry_is = found.geometry_is ∙ sym led.2;
-              next = later.0;
-              commit_is = later.1;
-              opens = subst (λ (i : Image). IsOpening i found.state.root) (sym later.2) found.opens;
-              represents = found.represents;
-              copies = λ t. (ap contents led.0.0 ∙ (found.copies t).0, ap contents led.0.1 ∙ (found.copies t).1);
-            };
-            steps = later.3 ∙ ap (λ (s : CommitSteps). steps_after running.image s) w.steps;
-            content = λ t. (puts t).content;
-            spelled = λ t. subst (λ (i : Image). SpellsRoot (puts t).content i.root) (sym later.2) (puts t).spelled;
-            wrote = λ t. (puts t).wrote ∙ ap (λ (i : Image). written Settled (slot_of i.root).0 (puts t).content) (sym later.2);
-          } in
+        found = record {
+          state = found.state;
+          reading_is = led.4.0 ∙ found.reading_is;
+          fits = subst (λ (n : ℕ). FitsDevice n found.state.root found.state.tree found.state.used.items) (sym led.1) found.fits;
+          geometry_is = found.geometry_is ∙ sym led.2;
+          next = later.0;
+          commit_is = later.1;
+          opens = subst (λ (i : Image). IsOpening i found.state.root) (sym later.2) found.opens;
+          represents = found.represents;
+          copies = λ t. (ap contents led.0.0 ∙ (found.copies t).0, ap contents led.0.1 ∙ (found.copies t).1);
+        };
+        steps = later.3 ∙ ap (λ (s : CommitSteps). steps_after running.image s) w.steps;
+        content = λ t. (puts t).content;
+        spelled = λ t. subst (λ (i : Image). SpellsRoot (puts t).content i.root) (sym later.2) (puts t).spelled;
+        wrote = λ t. (puts t).wrote ∙ ap (λ (i : Image). written Settled (slot_of i.root).0 (puts t).content) (sym later.2);
+      } in
       let last = taken (to_come left (Device (Sync Metadata) ∷ [])) mid steps answer new tt r l in
       last_by left mid onward last.got last.mid last.rest answer new last.fits last.led last.run last.leads
   root_by left old w got mid steps answer new f led r l = absurd f
@@ -307,6 +307,7 @@ module _ {D : Type 0} (tells : Type 0) (size : D → ℕ) (contents : D → List
     where
       still : Durable mid
       still = durable_still left old mid (Refused refusal) led h.durable
+
       case : DidRead tells old.opening.geometry left was (contents old.devices.metadata) (faults old.devices.metadata) old.opening.commit (Refused refusal) mid.opening.reading (faults mid.devices.metadata) mid.opening.commit → IsRefused tells contents first mid refusal
       case (inl d) = record {
         nothing_read = d.3.0;
@@ -345,10 +346,10 @@ module _ {D : Type 0} (tells : Type 0) (size : D → ℕ) (contents : D → List
       no_end e = cc
   reading left more old was h (step ∷ steps) answer new r l =
       read_by left more old was h step.1 l.0 steps answer new
-        (subst (λ (w : Want). Fits w step.1) r.0 r.1)
-        (subst (λ (w : Want). Led old w step.1 l.0) r.0 l.1)
-        (λ fewer now h' r'. reading left fewer l.0 now h' steps answer new r' l.2)
-        r.2 l.2
+      (subst (λ (w : Want). Fits w step.1) r.0 r.1)
+      (subst (λ (w : Want). Led old w step.1 l.0) r.0 l.1)
+      (λ fewer now h' r'. reading left fewer l.0 now h' steps answer new r' l.2)
+      r.2 l.2
 
   -- ---- the three syncs
 

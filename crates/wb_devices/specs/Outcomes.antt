@@ -35,6 +35,10 @@ pub record IsOpen (sectors : ℕ) (opening : Opening) : Type 0 where
   pub opens : IsOpening next.image state.root
   pub is_done : next.steps ≡ Committed
 
+-- the state for who works on it: what was read, by the root that was written
+abbrev pub state_of : {sectors : ℕ} {opening : Opening} → IsOpen sectors opening → State Global
+state_of opened = record opened.state { root = opened.next.image.root }
+
 -- What was read is what the metadata device represented when it was made durable, and since then nothing but that root was
 -- written there; it is durable.
 pub record IsOpenOver {sectors : ℕ} {opening : Opening} (opened : IsOpen sectors opening) (before after : List History) : Type 0 where

@@ -5,6 +5,7 @@
 
 mod committing;
 mod devices;
+mod finishing;
 mod moving;
 mod opening;
 mod opening_stage;

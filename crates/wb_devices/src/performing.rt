@@ -1,6 +1,7 @@
 //! The steps of openings on their stage.
 
-ghost use Rattle.std.specs.Prelude.{◌≡◌, ℕ, List};
+ghost use Rattle.std.specs.Prelude.{◌≡◌, ℕ, List, Some, IfSome};
+ghost use Rattle.wb_meta.specs.Reads.{FitsDevice};
 ghost use Rattle.wb_tasks.specs.Tables.{Opening as OpeningJob};
 ghost use Rattle.wb_tasks.specs.Plan.{Fits, table, device_of};
 ghost use Rattle.wb_tasks.specs.Ready.{IsOpenings};
@@ -10,12 +11,15 @@ ghost use Rattle.wb_tasks.specs.declared.step.Want.TheVariants.{Device as OnDevi
 ghost use Rattle.wb_tasks.specs.declared.step.Got.{Got as GotTerm};
 ghost use Rattle.wb_devices.specs.Moving.{OthersStay, device_in};
 ghost use Rattle.wb_devices.specs.Openings.{MayGoOn, HasNotBegun};
-ghost use Rattle.wb_devices.specs.Outcomes.{HasEnded};
+ghost use Rattle.wb_devices.specs.Outcomes.{IsOpen, HasEnded, state_of};
 ghost use Rattle.wb_devices.specs.OpeningLed.{IsReadyToOpen, DidForOpening, LedOpening};
 
 use crate::committing::{put, sync_metadata};
+use crate::devices::Devices;
 use crate::opening_stage::OpeningStage;
+use std::alloc::Global;
 use wb_disk::Disk;
+use wb_meta::State;
 use wb_tasks::{Answer, DeviceStep, Got, Stage, Task, Want, drive};
 use wb_types::Dev;
 
@@ -60,7 +64,8 @@ impl<D: Disk> Stage for OpeningStage<D> {
 
 impl<D: Disk> OpeningStage<D> {
     /// Performs an opening that has not begun, up to its answer: a run of its table, whose steps lead this stage from what it
-    /// was to what it is.
+    /// was to what it is. Answered done, the metadata that are durable were read, and the root that comes next is durable; cache
+    /// and origin are durable too. Refused but for a device that failed, all three are durable and nothing more was written.
     pub fn run<T: Task>(&mut self, task: &mut T) -> Answer
         requires begun { (left : ℕ) × (T.plan task.old ≡ table (OpeningJob left)) }
         requires goes_on { MayGoOn (D.size self.old.devices.metadata) self.old.opening }
@@ -69,5 +74,15 @@ impl<D: Disk> OpeningStage<D> {
         ensures ended { HasNotBegun self.old.opening → HasEnded D.tells D.size D.contents self.old result self.new }
     {
         drive(task, self)
+    }
+
+    /// The devices, and once an opening is answered done the state of its metadata: what was read, by the root that was written.
+    pub fn finish(self) -> (Devices<D>, Option<State<Global>>)
+        ensures devices { result.0 ≡ self.devices }
+        ensures state { (opened : IsOpen (D.size self.devices.metadata) self.opening) → result.1 ≡ Some (state_of opened) }
+        ensures fits { IsOpen (D.size self.devices.metadata) self.opening → IfSome result.1 (λ state. FitsDevice (D.size result.0.metadata) state.root state.tree state.used.items) }
+    {
+        let OpeningStage { devices, opening } = self;
+        (devices, opening.finish())
     }
 }
