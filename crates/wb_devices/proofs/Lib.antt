@@ -3,4 +3,4 @@ pub mod Going
 pub mod Stopping
 pub mod Serving
 pub mod Ending
-pub mod Finishing
+pub mod Reopened

@@ -1,4 +1,4 @@
-use Rattle.wb_devices.proofs.Finishing.{fits_on}
+use Rattle.wb_devices.proofs.Reopened.{fits_on}
 use Rattle.wb_devices.proofs.opening_stage.OpeningStage.finish.Goals as goal
 
 pub returns-clause-state : goal.returns-clause-state
