@@ -1,16 +1,18 @@
 //! A cache of four blocks over an origin of ten, in memory, and its jobs.
 
-ghost use Rattle.std.specs.Prelude.{◌≡◌, ◌≤◌, ◌<◌, ◌+◌, IfOk};
+ghost use Rattle.std.specs.Prelude.{◌≡◌, ◌≤◌, ◌<◌, ◌+◌, length, IfOk};
+ghost use Rattle.wb_devices.specs.Openings.{HasNotBegun, MayGoOn};
 ghost use Rattle.wb_meta.specs.Reads.{FitsDevice};
 
 use crate::counting::Counting;
 use std::alloc::Global;
 use wb_desk::Desk;
-use wb_disk::{Disk, MemDisk};
-use wb_flow::FlushTask;
-use wb_meta::{State, format, read_state};
+use wb_devices::{Devices, OpeningStage};
+use wb_disk::MemDisk;
+use wb_flow::{FlushTask, OpenTask};
+use wb_meta::{State, format};
 use wb_policy::{Order, Quiet};
-use wb_stage::{Devices, IdleStage};
+use wb_stage::IdleStage;
 use wb_tasks::*;
 use wb_types::{CBlock, Dev, Extent, Geometry, Mode, OBlock, Refusal};
 
@@ -44,25 +46,53 @@ fn desk_of(alloc: Global, state: State<Global>) -> Result<Desk<Quiet>, Refusal>
     Desk::new(alloc, state, Mode::Writeback, Quiet, &[])
 }
 
-/// A formatted cache that was opened, as if its metadata had been clean.
-pub fn opened(alloc: Global) -> Result<Cache, Refusal>
-    ensures { IfOk result (λ cache. cache.stage.crew.blocks ≡ 10) }
-{
-    let mut metadata = device(alloc, 4)?;
-    format(&mut metadata, &Geometry::new(64, 4, 10, 4)?)?;
-    let desk = desk_of(alloc, read_state(alloc, alloc, &mut metadata)?)?;
-    metadata.calls = 0;
-    let devices = Devices {
-        metadata,
+/// Blank devices; the metadata device has so many sectors.
+pub fn blank(alloc: Global, sectors: u64) -> Result<Devices<Counting>, Refusal> {
+    Ok(Devices {
+        metadata: device(alloc, sectors)?,
         cache: device(alloc, 256)?,
         origin: device(alloc, 640)?,
+    })
+}
+
+/// A stage over devices whose metadata are formatted, for an opening.
+pub fn closed(alloc: Global) -> Result<OpeningStage<Counting>, Refusal>
+    ensures { IfOk result (λ stage. HasNotBegun stage.opening × MayGoOn (length stage.devices.metadata.disk.contents) stage.opening) }
+{
+    let geometry = Geometry::new(64, 4, 10, 4)?;
+    let mut devices = blank(alloc, 4)?;
+    format(&mut devices.metadata, &geometry)?;
+    Ok(OpeningStage::new(alloc, devices, geometry))
+}
+
+/// A cache that is opened, as if its metadata had been clean.
+#[tactic(auto, using(crate::proofs::Fitting::fits_opened))]
+pub fn open(alloc: Global, stage: OpeningStage<Counting>) -> Result<Cache, Refusal>
+    requires begun { HasNotBegun stage.opening }
+    requires goes_on { MayGoOn (length stage.devices.metadata.disk.contents) stage.opening }
+    ensures { IfOk result (λ cache. cache.stage.crew.blocks ≡ 10) }
+{
+    let mut stage = stage;
+    if let Answer::Refused(refusal) = stage.run(&mut OpenTask::new(4)) {
+        return Err(refusal);
+    }
+    let (devices, state) = stage.finish();
+    let Some(state) = state else {
+        return Err(Refusal::Memory);
     };
+    let desk = desk_of(alloc, state)?;
     IdleStage::new(alloc, 10, devices, desk, 64)
 }
 
+/// A formatted cache that was opened.
+pub fn opened(alloc: Global) -> Result<Cache, Refusal>
+    ensures { IfOk result (λ cache. cache.stage.crew.blocks ≡ 10) }
+{
+    open(alloc, closed(alloc)?)
+}
+
 /// The steps on devices so far.
-pub fn device_steps(cache: &Cache) -> u64 {
-    let devices = &cache.stage.devices;
+pub fn device_steps(devices: &Devices<Counting>) -> u64 {
     devices
         .metadata
         .calls
@@ -71,18 +101,16 @@ pub fn device_steps(cache: &Cache) -> u64 {
 }
 
 /// Sets which call fails, counted from the next one of its device.
-pub fn fail(cache: &mut Cache, device: Dev, number: u64)
-    ensures { cache.new.stage.crew ≡ cache.old.stage.crew }
-{
+pub fn fail(devices: &mut Devices<Counting>, device: Dev, number: u64) {
     match device {
-        Dev::Metadata => cache.stage.devices.metadata.fail_at(number),
-        Dev::Cache => cache.stage.devices.cache.fail_at(number),
-        Dev::Origin => cache.stage.devices.origin.fail_at(number),
+        Dev::Metadata => devices.metadata.fail_at(number),
+        Dev::Cache => devices.cache.fail_at(number),
+        Dev::Origin => devices.origin.fail_at(number),
     }
 }
 
 /// Gives the actor an order; false where it may not be given.
-fn take(cache: &mut Cache, order: Order) -> bool
+pub fn take(cache: &mut Cache, order: Order) -> bool
     ensures { cache.new.stage.crew ≡ cache.old.stage.crew }
 {
     if cache.stage.desk.reserve(order).is_err() {
