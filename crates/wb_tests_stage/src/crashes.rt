@@ -4,15 +4,15 @@ ghost use Rattle.std.specs.Prelude.{◌≡◌};
 
 use crate::counting::Counting;
 use crate::faults::{DIRTY, PROMOTE, prepare};
-use crate::fixture::{Cache, Job, fail, opened, play};
-use crate::openings::{Stage, found, open_again};
+use crate::fixture::{Cache, Job, Stage, closed, hinder, opened, play};
+use crate::openings::{found, open_again};
 use std::alloc::Global;
 use std::test::Fail;
-use wb_devices::{Devices, OpeningStage};
+use wb_devices::Devices;
 use wb_disk::{Base, CrashChoice, Disk};
 use wb_stage::{CacheStage, IdleStage};
 use wb_tasks::Answer;
-use wb_types::{Dev, Geometry, OBlock, Place, Refusal};
+use wb_types::{Dev, OBlock, Place, Refusal};
 
 /// A crash that keeps of each sector what is durable, or what is newest.
 fn crash(alloc: Global, devices: &mut Devices<Counting>, base: Base) -> bool {
@@ -27,14 +27,14 @@ fn close(alloc: Global, cache: Cache) -> Result<Stage, Refusal> {
     let IdleStage { stage, .. } = cache;
     let CacheStage { mut devices, .. } = stage;
     devices.metadata.fails = None;
-    Ok(OpeningStage::new(alloc, devices, Geometry::new(64, 4, 10, 4)?))
+    closed(alloc, devices)
 }
 
 /// A cache whose first flush, of one entry, ends before this call of a device.
 fn flush_until(alloc: Global, device: Dev, number: u64) -> Result<Stage, Refusal> {
     let mut cache = opened(alloc)?;
     if prepare(&mut cache, &[PROMOTE]) {
-        fail(&mut cache.stage.devices, device, number);
+        hinder(&mut cache, device, number);
         play(&mut cache, &Job::Flush, 16);
     }
     close(alloc, cache)
@@ -53,7 +53,9 @@ const OLD: (u64, usize) = (2, 0);
 const NEW: (u64, usize) = (3, 1);
 
 #[test]
-fn a_crash_before_the_last_sync_of_a_flush_leaves_the_old_mapping(rt: HostRuntime) -> Result<(), Fail> {
+fn a_crash_before_the_last_sync_of_a_flush_leaves_the_old_mapping(
+    rt: HostRuntime,
+) -> Result<(), Fail> {
     for (device, number) in [
         (Dev::Cache, 0),
         (Dev::Origin, 0),
@@ -88,7 +90,7 @@ fn a_root_that_was_written_and_not_synced_may_be_lost(rt: HostRuntime) -> Result
 fn demote_one_sector(alloc: Global) -> Result<Stage, Refusal> {
     let mut cache = opened(alloc)?;
     if prepare(&mut cache, &[PROMOTE, Job::Flush, DIRTY]) {
-        fail(&mut cache.stage.devices, Dev::Cache, 1);
+        hinder(&mut cache, Dev::Cache, 1);
         play(&mut cache, &Job::Demote(OBlock(0)), 1);
     }
     close(alloc, cache)
@@ -104,12 +106,16 @@ fn a_crash_within_a_demotion_leaves_the_mapping(rt: HostRuntime) -> Result<(), F
     Ok(())
 }
 
-/// A node that spells none is found by the opening behind it.
+/// Makes the sector behind the slots spell nothing.
+fn blot(metadata: &mut Counting) -> bool {
+    metadata.sectors() > 2 && metadata.write(2, &[0; 512]).is_ok()
+}
+
 #[test]
 fn damaged_metadata_are_not_opened(rt: HostRuntime) -> Result<(), Fail> {
     let mut stage = flush_until(rt.alloc(), Dev::Metadata, 4)?;
     let at = Place(2);
-    assert!(rt; stage.devices.metadata.disk.write(2, &[0; 512]).is_ok());
+    assert!(rt; blot(&mut stage.devices.metadata));
     assert!(rt; open_again(rt.alloc(), &mut stage) == Answer::Refused(Refusal::Damaged(at)));
     Ok(())
 }

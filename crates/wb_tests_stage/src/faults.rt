@@ -2,7 +2,7 @@
 
 ghost use Rattle.std.specs.Prelude.{◌≡◌};
 
-use crate::fixture::{Cache, Job, fail, opened, play};
+use crate::fixture::{Cache, Job, hinder, opened, play};
 use std::alloc::Global;
 use std::test::Fail;
 use wb_tasks::Answer;
@@ -143,7 +143,7 @@ fn ends_so(cache: &mut Cache, row: &Row, number: u64) -> bool
     if !prepare(cache, row.before) {
         return false;
     }
-    fail(&mut cache.stage.devices, row.device, number);
+    hinder(cache, row.device, number);
     if play(cache, &row.job, 16) != Some(Answer::Refused(Refusal::Io(row.device))) {
         return false;
     }

@@ -1,7 +1,6 @@
 //! A cache of four blocks over an origin of ten, in memory, and its jobs.
 
-ghost use Rattle.std.specs.Prelude.{◌≡◌, ◌≤◌, ◌<◌, ◌+◌, length, IfOk};
-ghost use Rattle.wb_devices.specs.Openings.{HasNotBegun, MayGoOn};
+ghost use Rattle.std.specs.Prelude.{◌≡◌, ◌≤◌, ◌<◌, ◌+◌, IfOk};
 ghost use Rattle.wb_meta.specs.Reads.{FitsDevice};
 
 use crate::counting::Counting;
@@ -17,6 +16,8 @@ use wb_tasks::*;
 use wb_types::{CBlock, Dev, Extent, Geometry, Mode, OBlock, Refusal};
 
 pub type Cache = IdleStage<Counting, Quiet>;
+
+pub type Stage = OpeningStage<Counting>;
 
 /// What is done with the cache. Sectors are counted from 0; each that is written begins with the byte.
 #[derive(Clone, Copy)]
@@ -55,24 +56,28 @@ pub fn blank(alloc: Global, sectors: u64) -> Result<Devices<Counting>, Refusal> 
     })
 }
 
-/// A stage over devices whose metadata are formatted, for an opening.
-pub fn closed(alloc: Global) -> Result<OpeningStage<Counting>, Refusal>
-    ensures { IfOk result (λ stage. HasNotBegun stage.opening × MayGoOn (length stage.devices.metadata.disk.contents) stage.opening) }
-{
-    let geometry = Geometry::new(64, 4, 10, 4)?;
+/// The geometry of all that is formatted here.
+fn geometry() -> Result<Geometry, Refusal> {
+    Geometry::new(64, 4, 10, 4)
+}
+
+/// Devices whose metadata are formatted.
+pub fn formatted(alloc: Global) -> Result<Devices<Counting>, Refusal> {
     let mut devices = blank(alloc, 4)?;
-    format(&mut devices.metadata, &geometry)?;
-    Ok(OpeningStage::new(alloc, devices, geometry))
+    format(&mut devices.metadata, &geometry()?)?;
+    Ok(devices)
+}
+
+/// A stage over devices, for an opening.
+pub fn closed(alloc: Global, devices: Devices<Counting>) -> Result<Stage, Refusal> {
+    Ok(OpeningStage::new(alloc, devices, geometry()?))
 }
 
 /// A cache that is opened, as if its metadata had been clean.
-#[tactic(auto, using(crate::proofs::Fitting::fits_opened))]
-pub fn open(alloc: Global, stage: OpeningStage<Counting>) -> Result<Cache, Refusal>
-    requires begun { HasNotBegun stage.opening }
-    requires goes_on { MayGoOn (length stage.devices.metadata.disk.contents) stage.opening }
+pub fn open(alloc: Global, devices: Devices<Counting>) -> Result<Cache, Refusal>
     ensures { IfOk result (λ cache. cache.stage.crew.blocks ≡ 10) }
 {
-    let mut stage = stage;
+    let mut stage = OpeningStage::new(alloc, devices, geometry()?);
     if let Answer::Refused(refusal) = stage.run(&mut OpenTask::new(4)) {
         return Err(refusal);
     }
@@ -88,7 +93,7 @@ pub fn open(alloc: Global, stage: OpeningStage<Counting>) -> Result<Cache, Refus
 pub fn opened(alloc: Global) -> Result<Cache, Refusal>
     ensures { IfOk result (λ cache. cache.stage.crew.blocks ≡ 10) }
 {
-    open(alloc, closed(alloc)?)
+    open(alloc, formatted(alloc)?)
 }
 
 /// The steps on devices so far.
@@ -107,6 +112,13 @@ pub fn fail(devices: &mut Devices<Counting>, device: Dev, number: u64) {
         Dev::Cache => devices.cache.fail_at(number),
         Dev::Origin => devices.origin.fail_at(number),
     }
+}
+
+/// Sets which call of a cache's device fails.
+pub fn hinder(cache: &mut Cache, device: Dev, number: u64)
+    ensures { cache.new.stage.crew ≡ cache.old.stage.crew }
+{
+    fail(&mut cache.stage.devices, device, number);
 }
 
 /// Gives the actor an order; false where it may not be given.

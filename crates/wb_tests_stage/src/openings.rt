@@ -1,21 +1,16 @@
 //! Openings over memory devices: their steps, each fault, and why they are refused.
 
-ghost use Rattle.std.specs.Prelude.{length};
-ghost use Rattle.wb_devices.specs.Openings.{MayGoOn};
-
 use crate::counting::Counting;
-use crate::fixture::{blank, closed, device_steps, fail};
+use crate::fixture::{Stage, blank, closed, device_steps, fail, formatted};
 use std::alloc::Global;
 use std::test::Fail;
-use wb_devices::{Opening, OpeningStage};
+use wb_devices::Opening;
 use wb_disk::Disk;
 use wb_flow::OpenTask;
 use wb_format::Root;
 use wb_meta::{ReadSteps, format};
 use wb_tasks::Answer;
 use wb_types::{Dev, Geometry, Place, Refusal};
-
-pub type Stage = OpeningStage<Counting>;
 
 /// Opens the devices of a stage from the beginning.
 pub fn open_again(alloc: Global, stage: &mut Stage) -> Answer {
@@ -51,7 +46,7 @@ fn fails_once(alloc: Global, stage: &mut Stage, device: Dev, number: u64) -> boo
 
 #[test]
 fn an_opening_takes_these_steps_on_devices(rt: HostRuntime) -> Result<(), Fail> {
-    let mut stage = closed(rt.alloc())?;
+    let mut stage = closed(rt.alloc(), formatted(rt.alloc())?)?;
     assert!(rt; takes_seven_steps(rt.alloc(), &mut stage));
     Ok(())
 }
@@ -60,7 +55,7 @@ fn an_opening_takes_these_steps_on_devices(rt: HostRuntime) -> Result<(), Fail> 
 fn each_fault_ends_an_opening(rt: HostRuntime) -> Result<(), Fail> {
     for (device, calls) in [(Dev::Metadata, 5), (Dev::Cache, 1), (Dev::Origin, 1)] {
         for number in 0..calls {
-            let mut stage = closed(rt.alloc())?;
+            let mut stage = closed(rt.alloc(), formatted(rt.alloc())?)?;
             assert!(rt; fails_once(rt.alloc(), &mut stage, device, number));
         }
     }
@@ -98,19 +93,20 @@ fn is_refused(alloc: Global, stage: &mut Stage, refusal: Refusal, calls: u64) ->
 
 #[test]
 fn metadata_without_a_root_are_not_opened(rt: HostRuntime) -> Result<(), Fail> {
-    let geometry = Geometry::new(64, 4, 10, 4)?;
-    let mut stage = OpeningStage::new(rt.alloc(), blank(rt.alloc(), 4)?, geometry);
+    let mut stage = closed(rt.alloc(), blank(rt.alloc(), 4)?)?;
     assert!(rt; is_refused(rt.alloc(), &mut stage, Refusal::NotFormatted, 3));
     Ok(())
 }
 
 #[test]
 fn metadata_of_another_geometry_are_not_opened(rt: HostRuntime) -> Result<(), Fail> {
-    let geometry = Geometry::new(64, 4, 10, 4)?;
     for (blocks, sectors) in [(11, 4), (10, 5)] {
         let mut devices = blank(rt.alloc(), u64::from(sectors))?;
-        format(&mut devices.metadata, &Geometry::new(64, 4, blocks, sectors)?)?;
-        let mut stage = OpeningStage::new(rt.alloc(), devices, geometry);
+        format(
+            &mut devices.metadata,
+            &Geometry::new(64, 4, blocks, sectors)?,
+        )?;
+        let mut stage = closed(rt.alloc(), devices)?;
         assert!(rt; is_refused(rt.alloc(), &mut stage, Refusal::Mismatch, 3));
     }
     Ok(())
@@ -118,7 +114,7 @@ fn metadata_of_another_geometry_are_not_opened(rt: HostRuntime) -> Result<(), Fa
 
 #[test]
 fn metadata_of_the_last_generation_are_not_opened(rt: HostRuntime) -> Result<(), Fail> {
-    let mut stage = closed(rt.alloc())?;
+    let mut stage = closed(rt.alloc(), formatted(rt.alloc())?)?;
     assert!(rt; renumber(&mut stage.devices.metadata, u64::MAX));
     assert!(rt; is_refused(rt.alloc(), &mut stage, Refusal::GenerationEnd, 3));
     Ok(())
