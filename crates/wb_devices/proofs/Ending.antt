@@ -1,5 +1,5 @@
 -- How an opening ends, from its first step to its answer.
-use Rattle.std.proofs.Common.{◌≡◌, ◌≢◌, ◌∙◌, ℕ, true, false, Bool, ◌-◌, List, [], ◌∷◌, Option, Some, None, IfSome, refl, sym, subst, ap, map, length, if◌then◌else◌, ◌==◌, inl, inr, ◌⊎◌}
+use Rattle.std.proofs.Common.{◌≡◌, ◌∙◌, ℕ, true, Bool, ◌-◌, List, [], ◌∷◌, Option, Some, None, IfSome, refl, sym, subst, ap, map, if◌then◌else◌, ◌==◌, inl, inr}
 use Rattle.std.proofs.lemmas.Bool.{eq-eqb}
 use Rattle.std.proofs.lemmas.List.{length-map}
 use Rattle.std.specs.declared.alloc.Global.{Global}
@@ -17,7 +17,7 @@ use Rattle.wb_meta.specs.States.{RepresentsState, IsRefusedBy}
 use Rattle.wb_meta.specs.Steps.{DoesStep, Puts, slot_of, steps_after}
 use Rattle.wb_meta.specs.declared.commit_steps.CommitSteps.{CommitSteps}
 use Rattle.wb_tree.specs.declared.image.Image.{Image}
-use Rattle.wb_meta.specs.declared.commit_steps.CommitSteps.TheVariants.{NodesSynced, RootWritten, Done as Committed}
+use Rattle.wb_meta.specs.declared.commit_steps.CommitSteps.TheVariants.{NodesSynced, RootWritten}
 use Rattle.wb_meta.specs.declared.read_steps.ReadSteps.{ReadSteps}
 use Rattle.wb_meta.specs.declared.read_steps.ReadSteps.TheVariants.{Begun, FirstSlotRead, RootFound, Done as AllRead}
 use Rattle.wb_meta.specs.declared.read_steps.State.{State}
@@ -33,12 +33,12 @@ use Rattle.wb_tasks.specs.declared.step.Want.TheVariants.{Device, End}
 use Rattle.wb_tasks.specs.declared.step.Got.{Got}
 use Rattle.wb_tasks.specs.declared.step.Got.TheVariants.{Done, Fault, Refused, More}
 use Rattle.wb_tasks.proofs.Driving.{no_result}
-use Rattle.wb_devices.specs.Committing.{goes_on, is_coming, steps_then}
+use Rattle.wb_devices.specs.Committing.{goes_on, is_coming}
 use Rattle.wb_devices.specs.Stepping.{Goes, DidPut}
 use Rattle.wb_devices.specs.Opened.{DidRead, DidOpen, IsUnfit, got_of_refusal}
-use Rattle.wb_devices.specs.Openings.{HasNotBegun, MayGoOn}
+use Rattle.wb_devices.specs.Openings.{HasNotBegun}
 use Rattle.wb_devices.specs.OpeningLed.{LedOpening}
-use Rattle.wb_devices.specs.Outcomes.{IsOpen, IsOpenOver, DataIsDurable, IsRefused, IsRefusedFor, HasEnded}
+use Rattle.wb_devices.specs.Outcomes.{IsOpen, DataIsDurable, IsRefused, HasEnded}
 use Rattle.wb_devices.specs.declared.opening.Opening.{Opening}
 use Rattle.wb_devices.specs.declared.opening_stage.OpeningStage.{OpeningStage}
 use Rattle.wb_devices.specs.declared.running.RunningCommit.{RunningCommit}
