@@ -1,6 +1,3 @@
-pub mod Landing
 pub mod Counting
 pub mod Releasing
-pub mod Going
 pub mod Readying
-pub mod Stopping

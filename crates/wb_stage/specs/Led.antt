@@ -8,8 +8,9 @@ use Rattle.wb_tasks.specs.Ready.{MayTake}
 use Rattle.wb_tasks.specs.declared.step.Want.{Want}
 use Rattle.wb_tasks.specs.declared.step.Want.TheVariants.{Device, Desk}
 use Rattle.wb_tasks.specs.declared.step.Got.{Got}
-use Rattle.wb_stage.specs.Moving.{OthersStay, device_in}
-use Rattle.wb_stage.specs.Stages.{DoneOnCrew, CommitGoes, DidStep, BufferStays, DidAsk, IsServed}
+use Rattle.wb_devices.specs.Moving.{OthersStay, device_in}
+use Rattle.wb_devices.specs.Stepping.{CommitGoes, DidStep, BufferStays}
+use Rattle.wb_stage.specs.Stages.{DoneOnCrew, DidAsk, IsServed}
 use Rattle.wb_stage.specs.declared.stage.CacheStage.{CacheStage}
 
 -- its actor is ready for the step, which is one that is served here

@@ -7,9 +7,9 @@ ghost use Rattle.wb_tasks.specs.declared.step.DeskStep.TheVariants.{Map, BeginCo
 ghost use Rattle.wb_meta.specs.declared.commit_steps.CommitSteps.TheVariants.{NodesWritten};
 ghost use Rattle.wb_stage.specs.Asking.{DidMap, DidUnmap, DidRelease, HasBegun, IsUnbegun, is_of, order_of, ended};
 
-use crate::RunningCommit;
 use std::alloc::Global;
 use wb_desk::Desk;
+use wb_devices::RunningCommit;
 use wb_policy::{Order, Policy};
 use wb_tasks::Got;
 use wb_types::{CBlock, OBlock, Refusal};

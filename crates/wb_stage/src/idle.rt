@@ -12,11 +12,11 @@ ghost use Rattle.wb_tasks.specs.declared.step.Got.{Got as GotTerm};
 ghost use Rattle.wb_stage.specs.Led.{Led};
 ghost use Rattle.wb_stage.specs.Jobs.{MayRun};
 
-use crate::devices::Devices;
 use crate::stage::CacheStage;
 use std::alloc::Global;
 use wb_cells::Crew;
 use wb_desk::Desk;
+use wb_devices::Devices;
 use wb_disk::Disk;
 use wb_policy::Policy;
 use wb_tasks::{Answer, Task, drive};

@@ -12,7 +12,7 @@ impl<D: Disk, P: Policy> Stage for CacheStage<D, P> {
 
     ghost led = { Led D.tells D.size D.contents D.faults P.with_entry P.without_entry };
 
-    #[tactic(auto, using(crate::proofs::Going::outcome_fits))]
+    #[tactic(auto, using(wb_devices::proofs::Going::outcome_fits))]
     fn perform(&mut self, want: &Want) -> Got {
         match want {
             Want::Cell(step) => Got::from(self.crew.step(self.actor, *step)),

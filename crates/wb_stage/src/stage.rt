@@ -3,17 +3,16 @@
 ghost use Rattle.std.specs.Prelude.{◌≡◌, ◌<◌, false, length};
 ghost use Rattle.wb_tasks.specs.Plan.{Fits, device_of};
 ghost use Rattle.wb_tasks.specs.declared.step.Want.TheVariants.{Desk as AskDesk};
-ghost use Rattle.wb_stage.specs.Moving.{IsOutcome, OthersStay, device_in};
-ghost use Rattle.wb_stage.specs.Stages.{CommitGoes, DidStep, BufferStays, DidAsk, DidBegin, EndsWith, IsServed, is_all_done};
+ghost use Rattle.wb_devices.specs.Moving.{IsOutcome, OthersStay, device_in};
+ghost use Rattle.wb_devices.specs.Stepping.{CommitGoes, DidStep, BufferStays};
+ghost use Rattle.wb_stage.specs.Stages.{DidAsk, DidBegin, EndsWith, IsServed, is_all_done};
 ghost use Rattle.wb_tasks.specs.declared.step.DeskStep.TheVariants.{BeginCommit};
 
 use crate::asking;
-use crate::committing::{put, sync_metadata};
-use crate::devices::Devices;
-use crate::running::RunningCommit;
 use std::alloc::Global;
 use wb_cells::Crew;
 use wb_desk::Desk;
+use wb_devices::{Devices, RunningCommit, put, sync_metadata};
 use wb_disk::Disk;
 use wb_policy::{Order, Policy};
 use wb_tasks::{DeskStep, DeviceStep, Got};

@@ -1,12 +1,10 @@
-//! Faults at each step on a device, and what the desk refuses.
+//! Faults at each step on a device.
 
 ghost use Rattle.std.specs.Prelude.{◌≡◌};
 
-use crate::fixture::{Cache, Job, fail, opened, play, promote};
+use crate::fixture::{Cache, Job, hinder, opened, play};
 use std::alloc::Global;
 use std::test::Fail;
-use wb_disk::{Base, CrashChoice};
-use wb_meta::read_state;
 use wb_tasks::Answer;
 use wb_types::{CBlock, Dev, OBlock, Refusal};
 
@@ -22,9 +20,9 @@ struct Row {
     again: Answer,
 }
 
-const PROMOTE: Job = Job::Promote(OBlock(0), CBlock(0));
+pub const PROMOTE: Job = Job::Promote(OBlock(0), CBlock(0));
 
-const DIRTY: Job = Job::Write(0, 1, 0x22);
+pub const DIRTY: Job = Job::Write(0, 1, 0x22);
 
 const FAILED: Answer = Answer::Refused(Refusal::Failed);
 
@@ -126,7 +124,7 @@ const FLUSHES: [Row; 3] = [
 ];
 
 /// Performs jobs that are done.
-fn prepare(cache: &mut Cache, jobs: &[Job]) -> bool
+pub fn prepare(cache: &mut Cache, jobs: &[Job]) -> bool
     requires { cache.old.stage.crew.blocks ≡ 10 }
     ensures { cache.new.stage.crew.blocks ≡ 10 }
 {
@@ -145,7 +143,7 @@ fn ends_so(cache: &mut Cache, row: &Row, number: u64) -> bool
     if !prepare(cache, row.before) {
         return false;
     }
-    fail(cache, row.device, number);
+    hinder(cache, row.device, number);
     if play(cache, &row.job, 16) != Some(Answer::Refused(Refusal::Io(row.device))) {
         return false;
     }
@@ -182,64 +180,4 @@ fn each_fault_of_a_write_fails_the_target(rt: HostRuntime) -> Result<(), Fail> {
 #[test]
 fn each_fault_of_a_flush_fails_the_target(rt: HostRuntime) -> Result<(), Fail> {
     compare(rt.alloc(), &FLUSHES)
-}
-
-/// A flush whose last sync fails: a node, a sync and the root were done before.
-fn flush_but_the_last_sync(cache: &mut Cache) -> bool
-    requires { cache.old.stage.crew.blocks ≡ 10 }
-{
-    if !prepare(cache, &[PROMOTE]) {
-        return false;
-    }
-    fail(cache, Dev::Metadata, 3);
-    play(cache, &Job::Flush, 16) == Some(Answer::Refused(Refusal::Io(Dev::Metadata)))
-}
-
-/// The generation that is read after a crash that keeps what is durable, or what is newest.
-fn generation_left(alloc: Global, cache: &mut Cache, base: Base) -> Option<u64> {
-    let metadata = &mut cache.stage.devices.metadata.disk;
-    if !metadata.stop(Dev::Metadata, &CrashChoice::new(base, Vec::new(alloc))) {
-        return None;
-    }
-    match read_state(alloc, alloc, metadata) {
-        Ok(state) => Some(state.root.generation),
-        Err(_) => None,
-    }
-}
-
-#[test]
-fn a_root_that_was_written_and_not_synced_may_be_lost(rt: HostRuntime) -> Result<(), Fail> {
-    for (base, generation) in [(Base::Durable, 0), (Base::Newest, 1)] {
-        let mut cache = opened(rt.alloc())?;
-        assert!(rt; flush_but_the_last_sync(&mut cache));
-        assert!(rt; generation_left(rt.alloc(), &mut cache, base) == Some(generation));
-    }
-    Ok(())
-}
-
-/// A promotion that no order asks for is refused, and gives up its block: another task finds it free.
-fn is_not_mapped(cache: &mut Cache) -> bool
-    requires { cache.old.stage.crew.blocks ≡ 10 }
-{
-    promote(cache, OBlock(0), CBlock(0), 64) == Answer::Refused(Refusal::Memory)
-        && play(cache, &PROMOTE, 64) == Some(Answer::Done)
-}
-
-/// A flush is refused while another's commit runs.
-fn is_busy(alloc: Global, cache: &mut Cache) -> bool
-    requires { cache.old.stage.crew.blocks ≡ 10 }
-{
-    if cache.stage.desk.begin_commit(alloc, None).is_err() {
-        return false;
-    }
-    play(cache, &Job::Flush, 64) == Some(Answer::Refused(Refusal::Busy))
-}
-
-#[test]
-fn the_desk_refuses(rt: HostRuntime) -> Result<(), Fail> {
-    let mut cache = opened(rt.alloc())?;
-    assert!(rt; is_not_mapped(&mut cache));
-    let mut other = opened(rt.alloc())?;
-    assert!(rt; is_busy(rt.alloc(), &mut other));
-    Ok(())
 }

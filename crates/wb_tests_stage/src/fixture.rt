@@ -6,15 +6,18 @@ ghost use Rattle.wb_meta.specs.Reads.{FitsDevice};
 use crate::counting::Counting;
 use std::alloc::Global;
 use wb_desk::Desk;
-use wb_disk::{Disk, MemDisk};
-use wb_flow::FlushTask;
-use wb_meta::{State, format, read_state};
+use wb_devices::{Devices, OpeningStage};
+use wb_disk::MemDisk;
+use wb_flow::{FlushTask, OpenTask};
+use wb_meta::{State, format};
 use wb_policy::{Order, Quiet};
-use wb_stage::{Devices, IdleStage};
+use wb_stage::IdleStage;
 use wb_tasks::*;
 use wb_types::{CBlock, Dev, Extent, Geometry, Mode, OBlock, Refusal};
 
 pub type Cache = IdleStage<Counting, Quiet>;
+
+pub type Stage = OpeningStage<Counting>;
 
 /// What is done with the cache. Sectors are counted from 0; each that is written begins with the byte.
 #[derive(Clone, Copy)]
@@ -44,25 +47,57 @@ fn desk_of(alloc: Global, state: State<Global>) -> Result<Desk<Quiet>, Refusal>
     Desk::new(alloc, state, Mode::Writeback, Quiet, &[])
 }
 
-/// A formatted cache that was opened, as if its metadata had been clean.
-pub fn opened(alloc: Global) -> Result<Cache, Refusal>
-    ensures { IfOk result (λ cache. cache.stage.crew.blocks ≡ 10) }
-{
-    let mut metadata = device(alloc, 4)?;
-    format(&mut metadata, &Geometry::new(64, 4, 10, 4)?)?;
-    let desk = desk_of(alloc, read_state(alloc, alloc, &mut metadata)?)?;
-    metadata.calls = 0;
-    let devices = Devices {
-        metadata,
+/// Blank devices; the metadata device has so many sectors.
+pub fn blank(alloc: Global, sectors: u64) -> Result<Devices<Counting>, Refusal> {
+    Ok(Devices {
+        metadata: device(alloc, sectors)?,
         cache: device(alloc, 256)?,
         origin: device(alloc, 640)?,
+    })
+}
+
+/// The geometry of all that is formatted here.
+fn geometry() -> Result<Geometry, Refusal> {
+    Geometry::new(64, 4, 10, 4)
+}
+
+/// Devices whose metadata are formatted.
+pub fn formatted(alloc: Global) -> Result<Devices<Counting>, Refusal> {
+    let mut devices = blank(alloc, 4)?;
+    format(&mut devices.metadata, &geometry()?)?;
+    Ok(devices)
+}
+
+/// A stage over devices, for an opening.
+pub fn closed(alloc: Global, devices: Devices<Counting>) -> Result<Stage, Refusal> {
+    Ok(OpeningStage::new(alloc, devices, geometry()?))
+}
+
+/// A cache that is opened, as if its metadata had been clean.
+pub fn open(alloc: Global, devices: Devices<Counting>) -> Result<Cache, Refusal>
+    ensures { IfOk result (λ cache. cache.stage.crew.blocks ≡ 10) }
+{
+    let mut stage = OpeningStage::new(alloc, devices, geometry()?);
+    if let Answer::Refused(refusal) = stage.run(&mut OpenTask::new(4)) {
+        return Err(refusal);
+    }
+    let (devices, state) = stage.finish();
+    let Some(state) = state else {
+        return Err(Refusal::Memory);
     };
+    let desk = desk_of(alloc, state)?;
     IdleStage::new(alloc, 10, devices, desk, 64)
 }
 
+/// A formatted cache that was opened.
+pub fn opened(alloc: Global) -> Result<Cache, Refusal>
+    ensures { IfOk result (λ cache. cache.stage.crew.blocks ≡ 10) }
+{
+    open(alloc, formatted(alloc)?)
+}
+
 /// The steps on devices so far.
-pub fn device_steps(cache: &Cache) -> u64 {
-    let devices = &cache.stage.devices;
+pub fn device_steps(devices: &Devices<Counting>) -> u64 {
     devices
         .metadata
         .calls
@@ -71,18 +106,23 @@ pub fn device_steps(cache: &Cache) -> u64 {
 }
 
 /// Sets which call fails, counted from the next one of its device.
-pub fn fail(cache: &mut Cache, device: Dev, number: u64)
-    ensures { cache.new.stage.crew ≡ cache.old.stage.crew }
-{
+pub fn fail(devices: &mut Devices<Counting>, device: Dev, number: u64) {
     match device {
-        Dev::Metadata => cache.stage.devices.metadata.fail_at(number),
-        Dev::Cache => cache.stage.devices.cache.fail_at(number),
-        Dev::Origin => cache.stage.devices.origin.fail_at(number),
+        Dev::Metadata => devices.metadata.fail_at(number),
+        Dev::Cache => devices.cache.fail_at(number),
+        Dev::Origin => devices.origin.fail_at(number),
     }
 }
 
+/// Sets which call of a cache's device fails.
+pub fn hinder(cache: &mut Cache, device: Dev, number: u64)
+    ensures { cache.new.stage.crew ≡ cache.old.stage.crew }
+{
+    fail(&mut cache.stage.devices, device, number);
+}
+
 /// Gives the actor an order; false where it may not be given.
-fn take(cache: &mut Cache, order: Order) -> bool
+pub fn take(cache: &mut Cache, order: Order) -> bool
     ensures { cache.new.stage.crew ≡ cache.old.stage.crew }
 {
     if cache.stage.desk.reserve(order).is_err() {

@@ -4,8 +4,14 @@
 #[cfg(test)]
 mod counting;
 #[cfg(test)]
+mod crashes;
+#[cfg(test)]
 mod faults;
 #[cfg(test)]
 mod fixture;
+#[cfg(test)]
+mod openings;
+#[cfg(test)]
+mod refusals;
 #[cfg(test)]
 mod runs;

@@ -1,0 +1,43 @@
+-- What stops a reading fits its step.
+use Rattle.std.proofs.Common.{◌≡◌, ◌∙◌, ℕ, List, Option, Some, None, sym, subst, inl}
+use Rattle.wb_types.specs.declared.mode.Dev.TheVariants.{Metadata, Cache, Origin}
+use Rattle.wb_types.specs.declared.refusal.Refusal.{Refusal}
+use Rattle.wb_types.specs.declared.refusal.Refusal.TheVariants.{Io, Memory, NotFormatted, Mismatch, Damaged}
+use Rattle.wb_meta.specs.States.{IsOfReading}
+use Rattle.wb_tasks.specs.Plan.{Fits}
+use Rattle.wb_tasks.specs.declared.step.DeviceStep.TheVariants.{ReadMetadata}
+use Rattle.wb_tasks.specs.declared.step.Want.TheVariants.{Device}
+use Rattle.wb_tasks.specs.declared.step.Got.{Got}
+use Rattle.wb_types.specs.declared.geometry.Geometry.{Geometry}
+use Rattle.wb_disk.specs.Device.{History}
+use Rattle.wb_format.specs.declared.root.Root.{Root}
+use Rattle.wb_meta.specs.Reads.{ReadingGoesOn, known_root}
+use Rattle.wb_meta.specs.declared.read_steps.ReadSteps.{ReadSteps}
+use Rattle.wb_devices.specs.declared.running.RunningCommit.{RunningCommit}
+use Rattle.wb_devices.specs.Opened.{DidOpen, HasCome, IsOf, got_of_refusal}
+
+pub fits_reading : (refusal : Refusal) (left : ℕ) → IsOfReading refusal → Fits (Device (ReadMetadata left)) (got_of_refusal refusal)
+fits_reading (Io Metadata) left h = tt
+fits_reading (Io Cache) left h = absurd h
+fits_reading (Io Origin) left h = absurd h
+fits_reading Memory left h = tt
+fits_reading NotFormatted left h = tt
+fits_reading Mismatch left h = tt
+fits_reading (Damaged place) left h = tt
+fits_reading refusal left h = absurd h
+
+-- a reading without a root is of every geometry, and one with a root of its root's
+pub no_root : {A : Type 0} (geometry : Geometry) (now : ReadSteps A) → None ≡ known_root now → IsOf geometry now
+no_root geometry now none root known = absurd (nothing (none ∙ known))
+  where
+    nothing : None ≡ Some root → ⊥
+    nothing e = cc
+
+pub of_root : {A : Type 0} (geometry : Geometry) (now : ReadSteps A) (root : Root) → known_root now ≡ Some root → root.geometry ≡ geometry → IsOf geometry now
+of_root geometry now root known fits other also =
+    let same : root ≡ other = cc in
+    subst (λ (r : Root). r.geometry ≡ geometry) same fits
+
+pub did_open : {A : Type 0} (tells : Type 0) (geometry : Geometry) (left : ℕ) (before : Option (ReadSteps A)) (was now : ReadSteps A) (device : List History) (faults faults' : ℕ) (commit commit' : Option RunningCommit) (got : Got) (after : Option (ReadSteps A)) → before ≡ Some was → (tells → ReadingGoesOn was device now) → (tells → faults' ≡ faults) → HasCome geometry left now commit got after commit' → DidOpen tells geometry left before device faults commit got after faults' commit'
+did_open {A} tells geometry left before was now device faults faults' commit commit' got after is on same come =
+    subst (λ (b : Option (ReadSteps A)). DidOpen tells geometry left b device faults commit got after faults' commit') (sym is) (inl (now, on, same, come))

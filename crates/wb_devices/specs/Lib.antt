@@ -1,0 +1,7 @@
+pub mod Moving
+pub mod Committing
+pub mod Stepping
+pub mod Opened
+pub mod Openings
+pub mod OpeningLed
+pub mod Outcomes

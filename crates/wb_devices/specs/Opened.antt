@@ -1,0 +1,58 @@
+-- What a step of an opening that reads metadata does.
+use Rattle.std.specs.Prelude.{◌≡◌, ◌≢◌, ◌≤◌, ◌⊎◌, ◌+◌, ◌^◌, ℕ, List, Option, Some, None}
+use Rattle.wb_types.specs.declared.geometry.Geometry.{Geometry}
+use Rattle.wb_types.specs.declared.refusal.Refusal.{Refusal}
+use Rattle.wb_types.specs.declared.refusal.Refusal.TheVariants.{Mismatch, GenerationEnd, Io}
+use Rattle.wb_disk.specs.Device.{History}
+use Rattle.wb_format.specs.declared.root.Root.{Root}
+use Rattle.wb_meta.specs.Openings.{IsOpening}
+use Rattle.wb_meta.specs.States.{CountsFault}
+use Rattle.wb_meta.specs.Reads.{ReadingGoesOn, StopsBy, IsDone, known_root}
+use Rattle.wb_meta.specs.declared.commit_steps.CommitSteps.TheVariants.{NodesSynced}
+use Rattle.wb_meta.specs.declared.read_steps.ReadSteps.{ReadSteps}
+use Rattle.wb_tasks.specs.declared.step.Got.{Got}
+use Rattle.wb_tasks.specs.declared.step.Got.TheVariants.{Done, Fault, Refused, More}
+use Rattle.wb_devices.specs.declared.running.RunningCommit.{RunningCommit}
+
+-- a device that failed is a fault, anything else a refusal
+abbrev pub got_of_refusal : Refusal → Got
+got_of_refusal (Io device) = Fault
+got_of_refusal refusal = Refused refusal
+
+-- All was read, and the root that comes next over the newest one is to be written: of the next generation, with the same
+-- tree, and not clean.
+pub record HasNextRoot {A : Type 0} (now : ReadSteps A) (commit : Option RunningCommit) : Type 0 where
+  pub is_done : IsDone now
+  pub root : Root
+  pub newest : known_root now ≡ Some root
+  pub next : RunningCommit
+  pub commit_is : commit ≡ Some next
+  pub opens : IsOpening next.image root
+  pub steps : next.steps ≡ NodesSynced
+
+-- the root, once it is known, is of this geometry
+abbrev pub IsOf : {A : Type 0} → Geometry → ReadSteps A → Type 0
+IsOf geometry now = (root : Root) → known_root now ≡ Some root → root.geometry ≡ geometry
+
+-- why a reading that has come so far is refused here: its root is of another geometry, or is of the last generation
+abbrev pub IsUnfit : {A : Type 0} → Geometry → ReadSteps A → Refusal → Type 0
+IsUnfit geometry now refusal = ((refusal ≡ Mismatch) × ((root : Root) × (known_root now ≡ Some root) × (root.geometry ≢ geometry))) ⊎ ((refusal ≡ GenerationEnd) × IsDone now × ((root : Root) × (known_root now ≡ Some root) × (root.generation + 1 ≡ 2 ^ 64)))
+
+-- What becomes of an opening whose reading has come so far, where so many sectors more may be read.
+abbrev pub HasCome : {A : Type 0} → Geometry → ℕ → ReadSteps A → Option RunningCommit → Got → Option (ReadSteps A) → Option RunningCommit → Type 0
+HasCome geometry left now commit More after commit' = (1 ≤ left) × (after ≡ Some now) × IsOf geometry now × (commit' ≡ commit)
+HasCome geometry left now commit Done after commit' = (after ≡ Some now) × IsOf geometry now × HasNextRoot now commit'
+HasCome geometry left now commit (Refused refusal) after commit' = (after ≡ None) × (commit' ≡ commit) × IsUnfit geometry now refusal
+HasCome geometry left now commit Fault after commit' = (after ≡ None) × (commit' ≡ commit) × (left ≡ 0)
+HasCome geometry left now commit got after commit' = ⊥
+
+-- A sector was read: the reading goes on from what it was as the device says, where it tells, or stops for what wb_meta says.
+abbrev pub DidRead : {A : Type 0} → Type 0 → Geometry → ℕ → ReadSteps A → List History → ℕ → Option RunningCommit → Got → Option (ReadSteps A) → ℕ → Option RunningCommit → Type 0
+DidRead {A} tells geometry left was device faults commit got after faults' commit' =
+    ((now : ReadSteps A) × (tells → ReadingGoesOn was device now) × (tells → faults' ≡ faults) × HasCome geometry left now commit got after commit')
+    ⊎ ((refusal : Refusal) × (tells → StopsBy was device refusal) × (tells → CountsFault refusal faults faults') × (got ≡ got_of_refusal refusal) × (after ≡ None) × (commit' ≡ commit))
+
+-- What a step of an opening did, from the reading that was there: with none, the opening was over, and nothing was read.
+abbrev pub DidOpen : {A : Type 0} → Type 0 → Geometry → ℕ → Option (ReadSteps A) → List History → ℕ → Option RunningCommit → Got → Option (ReadSteps A) → ℕ → Option RunningCommit → Type 0
+DidOpen tells geometry left None device faults commit got after faults' commit' = (got ≡ Fault) × (after ≡ None) × (faults' ≡ faults) × (commit' ≡ commit)
+DidOpen tells geometry left (Some was) device faults commit got after faults' commit' = DidRead tells geometry left was device faults commit got after faults' commit'

@@ -1,0 +1,71 @@
+-- How an opening has ended.
+use Rattle.std.specs.Prelude.{◌≡◌, ◌≢◌, ◌⊎◌, ℕ, List, Some, None, map}
+use Rattle.std.specs.declared.alloc.Global.{Global}
+use Rattle.wb_types.specs.declared.geometry.Geometry.{Geometry}
+use Rattle.wb_types.specs.declared.mode.Dev.{Dev}
+use Rattle.wb_types.specs.declared.refusal.Refusal.{Refusal}
+use Rattle.wb_types.specs.declared.refusal.Refusal.TheVariants.{Io}
+use Rattle.wb_disk.specs.Device.{Content, History, newest, synced, written}
+use Rattle.wb_format.specs.Layout.{SpellsRoot}
+use Rattle.wb_meta.specs.Openings.{IsOpening}
+use Rattle.wb_meta.specs.Reads.{FitsDevice, HasRead}
+use Rattle.wb_meta.specs.States.{RepresentsState, IsRefusedBy}
+use Rattle.wb_meta.specs.Steps.{slot_of}
+use Rattle.wb_meta.specs.declared.commit_steps.CommitSteps.TheVariants.{Done as Committed}
+use Rattle.wb_meta.specs.declared.read_steps.ReadSteps.{ReadSteps}
+use Rattle.wb_meta.specs.declared.read_steps.ReadSteps.TheVariants.{Done as AllRead}
+use Rattle.wb_meta.specs.declared.read_steps.State.{State}
+use Rattle.wb_tasks.specs.declared.step.Answer.{Answer}
+use Rattle.wb_tasks.specs.declared.step.Answer.TheVariants.{Done as Finished, Refused as Refuses}
+use Rattle.wb_devices.specs.Opened.{IsUnfit}
+use Rattle.wb_devices.specs.declared.devices.Devices.{Devices}
+use Rattle.wb_devices.specs.declared.opening.Opening.{Opening}
+use Rattle.wb_devices.specs.declared.opening_stage.OpeningStage.{OpeningStage}
+use Rattle.wb_devices.specs.declared.running.RunningCommit.{RunningCommit}
+
+-- All of an opening was done, over a metadata device of so many sectors: a tree of its geometry was read, and the root that
+-- comes next over it, not clean, was written.
+pub record IsOpen (sectors : ℕ) (opening : Opening) : Type 0 where
+  pub state : State Global
+  pub reading_is : opening.reading ≡ Some (AllRead state)
+  pub fits : FitsDevice sectors state.root state.tree state.used.items
+  pub geometry_is : state.root.geometry ≡ opening.geometry
+  pub next : RunningCommit
+  pub commit_is : opening.commit ≡ Some next
+  pub opens : IsOpening next.image state.root
+  pub is_done : next.steps ≡ Committed
+
+-- the state for who works on it: what was read, by the root that was written
+abbrev pub state_of : {sectors : ℕ} {opening : Opening} → IsOpen sectors opening → State Global
+state_of opened = record opened.state { root = opened.next.image.root }
+
+-- What was read is what the metadata device represented when it was made durable, and since then nothing but that root was
+-- written there; it is durable.
+pub record IsOpenOver {sectors : ℕ} {opening : Opening} (opened : IsOpen sectors opening) (before after : List History) : Type 0 where
+  pub represents : RepresentsState (map newest (synced before)) opened.state.root opened.state.tree opened.state.used.items
+  pub content : Content
+  pub spelled : SpellsRoot content opened.next.image.root
+  pub wrote : after ≡ synced (written (synced before) (slot_of opened.next.image.root).0 content)
+
+-- all that was written to cache and origin is durable
+abbrev pub DataIsDurable : {D : Type 0} → (D → List History) → Devices D → Devices D → Type 0
+DataIsDurable contents old new = (contents new.cache ≡ synced (contents old.cache)) × (contents new.origin ≡ synced (contents old.origin))
+
+-- why these sectors are refused: for what wb_meta says, or for a root that is of another geometry or has no next one
+abbrev pub IsRefusedFor : List Content → Geometry → Refusal → Type 0
+IsRefusedFor sectors geometry refusal = IsRefusedBy sectors refusal ⊎ ((now : ReadSteps Global) × HasRead sectors now × IsUnfit geometry now refusal)
+
+-- The metadata were refused: they are as they were made durable, and nothing is left to be written.
+pub record IsRefused {D : Type 0} (tells : Type 0) (contents : D → List History) (old new : OpeningStage D) (refusal : Refusal) : Type 0 where
+  pub nothing_read : new.opening.reading ≡ None
+  pub nothing_written : new.opening.commit ≡ None
+  pub metadata : tells → contents new.devices.metadata ≡ synced (contents old.devices.metadata)
+  pub copies : tells → DataIsDurable contents old.devices new.devices
+  pub cause : tells → IsRefusedFor (map newest (synced (contents old.devices.metadata))) old.opening.geometry refusal
+
+-- How an opening that had not begun has ended: all of it was done, a device failed, or what was read is refused.
+abbrev pub HasEnded : {D : Type 0} → Type 0 → (D → ℕ) → (D → List History) → OpeningStage D → Answer → OpeningStage D → Type 0
+HasEnded tells size contents old Finished new = (opened : IsOpen (size new.devices.metadata) new.opening)
+    × (tells → IsOpenOver opened (contents old.devices.metadata) (contents new.devices.metadata))
+    × (tells → DataIsDurable contents old.devices new.devices)
+HasEnded tells size contents old (Refuses refusal) new = ((device : Dev) → refusal ≢ Io device) → IsRefused tells contents old new refusal

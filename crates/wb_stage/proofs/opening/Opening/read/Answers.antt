@@ -1,6 +1,0 @@
-use Rattle.std.proofs.Common.{◌∙◌, sym}
-use Rattle.wb_stage.proofs.Stopping.{did_open}
-use Rattle.wb_stage.proofs.opening.Opening.read.Goals as goal
-
-pub returns-in-Ok-clause-did : goal.returns-in-Ok-clause-did
-returns-in-Ok-clause-did g c = did_open g.D.Disk.tells c.args.self.now.geometry c.args.left _ c.args.self.now.reading c.in-Some.steps c.in-Ok.steps _ _ _ c.args.self.now.commit _ _ _ (sym c.take.ensures.value ∙ c.in-Some.is) (sym c.sectors.ensures ∙ (c.if-sectors-from.false ∙ c.from.ensures)) c.in-Ok.ensures.read c.in-Ok.ensures.no_fault c.has_come.ensures.come

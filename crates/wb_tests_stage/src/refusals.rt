@@ -1,0 +1,101 @@
+//! What the desk and the words refuse.
+
+ghost use Rattle.std.specs.Prelude.{◌≡◌};
+
+use crate::faults::PROMOTE;
+use crate::fixture::{Cache, Job, formatted, hinder, open, opened, play, promote, take};
+use crate::openings::renumber;
+use std::alloc::Global;
+use std::test::Fail;
+use wb_flow::FlushTask;
+use wb_policy::Order;
+use wb_tasks::Answer;
+use wb_types::{CBlock, Dev, OBlock, Refusal};
+
+/// A promotion that no order asks for is refused, and gives up its block: another task finds it free.
+fn is_not_mapped(cache: &mut Cache) -> bool
+    requires { cache.old.stage.crew.blocks ≡ 10 }
+{
+    promote(cache, OBlock(0), CBlock(0), 64) == Answer::Refused(Refusal::Memory)
+        && play(cache, &PROMOTE, 64) == Some(Answer::Done)
+}
+
+const SERVED: Order = Order::Promote(OBlock(3), CBlock(2));
+
+/// A flush of at most so many nodes that serves an order ends so; whether the order lives then.
+fn serves(cache: &mut Cache, most: u32, answer: Answer) -> Option<bool> {
+    if !take(cache, SERVED) {
+        return None;
+    }
+    let alloc = cache.stage.alloc;
+    let mut blocks = Vec::with_capacity(alloc, 1).ok()?;
+    blocks.push_reserved(OBlock(3));
+    if cache.run(&mut FlushTask::new(blocks, most)) != answer {
+        return None;
+    }
+    Some(cache.stage.desk.is_live(SERVED))
+}
+
+#[test]
+fn a_promotion_that_no_order_asks_for_is_refused(rt: HostRuntime) -> Result<(), Fail> {
+    let mut cache = opened(rt.alloc())?;
+    assert!(rt; is_not_mapped(&mut cache));
+    Ok(())
+}
+
+#[test]
+fn a_flush_without_memory_gives_up_what_it_serves(rt: HostRuntime) -> Result<(), Fail> {
+    let mut cache = opened(rt.alloc())?;
+    assert!(rt; serves(&mut cache, 0, Answer::Refused(Refusal::Memory)) == Some(false));
+    assert!(rt; serves(&mut cache, 4, Answer::Done) == Some(true));
+    Ok(())
+}
+
+#[test]
+fn a_flush_of_the_last_generation_gives_up_what_it_serves(rt: HostRuntime) -> Result<(), Fail> {
+    let mut devices = formatted(rt.alloc())?;
+    assert!(rt; renumber(&mut devices.metadata, u64::MAX - 1));
+    let mut cache = open(rt.alloc(), devices)?;
+    assert!(rt; serves(&mut cache, 4, Answer::Refused(Refusal::GenerationEnd)) == Some(false));
+    Ok(())
+}
+
+/// While another's commit runs, a flush is refused, and its order lives.
+fn is_busy(alloc: Global, cache: &mut Cache) -> bool {
+    if cache.stage.desk.begin_commit(alloc, None).is_err() {
+        return false;
+    }
+    serves(cache, 4, Answer::Refused(Refusal::Busy)) == Some(true)
+}
+
+#[test]
+fn a_flush_beside_another_keeps_what_it_serves(rt: HostRuntime) -> Result<(), Fail> {
+    let mut cache = opened(rt.alloc())?;
+    assert!(rt; is_busy(rt.alloc(), &mut cache));
+    Ok(())
+}
+
+/// After a write that failed each task is refused.
+fn is_failed(cache: &mut Cache) -> bool
+    requires { cache.old.stage.crew.blocks ≡ 10 }
+{
+    hinder(cache, Dev::Origin, 0);
+    if play(cache, &WRITE, 64) != Some(Answer::Refused(Refusal::Io(Dev::Origin))) {
+        return false;
+    }
+    for job in [WRITE, Job::Read(0, 2), PROMOTE, Job::Flush] {
+        if play(cache, &job, 64) != Some(Answer::Refused(Refusal::Failed)) {
+            return false;
+        }
+    }
+    true
+}
+
+const WRITE: Job = Job::Write(0, 2, 0x11);
+
+#[test]
+fn a_failed_target_refuses_each_task(rt: HostRuntime) -> Result<(), Fail> {
+    let mut cache = opened(rt.alloc())?;
+    assert!(rt; is_failed(&mut cache));
+    Ok(())
+}
