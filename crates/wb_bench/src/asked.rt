@@ -2,6 +2,7 @@
 
 ghost use Rattle.std.specs.Prelude.{◌≤◌};
 
+use crate::desks::Accessed;
 use crate::edits::{Edits, Work};
 use crate::shares::{Crowd, Shares};
 use crate::turnover::Turnover;
@@ -37,6 +38,8 @@ pub enum Asked<'a> {
     /// Settle so many accesses, or tick so often, over a cache of so many blocks.
     Settles { cache_blocks: u32, accesses: u64 },
     Ticks { cache_blocks: u32, ticks: u64 },
+    /// Accesses through a desk.
+    Desk(Accessed),
     Turnover(Turnover),
     Edits(Edits),
     Shares(Shares),
@@ -69,6 +72,13 @@ pub fn read_asked(words: &[String]) -> Option<Asked<'_>> {
             cache_blocks: cache_blocks.as_str().parse::<u32>().ok()?,
             ticks: ticks.as_str().parse::<u64>().ok()?,
         }),
+        [_, word, cache_blocks, origin_blocks, accesses] if word.as_str() == "desk" => {
+            Some(Asked::Desk(Accessed {
+                cache_blocks: cache_blocks.as_str().parse::<u32>().ok()?,
+                origin_blocks: origin_blocks.as_str().parse::<u32>().ok()?,
+                accesses: accesses.as_str().parse::<u64>().ok()?,
+            }))
+        }
         [_, space, cache_blocks, rounds, removed] if space.as_str() == "space" => {
             Some(Asked::Turnover(Turnover {
                 cache_blocks: cache_blocks.as_str().parse::<u32>().ok()?,

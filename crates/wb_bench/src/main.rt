@@ -9,6 +9,8 @@
 //! it so many times on so many threads, all the same block or each its own, and prints how many shares there were.
 //! `wb_bench settles CACHE_BLOCKS ACCESSES` settles accesses by Zipf's law over a cache that TinyLfu fills, and prints
 //! how many were hits; `wb_bench ticks CACHE_BLOCKS TICKS` ticks over a full cache, and prints how often one was ordered.
+//! `wb_bench desk CACHE_BLOCKS ORIGIN_BLOCKS ACCESSES` settles such accesses through a desk, carries its orders out and
+//! commits after each thousand; it prints for each part its calls and their nanoseconds.
 //! `wb_bench tree CACHE_BLOCKS get|set|clear|CHANGES ROUNDS` looks up, sets or clears a block of a full mapping in each
 //! round, or sets so many blocks and plans an image, and prints the sum of the hints found, or of the nodes written.
 //! `wb_bench FILE mapping CACHE_BLOCKS` makes the file a metadata device that holds a full mapping of so many cache
@@ -19,6 +21,7 @@ ghost use Rattle.std.specs.Prelude.{◌≡◌, ◌<◌, ◌≤◌};
 
 mod accesses;
 mod asked;
+mod desks;
 mod edits;
 mod mapping;
 mod settles;
@@ -28,6 +31,7 @@ mod unnoted;
 
 use crate::accesses::{add_all, time_reset};
 use crate::asked::{Asked, Direction, Requests, read_asked};
+use crate::desks::{Accessed, Spent, access_all};
 use crate::edits::edit_all;
 use crate::mapping::{read_mapping, write_mapping};
 use crate::settles::{settle_all, tick_all};
@@ -51,11 +55,12 @@ const STREAM_FAILED: u8 = 4;
 const MOST_BLOCKS: u64 = 1_048_576;
 
 /// What it can be asked.
-const USAGE: [&str; 9] = [
+const USAGE: [&str; 10] = [
     "usage: wb_bench FILE read|write SECTORS REQUESTS",
     "       wb_bench sketch CACHE_BLOCKS ADDS|reset",
     "       wb_bench settles CACHE_BLOCKS ACCESSES",
     "       wb_bench ticks CACHE_BLOCKS TICKS",
+    "       wb_bench desk CACHE_BLOCKS ORIGIN_BLOCKS ACCESSES",
     "       wb_bench space CACHE_BLOCKS ROUNDS REMOVED",
     "       wb_bench tree CACHE_BLOCKS get|set|clear|CHANGES ROUNDS",
     "       wb_bench shares same|apart 1|2|4 ROUNDS",
@@ -88,6 +93,7 @@ fn main(rt: HostRuntime) -> ExitCode {
             Some(nanoseconds) => print(&rt, nanoseconds),
             None => failed(&rt, "out of memory, or no clock"),
         },
+        Asked::Desk(accessed) => tell_spent(&rt, &accessed),
         Asked::Turnover(turnover) => tell_sum(&rt, turn_over(alloc, &turnover)),
         Asked::Edits(edits) => tell_sum(&rt, edit_all(alloc, &edits)),
         Asked::Settles {
@@ -120,6 +126,24 @@ fn tell_sum(rt: &HostRuntime, sum: Result<u64, Refusal>) -> ExitCode {
         Err(Refusal::Geometry) => failed(rt, "no cache has so many blocks"),
         Err(_) => failed(rt, "out of memory"),
     }
+}
+
+/// Prints the calls of each part of a desk's work and their nanoseconds.
+fn tell_spent(rt: &HostRuntime, accessed: &Accessed) -> ExitCode {
+    let spent = match access_all(rt, accessed) {
+        Ok(Some(spent)) => spent,
+        Ok(None) => return failed(rt, "no clock"),
+        Err(refusal) => return tell_sum(rt, Err(refusal)),
+    };
+    let Spent { calls, nanoseconds } = spent;
+    let parts = ["settle", "take", "map", "unmap", "commit", "reserve"];
+    for (at, part) in parts.iter().enumerate() {
+        if at < 6 && println!(rt; "{part} {} {}", calls[at], nanoseconds[at]).is_err() {
+            failed(rt, "the output failed");
+            return ExitCode::from(STREAM_FAILED);
+        }
+    }
+    ExitCode::SUCCESS
 }
 
 /// Prints the number of nodes of a mapping, or why there is none.

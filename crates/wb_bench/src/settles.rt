@@ -83,11 +83,15 @@ impl Cache {
 /// Blocks by Zipf's law with exponent 1, by powers of two: ranks from `2^k - 1` to `2^(k+1) - 2` are as likely together
 /// for each k below 20.
 #[derive(Drop)]
-struct Zipf {
+pub(crate) struct Zipf {
     state: u64,
 }
 
 impl Zipf {
+    pub(crate) fn new() -> Zipf {
+        Zipf { state: 1 }
+    }
+
     fn number(&mut self) -> u64 {
         self.state = self
             .state
@@ -96,7 +100,7 @@ impl Zipf {
         self.state >> 33
     }
 
-    fn block(&mut self) -> OBlock {
+    pub(crate) fn block(&mut self) -> OBlock {
         let power = ((self.number() & 0xffff) * 20) >> 16;
         let first = (1u64 << (power % 20)) - 1;
         let rank = first + (self.number() & first);
@@ -108,7 +112,7 @@ impl Zipf {
 /// `Geometry` where no cache has so many blocks.
 pub fn settle_all(alloc: Global, cache_blocks: u32, accesses: u64) -> Result<u64, Refusal> {
     let mut cache = Cache::new(alloc, cache_blocks)?;
-    let mut zipf = Zipf { state: 1 };
+    let mut zipf = Zipf::new();
     let mut hits: u64 = 0;
     for _ in 0..accesses {
         if cache.access(zipf.block())? {

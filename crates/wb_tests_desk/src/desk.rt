@@ -7,6 +7,7 @@ mod clean;
 mod commits;
 mod compared;
 mod decisions;
+mod memory;
 mod messages;
 mod orders;
 mod slow;
