@@ -1,8 +1,8 @@
 -- Each call of a desk is a list of acts.
-use Rattle.std.proofs.Common.{◌≡◌, ◌≢◌, ◌≤◌, ◌<◌, ◌+◌, ◌%◌, ◌^◌, inl, inr, ℕ, Bool, true, false, if◌then◌else◌, List, [], ◌∷◌, ◌++◌, Option, Some, None, length, map, replicate, is_some, get_or, set, slice_get, refl, sym, ap, subst, ◌∙◌, arith, get_or-set_same, get_or-set_other}
+use Rattle.std.proofs.Common.{◌≡◌, ◌≢◌, ◌<◌, ◌+◌, ◌%◌, ◌^◌, inl, inr, ℕ, Bool, true, false, if◌then◌else◌, List, [], ◌∷◌, ◌++◌, Option, Some, None, length, map, replicate, is_some, get_or, set, slice_get, refl, sym, ap, subst, ◌∙◌, arith, get_or-set_same, get_or-set_other}
 use Rattle.std.specs.Option.{option_map}
 use Rattle.std.proofs.lemmas.Bool.{cases_eq, cases_lt}
-use Rattle.std.proofs.lemmas.List.{length-map, length-replicate, get_or-replicate, get_or_past, set-set}
+use Rattle.std.proofs.lemmas.List.{length-replicate, get_or-replicate, get_or_past, set-set}
 use Rattle.std.proofs.Math.ListN.{get_or-map}
 use Rattle.std.proofs.lemmas.Option.{get_or_from_slice_get, slice_get_within, slice_get-get_or}
 use Rattle.wb_types.specs.declared.entry.Entry.{Entry}
@@ -20,17 +20,17 @@ use Rattle.wb_space.specs.declared.block.Block.TheVariants.{Free, Mapped, Reserv
 use Rattle.wb_space.specs.Blocks.{state, released as block_released, commit_begun as block_begun, commit_ended as block_ended, opened_block}
 use Rattle.wb_orders.specs.declared.live_order.LiveOrder.{LiveOrder as Living}
 use Rattle.wb_orders.specs.Named.{first_of, second_of, IsNamed}
-use Rattle.wb_orders.specs.Orders.{Orders, AreOrders, IsTaken, IsQueue, order_at, cost_of, slots_taken, queue_taken, next_taken, taken, without_order, unmarked}
+use Rattle.wb_orders.specs.Orders.{Orders, AreOrders, IsTaken, IsQueue, order_at, cost_of, slots_taken, queue_taken, taken, without_order, unmarked}
 use Rattle.wb_orders.proofs.Kept.{Slots, within_of, none_kept, none_cost}
 use Rattle.wb_orders.proofs.Calls.{given_kept, given_cost, taken_kept, taken_cost, over_kept, over_cost}
 use Rattle.wb_desk.specs.Allocation.{LiveOrder, Allocation, AllocationInvariant, MayGive, Apart, Shareless, NoneTwice, at_opening, opened_entry, IsActRun, Act, Over, Unmap as UnmapBlock, after_act, after_acts, entry_in, cost, without, cache_at}
 use Rattle.wb_desk.specs.Desks.{DeskState, DeskInvariant, MayReserve, holdings, sectors_asked}
-use Rattle.wb_desk.specs.Calls.{blocks_reserved, reserved, released, next_order_taken}
+use Rattle.wb_desk.specs.Calls.{reserved, released, next_order_taken}
 use Rattle.wb_desk.specs.Entries.{MayMap, IsRemoved, entry_of, mapped, unmapped, keeps, orders_past, is_replacement}
 use Rattle.wb_desk.specs.Opening.{opened}
-use Rattle.wb_desk.specs.Commits.{MayBegin, commit_begun, commit_ended}
+use Rattle.wb_desk.specs.Commits.{commit_begun, commit_ended}
 use Rattle.wb_desk.specs.Safety.{HeldImages, Call, TakeOrder, Tell, GiveOrder, Release, Map, Unmap, BeginCommit, EndCommit, Does, AreCalls, images_after, images_since, desk_after}
-use Rattle.wb_desk.specs.Acting.{IsAllocation, spoken_of, as_given, order_in, rank_in, reserves, acts_of, acts_removing, acts_since}
+use Rattle.wb_desk.specs.Acting.{IsAllocation, spoken_of, as_given, order_in, rank_in, acts_of, acts_removing, acts_since}
 use Rattle.wb_desk.proofs.Acts.{all_kept, opened_kept}
 use Rattle.wb_desk.proofs.Entering.{entrance}
 use Rattle.wb_desk.proofs.Leaving.{mapped_state}
@@ -162,28 +162,34 @@ module _ {P : Type 0} where
   Follows images a d call new = IsActRun a (acts_of a d call new) × IsAllocation new (images_after d images call) (after_acts a (acts_of a d call new))
 
   take_follows : (d : DeskState P) (images : HeldImages) (a : Allocation) → IsAllocation d images a → AreOrders d.orders → Follows images a d TakeOrder (next_order_taken d)
-  take_follows d images a s r = (tt, record {
-    blocks = s.blocks;
-    mapping = s.mapping;
-    committed = s.committed;
-    running = s.running;
-    committing = s.committing;
-    threshold = s.threshold;
-    orders = λ c. s.orders c ∙ sym (taken_listed d.orders.slots d.orders.waiting c r.queue);
-    sectors = s.sectors ∙ sym (taken_sectors d.orders.slots d.orders.waiting r.queue);
-  })
+  take_follows d images a s r = (
+    tt,
+    record {
+      blocks = s.blocks;
+      mapping = s.mapping;
+      committed = s.committed;
+      running = s.running;
+      committing = s.committing;
+      threshold = s.threshold;
+      orders = λ c. s.orders c ∙ sym (taken_listed d.orders.slots d.orders.waiting c r.queue);
+      sectors = s.sectors ∙ sym (taken_sectors d.orders.slots d.orders.waiting r.queue);
+    },
+  )
 
   tell_follows : (d new : DeskState P) (images : HeldImages) (a : Allocation) → IsAllocation d images a → new ≡ record d { threshold = new.threshold; policy = new.policy } → Follows images a d Tell new
-  tell_follows d new images a s e = ((tt, tt), record {
-    blocks = s.blocks ∙ sym (ap (λ (x : DeskState P). x.space.blocks) e);
-    mapping = s.mapping ∙ sym (ap (λ (x : DeskState P). holdings x) e);
-    committed = s.committed;
-    running = s.running;
-    committing = s.committing ∙ sym (ap (λ (x : DeskState P). x.space.committing) e);
-    threshold = refl;
-    orders = λ c. s.orders c ∙ sym (ap (λ (x : DeskState P). option_map (as_given c) (order_at x.orders.slots c)) e);
-    sectors = s.sectors ∙ sym (ap (λ (x : DeskState P). cost_of x.orders.slots) e);
-  })
+  tell_follows d new images a s e = (
+    (tt, tt),
+    record {
+      blocks = s.blocks ∙ sym (ap (λ (x : DeskState P). x.space.blocks) e);
+      mapping = s.mapping ∙ sym (ap (λ (x : DeskState P). holdings x) e);
+      committed = s.committed;
+      running = s.running;
+      committing = s.committing ∙ sym (ap (λ (x : DeskState P). x.space.committing) e);
+      threshold = refl;
+      orders = λ c. s.orders c ∙ sym (ap (λ (x : DeskState P). option_map (as_given c) (order_at x.orders.slots c)) e);
+      sectors = s.sectors ∙ sym (ap (λ (x : DeskState P). cost_of x.orders.slots) e);
+    },
+  )
 
   may_give : (d : DeskState P) (images : HeldImages) (a : Allocation) (c : CBlock) (order : Order) → IsAllocation d images a → AreOrders d.orders → AllocationInvariant a → MayReserve d c order
       → MayGive a (spoken_of c.0 order (sectors_asked d.geometry order) d.threshold)
@@ -212,64 +218,77 @@ module _ {P : Type 0} where
 
   give_follows : (d : DeskState P) (images : HeldImages) (a : Allocation) (c : CBlock) (order : Order) (waits : Bool) → IsAllocation d images a → AreOrders d.orders → AllocationInvariant a → MayReserve d c order
       → Follows images a d (GiveOrder c order waits) (reserved d c order waits)
-  give_follows d images a c (Promote b k) waits s r i may =
-      (((may_give d images a c (Promote b k) s r i may, ap (λ (x : List Block). slice_get x c.0) s.blocks ∙ ap (λ (x : CBlock). slice_get d.space.blocks x.0) may.lawful.0 ∙ may.lawful.1), tt), record {
-        blocks = ap (λ (x : List Block). set x c.0 Reserved) s.blocks ∙ ap (λ (x : CBlock). set d.space.blocks x.0 Reserved) may.lawful.0;
-        mapping = s.mapping;
-        committed = s.committed;
-        running = s.running;
-        committing = s.committing;
-        threshold = s.threshold;
-        orders = orders_given d images a c (Promote b k) waits s may;
-        sectors = sectors_given d images a c (Promote b k) waits s may;
-      })
-  give_follows d images a c (Replace v b k) waits s r i may = ((may_give d images a c (Replace v b k) s r i may, tt), record {
-    blocks = s.blocks;
-    mapping = s.mapping;
-    committed = s.committed;
-    running = s.running;
-    committing = s.committing;
-    threshold = s.threshold;
-    orders = orders_given d images a c (Replace v b k) waits s may;
-    sectors = sectors_given d images a c (Replace v b k) waits s may;
-  })
-  give_follows d images a c (Demote b) waits s r i may = ((may_give d images a c (Demote b) s r i may, tt), record {
-    blocks = s.blocks;
-    mapping = s.mapping;
-    committed = s.committed;
-    running = s.running;
-    committing = s.committing;
-    threshold = s.threshold;
-    orders = orders_given d images a c (Demote b) waits s may;
-    sectors = sectors_given d images a c (Demote b) waits s may;
-  })
-  give_follows d images a c (Clean b) waits s r i may = ((may_give d images a c (Clean b) s r i may, tt), record {
-    blocks = s.blocks;
-    mapping = s.mapping;
-    committed = s.committed;
-    running = s.running;
-    committing = s.committing;
-    threshold = s.threshold;
-    orders = orders_given d images a c (Clean b) waits s may;
-    sectors = sectors_given d images a c (Clean b) waits s may;
-  })
+  give_follows d images a c (Promote b k) waits s r i may = (
+    ((may_give d images a c (Promote b k) s r i may, ap (λ (x : List Block). slice_get x c.0) s.blocks ∙ ap (λ (x : CBlock). slice_get d.space.blocks x.0) may.lawful.0 ∙ may.lawful.1), tt),
+    record {
+      blocks = ap (λ (x : List Block). set x c.0 Reserved) s.blocks ∙ ap (λ (x : CBlock). set d.space.blocks x.0 Reserved) may.lawful.0;
+      mapping = s.mapping;
+      committed = s.committed;
+      running = s.running;
+      committing = s.committing;
+      threshold = s.threshold;
+      orders = orders_given d images a c (Promote b k) waits s may;
+      sectors = sectors_given d images a c (Promote b k) waits s may;
+    },
+  )
+  give_follows d images a c (Replace v b k) waits s r i may = (
+    (may_give d images a c (Replace v b k) s r i may, tt),
+    record {
+      blocks = s.blocks;
+      mapping = s.mapping;
+      committed = s.committed;
+      running = s.running;
+      committing = s.committing;
+      threshold = s.threshold;
+      orders = orders_given d images a c (Replace v b k) waits s may;
+      sectors = sectors_given d images a c (Replace v b k) waits s may;
+    },
+  )
+  give_follows d images a c (Demote b) waits s r i may = (
+    (may_give d images a c (Demote b) s r i may, tt),
+    record {
+      blocks = s.blocks;
+      mapping = s.mapping;
+      committed = s.committed;
+      running = s.running;
+      committing = s.committing;
+      threshold = s.threshold;
+      orders = orders_given d images a c (Demote b) waits s may;
+      sectors = sectors_given d images a c (Demote b) waits s may;
+    },
+  )
+  give_follows d images a c (Clean b) waits s r i may = (
+    (may_give d images a c (Clean b) s r i may, tt),
+    record {
+      blocks = s.blocks;
+      mapping = s.mapping;
+      committed = s.committed;
+      running = s.running;
+      committing = s.committing;
+      threshold = s.threshold;
+      orders = orders_given d images a c (Clean b) waits s may;
+      sectors = sectors_given d images a c (Clean b) waits s may;
+    },
+  )
 
   release_follows : (d : DeskState P) (images : HeldImages) (a : Allocation) (c : CBlock) → IsAllocation d images a → AllocationInvariant a → IsTaken (order_at d.orders.slots c.0)
       → Follows images a d (Release c) (released d c)
   release_follows d images a c s i is =
       let t = taken_order (order_at d.orders.slots c.0) is in
-      let inside = there_in a.orders d.orders.slots c.0 t.0 s.orders t.1 in
-      ((rank_within a.orders c.0 (as_given c.0 t.0) inside, tt), record {
-        blocks = ap (λ (n : ℕ). set a.blocks n (block_released (state a.blocks n))) (rank_there a.orders c.0 (as_given c.0 t.0) inside)
-            ∙ ap (λ (x : List Block). set x c.0 (block_released (state x c.0))) s.blocks;
-        mapping = s.mapping;
-        committed = s.committed;
-        running = s.running;
-        committing = s.committing;
-        threshold = s.threshold;
-        orders = over_listed a.orders d.orders.slots c.0 t.0 t.1 i.shareless s.orders;
-        sectors = over_sectors a.orders d.orders.slots c.0 t.0 t.1 s.orders s.sectors;
-      })
+      let inside = there_in a.orders d.orders.slots c.0 t.0 s.orders t.1 in (
+        (rank_within a.orders c.0 (as_given c.0 t.0) inside, tt),
+        record {
+          blocks = ap (λ (n : ℕ). set a.blocks n (block_released (state a.blocks n))) (rank_there a.orders c.0 (as_given c.0 t.0) inside)
+              ∙ ap (λ (x : List Block). set x c.0 (block_released (state x c.0))) s.blocks;
+          mapping = s.mapping;
+          committed = s.committed;
+          running = s.running;
+          committing = s.committing;
+          threshold = s.threshold;
+          orders = over_listed a.orders d.orders.slots c.0 t.0 t.1 i.shareless s.orders;
+          sectors = over_sectors a.orders d.orders.slots c.0 t.0 t.1 s.orders s.sectors;
+        },
+      )
 
   -- a block is set, and an order of it is over, which leaves the block as it is
   set_and_over : (d : DeskState P) (images : HeldImages) (a : Allocation) (c : ℕ) (o : Living) (b : Block) → IsAllocation d images a → order_at d.orders.slots c ≡ Some o → c < length d.space.blocks → block_released b ≡ b
@@ -284,24 +303,26 @@ module _ {P : Type 0} where
   map_follows knows d images a b c tree policy v s i may entries =
       let way = entrance knows d b c v may in
       let l : c.0 < length d.space.blocks = slice_get_within d.space.blocks c.0 Reserved may.reserved in
-      let within : c.0 < length (holdings d) = slice_get_within (holdings d) c.0 None way.vacant in
-      ((
+      let within : c.0 < length (holdings d) = slice_get_within (holdings d) c.0 None way.vacant in (
         (
-          ap (λ (x : List Block). slice_get x c.0) s.blocks ∙ may.reserved,
-          subst (λ (m : Holdings). c.0 < length m) (sym s.mapping) within,
-          subst (λ (m : Holdings). (k : ℕ) → entry_in m k ≢ Some b.0) (sym s.mapping) (unmapped_in (holdings d) b.0 way.unmapped),
+          (
+            ap (λ (x : List Block). slice_get x c.0) s.blocks ∙ may.reserved,
+            subst (λ (m : Holdings). c.0 < length m) (sym s.mapping) within,
+            subst (λ (m : Holdings). (k : ℕ) → entry_in m k ≢ Some b.0) (sym s.mapping) (unmapped_in (holdings d) b.0 way.unmapped),
+          ),
+          (rank_within a.orders c.0 (as_given c.0 may.live) (there_in a.orders d.orders.slots c.0 may.live s.orders may.there), tt),
         ),
-        (rank_within a.orders c.0 (as_given c.0 may.live) (there_in a.orders d.orders.slots c.0 may.live s.orders may.there), tt),
-      ), record {
-        blocks = set_and_over d images a c.0 may.live Mapped s may.there l refl;
-        mapping = ap (λ (m : Holdings). set m c.0 (Some b.0)) s.mapping ∙ sym (origins-set d.tree.entries tree.entries c.0 (Some (entry_of b)) entries);
-        committed = s.committed;
-        running = s.running;
-        committing = s.committing;
-        threshold = s.threshold;
-        orders = over_listed a.orders d.orders.slots c.0 may.live may.there i.shareless s.orders;
-        sectors = over_sectors a.orders d.orders.slots c.0 may.live may.there s.orders s.sectors;
-      })
+        record {
+          blocks = set_and_over d images a c.0 may.live Mapped s may.there l refl;
+          mapping = ap (λ (m : Holdings). set m c.0 (Some b.0)) s.mapping ∙ sym (origins-set d.tree.entries tree.entries c.0 (Some (entry_of b)) entries);
+          committed = s.committed;
+          running = s.running;
+          committing = s.committing;
+          threshold = s.threshold;
+          orders = over_listed a.orders d.orders.slots c.0 may.live may.there i.shareless s.orders;
+          sectors = over_sectors a.orders d.orders.slots c.0 may.live may.there s.orders s.sectors;
+        },
+      )
 
   -- a desk whose block was removed, with the orders of then
   abbrev left_with : DeskState P → CBlock → Mapping → P → Bool → Orders → ℕ → DeskState P
@@ -323,41 +344,49 @@ module _ {P : Type 0} where
 
     left_alone : (demotions : ℕ) → IsActRun a (acts_removing None c.0 (rank_in a.orders c.0))
         × IsAllocation (left_with d c tree policy false d.orders demotions) images (after_acts a (acts_removing None c.0 (rank_in a.orders c.0)))
-    left_alone demotions = ((there, tt), record {
-      blocks = ap (λ (x : List Block). set x c.0 (Quarantined false false)) s.blocks;
-      mapping = emptied;
-      committed = s.committed;
-      running = s.running;
-      committing = s.committing;
-      threshold = s.threshold;
-      orders = s.orders;
-      sectors = s.sectors;
-    })
+    left_alone demotions = (
+      (there, tt),
+      record {
+        blocks = ap (λ (x : List Block). set x c.0 (Quarantined false false)) s.blocks;
+        mapping = emptied;
+        committed = s.committed;
+        running = s.running;
+        committing = s.committing;
+        threshold = s.threshold;
+        orders = s.orders;
+        sectors = s.sectors;
+      },
+    )
 
     left_under : (demotions : ℕ) (o : Living) → order_at d.orders.slots c.0 ≡ Some o → (r : Bool)
         → (let acts : List Act = if r then UnmapBlock c.0 true ∷ [] else UnmapBlock c.0 false ∷ Over (rank_in a.orders c.0) ∷ [] in
-          IsActRun a acts × IsAllocation (left_with d c tree policy r (if r then d.orders else without_order d.orders c) demotions) images (after_acts a acts))
-    left_under demotions o is true = (((there, has_one a.orders c.0 (as_given c.0 o) (there_in a.orders d.orders.slots c.0 o s.orders is)), tt), record {
-      blocks = ap (λ (x : List Block). set x c.0 (Quarantined true false)) s.blocks;
-      mapping = emptied;
-      committed = s.committed;
-      running = s.running;
-      committing = s.committing;
-      threshold = s.threshold;
-      orders = s.orders;
-      sectors = s.sectors;
-    })
-    left_under demotions o is false =
-        ((there, (rank_within a.orders c.0 (as_given c.0 o) (there_in a.orders d.orders.slots c.0 o s.orders is), tt)), record {
-          blocks = set_and_over d images a c.0 o (Quarantined false false) s is (slice_get_within d.space.blocks c.0 Mapped (mapped_state knows d b.0 c.0 v at)) refl;
-          mapping = emptied;
-          committed = s.committed;
-          running = s.running;
-          committing = s.committing;
-          threshold = s.threshold;
-          orders = over_listed a.orders d.orders.slots c.0 o is i.shareless s.orders;
-          sectors = over_sectors a.orders d.orders.slots c.0 o is s.orders s.sectors;
-        })
+        IsActRun a acts × IsAllocation (left_with d c tree policy r (if r then d.orders else without_order d.orders c) demotions) images (after_acts a acts))
+    left_under demotions o is true = (
+      ((there, has_one a.orders c.0 (as_given c.0 o) (there_in a.orders d.orders.slots c.0 o s.orders is)), tt),
+      record {
+        blocks = ap (λ (x : List Block). set x c.0 (Quarantined true false)) s.blocks;
+        mapping = emptied;
+        committed = s.committed;
+        running = s.running;
+        committing = s.committing;
+        threshold = s.threshold;
+        orders = s.orders;
+        sectors = s.sectors;
+      },
+    )
+    left_under demotions o is false = (
+      (there, (rank_within a.orders c.0 (as_given c.0 o) (there_in a.orders d.orders.slots c.0 o s.orders is), tt)),
+      record {
+        blocks = set_and_over d images a c.0 o (Quarantined false false) s is (slice_get_within d.space.blocks c.0 Mapped (mapped_state knows d b.0 c.0 v at)) refl;
+        mapping = emptied;
+        committed = s.committed;
+        running = s.running;
+        committing = s.committing;
+        threshold = s.threshold;
+        orders = over_listed a.orders d.orders.slots c.0 o is i.shareless s.orders;
+        sectors = over_sectors a.orders d.orders.slots c.0 o is s.orders s.sectors;
+      },
+    )
 
     left : (demotions : ℕ) (slot : Option Living) → order_at d.orders.slots c.0 ≡ slot → IsActRun a (acts_removing slot c.0 (rank_in a.orders c.0))
         × IsAllocation (left_with d c tree policy (keeps slot) (orders_past slot d.orders c) demotions) images (after_acts a (acts_removing slot c.0 (rank_in a.orders c.0)))
@@ -369,28 +398,34 @@ module _ {P : Type 0} where
 
   begin_follows : (d : DeskState P) (images : HeldImages) (a : Allocation) (tree : Mapping) (used : List Place) → IsAllocation d images a → d.space.committing ≡ false → holdings (record d { tree = tree }) ≡ holdings d
       → Follows images a d (BeginCommit used) (commit_begun d tree used)
-  begin_follows d images a tree used s idle same = ((s.committing ∙ idle, tt), record {
-    blocks = ap (λ (x : List Block). map block_begun x) s.blocks;
-    mapping = s.mapping ∙ sym same;
-    committed = s.committed;
-    running = s.mapping;
-    committing = refl;
-    threshold = s.threshold;
-    orders = s.orders;
-    sectors = s.sectors;
-  })
+  begin_follows d images a tree used s idle same = (
+    (s.committing ∙ idle, tt),
+    record {
+      blocks = ap (λ (x : List Block). map block_begun x) s.blocks;
+      mapping = s.mapping ∙ sym same;
+      committed = s.committed;
+      running = s.mapping;
+      committing = refl;
+      threshold = s.threshold;
+      orders = s.orders;
+      sectors = s.sectors;
+    },
+  )
 
   end_follows : (d : DeskState P) (images : HeldImages) (a : Allocation) → IsAllocation d images a → d.space.committing ≡ true → Follows images a d EndCommit (commit_ended d)
-  end_follows d images a s runs = ((s.committing ∙ runs, tt), record {
-    blocks = ap (λ (x : List Block). map block_ended x) s.blocks;
-    mapping = s.mapping;
-    committed = s.running;
-    running = s.running;
-    committing = refl;
-    threshold = s.threshold;
-    orders = s.orders;
-    sectors = s.sectors;
-  })
+  end_follows d images a s runs = (
+    (s.committing ∙ runs, tt),
+    record {
+      blocks = ap (λ (x : List Block). map block_ended x) s.blocks;
+      mapping = s.mapping;
+      committed = s.running;
+      running = s.running;
+      committing = refl;
+      threshold = s.threshold;
+      orders = s.orders;
+      sectors = s.sectors;
+    },
+  )
 
   call_follows : (knows : P → Holdings → Type 0) (d new : DeskState P) (call : Call) (images : HeldImages) (a : Allocation) → DeskInvariant knows d → AreOrders d.orders → IsAllocation d images a
       → AllocationInvariant a → Does d call new → Follows images a d call new

@@ -1,5 +1,5 @@
 -- Lists of live orders, in which each is found by its cache block.
-use Rattle.std.proofs.Common.{◌≡◌, ◌≢◌, ◌<◌, ◌+◌, inl, inr, ℕ, suc, Bool, true, false, List, [], ◌∷◌, ◌++◌, Option, Some, None, length, cond, refl, sym, ap, subst, ◌∙◌, arith}
+use Rattle.std.proofs.Common.{◌≡◌, ◌≢◌, ◌<◌, ◌+◌, inl, inr, ℕ, suc, Bool, List, [], ◌∷◌, ◌++◌, Option, Some, None, length, cond, refl, sym, ap, ◌∙◌, arith}
 use Rattle.std.proofs.lemmas.Bool.{cases_eq}
 use Rattle.std.proofs.lemmas.Bool.Decides.{eqb_tells}
 use Rattle.wb_desk.specs.Allocation.{LiveOrder, Apart, ApartAll, Shareless, cost, without, cache_at, HasOrder}
@@ -109,7 +109,10 @@ has_one (o ∷ os) c p e = elim (cases_eq o.cache c) [
 -- Of orders that share nothing each is the one of its cache block, so what is apart from those is apart from all.
 pub apart_all : (o : LiveOrder) (os : List LiveOrder) → Shareless os → ((k : ℕ) (p : LiveOrder) → order_in os k ≡ Some p → Apart o p) → ApartAll o os
 apart_all o [] s each = tt
-apart_all o (p ∷ os) s each = (each p.cache p (here p os p.cache refl).0, apart_all o os s.1 (λ k q e. elim (cases_eq p.cache k) [
-  | inl h ↦ absurd (no_some q (sym (none_beside p os k s.0 h) ∙ e))
-  | inr n ↦ each k q ((there p os k n).0 ∙ e)
-]))
+apart_all o (p ∷ os) s each = (
+  each p.cache p (here p os p.cache refl).0,
+  apart_all o os s.1 (λ k q e. elim (cases_eq p.cache k) [
+    | inl h ↦ absurd (no_some q (sym (none_beside p os k s.0 h) ∙ e))
+    | inr n ↦ each k q ((there p os k n).0 ∙ e)
+  ]),
+)

@@ -1,5 +1,5 @@
 -- What each call of a desk is, as acts on the cache blocks, the mapping, the images and the live orders.
-use Rattle.std.specs.Prelude.{◌≡◌, ◌==◌, ℕ, zero, suc, Bool, true, false, if◌then◌else◌, List, [], ◌∷◌, ◌++◌, Option, Some, None}
+use Rattle.std.specs.Prelude.{◌≡◌, ◌==◌, ℕ, suc, Bool, true, false, if◌then◌else◌, List, [], ◌∷◌, ◌++◌, Option, Some, None}
 use Rattle.std.specs.Option.{option_map}
 use Rattle.wb_types.specs.declared.geometry.Geometry.{Geometry}
 use Rattle.wb_types.specs.declared.mode.Mode.{Mode}
@@ -15,7 +15,7 @@ use Rattle.wb_desk.specs.Allocation.{LiveOrder, Allocation, AllocationInvariant,
 use Rattle.wb_desk.specs.Desks.{DeskState, holdings, sectors_asked}
 use Rattle.wb_desk.specs.Entries.{is_replacement}
 use Rattle.wb_desk.specs.Opening.{opened}
-use Rattle.wb_desk.specs.Safety.{HeldImages, Call, TakeOrder, Tell, GiveOrder, Release, Map, Unmap, BeginCommit, EndCommit, AreCalls, images_after, images_since, desk_after}
+use Rattle.wb_desk.specs.Safety.{HeldImages, Call, TakeOrder, Tell, GiveOrder, Release, Map, Unmap, BeginCommit, EndCommit, AreCalls, images_since, desk_after}
 
 -- an order of a cache block, as the acts speak of it
 abbrev pub spoken_of : ℕ → Order → ℕ → ℕ → LiveOrder

@@ -11,4 +11,6 @@ mod opening;
 pub use counts::Counts;
 pub use decisions::decisions_law;
 pub use desk::Desk;
-pub use law::{allocation_keeps_its_invariant, calls_are_acts, images_stay_safe, same_marks_change_no_node};
+pub use law::{
+    allocation_keeps_its_invariant, calls_are_acts, images_stay_safe, same_marks_change_no_node,
+};

@@ -18,7 +18,10 @@ const UNCHANGED: [(Call, bool); 6] = [
     ),
     (Call::End, true),
     (
-        Call::Image(Some([false, true, false, false]), (10, 1, Some(Place(3)), 1)),
+        Call::Image(
+            Some([false, true, false, false]),
+            (10, 1, Some(Place(3)), 1),
+        ),
         true,
     ),
     (Call::Entry(1, Some((3, true, 0))), true),

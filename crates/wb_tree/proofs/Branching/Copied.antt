@@ -1,5 +1,5 @@
 -- Boxes that hold the same as others.
-use Rattle.std.proofs.Common.{◌≡◌, ◌<◌, ◌≤◌, ◌+◌, ◌-◌, ◌*◌, ◌^◌, ◌==◌, ◌∙◌, sym, ap, subst, refl, ℕ, Bool, Option, Some, None, Box, List, [], ◌∷◌, ◌++◌, length, map, drop, get_or, cond, append_assoc, arith}
+use Rattle.std.proofs.Common.{◌≡◌, ◌<◌, ◌≤◌, ◌+◌, ◌-◌, ◌*◌, ◌^◌, ◌==◌, ◌∙◌, sym, ap, subst, refl, ℕ, Option, Some, None, Box, List, [], ◌∷◌, ◌++◌, length, map, drop, get_or, cond, append_assoc, arith}
 use Rattle.std.specs.List.{flat_map}
 use Rattle.std.specs.Option.{option_map}
 use Rattle.std.proofs.lemmas.List.{length-map, drop_all, drop_more, append-nil}

@@ -1,4 +1,4 @@
-use Rattle.std.proofs.Common.{true, false, refl}
+use Rattle.std.proofs.Common.{true, refl}
 use Rattle.wb_desk.proofs.Safe.{given_decided, none_decided}
 use Rattle.wb_desk.proofs.desk.Desk.queue.Goals as goal
 
