@@ -46,10 +46,33 @@ impl<D: Disk + Drop, P: Policy> IdleStage<D, P> {
         ensures room { IfOk result (λ idle. length idle.stage.buffer.items ≡ longest) }
         ensures refused { IfErr result (λ refusal. refusal ≡ Refusal.Memory) }
     {
+        let crew = Crew::new(alloc, blocks, 1)?;
+        IdleStage::of_crew(alloc, crew, 0, devices, desk, longest)
+    }
+
+    /// A stage of an actor of a crew who has no block, for steps of at most so many sectors. `Memory` where there is no room for
+    /// the sectors that a step moves.
+    pub fn of_crew(
+        alloc: Global,
+        crew: Crew,
+        actor: usize,
+        devices: Devices<D>,
+        desk: Desk<P>,
+        longest: usize,
+    ) -> Result<IdleStage<D, P>, Refusal>
+        requires there { actor < length crew.cards }
+        requires idle { (card_of crew actor).hold ≡ Nothing }
+        ensures crew { IfOk result (λ idle. idle.stage.crew ≡ crew) }
+        ensures actor { IfOk result (λ idle. idle.stage.actor ≡ actor) }
+        ensures devices { IfOk result (λ idle. idle.stage.devices ≡ devices) }
+        ensures desk { IfOk result (λ idle. idle.stage.desk ≡ desk) }
+        ensures room { IfOk result (λ idle. length idle.stage.buffer.items ≡ longest) }
+        ensures refused { IfErr result (λ refusal. refusal ≡ Refusal.Memory) }
+    {
         Ok(IdleStage {
             stage: CacheStage {
-                crew: Crew::new(alloc, blocks, 1)?,
-                actor: 0,
+                crew,
+                actor,
                 devices,
                 buffer: vec![in alloc; [0; SECTOR_BYTES]; longest]?,
                 desk,

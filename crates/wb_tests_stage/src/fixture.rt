@@ -1,10 +1,13 @@
 //! A cache of four blocks over an origin of ten, in memory, and its jobs.
 
-ghost use Rattle.std.specs.Prelude.{◌≡◌, ◌≤◌, ◌<◌, ◌+◌, IfOk};
+ghost use Rattle.std.specs.Prelude.{◌≡◌, ◌≤◌, ◌<◌, ◌+◌, IfOk, length};
+ghost use Rattle.wb_words.specs.declared.card.Hold.TheVariants.{Nothing};
+ghost use Rattle.wb_cells.specs.Crews.{card_of};
 ghost use Rattle.wb_meta.specs.Reads.{FitsDevice};
 
 use crate::counting::Counting;
 use std::alloc::Global;
+use wb_cells::Crew;
 use wb_desk::Desk;
 use wb_devices::{Devices, OpeningStage};
 use wb_disk::MemDisk;
@@ -77,6 +80,17 @@ pub fn closed(alloc: Global, devices: Devices<Counting>) -> Result<Stage, Refusa
 pub fn open(alloc: Global, devices: Devices<Counting>) -> Result<Cache, Refusal>
     ensures { IfOk result (λ cache. cache.stage.crew.blocks ≡ 10) }
 {
+    let crew = Crew::new(alloc, 10, 1)?;
+    open_by(alloc, devices, crew)
+}
+
+/// One that is opened for the first actor of a crew.
+pub fn open_by(alloc: Global, devices: Devices<Counting>, crew: Crew) -> Result<Cache, Refusal>
+    requires blocks { crew.blocks ≡ 10 }
+    requires there { 1 ≤ length crew.cards }
+    requires idle { (card_of crew 0).hold ≡ Nothing }
+    ensures { IfOk result (λ cache. cache.stage.crew.blocks ≡ 10) }
+{
     let mut stage = OpeningStage::new(alloc, devices, geometry()?);
     if let Answer::Refused(refusal) = stage.run(&mut OpenTask::new(4)) {
         return Err(refusal);
@@ -86,7 +100,7 @@ pub fn open(alloc: Global, devices: Devices<Counting>) -> Result<Cache, Refusal>
         return Err(Refusal::Memory);
     };
     let desk = desk_of(alloc, state)?;
-    IdleStage::new(alloc, 10, devices, desk, 64)
+    IdleStage::of_crew(alloc, crew, 0, devices, desk, 64)
 }
 
 /// A formatted cache that was opened.

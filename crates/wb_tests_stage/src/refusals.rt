@@ -1,16 +1,20 @@
 //! What the desk and the words refuse.
 
-ghost use Rattle.std.specs.Prelude.{◌≡◌};
+ghost use Rattle.std.specs.Prelude.{◌≡◌, IfOk, length};
+ghost use Rattle.wb_words.specs.declared.card.Hold.TheVariants.{Nothing};
+ghost use Rattle.wb_cells.specs.Crews.{card_of};
 
 use crate::faults::PROMOTE;
-use crate::fixture::{Cache, Job, formatted, hinder, open, opened, play, promote, take};
+use crate::fixture::{Cache, Job, formatted, hinder, open, open_by, opened, play, promote, take};
 use crate::openings::renumber;
 use std::alloc::Global;
 use std::test::Fail;
+use wb_cells::Crew;
 use wb_flow::FlushTask;
 use wb_policy::Order;
 use wb_tasks::Answer;
 use wb_types::{CBlock, Dev, OBlock, Refusal};
+use wb_words::{Access, CellStep};
 
 /// A promotion that no order asks for is refused, and gives up its block: another task finds it free.
 fn is_not_mapped(cache: &mut Cache) -> bool
@@ -97,5 +101,37 @@ const WRITE: Job = Job::Write(0, 2, 0x11);
 fn a_failed_target_refuses_each_task(rt: HostRuntime) -> Result<(), Fail> {
     let mut cache = opened(rt.alloc())?;
     assert!(rt; is_failed(&mut cache));
+    Ok(())
+}
+
+/// A crew of two, of whom the second owns the first block.
+fn crew_beside_an_owner(alloc: Global) -> Result<Crew, Refusal>
+    ensures blocks { IfOk result (λ crew. crew.blocks ≡ 10) }
+    ensures cards { IfOk result (λ crew. length crew.cards ≡ 2) }
+    ensures idle { IfOk result (λ crew. (card_of crew 0).hold ≡ Nothing) }
+{
+    let mut crew = Crew::new(alloc, 10, 2)?;
+    crew.step(1, CellStep::Take(Access::Owned, OBlock(0), 0));
+    Ok(crew)
+}
+
+/// What is asked of that block is refused, and a promotion keeps its order; another block is free.
+fn is_kept_out(cache: &mut Cache) -> bool
+    requires { cache.old.stage.crew.blocks ≡ 10 }
+{
+    for job in [WRITE, Job::Read(0, 2), PROMOTE] {
+        if play(cache, &job, 64) != Some(Answer::Refused(Refusal::Busy)) {
+            return false;
+        }
+    }
+    cache.stage.desk.is_live(Order::Promote(OBlock(0), CBlock(0)))
+        && play(cache, &Job::Read(64, 2), 64) == Some(Answer::Done)
+}
+
+#[test]
+fn a_block_that_another_owns_is_busy(rt: HostRuntime) -> Result<(), Fail> {
+    let crew = crew_beside_an_owner(rt.alloc())?;
+    let mut cache = open_by(rt.alloc(), formatted(rt.alloc())?, crew)?;
+    assert!(rt; is_kept_out(&mut cache));
     Ok(())
 }
