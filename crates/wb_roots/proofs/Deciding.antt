@@ -1,0 +1,86 @@
+-- Which of two states a device is read as.
+use Rattle.std.proofs.Common.{◌≡◌, ◌∙◌, sym, ap, subst, refl, List, Option, Some, None, length, map, inl, inr}
+use Rattle.std.proofs.lemmas.List.{length-map}
+use Rattle.wb_types.specs.declared.geometry.Geometry.{Geometry}
+use Rattle.wb_types.specs.declared.number.Place.{Place}
+use Rattle.wb_types.specs.declared.refusal.Refusal.{Refusal}
+use Rattle.wb_disk.specs.Device.{History, Crashed, PartlySynced, newest, only, synced}
+use Rattle.wb_disk.specs.Crashes.{MayLeave}
+use Rattle.wb_disk.proofs.Leaving.{read-left, crash-left, newest-synced, left-synced, left-crashed, left-partly}
+use Rattle.wb_format.specs.declared.root.Root.{Root}
+use Rattle.wb_tree.specs.Mapping.{Mapping}
+use Rattle.wb_tree.specs.Reading.{Found}
+use Rattle.wb_meta.specs.Representing.{Stored}
+use Rattle.wb_meta.specs.Imaging.{DeviceStores}
+use Rattle.wb_meta.specs.Reads.{FitsDevice}
+use Rattle.wb_meta.specs.States.{RepresentsState, SpeaksOfSectors, IsRefusedBy}
+use Rattle.wb_meta.proofs.OneReading.{one_tree, not_refused}
+use Rattle.wb_meta.proofs.Round.{stored_read}
+use Rattle.wb_roots.specs.Roots.{Are, MayBeReadAs, IsSettled}
+use Rattle.wb_roots.specs.Laws.{IsDecided}
+
+pub stored_is_read : (m : Mapping) (device : List History) (state : Stored) (used : List Place) → DeviceStores m device state used
+    → MayBeReadAs state.root.geometry state None device
+stored_is_read m device state used stores = record { size = stores.size; same_geometry = refl; later_geometry = tt; represents = stores.represents }
+
+-- one of which a crash leaves what reads give alone is read as that
+alone : (geometry : Geometry) (state : Stored) (device : List History) → length device ≡ geometry.meta_sectors → state.root.geometry ≡ geometry
+    → IsSettled device → Are state (map newest device) → MayBeReadAs geometry state None device
+alone geometry state device size same settled are = record {
+  size = size;
+  same_geometry = same;
+  later_geometry = tt;
+  represents = λ sectors left. subst (Are state) (sym (settled sectors left)) are;
+}
+
+decided : (geometry : Geometry) (committed : Stored) (later : Option Stored) (device new : List History) → MayBeReadAs geometry committed later device
+    → length new ≡ length device → IsSettled new → MayLeave device (map newest new) → IsDecided geometry committed later new
+decided geometry committed None device new may size settled left =
+    (settled, inl (alone geometry committed new (size ∙ may.size) may.same_geometry settled (may.represents (map newest new) left)))
+decided geometry committed (Some later) device new may size settled left = (
+  settled,
+  elim (may.represents (map newest new) left) [
+    | inl old ↦ inl (alone geometry committed new (size ∙ may.size) may.same_geometry settled old)
+    | inr now ↦ inr (later, refl, alone geometry later new (size ∙ may.size) may.later_geometry settled now)
+  ],
+)
+
+pub crash_decides : (geometry : Geometry) (committed : Stored) (later : Option Stored) (device crashed : List History)
+    → MayBeReadAs geometry committed later device → Crashed device crashed → IsDecided geometry committed later crashed
+crash_decides geometry committed later device crashed may crash =
+    decided geometry committed later device crashed may crash.size (λ sectors. left-crashed device crashed sectors crash) (crash-left device crashed crash)
+
+pub sync_decides : (geometry : Geometry) (committed : Stored) (later : Option Stored) (device : List History)
+    → MayBeReadAs geometry committed later device → IsDecided geometry committed later (synced device)
+sync_decides geometry committed later device may =
+    decided geometry committed later device (synced device) may (length-map device (λ h. only (newest h)))
+    (λ sectors left. left-synced device sectors left ∙ sym (newest-synced device))
+    (subst (MayLeave device) (sym (newest-synced device)) (read-left device))
+
+pub failed_sync_leaves : (geometry : Geometry) (committed : Stored) (later : Option Stored) (device new : List History)
+    → MayBeReadAs geometry committed later device → PartlySynced device new → MayBeReadAs geometry committed later new
+failed_sync_leaves geometry committed later device new may partly = record {
+  size = partly.size ∙ may.size;
+  same_geometry = may.same_geometry;
+  later_geometry = may.later_geometry;
+  represents = λ sectors left. may.represents sectors (left-partly device new sectors partly left);
+}
+
+pub read_is_committed : (geometry : Geometry) (committed : Stored) (device : List History) (root : Root) (tree : Mapping) (used : List Place)
+    → MayBeReadAs geometry committed None device → IsSettled device → RepresentsState (map newest device) root tree used
+    → FitsDevice (length device) root tree used → (root ≡ committed.root) × (tree.entries ≡ committed.found.entries) × DeviceStores tree device committed used
+read_is_committed geometry committed device root tree used may settled state fits =
+    let here = may.represents (map newest device) (read-left device) in
+    let same = one_tree (map newest device) root committed.root state.found committed.found state.represents here in
+    let stores = stored_read device root tree used settled fits state in (
+      same.0,
+      state.entries ∙ ap (λ (f : Found). f.entries) same.1,
+      subst (λ (f : Found). DeviceStores tree device (record { root = committed.root; found = f }) used) same.1
+          (subst (λ (r : Root). DeviceStores tree device (record { root = r; found = state.found }) used) same.0 stores),
+    )
+
+pub nothing_is_refused : (geometry : Geometry) (committed : Stored) (device : List History) (refusal : Refusal) → MayBeReadAs geometry committed None device
+    → SpeaksOfSectors refusal → ¬ IsRefusedBy (map newest device) refusal
+nothing_is_refused geometry committed device refusal may speaks =
+    not_refused (map newest device) committed.root committed.found refusal (may.represents (map newest device) (read-left device))
+    (ap (λ (g : Geometry). g.meta_sectors) may.same_geometry ∙ sym (length-map device newest ∙ may.size)) speaks

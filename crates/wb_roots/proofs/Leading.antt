@@ -1,0 +1,119 @@
+-- Commits that can be made: how they begin, go on, fail and end.
+use Rattle.std.proofs.Common.{◌≡◌, ◌∙◌, sym, ap, subst, refl, ℕ, List, Some, None, length, slice_get, arith, inl, inr}
+use Rattle.std.proofs.lemmas.Option.{slice_get_within}
+use Rattle.wb_types.specs.declared.geometry.Geometry.{Geometry}
+use Rattle.wb_types.specs.declared.number.Place.{Place}
+use Rattle.wb_disk.specs.Device.{Content, History}
+use Rattle.wb_disk.specs.Crashes.{AfterEveryCrash}
+use Rattle.wb_format.specs.declared.node.Node.{Node}
+use Rattle.wb_format.specs.declared.root.Root.{Root}
+use Rattle.wb_tree.specs.declared.image.Image.{Image}
+use Rattle.wb_tree.specs.Mapping.{Mapping}
+use Rattle.wb_tree.specs.Images.{ImagePlan}
+use Rattle.wb_meta.specs.declared.commit_steps.CommitSteps.{CommitSteps}
+use Rattle.wb_meta.specs.declared.commit_steps.CommitSteps.TheVariants.{NodesWritten, NodesSynced, RootWritten, Done}
+use Rattle.wb_meta.specs.Representing.{Represents, RepresentsOr, Stored}
+use Rattle.wb_meta.specs.Placing.{IsNodeHere, FitsNodes}
+use Rattle.wb_meta.specs.Commits.{Newest, HasCome, HasFailed, IsBeforeRoot}
+use Rattle.wb_meta.specs.Imaging.{DeviceStores, IsPlanned, Follows}
+use Rattle.wb_meta.specs.Laws.{Wanted}
+use Rattle.wb_meta.specs.Openings.{IsOpening}
+use Rattle.wb_meta.proofs.Histories.{Grew-none}
+use Rattle.wb_meta.proofs.Crashing.{come_crash, early_crash, failed_crash, done_crash, nodes_crash}
+use Rattle.wb_meta.proofs.Imaging.{have_places, may_commit}
+use Rattle.wb_meta.proofs.Reopening.{opening_places, opening_may, opening_stores}
+use Rattle.wb_meta.proofs.Round.{next_planned, stored_committed}
+use Rattle.wb_roots.specs.Roots.{AreOneOf, MayBeReadAs, Commit, CanBeMade, commit_of, opening_of}
+
+-- no node is wanted yet
+none_wanted : (image : Image) (device : List History) → Newest (FitsNodes image.nodes.items 0) device
+none_wanted image device at h e i node less listed here = absurd (omega (arith, less))
+
+pub commit_begins : (m n : Mapping) (plan : ImagePlan) (image : Image) (device : List History) (old : Stored) (used : List Place) → DeviceStores m device old used
+    → IsPlanned m n plan image used → Follows plan old → CanBeMade (commit_of image n old device) × HasCome image device (NodesWritten 0) device
+commit_begins m n plan image device old used stores planned follows =
+    let next = next_planned m n plan image device old used stores planned follows in
+    let geometry : image.root.geometry ≡ old.root.geometry = planned.image_is.root_geometry ∙ sym follows.same_geometry in (
+      record {
+        root_is = refl;
+        same_geometry = geometry;
+        size = stores.size;
+        places = subst (λ (g : Geometry). Rattle.wb_meta.specs.Placing.HavePlaces image.nodes.items g.meta_sectors) (sym follows.same_geometry) (have_places m n plan image next.free_are planned.image_is);
+        may = may_commit m n plan image device old next;
+        stores = λ now size wanted. stored_committed m n plan image device now old next size wanted;
+      },
+      record { grew = Grew-none (IsNodeHere image.nodes.items) device; nodes = none_wanted image device },
+    )
+
+-- an opening's image has no node
+no_node : (image : Image) (root : Root) → IsOpening image root → (i : ℕ) (node : Place × Node) → slice_get image.nodes.items i ≡ Some node → ⊥
+no_node image root opening i node listed =
+    let w = slice_get_within image.nodes.items i node listed in
+    let none : length image.nodes.items ≡ 0 = ap (λ (ns : List (Place × Node)). length ns) opening.no_nodes in
+    omega (arith, w, none)
+
+pub opening_begins : (tree : Mapping) (image : Image) (device : List History) (old : Stored) (used : List Place) → DeviceStores tree device old used
+    → IsOpening image old.root → CanBeMade (opening_of image tree used old device) × HasCome image device NodesSynced device
+opening_begins tree image device old used stores opening = (
+  record {
+    root_is = refl;
+    same_geometry = ap (λ (r : Root). r.geometry) opening.root_is;
+    size = stores.size;
+    places = opening_places image old.root opening;
+    may = opening_may tree image device old used stores opening;
+    stores = λ now size wanted. opening_stores tree image device now old used stores opening size wanted;
+  },
+  record {
+    grew = Grew-none (IsNodeHere image.nodes.items) device;
+    nodes = λ at h content e has i node less listed. absurd (no_node image old.root opening i node listed);
+  },
+)
+
+-- the device has its size
+come_size : (image : Image) (before now : List History) (steps : CommitSteps) → HasCome image before steps now → length now ≡ length before
+come_size image before now (NodesWritten count) come = come.grew.size
+come_size image before now NodesSynced come = come.grew.size
+come_size image before now RootWritten come = come.safe.grew.size
+come_size image before now Done come = come.safe.grew.size
+
+failed_size : (image : Image) (before now : List History) (steps : CommitSteps) → HasFailed image before steps now → length now ≡ length before
+failed_size image before now (NodesWritten count) failed = failed.size
+failed_size image before now NodesSynced failed = failed.grew.size
+failed_size image before now RootWritten failed = failed.grew.size
+failed_size image before now Done failed = absurd failed
+
+module _ (c : Commit) (can : CanBeMade c) where
+  one_of_two : (sectors : List Content) → RepresentsOr c.old (Wanted c.image c.new.found c.tree) sectors → AreOneOf c.old (Some c.new) sectors
+  one_of_two sectors (inl old) = inl old
+  one_of_two sectors (inr new) = inr (subst (λ (r : Root). Represents sectors r c.new.found) (sym can.root_is) new.represents)
+
+  two : (now : List History) → length now ≡ length c.before → AfterEveryCrash (RepresentsOr c.old (Wanted c.image c.new.found c.tree)) now → MayBeReadAs c.old.root.geometry c.old (Some c.new) now
+  two now size after = record {
+    size = size ∙ can.size;
+    same_geometry = refl;
+    later_geometry = can.same_geometry;
+    represents = λ sectors left. one_of_two sectors (after sectors left);
+  }
+
+  one : (now : List History) → length now ≡ length c.before → AfterEveryCrash (λ sectors. Represents sectors c.old.root c.old.found) now → MayBeReadAs c.old.root.geometry c.old None now
+  one now size after = record { size = size ∙ can.size; same_geometry = refl; later_geometry = tt; represents = after }
+
+  pub during : (steps : CommitSteps) (now : List History) → HasCome c.image c.before steps now → MayBeReadAs c.old.root.geometry c.old (Some c.new) now
+  during steps now come = two now (come_size c.image c.before now steps come)
+      (come_crash c.image c.old.root.geometry.meta_sectors c.before now steps c.old (Wanted c.image c.new.found c.tree) can.places can.may come)
+
+  pub early : (steps : CommitSteps) (now : List History) → IsBeforeRoot steps → HasCome c.image c.before steps now → MayBeReadAs c.old.root.geometry c.old None now
+  early steps now before come = one now (come_size c.image c.before now steps come)
+      (early_crash c.image c.old.root.geometry.meta_sectors c.before now steps c.old (Wanted c.image c.new.found c.tree) can.places can.may before come)
+
+  pub after_failure : (steps : CommitSteps) (now : List History) → HasFailed c.image c.before steps now → MayBeReadAs c.old.root.geometry c.old (Some c.new) now
+  after_failure steps now failed = two now (failed_size c.image c.before now steps failed)
+      (failed_crash c.image c.old.root.geometry.meta_sectors c.before now steps c.old (Wanted c.image c.new.found c.tree) can.places can.may failed)
+
+  pub after_failed_node : (count : ℕ) (now : List History) → HasFailed c.image c.before (NodesWritten count) now → MayBeReadAs c.old.root.geometry c.old None now
+  after_failed_node count now failed = one now failed.size
+      (nodes_crash c.image c.old.root.geometry.meta_sectors c.before now c.old (Wanted c.image c.new.found c.tree) can.places can.may failed)
+
+  pub when_done : (now : List History) → HasCome c.image c.before Done now → DeviceStores c.tree now c.new c.used
+  when_done now come = can.stores now (come_size c.image c.before now Done come)
+      (done_crash c.image c.before now c.old (Wanted c.image c.new.found c.tree) can.may come)

@@ -1,0 +1,80 @@
+-- Which root and tree a metadata device may be read as, through commits, faults, crashes and openings: one state or, once
+-- a root was put over it, one of two.
+use Rattle.std.specs.Prelude.{◌≡◌, ◌⊎◌, List, Option, Some, None, length, map}
+use Rattle.wb_types.specs.declared.geometry.Geometry.{Geometry}
+use Rattle.wb_types.specs.declared.number.Place.{Place}
+use Rattle.wb_disk.specs.Device.{Content, History, newest}
+use Rattle.wb_disk.specs.Crashes.{MayLeave, AfterEveryCrash}
+use Rattle.wb_tree.specs.declared.image.Image.{Image}
+use Rattle.wb_tree.specs.Mapping.{Mapping}
+use Rattle.wb_tree.specs.Whole.{found_of}
+use Rattle.wb_meta.specs.Representing.{Represents, Stored}
+use Rattle.wb_meta.specs.Placing.{HavePlaces, MayCommit}
+use Rattle.wb_meta.specs.Imaging.{DeviceStores}
+use Rattle.wb_meta.specs.Laws.{Wanted}
+
+-- the sectors represent this state
+abbrev pub Are : Stored → List Content → Type 0
+Are state sectors = Represents sectors state.root state.found
+
+-- They represent the state that was committed or, where a root was put over it, perhaps the one after it.
+abbrev pub AreOneOf : Stored → Option Stored → List Content → Type 0
+AreOneOf committed None sectors = Are committed sectors
+AreOneOf committed (Some later) sectors = Are committed sectors ⊎ Are later sectors
+
+-- the state, if there is one, is of this geometry
+abbrev pub IsOf : Geometry → Option Stored → Type 0
+IsOf geometry None = Unit {0}
+IsOf geometry (Some state) = state.root.geometry ≡ geometry
+
+-- A device of this geometry represents one of them, whatever a crash leaves of it.
+pub record MayBeReadAs (geometry : Geometry) (committed : Stored) (later : Option Stored) (device : List History) : Type 0 where
+  pub size : length device ≡ geometry.meta_sectors
+  pub same_geometry : committed.root.geometry ≡ geometry
+  pub later_geometry : IsOf geometry later
+  pub represents : AfterEveryCrash (AreOneOf committed later) device
+
+-- a crash leaves what reads give, and nothing else
+abbrev pub IsSettled : List History → Type 0
+IsSettled device = (sectors : List Content) → MayLeave device sectors → sectors ≡ map newest device
+
+-- A commit: the state that the device represents before it, and the one to which it leads with the tree that is stored and the
+-- places that are used then; its image, and the device on which it began.
+pub record Commit : Type 0 where
+  pub old : Stored
+  pub new : Stored
+  pub tree : Mapping
+  pub used : List Place
+  pub image : Image
+  pub before : List History
+
+-- The image may be committed: until it is the device represents the old state, and then it stores the tree by the new one.
+pub record CanBeMade (c : Commit) : Type 0 where
+  pub root_is : c.new.root ≡ c.image.root
+  pub same_geometry : c.new.root.geometry ≡ c.old.root.geometry
+  pub size : length c.before ≡ c.old.root.geometry.meta_sectors
+  pub places : HavePlaces c.image.nodes.items c.old.root.geometry.meta_sectors
+  pub may : MayCommit c.image c.before c.old (Wanted c.image c.new.found c.tree)
+  pub stores : (now : List History) → length now ≡ length c.before → AfterEveryCrash (Wanted c.image c.new.found c.tree) now → DeviceStores c.tree now c.new c.used
+
+-- that of the next image of a tree
+abbrev pub commit_of : Image → Mapping → Stored → List History → Commit
+commit_of image n old device = record {
+  old = old;
+  new = record { root = image.root; found = found_of image.root n };
+  tree = n;
+  used = image.used.items;
+  image = image;
+  before = device;
+}
+
+-- that of an opening's root, over the same tree
+abbrev pub opening_of : Image → Mapping → List Place → Stored → List History → Commit
+opening_of image tree used old device = record {
+  old = old;
+  new = record { root = image.root; found = old.found };
+  tree = tree;
+  used = used;
+  image = image;
+  before = device;
+}
