@@ -17,6 +17,7 @@ use Rattle.wb_words.specs.Effects.{words_after, card_after}
 use Rattle.wb_words.specs.declared.card.Card.{Card}
 use Rattle.wb_words.specs.declared.step.CellStep.{CellStep}
 use Rattle.wb_words.specs.declared.step.CellStep.TheVariants.{Take, Seal, Release}
+use Rattle.wb_meta.specs.Steps.{steps_after}
 use Rattle.wb_meta.specs.declared.read_steps.ReadSteps.{ReadSteps}
 use Rattle.wb_meta.specs.declared.read_steps.ReadSteps.TheVariants.{Done as AllRead}
 use Rattle.wb_meta.specs.declared.read_steps.State.{State as Stored}
@@ -36,7 +37,6 @@ use Rattle.wb_stage.specs.declared.running.RunningCommit.{RunningCommit}
 use Rattle.wb_stage.specs.declared.devices.Devices.{Devices}
 use Rattle.wb_stage.specs.Moving.{device_in}
 use Rattle.wb_stage.specs.Asking.{ended}
-use Rattle.wb_stage.specs.Committing.{goes_on, steps_then}
 use Rattle.wb_runs.specs.declared.job.Job.{Job}
 use Rattle.wb_runs.specs.declared.job.Job.TheVariants.{Read, Write, Flush, Open}
 use Rattle.wb_runs.specs.declared.event.Event.{Event}
@@ -78,35 +78,34 @@ devices_then change devices next = devices
 
 -- ---- the running commit
 
--- A step on metadata that is the next one of the commit leads it on where it is done.
-abbrev pub goes_then : ℕ → Option RunningCommit → DeviceStep → Got → Option RunningCommit
-goes_then size None step got = None
-goes_then size (Some commit) step got =
-    Some (record commit { steps = if goes_on size commit.image commit.steps step then steps_then got commit.image commit.steps else commit.steps })
+-- A step of the commit leads it on where it is done; a fault stops it for good.
+abbrev pub led : Option RunningCommit → Got → Option RunningCommit
+led (Some commit) Done = Some (record commit { steps = steps_after commit.image commit.steps })
+led commit got = None
 
 -- of the opening's root, once all was read
 abbrev pub reached_commit : {P A : Type 0} → Chosen P A → Option RunningCommit → Option RunningCommit
 reached_commit (Reaches reading commit) old = commit
-reached_commit chosen old = old
+reached_commit chosen old = None
 
 abbrev pub begun_commit : {P A : Type 0} → Chosen P A → Option RunningCommit → Option RunningCommit
 begun_commit (Commits commit tree) old = Some commit
 begun_commit chosen old = old
 
 -- an opening's answer ends its commit, and so does the end of a flush's
-abbrev pub answered_commit : Job → Option RunningCommit → Option RunningCommit
-answered_commit (Open mode) old = None
-answered_commit job old = old
+abbrev pub answered_commit : {P A : Type 0} → Phase P A → Option RunningCommit → Option RunningCommit
+answered_commit (Opens mode reading) old = None
+answered_commit phase old = old
 
-abbrev pub commit_then : {P A : Type 0} → ℕ → Option RunningCommit → Job → Want → Got → Chosen P A → Option RunningCommit
-commit_then size old job (Device (Sync Metadata)) got chosen = goes_then size old (Sync Metadata) got
-commit_then size old job (Device (WriteNode number)) got chosen = goes_then size old (WriteNode number) got
-commit_then size old job (Device WriteRoot) got chosen = goes_then size old WriteRoot got
-commit_then size old job (Device (ReadMetadata left)) got chosen = reached_commit chosen old
-commit_then size old job (Desk (BeginCommit clean most)) got chosen = begun_commit chosen old
-commit_then size old job (Desk EndCommit) got chosen = None
-commit_then size old job (End answer) got chosen = answered_commit job old
-commit_then size old job next got chosen = old
+abbrev pub commit_then : {P A : Type 0} → Phase P A → Option RunningCommit → Want → Got → Chosen P A → Option RunningCommit
+commit_then phase old (Device (Sync Metadata)) got chosen = led old got
+commit_then phase old (Device (WriteNode number)) got chosen = led old got
+commit_then phase old (Device WriteRoot) got chosen = led old got
+commit_then phase old (Device (ReadMetadata left)) got chosen = reached_commit chosen old
+commit_then phase old (Desk (BeginCommit clean most)) got chosen = begun_commit chosen old
+commit_then phase old (Desk EndCommit) got chosen = None
+commit_then phase old (End answer) got chosen = answered_commit phase old
+commit_then phase old next got chosen = old
 
 -- ---- the target
 
@@ -126,6 +125,7 @@ words_then words next = words
 abbrev pub reading_then : {P A : Type 0} → Option (ReadSteps A) → Want → Chosen P A → Option (ReadSteps A)
 reading_then reading (Device (ReadMetadata left)) (Reaches now commit) = now
 reading_then reading (Device (ReadMetadata left)) chosen = None
+reading_then reading (Device (Sync Metadata)) (Begins now) = Some now
 reading_then reading next chosen = reading
 
 -- ---- what an opening makes
@@ -203,10 +203,10 @@ job_of None = Flush
 job_of (Some doing) = doing.0
 
 -- an actor went on by a step, which changed its device so
-abbrev pub stepped : {P A : Type 0} → Shape → State P A → ℕ → Actor → Job → Want → Got → Chosen P A → (DeviceStep → List History → List History) → State P A
-stepped shape w a x job next got chosen change = record {
+abbrev pub stepped : {P A : Type 0} → Shape → State P A → ℕ → Actor → Want → Got → Chosen P A → (DeviceStep → List History → List History) → State P A
+stepped shape w a x next got chosen change = record {
   devices = devices_then change w.devices next;
-  commit = commit_then (length w.devices.metadata) w.commit job next got chosen;
+  commit = commit_then w.phase w.commit next got chosen;
   phase = phase_then shape w.phase next chosen;
   actors = slice_set w.actors a (actor_then shape w.phase x next got);
 }
@@ -217,28 +217,24 @@ with_actor w None change = w
 with_actor w (Some x) change = change x
 
 abbrev pub went : {P A : Type 0} → Shape → State P A → ℕ → Want → Got → Chosen P A → (Job → DeviceStep → List History → List History) → State P A
-went shape w a next got chosen change = with_actor w (slice_get w.actors a) (λ x. stepped shape w a x (job_of x.task) next got chosen (change (job_of x.task)))
+went shape w a next got chosen change = with_actor w (slice_get w.actors a) (λ x. stepped shape w a x next got chosen (change (job_of x.task)))
 
 abbrev pub cut_of : {P A : Type 0} → Chosen P A → List Extent
 cut_of (Cut extents) = extents
 cut_of chosen = []
-
-abbrev pub reading_of : {P A : Type 0} → Chosen P A → Option (ReadSteps A)
-reading_of (Begins reading) = Some reading
-reading_of chosen = None
 
 -- an actor that has been given a job
 abbrev pub given : {P A : Type 0} → Shape → Actor → Job → Chosen P A → Actor
 given shape x job chosen = record x { task = Some (job, table (task_job shape job (cut_of chosen))) }
 
 -- An opening drops the target that has failed, and whatever anybody was at.
-abbrev pub cleared : {P A : Type 0} → State P A → Job → Chosen P A → State P A
-cleared w (Open mode) chosen = record { devices = w.devices; commit = None; phase = Opens mode (reading_of chosen); actors = all_resting w.actors }
-cleared w job chosen = w
+abbrev pub cleared : {P A : Type 0} → State P A → Job → State P A
+cleared w (Open mode) = record { devices = w.devices; commit = None; phase = Opens mode None; actors = all_resting w.actors }
+cleared w job = w
 
 abbrev pub started : {P A : Type 0} → Shape → State P A → ℕ → Job → Chosen P A → State P A
-started shape w a job chosen = with_actor (cleared w job chosen) (slice_get (cleared w job chosen).actors a)
-    (λ x. record (cleared w job chosen) { actors = slice_set (cleared w job chosen).actors a (given shape x job chosen) })
+started shape w a job chosen = with_actor (cleared w job) (slice_get (cleared w job).actors a)
+    (λ x. record (cleared w job) { actors = slice_set (cleared w job).actors a (given shape x job chosen) })
 
 abbrev pub all_crashed : Choice → Devices (List History) → Devices (List History)
 all_crashed choice devices = record {

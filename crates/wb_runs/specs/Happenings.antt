@@ -15,7 +15,7 @@ use Rattle.wb_disk.specs.Crash.{Choice, Applies}
 use Rattle.wb_tree.specs.Mapping.{Mapping}
 use Rattle.wb_tree.specs.declared.image.Image.{Image}
 use Rattle.wb_meta.specs.Steps.{DoesStep, coming_step}
-use Rattle.wb_meta.specs.Reads.{ReadingGoesOn, StopsBy, IsDone, sectors_read}
+use Rattle.wb_meta.specs.Reads.{ReadingGoesOn, StopsBy, AreStepsOn, IsDone, sectors_read}
 use Rattle.wb_meta.specs.States.{IsOfReading}
 use Rattle.wb_meta.specs.declared.read_steps.ReadSteps.{ReadSteps}
 use Rattle.wb_meta.specs.declared.commit_steps.CommitStep.{CommitStep}
@@ -25,6 +25,7 @@ use Rattle.wb_desk.specs.Desks.{DeskState}
 use Rattle.wb_desk.specs.Commits.{IsBeginRefused, commit_begun}
 use Rattle.wb_tasks.specs.Tables.{BlockJob, TaskJob, Reading, Writing, OnBlock, Flushing, Opening, BlockRange}
 use Rattle.wb_tasks.specs.Plan.{Plan, want, got_of, device_of}
+use Rattle.wb_tasks.specs.Ready.{HoldsBlocks}
 use Rattle.wb_words.specs.Effects.{result_of}
 use Rattle.wb_tasks.specs.declared.step.Answer.TheVariants.{Done as Finished}
 use Rattle.wb_tasks.specs.declared.step.DeviceStep.{DeviceStep}
@@ -51,7 +52,7 @@ use Rattle.wb_runs.specs.declared.event.Record.{Record}
 use Rattle.wb_runs.specs.States.{Shape, State, Target, Phase, Stands, Gone, Opens, OfTarget, OfReading, sector_count, block_size}
 
 -- What no record holds of what was free at it: into which extents a job's sectors are cut, in the order in which they are
--- taken; a reading that has read nothing, how far it has come after a step, and the commit of the opening's root once all was
+-- taken; a reading that has read nothing; how far it has come after a step, and the commit of the opening's root once all was
 -- read; what the metadata device is once a node or root was written; the commit that begins, and the tree to which its image
 -- leads; the policy of a desk that is opened.
 pub data Chosen (P A : Type 0) : Type 0 where
@@ -163,11 +164,24 @@ abbrev pub DoesPut : {P A : Type 0} → Option RunningCommit → DeviceStep → 
 DoesPut commit step old (Puts new) = IsNextOf commit step old (λ running. DoesStep running.image running.steps old new)
 DoesPut commit step old chosen = ⊥
 
+-- The metadata are synced: by the next step of the running commit, or by an opening that has still to read them, whose reading
+-- begins then.
+abbrev pub DoesSync : {P A : Type 0} → Phase P A → Option RunningCommit → List History → Chosen P A → Type 0
+DoesSync phase (Some commit) device chosen = IsNextOf (Some commit) (Sync Metadata) device (λ running. chosen ≡ Plain)
+DoesSync (Opens mode reading) None device (Begins now) = sectors_read now ≡ 0
+DoesSync phase None device chosen = ⊥
+
+-- the same where the sync fails
+abbrev pub FailsSync : {P A : Type 0} → Phase P A → Option RunningCommit → List History → Type 0
+FailsSync phase (Some commit) device = IsNextOf (Some commit) (Sync Metadata) device (λ running. Unit {0})
+FailsSync (Opens mode reading) None device = Unit {0}
+FailsSync phase None device = ⊥
+
 -- An opening has read one sector more. Its reading goes on, and all is read, or it is refused: for what stands there, for want
 -- of memory, for a root of another geometry, or since no generation is left.
 abbrev pub DoesRead : {P A : Type 0} → Geometry → ℕ → ReadSteps A → List History → Option RunningCommit → Got → Chosen P A → Type 0
 DoesRead {P} {A} geometry left was device commit got (Reaches after commit') = (got ≢ Fault)
-    × (((now : ReadSteps A) × ReadingGoesOn was device now × HasCome geometry left now commit got after commit')
+    × (((now : ReadSteps A) × ReadingGoesOn was device now × AreStepsOn (length device) now × HasCome geometry left now commit got after commit')
         ⊎ ((refusal : Refusal) × IsOfReading refusal × StopsBy was device refusal × (got ≡ got_of_refusal refusal) × (after ≡ None) × (commit' ≡ commit)))
 DoesRead geometry left was device commit got chosen = ⊥
 
@@ -178,23 +192,25 @@ DoesBegin most desk (Began nodes) (Commits commit tree) = (nodes ≤ most) × (n
 DoesBegin most desk (GotRefused refusal) Plain = IsBeginRefused desk refusal
 DoesBegin most desk got chosen = ⊥
 
--- an opening that is answered done has read all
-abbrev pub DoesOpen : {P A : Type 0} → Phase P A → Chosen P A → Type 0
-DoesOpen phase (Opened policy) = OfReading phase (λ mode reading. IsDone reading)
-DoesOpen phase chosen = ⊥
+-- an opening that is answered done has read all, and its root is durable
+abbrev pub DoesOpen : {P A : Type 0} → Phase P A → Option RunningCommit → Chosen P A → Type 0
+DoesOpen phase commit (Opened policy) = OfReading phase (λ mode reading. IsDone reading) × (is_all_done commit ≡ true)
+DoesOpen phase commit chosen = ⊥
 
--- what a step gives, what it read, one content a sector, and what was free at it
+-- What a step gives, what it read, one content a sector, and what was free at it. A read or write moves sectors of a device on
+-- which blocks stand.
 abbrev pub Gives : {P A : Type 0} → Shape → State P A → Job → Want → Got → List Bytes → Chosen P A → Type 0
 Gives shape w job (Cell step) got read chosen = IsPlain read chosen × OfTarget w.phase (λ t. got ≡ got_of (result_of t.words step))
-Gives shape w (Read extent) (Device (ReadExtent device e)) got read chosen = (chosen ≡ Plain) × (got ≡ Done) × (length read ≡ e.count) × GivesEach (device_in device w.devices) e.first read
-Gives shape w (Write extent content) (Device (WriteExtent device e)) got read chosen = IsPlain read chosen × (got ≡ Done) × (e.first + e.count ≤ length (device_in device w.devices))
+Gives shape w (Read extent) (Device (ReadExtent device e)) got read chosen = HoldsBlocks device × (chosen ≡ Plain) × (got ≡ Done) × (length read ≡ e.count) × GivesEach (device_in device w.devices) e.first read
+Gives shape w (Write extent content) (Device (WriteExtent device e)) got read chosen = HoldsBlocks device × IsPlain read chosen × (got ≡ Done) × (e.first + e.count ≤ length (device_in device w.devices))
+Gives shape w job (Device (Sync Metadata)) got read chosen = (read ≡ []) × (got ≡ Done) × DoesSync w.phase w.commit w.devices.metadata chosen
 Gives shape w job (Device (Sync device)) got read chosen = IsPlain read chosen × (got ≡ Done)
 Gives shape w job (Device (WriteNode number)) got read chosen = (read ≡ []) × (got ≡ Done) × DoesPut w.commit (WriteNode number) w.devices.metadata chosen
 Gives shape w job (Device WriteRoot) got read chosen = (read ≡ []) × (got ≡ Done) × DoesPut w.commit WriteRoot w.devices.metadata chosen
-Gives shape w job (Device (ReadMetadata left)) got read chosen = (read ≡ []) × OfReading w.phase (λ mode was. DoesRead shape.geometry left was w.devices.metadata w.commit got chosen)
+Gives shape w job (Device (ReadMetadata left)) got read chosen = (read ≡ []) × (w.commit ≡ None) × OfReading w.phase (λ mode was. DoesRead shape.geometry left was w.devices.metadata w.commit got chosen)
 Gives shape w job (Desk (BeginCommit clean most)) got read chosen = (read ≡ []) × (clean ≡ false) × OfTarget w.phase (λ t. DoesBegin most t.desk got chosen)
-Gives shape w job (Desk EndCommit) got read chosen = IsPlain read chosen × (got ≡ Done) × (is_all_done w.commit ≡ true)
-Gives shape w (Open mode) (End Finished) got read chosen = (read ≡ []) × (got ≡ Done) × DoesOpen w.phase chosen
+Gives shape w job (Desk EndCommit) got read chosen = IsPlain read chosen × (got ≡ Done) × OfTarget w.phase (λ t. is_all_done w.commit ≡ true)
+Gives shape w (Open mode) (End Finished) got read chosen = (read ≡ []) × (got ≡ Done) × DoesOpen w.phase w.commit chosen
 Gives shape w job (End answer) got read chosen = IsPlain read chosen × (got ≡ Done)
 Gives shape w job next got read chosen = ⊥
 
@@ -220,14 +236,18 @@ FailsPut commit choice step old chosen = ⊥
 abbrev pub Falters : {P A : Type 0} → State P A → Choice → Want → Chosen P A → Type 0
 Falters w choice (Device (WriteNode number)) chosen = FailsPut w.commit choice (WriteNode number) w.devices.metadata chosen
 Falters w choice (Device WriteRoot) chosen = FailsPut w.commit choice WriteRoot w.devices.metadata chosen
-Falters w choice (Device step) chosen = chosen ≡ Plain
+Falters w choice (Device (Sync Metadata)) chosen = (chosen ≡ Plain) × FailsSync w.phase w.commit w.devices.metadata
+Falters w choice (Device (Sync device)) chosen = chosen ≡ Plain
+Falters w choice (Device (ReadMetadata left)) chosen = (chosen ≡ Plain) × (w.commit ≡ None)
+Falters w choice (Device (ReadExtent device e)) chosen = (chosen ≡ Plain) × HoldsBlocks device
+Falters w choice (Device (WriteExtent device e)) chosen = (chosen ≡ Plain) × HoldsBlocks device
 Falters w choice next chosen = ⊥
 
 -- what a start comes to
 abbrev pub StartGives : {P A : Type 0} → Shape → Job → What → Chosen P A → Type 0
 StartGives shape job (Refused refusal) Plain = job_refusal shape job ≡ Some refusal
 StartGives shape Flush Started Plain = Unit {0}
-StartGives shape (Open mode) Started (Begins reading) = sectors_read reading ≡ 0
+StartGives shape (Open mode) Started Plain = Unit {0}
 StartGives shape (Read extent) Started (Cut cut) = (extent_refusal shape extent ≡ None) × IsCutInto extent cut
 StartGives shape (Write extent content) Started (Cut cut) = (extent_refusal shape extent ≡ None) × IsCutInto extent cut
 StartGives shape job what chosen = ⊥

@@ -32,14 +32,14 @@ pub record Target (P : Type 0) : Type 0 where
   pub words : Words
   pub desk : DeskState P
 
--- A target stands; or none, and nobody opens one; or an opening in this mode is at work, whose reading has come so far, if it was not
--- refused.
+-- A target stands; or none, and nobody opens one; or an opening in this mode is at work, whose reading has come so far: it begins
+-- once the metadata were synced, and is over where it was refused.
 pub data Phase (P A : Type 0) : Type 0 where
   Stands : Target P → Phase P A
   Gone : Phase P A
   Opens : Mode → Option (ReadSteps A) → Phase P A
 
--- The devices, the commit that runs or that a fault has stopped, if any, and the actors, always as many.
+-- The devices, the commit that runs, if any does that no fault has stopped, and the actors, always as many.
 pub record State (P A : Type 0) : Type 0 where
   pub devices : Devices (List History)
   pub commit : Option RunningCommit
