@@ -1,0 +1,3 @@
+mod Underway
+mod Metadata
+mod Stepping
