@@ -49,27 +49,27 @@ module _ (P A : Type 0) (shape : Shape) where
 
   -- ---- steps that touch neither metadata nor desk nor reading
 
-  cell_same : (phase : Phase P A) (commit : Option RunningCommit) (m : List History) (step : _) (got : Got) (chosen : Chosen P A) → K phase commit m → K (phase_then shape phase (Cell step) chosen) (commit_then phase commit (Cell step) got chosen) m
+  cell_same : (phase : Phase P A) (commit : Option RunningCommit) (m : List History) (step : _) (got : Got) (chosen : Chosen P A) → K phase commit m → K (phase_then shape phase (Cell step) got chosen) (commit_then phase commit (Cell step) got chosen) m
   cell_same (Stands t) commit m step got chosen k = k
   cell_same Gone commit m step got chosen k = k
   cell_same (Opens mode reading) commit m step got chosen k = k
 
-  read_same : (phase : Phase P A) (commit : Option RunningCommit) (m : List History) (d : Dev) (e : _) (got : Got) (chosen : Chosen P A) → K phase commit m → K (phase_then shape phase (Device (ReadExtent d e)) chosen) (commit_then phase commit (Device (ReadExtent d e)) got chosen) m
+  read_same : (phase : Phase P A) (commit : Option RunningCommit) (m : List History) (d : Dev) (e : _) (got : Got) (chosen : Chosen P A) → K phase commit m → K (phase_then shape phase (Device (ReadExtent d e)) got chosen) (commit_then phase commit (Device (ReadExtent d e)) got chosen) m
   read_same (Stands t) commit m d e got chosen k = k
   read_same Gone commit m d e got chosen k = k
   read_same (Opens mode reading) commit m d e got chosen k = k
 
-  write_same : (phase : Phase P A) (commit : Option RunningCommit) (m : List History) (d : Dev) (e : _) (got : Got) (chosen : Chosen P A) → K phase commit m → K (phase_then shape phase (Device (WriteExtent d e)) chosen) (commit_then phase commit (Device (WriteExtent d e)) got chosen) m
+  write_same : (phase : Phase P A) (commit : Option RunningCommit) (m : List History) (d : Dev) (e : _) (got : Got) (chosen : Chosen P A) → K phase commit m → K (phase_then shape phase (Device (WriteExtent d e)) got chosen) (commit_then phase commit (Device (WriteExtent d e)) got chosen) m
   write_same (Stands t) commit m d e got chosen k = k
   write_same Gone commit m d e got chosen k = k
   write_same (Opens mode reading) commit m d e got chosen k = k
 
-  cache_same : (phase : Phase P A) (commit : Option RunningCommit) (m : List History) (got : Got) (chosen : Chosen P A) → K phase commit m → K (phase_then shape phase (Device (Sync Cache)) chosen) (commit_then phase commit (Device (Sync Cache)) got chosen) m
+  cache_same : (phase : Phase P A) (commit : Option RunningCommit) (m : List History) (got : Got) (chosen : Chosen P A) → K phase commit m → K (phase_then shape phase (Device (Sync Cache)) got chosen) (commit_then phase commit (Device (Sync Cache)) got chosen) m
   cache_same (Stands t) commit m got chosen k = k
   cache_same Gone commit m got chosen k = k
   cache_same (Opens mode reading) commit m got chosen k = k
 
-  origin_same : (phase : Phase P A) (commit : Option RunningCommit) (m : List History) (got : Got) (chosen : Chosen P A) → K phase commit m → K (phase_then shape phase (Device (Sync Origin)) chosen) (commit_then phase commit (Device (Sync Origin)) got chosen) m
+  origin_same : (phase : Phase P A) (commit : Option RunningCommit) (m : List History) (got : Got) (chosen : Chosen P A) → K phase commit m → K (phase_then shape phase (Device (Sync Origin)) got chosen) (commit_then phase commit (Device (Sync Origin)) got chosen) m
   origin_same (Stands t) commit m got chosen k = k
   origin_same Gone commit m got chosen k = k
   origin_same (Opens mode reading) commit m got chosen k = k
@@ -119,14 +119,14 @@ module _ (P A : Type 0) (shape : Shape) where
   -- ---- done steps
 
   sync_metadata : (phase : Phase P A) (commit : Option RunningCommit) (m : List History) (chosen : Chosen P A) → K phase commit m → DoesSync phase commit m chosen →
-      K (phase_then shape phase (Device (Sync Metadata)) chosen) (commit_then phase commit (Device (Sync Metadata)) Done chosen) (synced m)
+      K (phase_then shape phase (Device (Sync Metadata)) Done chosen) (commit_then phase commit (Device (Sync Metadata)) Done chosen) (synced m)
   sync_metadata (Stands t) (Some c) m chosen k s = leading_on t c m (synced m) k (sync_does c.image c.steps m s.0)
   sync_metadata (Stands t) None m chosen k s = absurd s
   sync_metadata Gone (Some c) m chosen k s = absurd k
   sync_metadata Gone None m chosen k s = absurd s
   sync_metadata (Opens mode None) (Some c) m chosen k s = absurd k
   sync_metadata (Opens mode (Some reading)) (Some c) m chosen k s =
-      subst (λ (ch : Chosen P A). K (phase_then shape (Opens mode (Some reading)) (Device (Sync Metadata)) ch) (Some (record c { steps = steps_after c.image c.steps })) (synced m)) (sym s.1)
+      subst (λ (ch : Chosen P A). K (phase_then shape (Opens mode (Some reading)) (Device (Sync Metadata)) Done ch) (Some (record c { steps = steps_after c.image c.steps })) (synced m)) (sym s.1)
       (rooting_on reading c m (synced m) k (sync_does c.image c.steps m s.0))
   sync_metadata (Opens mode reading) None m (Begins now) k s = begun now s
     where
@@ -140,7 +140,7 @@ module _ (P A : Type 0) (shape : Shape) where
   sync_metadata (Opens mode reading) None m chosen k s = absurd s
 
   put_node : (phase : Phase P A) (commit : Option RunningCommit) (m : List History) (number : ℕ) (job : Job) (chosen : Chosen P A) → K phase commit m → DoesPut commit (WriteNode number) m chosen →
-      K (phase_then shape phase (Device (WriteNode number)) chosen) (commit_then phase commit (Device (WriteNode number)) Done chosen) (device_done job (WriteNode number) chosen m)
+      K (phase_then shape phase (Device (WriteNode number)) Done chosen) (commit_then phase commit (Device (WriteNode number)) Done chosen) (device_done job (WriteNode number) chosen m)
   put_node (Stands t) (Some c) m number job (Puts new) k s = leading_on t c m new k s.1
   put_node Gone (Some c) m number job (Puts new) k s = absurd k
   put_node (Opens mode None) (Some c) m number job (Puts new) k s = absurd k
@@ -149,7 +149,7 @@ module _ (P A : Type 0) (shape : Shape) where
   put_node phase commit m number job chosen k s = absurd s
 
   put_root : (phase : Phase P A) (commit : Option RunningCommit) (m : List History) (job : Job) (chosen : Chosen P A) → K phase commit m → DoesPut commit WriteRoot m chosen →
-      K (phase_then shape phase (Device WriteRoot) chosen) (commit_then phase commit (Device WriteRoot) Done chosen) (device_done job WriteRoot chosen m)
+      K (phase_then shape phase (Device WriteRoot) Done chosen) (commit_then phase commit (Device WriteRoot) Done chosen) (device_done job WriteRoot chosen m)
   put_root (Stands t) (Some c) m job (Puts new) k s = leading_on t c m new k s.1
   put_root Gone (Some c) m job (Puts new) k s = absurd k
   put_root (Opens mode None) (Some c) m job (Puts new) k s = absurd k
@@ -163,7 +163,7 @@ module _ (P A : Type 0) (shape : Shape) where
   read_nothing m r (Some x) commit e f = absurd (cc)
 
   read_metadata : (phase : Phase P A) (m : List History) (left : ℕ) (got : Got) (chosen : Chosen P A) → K phase None m → OfReading phase (λ mode was. DoesRead shape.geometry left was m None got chosen) →
-      K (phase_then shape phase (Device (ReadMetadata left)) chosen) (commit_then phase None (Device (ReadMetadata left)) got chosen) m
+      K (phase_then shape phase (Device (ReadMetadata left)) got chosen) (commit_then phase None (Device (ReadMetadata left)) got chosen) m
   read_metadata (Stands t) m left got chosen k s = absurd s
   read_metadata Gone m left got chosen k s = absurd s
   read_metadata (Opens mode None) m left got chosen k s = absurd s
@@ -184,7 +184,7 @@ module _ (P A : Type 0) (shape : Shape) where
   read_metadata (Opens mode (Some was)) m left got chosen k s = absurd s
 
   begin_commit : (phase : Phase P A) (commit : Option RunningCommit) (m : List History) (clean : Bool) (most : ℕ) (got : Got) (chosen : Chosen P A) → K phase commit m → OfTarget phase (λ t. DoesBegin most t.desk got chosen) →
-      K (phase_then shape phase (Desk (BeginCommit clean most)) chosen) (commit_then phase commit (Desk (BeginCommit clean most)) got chosen) m
+      K (phase_then shape phase (Desk (BeginCommit clean most)) got chosen) (commit_then phase commit (Desk (BeginCommit clean most)) got chosen) m
   begin_commit (Stands t) commit m clean most (Began nodes) (Commits c tree) k s = by_commit commit k
     where
       by_commit : (commit : Option RunningCommit) → AtDesk shape.geometry t.desk commit m → AtDesk shape.geometry (Rattle.wb_desk.specs.Commits.commit_begun t.desk tree c.image.used.items) (Some c) m
@@ -199,23 +199,23 @@ module _ (P A : Type 0) (shape : Shape) where
   begin_commit (Opens mode reading) commit m clean most got chosen k s = absurd s
 
   end_commit : (phase : Phase P A) (commit : Option RunningCommit) (m : List History) (got : Got) (chosen : Chosen P A) → K phase commit m → OfTarget phase (λ t. is_all_done commit ≡ true) →
-      K (phase_then shape phase (Desk EndCommit) chosen) (commit_then phase commit (Desk EndCommit) got chosen) m
+      K (phase_then shape phase (Desk EndCommit) got chosen) (commit_then phase commit (Desk EndCommit) got chosen) m
   end_commit (Stands t) (Some c) m got chosen k s = ends_over P shape.geometry t.desk m c k s
   end_commit (Stands t) None m got chosen k s = absurd (cc)
   end_commit Gone commit m got chosen k s = absurd s
   end_commit (Opens mode reading) commit m got chosen k s = absurd s
 
   answer_plain : (phase : Phase P A) (commit : Option RunningCommit) (m : List History) (answer : Answer) (got : Got) → K phase commit m →
-      K (phase_then shape phase (End answer) Plain) (commit_then phase commit (End answer) got Plain) m
+      K (phase_then shape phase (End answer) got Plain) (commit_then phase commit (End answer) got Plain) m
   answer_plain (Stands t) commit m answer got k = k
   answer_plain Gone commit m answer got k = k
   answer_plain (Opens mode reading) commit m answer got k = kept_readable P A shape.geometry (Opens mode reading) commit m k
 
   answer_opens : (phase : Phase P A) (commit : Option RunningCommit) (m : List History) (got : Got) (chosen : Chosen P A) → K phase commit m → DoesOpen phase commit chosen →
-      K (phase_then shape phase (End Finished) chosen) (commit_then phase commit (End Finished) got chosen) m
+      K (phase_then shape phase (End Finished) got chosen) (commit_then phase commit (End Finished) got chosen) m
   answer_opens (Opens mode (Some reading)) (Some c) m got (Opened policy) k s = by_reading reading k s.0
     where
-      by_reading : (reading : ReadSteps A) → Rooting shape.geometry reading c m → IsDone reading → K (phase_then shape (Opens mode (Some reading)) (End Finished) (Opened policy)) None m
+      by_reading : (reading : ReadSteps A) → Rooting shape.geometry reading c m → IsDone reading → K (phase_then shape (Opens mode (Some reading)) (End Finished) got (Opened policy)) None m
       by_reading (Begun alloc global) k d = absurd d
       by_reading (FirstSlotRead alloc global first) k d = absurd d
       by_reading (RootFound global root loader) k d = absurd d
@@ -237,7 +237,7 @@ module _ (P A : Type 0) (shape : Shape) where
 
     -- what is known of the metadata after it
     abbrev After : Job → Want → Type 0
-    After job next = K (phase_then shape w.phase next chosen) (commit_then w.phase w.commit next got chosen) (devices_then (λ step. device_done job step chosen) w.devices next).metadata
+    After job next = K (phase_then shape w.phase next got chosen) (commit_then w.phase w.commit next got chosen) (devices_then (λ step. device_done job step chosen) w.devices next).metadata
 
     read_fact : (job : Job) (d : Dev) (e : _) → G job (Device (ReadExtent d e)) → HoldsBlocks d
     read_fact (Read x) d e g = g.0
@@ -315,19 +315,19 @@ module _ (P A : Type 0) (shape : Shape) where
     pub done_kept : (job : Job) (next : Want) → K w.phase w.commit m → G job next → After job next
     done_kept job (Cell step) k g = cell_same w.phase w.commit m step got chosen k
     done_kept job (Device (ReadExtent d e)) k g =
-        subst (λ (n : List History). K (phase_then shape w.phase (Device (ReadExtent d e)) chosen) (commit_then w.phase w.commit (Device (ReadExtent d e)) got chosen) n) (sym (data_device d (read_fact job d e g) w.devices _))
+        subst (λ (n : List History). K (phase_then shape w.phase (Device (ReadExtent d e)) got chosen) (commit_then w.phase w.commit (Device (ReadExtent d e)) got chosen) n) (sym (data_device d (read_fact job d e g) w.devices _))
         (read_same w.phase w.commit m d e got chosen k)
     done_kept job (Device (WriteExtent d e)) k g =
-        subst (λ (n : List History). K (phase_then shape w.phase (Device (WriteExtent d e)) chosen) (commit_then w.phase w.commit (Device (WriteExtent d e)) got chosen) n) (sym (data_device d (write_fact job d e g) w.devices _))
+        subst (λ (n : List History). K (phase_then shape w.phase (Device (WriteExtent d e)) got chosen) (commit_then w.phase w.commit (Device (WriteExtent d e)) got chosen) n) (sym (data_device d (write_fact job d e g) w.devices _))
         (write_same w.phase w.commit m d e got chosen k)
     done_kept job (Device (Sync Cache)) k g = cache_same w.phase w.commit m got chosen k
     done_kept job (Device (Sync Origin)) k g = origin_same w.phase w.commit m got chosen k
     done_kept job (Device (Sync Metadata)) k g = let f = sync_fact job g in
-        subst (λ (x : Got). K (phase_then shape w.phase (Device (Sync Metadata)) chosen) (commit_then w.phase w.commit (Device (Sync Metadata)) x chosen) (synced m)) (sym f.0) (sync_metadata w.phase w.commit m chosen k f.1)
+        subst (λ (x : Got). K (phase_then shape w.phase (Device (Sync Metadata)) x chosen) (commit_then w.phase w.commit (Device (Sync Metadata)) x chosen) (synced m)) (sym f.0) (sync_metadata w.phase w.commit m chosen k f.1)
     done_kept job (Device (WriteNode number)) k g = let f = node_fact job number g in
-        subst (λ (x : Got). K (phase_then shape w.phase (Device (WriteNode number)) chosen) (commit_then w.phase w.commit (Device (WriteNode number)) x chosen) (device_done job (WriteNode number) chosen m)) (sym f.0) (put_node w.phase w.commit m number job chosen k f.1)
+        subst (λ (x : Got). K (phase_then shape w.phase (Device (WriteNode number)) x chosen) (commit_then w.phase w.commit (Device (WriteNode number)) x chosen) (device_done job (WriteNode number) chosen m)) (sym f.0) (put_node w.phase w.commit m number job chosen k f.1)
     done_kept job (Device WriteRoot) k g = let f = root_fact job g in
-        subst (λ (x : Got). K (phase_then shape w.phase (Device WriteRoot) chosen) (commit_then w.phase w.commit (Device WriteRoot) x chosen) (device_done job WriteRoot chosen m)) (sym f.0) (put_root w.phase w.commit m job chosen k f.1)
+        subst (λ (x : Got). K (phase_then shape w.phase (Device WriteRoot) x chosen) (commit_then w.phase w.commit (Device WriteRoot) x chosen) (device_done job WriteRoot chosen m)) (sym f.0) (put_root w.phase w.commit m job chosen k f.1)
     done_kept job (Device (ReadMetadata left)) k g = let f = metadata_fact job left g in by_commit w.commit f.0 k f.1
       where
         same : device_done job (ReadMetadata left) chosen m ≡ m
@@ -348,8 +348,8 @@ module _ (P A : Type 0) (shape : Shape) where
             by_chosen (Commits c t) h = refl
             by_chosen (Opened p) h = refl
         by_commit : (commit : Option RunningCommit) → commit ≡ None → K w.phase commit m → OfReading w.phase (λ mode was. DoesRead shape.geometry left was m commit got chosen) →
-            K (phase_then shape w.phase (Device (ReadMetadata left)) chosen) (commit_then w.phase commit (Device (ReadMetadata left)) got chosen) (device_done job (ReadMetadata left) chosen m)
-        by_commit None e k h = subst (λ (n : List History). K (phase_then shape w.phase (Device (ReadMetadata left)) chosen) (commit_then w.phase None (Device (ReadMetadata left)) got chosen) n) (sym same)
+            K (phase_then shape w.phase (Device (ReadMetadata left)) got chosen) (commit_then w.phase commit (Device (ReadMetadata left)) got chosen) (device_done job (ReadMetadata left) chosen m)
+        by_commit None e k h = subst (λ (n : List History). K (phase_then shape w.phase (Device (ReadMetadata left)) got chosen) (commit_then w.phase None (Device (ReadMetadata left)) got chosen) n) (sym same)
             (read_metadata w.phase m left got chosen k h)
         by_commit (Some c) e k h = absurd (cc)
     done_kept job (Desk (BeginCommit clean most)) k g = begin_commit w.phase w.commit m clean most got chosen k (begin_fact job clean most g)
@@ -358,6 +358,6 @@ module _ (P A : Type 0) (shape : Shape) where
     done_kept job (Desk (Unmap b)) k g = absurd (no_unmap job b g)
     done_kept job (Desk (ReleaseOrder b)) k g = absurd (no_release job b g)
     done_kept job (End answer) k g = elim (answer_fact job answer g) [
-      | inl e ↦ subst (λ (ch : Chosen P A). K (phase_then shape w.phase (End answer) ch) (commit_then w.phase w.commit (End answer) got ch) m) (sym e) (answer_plain w.phase w.commit m answer got k)
-      | inr h ↦ subst (λ (x : Answer). K (phase_then shape w.phase (End x) chosen) (commit_then w.phase w.commit (End x) got chosen) m) (sym h.0) (answer_opens w.phase w.commit m got chosen k h.1)
+      | inl e ↦ subst (λ (ch : Chosen P A). K (phase_then shape w.phase (End answer) got ch) (commit_then w.phase w.commit (End answer) got ch) m) (sym e) (answer_plain w.phase w.commit m answer got k)
+      | inr h ↦ subst (λ (x : Answer). K (phase_then shape w.phase (End x) got chosen) (commit_then w.phase w.commit (End x) got chosen) m) (sym h.0) (answer_opens w.phase w.commit m got chosen k h.1)
     ]

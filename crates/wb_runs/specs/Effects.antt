@@ -122,11 +122,23 @@ abbrev pub words_then : Words → Want → Words
 words_then words (Cell step) = words_after words step
 words_then words next = words
 
-abbrev pub reading_then : {P A : Type 0} → Option (ReadSteps A) → Want → Chosen P A → Option (ReadSteps A)
-reading_then reading (Device (ReadMetadata left)) (Reaches now commit) = now
-reading_then reading (Device (ReadMetadata left)) chosen = None
-reading_then reading (Device (Sync Metadata)) (Begins now) = Some now
-reading_then reading next chosen = reading
+-- A reading begins once the metadata were synced. After a fault on metadata nothing more is read.
+abbrev pub reading_begun : {P A : Type 0} → Option (ReadSteps A) → Got → Chosen P A → Option (ReadSteps A)
+reading_begun reading Done (Begins now) = Some now
+reading_begun reading Done chosen = reading
+reading_begun reading got chosen = None
+
+abbrev pub reading_left : {A : Type 0} → Option (ReadSteps A) → Got → Option (ReadSteps A)
+reading_left reading Done = reading
+reading_left reading got = None
+
+abbrev pub reading_then : {P A : Type 0} → Option (ReadSteps A) → Want → Got → Chosen P A → Option (ReadSteps A)
+reading_then reading (Device (ReadMetadata left)) got (Reaches now commit) = now
+reading_then reading (Device (ReadMetadata left)) got chosen = None
+reading_then reading (Device (Sync Metadata)) got chosen = reading_begun reading got chosen
+reading_then reading (Device (WriteNode number)) got chosen = reading_left reading got
+reading_then reading (Device WriteRoot) got chosen = reading_left reading got
+reading_then reading next got chosen = reading
 
 -- ---- what an opening makes
 
@@ -165,11 +177,11 @@ abbrev pub phase_opened : {P A : Type 0} → Shape → Mode → Option (ReadStep
 phase_opened shape mode reading (Opened policy) = phase_over shape mode policy reading
 phase_opened shape mode reading chosen = Gone
 
-abbrev pub phase_then : {P A : Type 0} → Shape → Phase P A → Want → Chosen P A → Phase P A
-phase_then shape (Stands t) next chosen = Stands (record { words = words_then t.words next; desk = desk_then t.desk next chosen })
-phase_then shape (Opens mode reading) (End answer) chosen = phase_opened shape mode reading chosen
-phase_then shape (Opens mode reading) next chosen = Opens mode (reading_then reading next chosen)
-phase_then shape Gone next chosen = Gone
+abbrev pub phase_then : {P A : Type 0} → Shape → Phase P A → Want → Got → Chosen P A → Phase P A
+phase_then shape (Stands t) next got chosen = Stands (record { words = words_then t.words next; desk = desk_then t.desk next chosen })
+phase_then shape (Opens mode reading) (End answer) got chosen = phase_opened shape mode reading chosen
+phase_then shape (Opens mode reading) next got chosen = Opens mode (reading_then reading next got chosen)
+phase_then shape Gone next got chosen = Gone
 
 -- ---- the actors
 
@@ -207,7 +219,7 @@ abbrev pub stepped : {P A : Type 0} → Shape → State P A → ℕ → Actor �
 stepped shape w a x next got chosen change = record {
   devices = devices_then change w.devices next;
   commit = commit_then w.phase w.commit next got chosen;
-  phase = phase_then shape w.phase next chosen;
+  phase = phase_then shape w.phase next got chosen;
   actors = slice_set w.actors a (actor_then shape w.phase x next got);
 }
 
