@@ -1,3 +1,4 @@
 mod Underway
 mod Metadata
 mod Stepping
+mod Faltering
