@@ -2,3 +2,4 @@ mod Underway
 mod Metadata
 mod Stepping
 mod Faltering
+mod MetadataRuns

@@ -1,11 +1,12 @@
 -- What is promised of every run.
-use Rattle.std.specs.Prelude.{◌≡◌, ◌≤◌, ◌+◌, ◌*◌, ◌/◌, ◌%◌, ◌==◌, ℕ, suc, List, [], ◌∷◌, Option, Some, None, All, IsPermutation, Contains, map, length, slice_get, unwrap_or, if◌then◌else◌}
+use Rattle.std.specs.Prelude.{◌≡◌, ◌≤◌, ◌+◌, ◌*◌, ◌/◌, ◌%◌, ◌==◌, ℕ, suc, List, [], ◌∷◌, Option, Some, None, All, IsPermutation, Contains, map, length, replicate, slice_get, unwrap_or, if◌then◌else◌}
 use Rattle.wb_types.specs.declared.entry.Entry.{Entry}
 use Rattle.wb_types.specs.Extents.{sectors_in, rising}
 use Rattle.wb_types.specs.declared.refusal.Refusal.{Refusal}
 use Rattle.wb_types.specs.declared.refusal.Refusal.TheVariants.{Io, Memory, GenerationEnd}
 use Rattle.wb_disk.specs.Device.{Content as Bytes, History, entries, newest}
 use Rattle.wb_disk.specs.Crashes.{MayLeave}
+use Rattle.wb_meta.specs.Formats.{IsFormatted}
 use Rattle.wb_meta.specs.Representing.{Represents, Stored}
 use Rattle.wb_tasks.specs.declared.step.Answer.{Answer}
 use Rattle.wb_tasks.specs.declared.step.Answer.TheVariants.{Done as Finished, Refused as Refuses}
@@ -20,9 +21,9 @@ use Rattle.wb_runs.specs.declared.event.Event.TheVariants.{Step}
 use Rattle.wb_runs.specs.declared.event.What.{What}
 use Rattle.wb_runs.specs.declared.event.What.TheVariants.{Stepped}
 use Rattle.wb_runs.specs.declared.event.Record.{Record}
-use Rattle.wb_runs.specs.States.{Shape, State, Phase, Stands, block_size, sector_count}
+use Rattle.wb_runs.specs.States.{Shape, State, Phase, Stands, block_size, sector_count, start}
 use Rattle.wb_runs.specs.Happenings.{Happening, Chosen, MayBe}
-use Rattle.wb_runs.specs.Effects.{after_happening}
+use Rattle.wb_runs.specs.Effects.{after_happening, after_all, IsRun}
 use Rattle.wb_runs.specs.Clerk.{Notes, Doing, Reading, Position, note}
 
 -- ---- what entries show
@@ -124,6 +125,13 @@ abbrev pub CrashConsistent : Shape → Notes → Devices (List History) → Type
 CrashConsistent shape n devices = (metadata cache origin : List Bytes) → MayLeave devices.metadata metadata → MayLeave devices.cache cache → MayLeave devices.origin origin
     → ShowsOpened shape n metadata cache origin
 
+-- Metadata represent a root of this geometry, and a tree in which nothing is cached.
+pub record IsEmpty (shape : Shape) (metadata : List Bytes) : Type 0 where
+  pub stored : Stored
+  pub represents : Represents metadata stored.root stored.found
+  pub geometry : stored.root.geometry ≡ shape.geometry
+  pub nothing : stored.found.entries ≡ replicate shape.geometry.cache_blocks None
+
 -- an actor may do a step, and it is not skipped
 pub record GivesSomething {P A : Type 0} (shape : Shape) (w : State P A) (a : ℕ) : Type 0 where
   pub next : Want
@@ -131,3 +139,14 @@ pub record GivesSomething {P A : Type 0} (shape : Shape) (w : State P A) (a : �
   pub read : List Bytes
   pub chosen : Chosen P A
   pub may : MayBe shape w (Step a) (Stepped next got) read chosen
+
+-- ---- laws
+
+-- A run from formatted metadata, and what is so after it.
+abbrev pub InEveryRun : (P A : Type 0) → (Shape → List History → List (Happening P A) → Type 0) → Type 0
+InEveryRun P A Holds = (shape : Shape) (metadata : List History) (hs : List (Happening P A)) → IsFormatted shape.geometry metadata → length metadata ≡ shape.geometry.meta_sectors
+    → IsRun shape (start shape metadata) hs → Holds shape metadata hs
+
+-- whatever a crash leaves of the metadata represents a tree
+abbrev pub MetadataAreRead : (P A : Type 0) → Type 0
+MetadataAreRead P A = InEveryRun P A (λ shape metadata hs. (sectors : List Bytes) → MayLeave (after_all shape (start shape metadata) hs).devices.metadata sectors → IsEmpty shape sectors)

@@ -4,6 +4,8 @@
 
 mod event;
 mod job;
+mod law;
 
 pub use event::{Event, Record, What};
 pub use job::Job;
+pub use law::metadata_are_read;
