@@ -3,3 +3,4 @@ mod Metadata
 mod Stepping
 mod Faltering
 mod MetadataRuns
+mod Sectors
