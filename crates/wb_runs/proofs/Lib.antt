@@ -4,3 +4,4 @@ mod Stepping
 mod Faltering
 mod MetadataRuns
 mod Sectors
+mod Plans
