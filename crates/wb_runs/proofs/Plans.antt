@@ -273,3 +273,56 @@ module _ (most : ℕ) where
   flush_goes words (Desk (BeginCommit clean n)) ws answer got f (inr c) = subst (λ (g : Got). FlushLeft most (Desk (BeginCommit clean n) ∷ ws) answer (Desk (BeginCommit clean n)) g (after (P (Desk (BeginCommit clean n) ∷ ws) answer) g)) (sym c.1) (refused_commit clean n ws answer c.0)
   flush_goes words (Desk EndCommit) ws answer got f c = subst (λ (g : Got). FlushLeft most (Desk EndCommit ∷ ws) answer (Desk EndCommit) g (after (P (Desk EndCommit ∷ ws) answer) g)) (sym c) (goes _ ws answer _ _ refl f (λ y. inl y))
   flush_goes words w ws answer got f c = absurd f
+
+-- ---- openings
+
+abbrev pub OpensOnly : List Want → Type 0
+OpensOnly [] = Unit {0}
+OpensOnly (Device (Sync device) ∷ ws) = OpensOnly ws
+OpensOnly (Device (ReadMetadata n) ∷ ws) = OpensOnly ws
+OpensOnly (Device WriteRoot ∷ ws) = OpensOnly ws
+OpensOnly (w ∷ ws) = ⊥
+
+-- what may come of a step of an opening
+abbrev pub ComesOfOpening : Want → Got → Type 0
+ComesOfOpening (Device (ReadMetadata n)) got = ((got ≡ Done) ⊎ (got ≡ More)) ⊎ ((got ≡ Fault) ⊎ ((refusal : Refusal) × (got ≡ GotRefused refusal)))
+ComesOfOpening (Device step) got = (got ≡ Done) ⊎ (got ≡ Fault)
+ComesOfOpening w got = ⊥
+
+-- why a step makes an opening answer so
+abbrev pub Causes : Want → Got → Refusal → Type 0
+Causes (Device step) Fault refusal = refusal ≡ Io (device_of step)
+Causes w (GotRefused because) refusal = refusal ≡ because
+Causes w got refusal = ⊥
+
+pub record OpenLeft (n : ℕ) (before : List Want) (answer : Answer) (w : Want) (got : Got) (plan : Plan) : Type 0 where
+  pub left : Left (Opening n) OpensOnly answer plan
+  pub syncs : left.answer ≡ Finished → Syncs before → Syncs left.steps ⊎ IsOriginSync w got
+  pub cause : (refusal : Refusal) → left.answer ≡ Refuses refusal → (answer ≡ Refuses refusal) ⊎ Causes w got refusal
+
+module _ (n : ℕ) where
+  abbrev Q : List Want → Answer → Plan
+  Q ws answer = plan_of (Opening n) ws answer
+
+  on : (w : Want) (before ws : List Want) (answer : Answer) (got : Got) (plan : Plan) → plan ≡ Q ws answer → OpensOnly ws → (Syncs before → Syncs ws ⊎ IsOriginSync w got) → OpenLeft n before answer w got plan
+  on w before ws answer got plan e f s = record { left = record { steps = ws; answer = answer; is = e; fine = f; done = λ e. e }; syncs = λ e y. s y; cause = λ r e. inl e }
+
+  refuses : (w : Want) (before : List Want) (answer : Answer) (refusal : Refusal) (got : Got) (plan : Plan) → plan ≡ Q [] (Refuses refusal) → Causes w got refusal → OpenLeft n before answer w got plan
+  refuses w before answer refusal got plan e c = record {
+    left = record { steps = []; answer = Refuses refusal; is = e; fine = tt; done = λ e. absurd (cc) };
+    syncs = λ e y. absurd (cc);
+    cause = λ r e. inr (let same : refusal ≡ r = cc in subst (λ (x : Refusal). Causes w got x) same c);
+  }
+
+  pub open_goes : (w : Want) (ws : List Want) (answer : Answer) (got : Got) → OpensOnly (w ∷ ws) → ComesOfOpening w got → OpenLeft n (w ∷ ws) answer w got (after (Q (w ∷ ws) answer) got)
+  open_goes (Device (Sync Origin)) ws answer got f (inl c) = subst (λ (g : Got). OpenLeft n (Device (Sync Origin) ∷ ws) answer (Device (Sync Origin)) g (after (Q (Device (Sync Origin) ∷ ws) answer) g)) (sym c) (on _ _ ws answer _ _ refl f (λ y. inr tt))
+  open_goes (Device (Sync Cache)) ws answer got f (inl c) = subst (λ (g : Got). OpenLeft n (Device (Sync Cache) ∷ ws) answer (Device (Sync Cache)) g (after (Q (Device (Sync Cache) ∷ ws) answer) g)) (sym c) (on _ _ ws answer _ _ refl f (λ y. inl y))
+  open_goes (Device (Sync Metadata)) ws answer got f (inl c) = subst (λ (g : Got). OpenLeft n (Device (Sync Metadata) ∷ ws) answer (Device (Sync Metadata)) g (after (Q (Device (Sync Metadata) ∷ ws) answer) g)) (sym c) (on _ _ ws answer _ _ refl f (λ y. inl y))
+  open_goes (Device WriteRoot) ws answer got f (inl c) = subst (λ (g : Got). OpenLeft n (Device WriteRoot ∷ ws) answer (Device WriteRoot) g (after (Q (Device WriteRoot ∷ ws) answer) g)) (sym c) (on _ _ ws answer _ _ refl f (λ y. inl y))
+  open_goes (Device (Sync d)) ws answer got f (inr c) = subst (λ (g : Got). OpenLeft n (Device (Sync d) ∷ ws) answer (Device (Sync d)) g (after (Q (Device (Sync d) ∷ ws) answer) g)) (sym c) (refuses _ _ answer (Io d) _ _ refl refl)
+  open_goes (Device WriteRoot) ws answer got f (inr c) = subst (λ (g : Got). OpenLeft n (Device WriteRoot ∷ ws) answer (Device WriteRoot) g (after (Q (Device WriteRoot ∷ ws) answer) g)) (sym c) (refuses _ _ answer (Io Metadata) _ _ refl refl)
+  open_goes (Device (ReadMetadata m)) ws answer got f (inl (inl c)) = subst (λ (g : Got). OpenLeft n (Device (ReadMetadata m) ∷ ws) answer (Device (ReadMetadata m)) g (after (Q (Device (ReadMetadata m) ∷ ws) answer) g)) (sym c) (on _ _ ws answer _ _ refl f (λ y. inl y))
+  open_goes (Device (ReadMetadata m)) ws answer got f (inl (inr c)) = subst (λ (g : Got). OpenLeft n (Device (ReadMetadata m) ∷ ws) answer (Device (ReadMetadata m)) g (after (Q (Device (ReadMetadata m) ∷ ws) answer) g)) (sym c) (on _ _ (Device (ReadMetadata (m - 1)) ∷ ws) answer _ _ refl f (λ y. inl y))
+  open_goes (Device (ReadMetadata m)) ws answer got f (inr (inl c)) = subst (λ (g : Got). OpenLeft n (Device (ReadMetadata m) ∷ ws) answer (Device (ReadMetadata m)) g (after (Q (Device (ReadMetadata m) ∷ ws) answer) g)) (sym c) (refuses _ _ answer (Io Metadata) _ _ refl refl)
+  open_goes (Device (ReadMetadata m)) ws answer got f (inr (inr c)) = subst (λ (g : Got). OpenLeft n (Device (ReadMetadata m) ∷ ws) answer (Device (ReadMetadata m)) g (after (Q (Device (ReadMetadata m) ∷ ws) answer) g)) (sym c.1) (refuses _ _ answer c.0 _ _ refl refl)
+  open_goes w ws answer got f c = absurd f

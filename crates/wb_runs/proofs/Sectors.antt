@@ -1,11 +1,12 @@
 -- What the origin holds of each sector, beside the sector's history: entries from a position on, the newest one at another.
 use Rattle.std.proofs.Common.{◌≡◌, ◌≢◌, ◌∙◌, ◌≤◌, ◌<◌, ◌+◌, ◌⊎◌, inl, inr, ℕ, zero, suc, Bool, true, false, if◌then◌else◌, List, [], ◌∷◌, ◌++◌, Option, Some, None, refl, sym, ap, subst, arith, length, slice_get, slice_set, unwrap_or, max, map, replicate, Contains, add-one}
-use Rattle.std.proofs.lemmas.Bool.{cases_eq}
-use Rattle.std.proofs.lemmas.Option.{slice_get_within}
+use Rattle.std.proofs.lemmas.Bool.{cases_eq, cases_order}
+use Rattle.std.proofs.lemmas.Option.{slice_get_within, slice_get-get_or}
 use Rattle.std.proofs.lemmas.List.{length-set}
 use Rattle.std.proofs.lemmas.List.Elements.{Contains-push_cases}
+use Rattle.wb_types.proofs.Lists.{Contains-first, Contains-behind}
 use Rattle.wb_types.specs.Extents.{rising}
-use Rattle.wb_disk.specs.Device.{Content, History, entries, newest, last_of, added, only, grown, written, synced}
+use Rattle.wb_disk.specs.Device.{Content, History, Crashed, entries, newest, last_of, added, only, grown, written, synced}
 use Rattle.wb_disk.specs.Extents.{written_where}
 use Rattle.wb_disk.specs.Failing.{sync_landed, synced_from, synced_where}
 use Rattle.wb_contents.specs.Promises.{IsEntryFrom, AllEntriesFrom}
@@ -221,3 +222,92 @@ partly_follow lands device histories low top all at = rw (partly_at lands 0 devi
     go None None t f = tt
     go (Some h) None t f = absurd f
     go None (Some g) t f = absurd f
+
+-- a crash leaves of each sector one of its contents
+pub crash_follows : (device crashed histories : List History) (low top : ℕ → ℕ) → AllFollow device histories low top → Crashed device crashed → (tops : ℕ → ℕ) × AllFollow crashed histories low tops
+crash_follows device crashed histories low top all crash = (λ at. (here at).0, λ at. (here at).1)
+  where
+    here : (at : ℕ) → (t : ℕ) × FollowsAt (slice_get crashed at) (slice_get histories at) (low at) t
+    here at = go (slice_get device at) (slice_get crashed at) (slice_get histories at) refl refl (all at)
+      where
+        go : (o n g : Option History) → slice_get device at ≡ o → slice_get crashed at ≡ n → FollowsAt o g (low at) (top at) → (t : ℕ) × FollowsAt n g (low at) t
+        go (Some h) (Some k) (Some g) eo en f =
+            let keep = crash.each at h k eo en in
+            let entry = f.each keep.0 keep.1 in
+            (entry.0, subst (λ (x : History). Follows x g (low at) entry.0) (sym keep.2) (record {
+              each = λ d m. subst (λ (x : Content). IsEntryFrom (low at) g x) (only_one keep.0 d m) entry;
+              last = entry.2;
+              order = entry.1;
+            }))
+        go None None None eo en f = (0, tt)
+        go (Some h) None (Some g) eo en f = let w = slice_get_within device at h eo in let there = slice_get-get_or crashed at h (omega (arith, w, crash.size)) in absurd (cc)
+        go None (Some k) None eo en f = let w = slice_get_within crashed at k en in let there = slice_get-get_or device at k (omega (arith, w, crash.size)) in absurd (cc)
+        go (Some h) n None eo en f = absurd f
+        go None n (Some g) eo en f = absurd f
+
+-- ---- what is finished, and floors
+
+abbrev pub number_at : List ℕ → ℕ → ℕ
+number_at numbers at = unwrap_or (slice_get numbers at) 0
+
+set_most : (numbers : List ℕ) (i y : ℕ) → number_at (slice_set numbers i y) i ≤ y
+set_most [] i y = omega arith
+set_most (x ∷ xs) zero y = omega arith
+set_most (x ∷ xs) (suc i) y = set_most xs i y
+
+max_most : (m n k : ℕ) → m ≤ k → n ≤ k → max m n ≤ k
+max_most m n k a b = elim (cases_order m n) [
+  | inl e ↦ omega (arith, a, b, e)
+  | inr o ↦ elim o [ inl l ↦ omega (arith, a, b, l) | inr l ↦ omega (arith, a, b, l) ]
+]
+
+one_raised : (finished : List ℕ) (p : Position) (top : ℕ → ℕ) → ((at : ℕ) → number_at finished at ≤ top at) → p.position ≤ top p.sector → (at : ℕ) → number_at (raised finished p) at ≤ top at
+one_raised finished p top below here at = elim (cases_eq at p.sector) [
+  | inl e ↦ subst (λ (k : ℕ). number_at (raised finished p) k ≤ top k) (sym e)
+      (let a = set_most finished p.sector (max (number_at finished p.sector) p.position) in
+      let b = max_most (number_at finished p.sector) p.position (top p.sector) (below p.sector) here in omega (arith, a, b))
+  | inr n ↦ rw (set_other finished p.sector at (max (number_at finished p.sector) p.position) n) (below at)
+]
+
+pub all_raised_below : (finished : List ℕ) (entered : List Position) (top : ℕ → ℕ) → ((at : ℕ) → number_at finished at ≤ top at) → AreBelow entered top → (at : ℕ) → number_at (all_raised finished entered) at ≤ top at
+all_raised_below finished [] top below here at = below at
+all_raised_below finished (p ∷ ps) top below here at = all_raised_below (raised finished p) ps top (one_raised finished p top below (here p (Contains-first p ps))) (λ q m. here q (Contains-behind p ps q m)) at
+
+pub greater_below : (ms ns : List ℕ) (k at : ℕ) → number_at ms at ≤ k → number_at ns at ≤ k → number_at (greater_of ms ns) at ≤ k
+greater_below [] ns k at a b = a
+greater_below (m ∷ ms) [] k at a b = a
+greater_below (m ∷ ms) (n ∷ ns) k zero a b = max_most m n k a b
+greater_below (m ∷ ms) (n ∷ ns) k (suc at) a b = greater_below ms ns k at a b
+
+-- ---- a life begins
+
+-- each sector has its newest content alone
+abbrev pub IsAlone : List History → Type 0
+IsAlone device = (at : ℕ) (h : History) → slice_get device at ≡ Some h → h.later ≡ []
+
+pub synced_alone : (device : List History) → IsAlone (synced device)
+synced_alone device at h e = go (slice_get device at) (sym (synced_at device at) ∙ e)
+  where
+    go : (o : Option History) → Rattle.std.specs.Option.option_map (λ (k : History). only (newest k)) o ≡ Some h → h.later ≡ []
+    go None e = absurd (cc)
+    go (Some k) e = let same : only (newest k) ≡ h = cc in ap (λ (x : History). x.later) (sym same)
+
+pub life_begins : (device : List History) → IsAlone device → AllFollow device (map only (map newest device)) (λ at. 0) (λ at. 0)
+life_begins device alone at = go (slice_get device at) refl
+  where
+    mapped : (xs : List History) (i : ℕ) → slice_get (map only (map newest xs)) i ≡ Rattle.std.specs.Option.option_map (λ (k : History). only (newest k)) (slice_get xs i)
+    mapped [] i = refl
+    mapped (x ∷ xs) zero = refl
+    mapped (x ∷ xs) (suc i) = mapped xs i
+    one : (h : History) → h.later ≡ [] → Follows h (only (newest h)) 0 0
+    one h e = record {
+      each = λ d m. (0, omega arith, ap (λ (x : Content). Some x) (single h d e m));
+      last = refl;
+      order = omega arith;
+    }
+      where
+        single : (h : History) (d : Content) → h.later ≡ [] → Contains (entries h) d → newest h ≡ d
+        single h d e m = ap (last_of h.first) e ∙ only_one h.first d (subst (λ (ls : List Content). Contains (h.first ∷ ls) d) e m)
+    go : (o : Option History) → slice_get device at ≡ o → FollowsAt (slice_get device at) (slice_get (map only (map newest device)) at) 0 0
+    go None e = rw (mapped device at, e) tt
+    go (Some h) e = rw (mapped device at, e) (one h (alone at h e))
