@@ -5,3 +5,6 @@ mod Faltering
 mod MetadataRuns
 mod Sectors
 mod Plans
+mod Contents
+mod Standing
+mod Serving
