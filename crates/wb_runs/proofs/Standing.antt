@@ -75,10 +75,10 @@ pub record Noted (a : ℕ) (n n' : Notes) (doing : Doing) : Type 0 where
   pub floors : n'.floors ≡ n.floors
   pub finished : n'.finished ≡ n.finished
 
-put_noted : (a : ℕ) (n : Notes) (old doing : Doing) → slice_get n.doings a ≡ Some (Some old) → Noted a n (put n a (Some doing)) doing
+pub put_noted : (a : ℕ) (n : Notes) (old doing : Doing) → slice_get n.doings a ≡ Some (Some old) → Noted a n (put n a (Some doing)) doing
 put_noted a n old doing e = record { others = λ b o. set_other n.doings a b (Some doing) o; here = set_there n.doings a (Some old) (Some doing) e; floors = refl; finished = refl }
 
-twice : (a : ℕ) (n : Notes) (old mid doing : Doing) (n' : Notes) → slice_get n.doings a ≡ Some (Some old) → n'.doings ≡ slice_set (slice_set n.doings a (Some mid)) a (Some doing) → n'.floors ≡ n.floors → n'.finished ≡ n.finished → Noted a n n' doing
+pub twice : (a : ℕ) (n : Notes) (old mid doing : Doing) (n' : Notes) → slice_get n.doings a ≡ Some (Some old) → n'.doings ≡ slice_set (slice_set n.doings a (Some mid)) a (Some doing) → n'.floors ≡ n.floors → n'.finished ≡ n.finished → Noted a n n' doing
 twice a n old mid doing n' e d f g = record {
   others = λ b o. ap (λ ds. slice_get ds b) d ∙ set_other (slice_set n.doings a (Some mid)) a b (Some doing) o ∙ set_other n.doings a b (Some mid) o;
   here = ap (λ ds. slice_get ds a) d ∙ set_there (slice_set n.doings a (Some mid)) a (Some mid) (Some doing) (set_there n.doings a (Some old) (Some mid) e);
@@ -91,7 +91,7 @@ module _ (P A : Type 0) (shape : Shape) (t : Target P) (device : List History) (
   Result t' device' y n' = Linked {P = P} {A = A} shape (Stands t') device' (slice_set actors a y) n'
 
   -- nothing was written: the task went on
-  quiet : (t' : Target P) (y : Actor) (n' : Notes) (job : Job) (plan : Plan) (doing' : Doing) → Noted a n n' doing' → n'.histories ≡ n.histories → NoSeal t'.words → y.task ≡ Some (job, plan) → doing'.job ≡ job → ¬ IsOpeningJob job →
+  pub quiet : (t' : Target P) (y : Actor) (n' : Notes) (job : Job) (plan : Plan) (doing' : Doing) → Noted a n n' doing' → n'.histories ≡ n.histories → NoSeal t'.words → y.task ≡ Some (job, plan) → doing'.job ≡ job → ¬ IsOpeningJob job →
       JobKept shape job plan doing' l.low l.top device → Result t' device y n'
   quiet t' y n' job plan doing' m h z yt j o k = moved P A shape t t' device device actors a x y n n' l l.low l.top e (record {
     up = λ at. omega arith;
@@ -107,7 +107,7 @@ module _ (P A : Type 0) (shape : Shape) (t : Target P) (device : List History) (
   })
 
   -- the origin was synced, or a part of it
-  resynced : (t' : Target P) (device' : List History) (low' : ℕ → ℕ) (y : Actor) (n' : Notes) (job : Job) (plan : Plan) (doing' : Doing) → Noted a n n' doing' → n'.histories ≡ n.histories → NoSeal t'.words → y.task ≡ Some (job, plan) → doing'.job ≡ job → ¬ IsOpeningJob job →
+  pub resynced : (t' : Target P) (device' : List History) (low' : ℕ → ℕ) (y : Actor) (n' : Notes) (job : Job) (plan : Plan) (doing' : Doing) → Noted a n n' doing' → n'.histories ≡ n.histories → NoSeal t'.words → y.task ≡ Some (job, plan) → doing'.job ≡ job → ¬ IsOpeningJob job →
       ((at : ℕ) → l.low at ≤ low' at) → AllFollow device' n.histories low' l.top → length device' ≡ length device → JobKept shape job plan doing' low' l.top device' → Result t' device' y n'
   resynced t' device' low' y n' job plan doing' m h z yt j o up f s k = moved P A shape t t' device device' actors a x y n n' l low' l.top e (record {
     up = up;
@@ -123,7 +123,7 @@ module _ (P A : Type 0) (shape : Shape) (t : Target P) (device : List History) (
   })
 
   -- the task was answered
-  answered : (t' : Target P) (y : Actor) (n' : Notes) → n'.histories ≡ n.histories → n'.doings ≡ slice_set n.doings a None → NoSeal t'.words → y.task ≡ None → ((at : ℕ) → number_at n'.floors at ≤ l.low at) → ((at : ℕ) → number_at n'.finished at ≤ l.top at) → Result t' device y n'
+  pub answered : (t' : Target P) (y : Actor) (n' : Notes) → n'.histories ≡ n.histories → n'.doings ≡ slice_set n.doings a None → NoSeal t'.words → y.task ≡ None → ((at : ℕ) → number_at n'.floors at ≤ l.low at) → ((at : ℕ) → number_at n'.finished at ≤ l.top at) → Result t' device y n'
   answered t' y n' h d z yt f g = moved P A shape t t' device device actors a x y n n' l l.low l.top e (record {
     up = λ at. omega arith;
     rise = λ at. omega arith;
@@ -138,7 +138,7 @@ module _ (P A : Type 0) (shape : Shape) (t : Target P) (device : List History) (
   })
 
   -- an extent was written and entered
-  wrote : (t' : Target P) (y : Actor) (extent : Extent) (content : Bytes) (ex : Extent) (plan : Plan) (lands : ℕ → Bool) (got : Got) → WriteKept shape extent plan doing l.top → doing.job ≡ Write extent content → Device (WriteExtent Origin ex) ≡ want plan → NoSeal t.words → NoSeal t'.words →
+  pub wrote : (t' : Target P) (y : Actor) (extent : Extent) (content : Bytes) (ex : Extent) (plan : Plan) (lands : ℕ → Bool) (got : Got) → WriteKept shape extent plan doing l.top → doing.job ≡ Write extent content → Device (WriteExtent Origin ex) ≡ want plan → NoSeal t.words → NoSeal t'.words →
       ((got ≡ Done) × ((k : ℕ) → lands k ≡ true)) ⊎ (got ≡ Fault) → (doing' : Doing) → doing'.job ≡ doing.job → doing'.entered ≡ doing.entered → y.task ≡ Some (Write extent content, after plan got) → sector_for shape extent ex ≡ ex.first →
       (n' : Notes) (last : Doing) → Noted a n n' last → last.job ≡ doing'.job → last.entered ≡ (enter_each content (rising ex.first ex.count) (entering n doing)).entered → n'.histories ≡ (enter_each content (rising ex.first ex.count) (entering n doing)).histories →
       Result t' (written_where lands device ex.first (replicate ex.count content)) y n'
