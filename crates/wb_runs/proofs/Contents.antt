@@ -58,7 +58,6 @@ pub record OpenKept (plan : Plan) (doing : Doing) (device : List History) : Type
   pub is : plan ≡ plan_of (Opening left) steps answer
   pub fine : OpensOnly steps
   pub durable : answer ≡ Finished → Syncs steps ⊎ IsAlone device
-  pub cause : (refusal : Refusal) → answer ≡ Refuses refusal → MayRefuse doing refusal
 
 abbrev pub JobKept : Shape → Job → Plan → Doing → (low top : ℕ → ℕ) → List History → Type 0
 JobKept shape (Read extent) plan doing low top device = ReadKept shape extent plan
@@ -167,9 +166,8 @@ flush_after plan doing low low' top top' words next got k e c up rise settle doi
         }
 
 pub open_after : (plan : Plan) (doing doing' : Doing) (device device' : List History) (next : Want) (got : Got) → OpenKept plan doing device → next ≡ want plan → ComesOfOpening next got →
-    (IsAlone device → IsAlone device') → (IsOriginSync next got → IsAlone device') → ((refusal : Refusal) → MayRefuse doing refusal → MayRefuse doing' refusal) → ((refusal : Refusal) → Causes next got refusal → MayRefuse doing' refusal) →
-    OpenKept (after plan got) doing' device'
-open_after plan doing doing' device device' next got k e c still settle old new = by_steps k.steps k.is k.fine k.durable
+    (IsAlone device → IsAlone device') → (IsOriginSync next got → IsAlone device') → OpenKept (after plan got) doing' device'
+open_after plan doing doing' device device' next got k e c still settle = by_steps k.steps k.is k.fine k.durable
   where
     by_steps : (steps : List Want) → plan ≡ plan_of (Opening k.left) steps k.answer → OpensOnly steps → (k.answer ≡ Finished → Syncs steps ⊎ IsAlone device) → OpenKept (after plan got) doing' device'
     by_steps [] is f d = absurd (subst (λ (v : Want). ComesOfOpening v got) (e ∙ ap want is) c)
@@ -188,10 +186,6 @@ open_after plan doing doing' device device' next got k e c still settle old new 
               | inr now ↦ inr (settle (subst (λ (v : Want). IsOriginSync v got) (sym here) now))
             ]
             | inr s ↦ inr (still s)
-          ];
-          cause = λ refusal y. elim (goes.cause refusal y) [
-            | inl before ↦ old refusal (k.cause refusal before)
-            | inr now ↦ new refusal (subst (λ (v : Want). Causes v got refusal) (sym here) now)
           ];
         }
 

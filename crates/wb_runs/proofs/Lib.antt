@@ -8,3 +8,5 @@ mod Plans
 mod Contents
 mod Standing
 mod Serving
+mod Serves
+mod Opened

@@ -22,7 +22,7 @@ pub record Follows (h g : History) (low top : ℕ) : Type 0 where
 
 abbrev pub FollowsAt : Option History → Option History → ℕ → ℕ → Type 0
 FollowsAt (Some h) (Some g) low top = Follows h g low top
-FollowsAt None None low top = Unit {0}
+FollowsAt None None low top = low ≤ top
 FollowsAt h g low top = ⊥
 
 abbrev pub AllFollow : List History → List History → (ℕ → ℕ) → (ℕ → ℕ) → Type 0
@@ -107,7 +107,7 @@ both_written device histories low top at c all other = elim (cases_eq other at) 
     here : (o g : Option History) → slice_get device at ≡ o → slice_get histories at ≡ g → FollowsAt o g (low at) (top at) →
         FollowsAt (slice_get (written device at c) at) (slice_get (written histories at c) at) (low at) (next_top (slice_get histories at) (top at))
     here (Some h) (Some g) e f k = rw (written_same device at h c e, written_same histories at g c f, f) (both_more h g (low at) (top at) c k)
-    here None None e f k = rw (written_none device at c e, written_none histories at c f, e, f) tt
+    here None None e f k = rw (written_none device at c e, written_none histories at c f, e, f) k
     here (Some h) None e f k = absurd k
     here None (Some g) e f k = absurd k
 
@@ -120,7 +120,7 @@ lost_written device histories low top at c all other = elim (cases_eq other at) 
   where
     here : (o g : Option History) → slice_get device at ≡ o → slice_get histories at ≡ g → FollowsAt o g (low at) (top at) → FollowsAt (slice_get device at) (slice_get (written histories at c) at) (low at) (top at)
     here (Some h) (Some g) e f k = rw (e, written_same histories at g c f) (lost_more h g (low at) (top at) c k)
-    here None None e f k = rw (e, written_none histories at c f, f) tt
+    here None None e f k = rw (e, written_none histories at c f, f) k
     here (Some h) None e f k = absurd k
     here None (Some g) e f k = absurd k
 
@@ -203,7 +203,7 @@ all_synced device histories low top all at = rw (synced_at device at) (go (slice
   where
     go : (o g : Option History) → FollowsAt o g (low at) (top at) → FollowsAt (Rattle.std.specs.Option.option_map (λ (h : History). only (newest h)) o) g (top at) (top at)
     go (Some h) (Some g) f = newest_alone h g (low at) (top at) (top at) (omega arith) f
-    go None None f = tt
+    go None None f = omega arith
     go (Some h) None f = absurd f
     go None (Some g) f = absurd f
 
@@ -219,7 +219,7 @@ partly_follow lands device histories low top all at = rw (partly_at lands 0 devi
     go : (o g : Option History) (t : Bool) → FollowsAt o g (low at) (top at) → FollowsAt (Rattle.std.specs.Option.option_map (λ (h : History). sync_landed t h) o) g (low at) (top at)
     go (Some h) (Some g) true f = newest_alone h g (low at) (top at) (low at) f.order f
     go (Some h) (Some g) false f = f
-    go None None t f = tt
+    go None None t f = f
     go (Some h) None t f = absurd f
     go None (Some g) t f = absurd f
 
@@ -239,7 +239,7 @@ crash_follows device crashed histories low top all crash = (λ at. (here at).0, 
               last = entry.2;
               order = entry.1;
             }))
-        go None None None eo en f = (0, tt)
+        go None None None eo en f = (low at, omega arith)
         go (Some h) None (Some g) eo en f = let w = slice_get_within device at h eo in let there = slice_get-get_or crashed at h (omega (arith, w, crash.size)) in absurd (cc)
         go None (Some k) None eo en f = let w = slice_get_within crashed at k en in let there = slice_get-get_or device at k (omega (arith, w, crash.size)) in absurd (cc)
         go (Some h) n None eo en f = absurd f
@@ -309,5 +309,15 @@ life_begins device alone at = go (slice_get device at) refl
         single : (h : History) (d : Content) → h.later ≡ [] → Contains (entries h) d → newest h ≡ d
         single h d e m = ap (last_of h.first) e ∙ only_one h.first d (subst (λ (ls : List Content). Contains (h.first ∷ ls) d) e m)
     go : (o : Option History) → slice_get device at ≡ o → FollowsAt (slice_get device at) (slice_get (map only (map newest device)) at) 0 0
-    go None e = rw (mapped device at, e) tt
+    go None e = rw (mapped device at, e) (omega arith)
     go (Some h) e = rw (mapped device at, e) (one h (alone at h e))
+
+-- the one position is never behind the other
+pub low_top : (device histories : List History) (low top : ℕ → ℕ) → AllFollow device histories low top → (at : ℕ) → low at ≤ top at
+low_top device histories low top all at = go (slice_get device at) (slice_get histories at) (all at)
+  where
+    go : (o g : Option History) → FollowsAt o g (low at) (top at) → low at ≤ top at
+    go (Some h) (Some g) f = f.order
+    go None None f = f
+    go (Some h) None f = absurd f
+    go None (Some g) f = absurd f

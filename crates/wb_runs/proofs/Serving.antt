@@ -41,19 +41,19 @@ use Rattle.wb_runs.proofs.Standing.{IsSeal, seals_stay, Noted, put_noted, twice,
 
 -- ---- what a task may do next
 
-abbrev IsReadNext : Want → Type 0
+abbrev pub IsReadNext : Want → Type 0
 IsReadNext (Cell step) = ¬ IsSeal step
 IsReadNext (Device (ReadExtent device e)) = Unit {0}
 IsReadNext (End answer) = Unit {0}
 IsReadNext w = ⊥
 
-abbrev IsWriteNext : Shape → Extent → Want → Type 0
+abbrev pub IsWriteNext : Shape → Extent → Want → Type 0
 IsWriteNext shape extent (Cell step) = ¬ IsSeal step
 IsWriteNext shape extent (Device (WriteExtent Origin e)) = sector_for shape extent e ≡ e.first
 IsWriteNext shape extent (End answer) = Unit {0}
 IsWriteNext shape extent w = ⊥
 
-abbrev IsFlushNext : Want → Type 0
+abbrev pub IsFlushNext : Want → Type 0
 IsFlushNext (Cell step) = ¬ IsSeal step
 IsFlushNext (Device (Sync device)) = Unit {0}
 IsFlushNext (Device (WriteNode number)) = Unit {0}
@@ -115,21 +115,21 @@ flush_first (Desk (BeginCommit clean most)) ws f = tt
 flush_first (Desk EndCommit) ws f = tt
 flush_first w ws f = absurd f
 
-read_next : (shape : Shape) (extent : Extent) (plan : Plan) (next : Want) → ReadKept shape extent plan → next ≡ want plan → IsReadNext next
+pub read_next : (shape : Shape) (extent : Extent) (plan : Plan) (next : Want) → ReadKept shape extent plan → next ≡ want plan → IsReadNext next
 read_next shape extent plan next k e = subst (λ (v : Want). IsReadNext v) (sym (e ∙ ap want k.is)) (by_steps k.steps k.fine)
   where
     by_steps : (steps : List Want) → ReadsOnly steps → IsReadNext (want (plan_of (reading shape extent k.cut) steps k.answer))
     by_steps [] f = tt
     by_steps (w ∷ ws) f = read_first w ws f
 
-write_next : (shape : Shape) (extent : Extent) (plan : Plan) (doing : Doing) (top : ℕ → ℕ) (next : Want) → WriteKept shape extent plan doing top → next ≡ want plan → IsWriteNext shape extent next
+pub write_next : (shape : Shape) (extent : Extent) (plan : Plan) (doing : Doing) (top : ℕ → ℕ) (next : Want) → WriteKept shape extent plan doing top → next ≡ want plan → IsWriteNext shape extent next
 write_next shape extent plan doing top next k e = subst (λ (v : Want). IsWriteNext shape extent v) (sym (e ∙ ap want k.is)) (by_steps k.steps k.fine)
   where
     by_steps : (steps : List Want) → WritesOnly shape extent steps → IsWriteNext shape extent (want (plan_of (writing shape extent k.cut) steps k.answer))
     by_steps [] f = tt
     by_steps (w ∷ ws) f = write_first shape extent w ws f
 
-flush_next : (plan : Plan) (doing : Doing) (low top : ℕ → ℕ) (next : Want) → FlushKept plan doing low top → next ≡ want plan → IsFlushNext next
+pub flush_next : (plan : Plan) (doing : Doing) (low top : ℕ → ℕ) (next : Want) → FlushKept plan doing low top → next ≡ want plan → IsFlushNext next
 flush_next plan doing low top next k e = subst (λ (v : Want). IsFlushNext v) (sym (e ∙ ap want k.is)) (by_steps k.steps k.fine)
   where
     by_steps : (steps : List Want) → FlushesOnly steps → IsFlushNext (want (plan_of (Flushing [] k.most) steps k.answer))
