@@ -4,9 +4,12 @@ mod Stepping
 mod Faltering
 mod MetadataRuns
 mod Sectors
+mod Extents
 mod Plans
 mod Contents
 mod Standing
 mod Serving
 mod Serves
 mod Opened
+mod Opens
+mod Lives

@@ -321,3 +321,11 @@ low_top device histories low top all at = go (slice_get device at) (slice_get hi
     go None None f = f
     go (Some h) None f = absurd f
     go None (Some g) f = absurd f
+
+pub partly_alone : (lands : ℕ → Bool) (device : List History) → IsAlone device → IsAlone (synced_where lands device)
+partly_alone lands device alone at h e = go (slice_get device at) (lands (0 + at)) refl (sym (partly_at lands 0 device at) ∙ e)
+  where
+    go : (o : Option History) (t : Bool) → slice_get device at ≡ o → Rattle.std.specs.Option.option_map (λ (k : History). sync_landed t k) o ≡ Some h → h.later ≡ []
+    go None t f e = absurd (cc)
+    go (Some k) true f e = let same : only (newest k) ≡ h = cc in ap (λ (x : History). x.later) (sym same)
+    go (Some k) false f e = let same : k ≡ h = cc in subst (λ (x : History). x.later ≡ []) same (alone at k f)
