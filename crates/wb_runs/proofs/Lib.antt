@@ -13,3 +13,5 @@ mod Serves
 mod Opened
 mod Opens
 mod Lives
+mod Begins
+mod Runs

@@ -81,3 +81,54 @@ module _ (P A : Type 0) (shape : Shape) where
           cases devices commit (Stands t) actors known l e k g = stands_done P A shape t devices commit actors a x n l e plan _ got read chosen job next k h xt g
           cases devices commit Gone actors known l e k g = absurd k.here
           cases devices commit (Opens mode reading) actors known l e k g = on_open devices commit mode reading actors n a next got read chosen x job plan known l e xt k h g
+
+  -- ---- one that fails
+
+  abbrev Failed : State P A → ℕ → Choice → Want → List Bytes → Chosen P A → Notes → Actor → Job → Doing → Type 0
+  Failed w a choice next read chosen n x job doing = Linked {P = P} {A = A} shape (phase_then shape w.phase next Fault chosen) (devices_then (λ step. device_failed (lands (device_of step) choice) job step chosen) w.devices next).origin (slice_set w.actors a (actor_then shape w.phase x next Fault))
+      (noted_step shape (shown_in shape (devices_then (λ step. device_failed (lands (device_of step) choice) job step chosen) w.devices next) (phase_then shape w.phase next Fault chosen)) n a (Some (Some doing)) next Fault read)
+
+  by_fault : (devices : Devices (List History)) (commit : Option RunningCommit) (phase : Phase P A) (actors : List Actor) (n : Notes) (a : ℕ) (choice : Choice) (next : Want) (read : List Bytes) (chosen : Chosen P A) (x : Actor) (job : Job) (plan : Plan) → (l : Linked {P = P} {A = A} shape phase devices.origin actors n) → slice_get actors a ≡ Some x → x.task ≡ Some (job, plan) →
+      (k : Working shape phase devices.origin l.low l.top job plan (slice_get n.doings a)) → next ≡ want plan → Falters (record { devices = devices; commit = commit; phase = phase; actors = actors }) choice next chosen →
+      Failed (record { devices = devices; commit = commit; phase = phase; actors = actors }) a choice next read chosen n x job k.doing
+  by_fault devices commit (Stands t) actors n a choice next read chosen x job plan l e xt k h g = stands_failed P A shape t devices commit actors a x n l e plan _ choice read chosen job next k h xt g
+  by_fault devices commit Gone actors n a choice next read chosen x job plan l e xt k h g = absurd k.here
+  by_fault devices commit (Opens mode reading) actors n a choice next read chosen x (Open m') plan l e xt k h g = opens_failed P A shape mode reading devices commit actors a x n l e m' plan xt k.doing k.is k.job_is k.kept _ choice read chosen next h g
+  by_fault devices commit (Opens mode reading) actors n a choice next read chosen x (Read extent) plan l e xt k h g = absurd k.here
+  by_fault devices commit (Opens mode reading) actors n a choice next read chosen x (Write extent content) plan l e xt k h g = absurd k.here
+  by_fault devices commit (Opens mode reading) actors n a choice next read chosen x Flush plan l e xt k h g = absurd k.here
+
+  -- ---- whoever it is of
+
+  working : (w : State P A) (n : Notes) (l : LinkedTo w n) (a : ℕ) (x : Actor) (job : Job) (plan : Plan) → slice_get w.actors a ≡ Some x → x.task ≡ Some (job, plan) → Working shape w.phase w.devices.origin l.low l.top job plan (slice_get n.doings a)
+  working w n l a x job plan e xt = subst (λ (t : Option (Job × Plan)). Acting shape w.phase w.devices.origin l.low l.top t (slice_get n.doings a)) xt (l.acting a x e)
+
+  pub step_links : (w : State P A) (n : Notes) (a : ℕ) (next : Want) (got : Got) (read : List Bytes) (chosen : Chosen P A) (o : Option Actor) → slice_get w.actors a ≡ o → Known P A shape w → LinkedTo w n →
+      OfSome o (λ x. OfSome x.task (λ doing. (next ≡ want doing.1) × Gives shape w doing.0 next got read chosen)) →
+      LinkedTo (with_actor w o (λ x. stepped shape w a x next got chosen (λ step. device_done (job_of x.task) step chosen)))
+      (noted_step shape (shown shape (with_actor w o (λ x. stepped shape w a x next got chosen (λ step. device_done (job_of x.task) step chosen)))) n a (slice_get n.doings a) next got read)
+  step_links w n a next got read chosen None e known l h = absurd h
+  step_links w n a next got read chosen (Some x) e known l h = by_task x.task refl h
+    where
+      by_task : (t : Option (Job × Plan)) → x.task ≡ t → OfSome t (λ doing. (next ≡ want doing.1) × Gives shape w doing.0 next got read chosen) →
+          LinkedTo (stepped shape w a x next got chosen (λ step. device_done (job_of x.task) step chosen)) (noted_step shape (shown shape (stepped shape w a x next got chosen (λ step. device_done (job_of x.task) step chosen))) n a (slice_get n.doings a) next got read)
+      by_task None xt h = absurd h
+      by_task (Some doing) xt h =
+          let k = working w n l a x doing.0 doing.1 e xt in
+          subst (λ (d : Option (Option Doing)). LinkedTo (stepped shape w a x next got chosen (λ step. device_done (job_of x.task) step chosen)) (noted_step shape (shown shape (stepped shape w a x next got chosen (λ step. device_done (job_of x.task) step chosen))) n a d next got read)) (sym k.is)
+          (subst (λ (j : Job). After w a next got read chosen n x j k.doing) (sym (ap job_of xt)) (by_phase w n a next got read chosen x doing.0 doing.1 known l e xt k h.0 h.1))
+
+  pub fault_links : (w : State P A) (n : Notes) (a : ℕ) (choice : Choice) (next : Want) (read : List Bytes) (chosen : Chosen P A) (o : Option Actor) → slice_get w.actors a ≡ o → LinkedTo w n →
+      OfSome o (λ x. OfSome x.task (λ doing. (next ≡ want doing.1) × MayFailAt w.devices choice next × Falters w choice next chosen)) →
+      LinkedTo (with_actor w o (λ x. stepped shape w a x next Fault chosen (λ step. device_failed (lands (device_of step) choice) (job_of x.task) step chosen)))
+      (noted_step shape (shown shape (with_actor w o (λ x. stepped shape w a x next Fault chosen (λ step. device_failed (lands (device_of step) choice) (job_of x.task) step chosen)))) n a (slice_get n.doings a) next Fault read)
+  fault_links w n a choice next read chosen None e l h = absurd h
+  fault_links w n a choice next read chosen (Some x) e l h = by_task x.task refl h
+    where
+      by_task : (t : Option (Job × Plan)) → x.task ≡ t → OfSome t (λ doing. (next ≡ want doing.1) × MayFailAt w.devices choice next × Falters w choice next chosen) →
+          LinkedTo (stepped shape w a x next Fault chosen (λ step. device_failed (lands (device_of step) choice) (job_of x.task) step chosen)) (noted_step shape (shown shape (stepped shape w a x next Fault chosen (λ step. device_failed (lands (device_of step) choice) (job_of x.task) step chosen))) n a (slice_get n.doings a) next Fault read)
+      by_task None xt h = absurd h
+      by_task (Some doing) xt h =
+          let k = working w n l a x doing.0 doing.1 e xt in
+          subst (λ (d : Option (Option Doing)). LinkedTo (stepped shape w a x next Fault chosen (λ step. device_failed (lands (device_of step) choice) (job_of x.task) step chosen)) (noted_step shape (shown shape (stepped shape w a x next Fault chosen (λ step. device_failed (lands (device_of step) choice) (job_of x.task) step chosen))) n a d next Fault read)) (sym k.is)
+          (subst (λ (j : Job). Failed w a choice next read chosen n x j k.doing) (sym (ap job_of xt)) (by_fault w.devices w.commit w.phase w.actors n a choice next read chosen x doing.0 doing.1 l e xt k h.0 h.2))

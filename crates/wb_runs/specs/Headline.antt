@@ -24,7 +24,7 @@ use Rattle.wb_runs.specs.declared.event.Record.{Record}
 use Rattle.wb_runs.specs.States.{Shape, State, Phase, Stands, block_size, sector_count, start}
 use Rattle.wb_runs.specs.Happenings.{Happening, Chosen, MayBe}
 use Rattle.wb_runs.specs.Effects.{after_happening, after_all, IsRun}
-use Rattle.wb_runs.specs.Clerk.{Notes, Doing, Reading, Position, note}
+use Rattle.wb_runs.specs.Clerk.{Notes, Doing, Reading, Position, note, formatted}
 
 -- ---- what entries show
 
@@ -150,3 +150,7 @@ InEveryRun P A Holds = (shape : Shape) (metadata : List History) (hs : List (Hap
 -- whatever a crash leaves of the metadata represents a tree
 abbrev pub MetadataAreRead : (P A : Type 0) → Type 0
 MetadataAreRead P A = InEveryRun P A (λ shape metadata hs. (sectors : List Bytes) → MayLeave (after_all shape (start shape metadata) hs).devices.metadata sectors → IsEmpty shape sectors)
+
+-- whatever a crash leaves of the three devices, what an opening then shows is allowed
+abbrev pub AllCrashConsistent : (P A : Type 0) → Type 0
+AllCrashConsistent P A = InEveryRun P A (λ shape metadata hs. CrashConsistent shape (noted shape (start shape metadata) (formatted shape) hs) (after_all shape (start shape metadata) hs).devices)

@@ -1,9 +1,16 @@
 //! The theorems over all runs.
 
-ghost use Rattle.wb_runs.specs.Headline.{MetadataAreRead};
+ghost use Rattle.wb_runs.specs.Headline.{MetadataAreRead, AllCrashConsistent};
 
 /// In every run, over any policy: whatever a crash leaves of the metadata device, it represents a root of this geometry and a
 /// tree, so an opening finds one. Nothing is cached yet.
 pub fn metadata_are_read<P, A>()
     ensures { MetadataAreRead P A }
+{}
+
+/// In every run of reads, writes, flushes and openings, with failing steps and crashes anywhere and over any number of lives: whatever
+/// a crash leaves of the three devices, the metadata represent a tree, and what an opening shows by it of each sector is an entry
+/// of the sector's write history at its durable floor or later.
+pub fn every_crash_is_consistent<P, A>()
+    ensures { AllCrashConsistent P A }
 {}
