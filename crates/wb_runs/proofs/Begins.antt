@@ -1,22 +1,20 @@
 -- Starts and crashes keep what is known of the origin, the notes and the tasks.
-use Rattle.std.proofs.Common.{◌≡◌, ◌≢◌, ◌∙◌, ◌≤◌, ◌+◌, ◌⊎◌, inl, inr, ℕ, zero, suc, Bool, true, false, List, [], ◌∷◌, Option, Some, None, refl, sym, ap, subst, arith, length, slice_get, slice_set, map, replicate, Contains}
+use Rattle.std.proofs.Common.{◌≡◌, ◌∙◌, ◌≤◌, inl, inr, ℕ, zero, suc, List, [], ◌∷◌, Option, Some, None, refl, sym, ap, subst, arith, slice_get, slice_set, map}
 use Rattle.std.proofs.lemmas.Bool.{cases_eq}
 use Rattle.wb_types.specs.declared.extent.Extent.{Extent}
 use Rattle.wb_types.specs.declared.mode.Mode.{Mode}
 use Rattle.wb_types.specs.Limits.{node_count}
 use Rattle.wb_disk.specs.Device.{Content as Bytes, History, Crashed}
 use Rattle.wb_tasks.specs.Plan.{Plan, table, first_steps}
-use Rattle.wb_tasks.specs.Tables.{TaskJob, OnBlock, Reading, Writing}
 use Rattle.wb_tasks.specs.declared.step.Answer.TheVariants.{Done as Finished}
 use Rattle.wb_runs.specs.declared.job.Job.{Job}
 use Rattle.wb_runs.specs.declared.job.Job.TheVariants.{Read, Write, Flush, Open}
 use Rattle.wb_runs.specs.States.{Shape, Actor, Target, Phase, Stands, Gone, Opens, resting}
 use Rattle.wb_runs.specs.Happenings.{task_job, extent_refusal}
 use Rattle.wb_runs.specs.Clerk.{Notes, Doing, put, nobody, begun}
-use Rattle.wb_runs.proofs.Sectors.{AllFollow, AreBelow, number_at, set_other, crash_follows}
+use Rattle.wb_runs.proofs.Sectors.{number_at, set_other, crash_follows}
 use Rattle.wb_runs.proofs.Extents.{cut_own}
-use Rattle.wb_runs.proofs.Plans.{Own, plan_of}
-use Rattle.wb_runs.proofs.Contents.{ReadKept, WriteKept, FlushKept, OpenKept, JobKept, Working, Acting, Linked, IsTask, IsOpeningJob, moved, set_there}
+use Rattle.wb_runs.proofs.Contents.{ReadKept, WriteKept, FlushKept, JobKept, Acting, Linked, IsTask, IsOpeningJob, moved, set_there}
 
 all_none : (doings : List (Option Doing)) (b : ℕ) (o : Option Doing) → slice_get doings b ≡ Some o → slice_get (nobody doings) b ≡ Some None
 all_none [] b o e = absurd (cc)
@@ -79,10 +77,13 @@ module _ (P A : Type 0) (shape : Shape) where
               subst (λ (t : Option (Job × Plan)). Acting {P = P} {A = A} shape (Opens mode None) device l.low l.top t (slice_get (slice_set (nobody n.doings) a (Some (begun n (Open mode)))) b)) (sym r.0)
               (set_other (nobody n.doings) a b (Some (begun n (Open mode))) o ∙ all_none n.doings b d.0 d.1)
         ];
-        standing = (a, λ b z g t. elim (cases_eq b a) [
-          | inl s ↦ s
-          | inr o ↦ let r = rests actors b z (sym (set_other rs a b y o) ∙ g) in absurd (subst (λ (q : Option (Job × Plan)). IsTask q) r.0 t)
-        ]);
+        standing = (
+          a,
+          λ b z g t. elim (cases_eq b a) [
+            | inl s ↦ s
+            | inr o ↦ let r = rests actors b z (sym (set_other rs a b y o) ∙ g) in absurd (subst (λ (q : Option (Job × Plan)). IsTask q) r.0 t)
+          ],
+        );
         device_size = l.device_size;
         history_size = l.history_size;
       }

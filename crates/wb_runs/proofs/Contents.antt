@@ -1,25 +1,21 @@
 -- What every run keeps of the origin, the clerk's notes and the tasks, where nothing is cached.
-use Rattle.std.proofs.Common.{◌≡◌, ◌≢◌, ◌∙◌, ◌≤◌, ◌<◌, ◌+◌, ◌⊎◌, inl, inr, ℕ, zero, suc, Bool, true, false, List, [], ◌∷◌, ◌++◌, Option, Some, None, refl, sym, ap, subst, arith, length, slice_get, slice_set, map, replicate, Contains}
+use Rattle.std.proofs.Common.{◌≡◌, ◌≢◌, ◌∙◌, ◌≤◌, ◌⊎◌, inl, inr, ℕ, zero, suc, List, [], ◌∷◌, Option, Some, None, refl, sym, ap, subst, arith, length, slice_get, slice_set}
 use Rattle.std.proofs.lemmas.Bool.{cases_eq}
 use Rattle.wb_types.specs.declared.extent.Extent.{Extent}
-use Rattle.wb_types.specs.declared.refusal.Refusal.{Refusal}
-use Rattle.wb_disk.specs.Device.{Content as Bytes, History, newest, only, synced}
+use Rattle.wb_disk.specs.Device.{History}
 use Rattle.wb_tasks.specs.Tables.{Flushing, Opening}
 use Rattle.wb_tasks.specs.Plan.{Plan, want, after}
 use Rattle.wb_tasks.specs.declared.step.Answer.{Answer}
-use Rattle.wb_tasks.specs.declared.step.Answer.TheVariants.{Done as Finished, Refused as Refuses}
+use Rattle.wb_tasks.specs.declared.step.Answer.TheVariants.{Done as Finished}
 use Rattle.wb_tasks.specs.declared.step.Want.{Want}
-use Rattle.wb_tasks.specs.declared.step.Want.TheVariants.{Cell, Device, Desk, End}
 use Rattle.wb_tasks.specs.declared.step.Got.{Got}
 use Rattle.wb_words.specs.SharedWords.{Words}
 use Rattle.wb_runs.specs.declared.job.Job.{Job}
 use Rattle.wb_runs.specs.declared.job.Job.TheVariants.{Read, Write, Flush, Open}
 use Rattle.wb_runs.specs.States.{Shape, Actor, Target, Phase, Stands, Gone, Opens, sector_count}
-use Rattle.wb_runs.specs.Effects.{task_then}
 use Rattle.wb_runs.specs.Clerk.{Notes, Doing}
-use Rattle.wb_runs.specs.Headline.{MayRefuse}
 use Rattle.wb_runs.proofs.Sectors.{AllFollow, AreBelow, IsAlone, number_at, set_other}
-use Rattle.wb_runs.proofs.Plans.{plan_of, Left, NoSeal, Comes, ComesOfFlush, ComesOfOpening, IsOriginSync, Causes, ReadsOnly, WritesOnly, FlushesOnly, OpensOnly, Syncs, Own, reading, writing, read_goes, write_goes, FlushLeft, flush_goes, OpenLeft, open_goes}
+use Rattle.wb_runs.proofs.Plans.{plan_of, NoSeal, Comes, ComesOfFlush, ComesOfOpening, IsOriginSync, ReadsOnly, WritesOnly, FlushesOnly, OpensOnly, Syncs, Own, reading, writing, read_goes, write_goes, flush_goes, open_goes}
 
 -- ---- the claims of each task
 
@@ -144,6 +140,7 @@ flush_after plan doing low low' top top' words next got k e c up rise settle doi
   where
     to : (bound : ℕ → ℕ) → ((at : ℕ) → number_at doing.then_finished at ≤ bound at) → (at : ℕ) → number_at doing'.then_finished at ≤ bound at
     to bound f at = subst (λ (ns : List ℕ). number_at ns at ≤ bound at) (sym same_then) (f at)
+
     by_steps : (steps : List Want) → plan ≡ plan_of (Flushing [] k.most) steps k.answer → FlushesOnly steps → (k.answer ≡ Finished → Syncs steps ⊎ ((at : ℕ) → number_at doing.then_finished at ≤ low at)) → FlushKept (after plan got) doing' low' top'
     by_steps [] is f d = absurd (subst (λ (v : Want). ComesOfFlush words v got) (e ∙ ap want is) c)
     by_steps (w ∷ ws) is f d =

@@ -5,7 +5,7 @@ use Rattle.std.proofs.lemmas.List.Elements.{Contains-append_cases}
 use Rattle.wb_types.proofs.Lists.{Contains-one}
 use Rattle.std.specs.Prelude.{All, nat_le, if◌then◌else◌}
 use Rattle.std.specs.List.{AllByRecursion}
-use Rattle.std.proofs.lemmas.Nat.{le-div, div_below}
+use Rattle.std.proofs.lemmas.Nat.{le-div}
 use Rattle.std.proofs.lemmas.List.Sorted.{All-permutation}
 use Rattle.std.proofs.lemmas.List.Elements.{recursion_from_All}
 use Rattle.std.proofs.Math.Nat.{div-mul-le_self, div-add-mod}
@@ -13,9 +13,7 @@ use Rattle.wb_types.specs.declared.extent.Extent.{Extent}
 use Rattle.wb_types.specs.Extents.{rising, sectors_in, sectors_of, IsCutInto}
 use Rattle.std.proofs.lemmas.Bool.{eqb-true, leb-true}
 use Rattle.wb_types.specs.declared.refusal.Refusal.TheVariants.{Range, Crosses}
-use Rattle.wb_tasks.specs.Ready.{block_of}
-use Rattle.wb_tasks.specs.Plan.{Plan}
-use Rattle.wb_runs.specs.States.{Shape, sector_count, block_size}
+use Rattle.wb_runs.specs.States.{Shape, sector_count}
 use Rattle.wb_runs.specs.Happenings.{extent_refusal, is_in_one_block}
 use Rattle.wb_runs.specs.Clerk.{sector_for}
 
@@ -49,7 +47,6 @@ some_sectors shape extent m = go shape.geometry.block refl where
   go : (k : ℕ) → shape.geometry.block ≡ k → 0 < shape.geometry.block
   go zero e = let none : sector_count shape ≡ 0 = ap (λ k. k * shape.geometry.origin_blocks) e ∙ omega arith in absurd (omega (arith, m.some, m.inside))
   go (suc k) e = omega arith
-
 
 div-le_div : (a b k : ℕ) → 0 < k → a ≤ b → a / k ≤ b / k
 div-le_div a b k p l = le-div (a / k) b k p (omega (arith, div-mul-le_self a k))

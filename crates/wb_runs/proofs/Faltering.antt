@@ -1,42 +1,26 @@
 -- A step that fails keeps what is known of the metadata.
-use Rattle.std.proofs.lemmas.List.{length-map}
-use Rattle.std.proofs.Common.{◌≡◌, ◌≢◌, ◌∙◌, ◌⊎◌, ◌+◌, inl, inr, ℕ, Bool, true, false, List, [], ◌∷◌, Option, Some, None, refl, sym, ap, subst, length, map, arith}
-use Rattle.wb_types.specs.declared.geometry.Geometry.{Geometry}
-use Rattle.wb_types.specs.declared.mode.Mode.{Mode}
+use Rattle.std.proofs.Common.{◌≡◌, ◌⊎◌, inl, inr, ℕ, Bool, true, false, List, Option, Some, None, refl, sym, subst}
 use Rattle.wb_types.specs.declared.mode.Dev.{Dev}
 use Rattle.wb_types.specs.declared.mode.Dev.TheVariants.{Metadata, Cache, Origin}
-use Rattle.wb_types.specs.declared.refusal.Refusal.{Refusal}
-use Rattle.wb_disk.specs.Device.{Content as Bytes, History, newest, synced}
+use Rattle.wb_disk.specs.Device.{History}
 use Rattle.wb_disk.specs.Failing.{lands, synced_where}
 use Rattle.wb_disk.specs.Crash.{Choice}
-use Rattle.wb_tree.specs.Mapping.{Mapping}
-use Rattle.wb_meta.specs.Steps.{DoesStep, coming_step, steps_after}
-use Rattle.wb_meta.specs.Reads.{AgreeThere, ReadingGoesOn, StopsBy, HasRead, AreStepsOn, IsDone, sectors_read}
-use Rattle.wb_meta.specs.declared.read_steps.ReadSteps.{ReadSteps}
-use Rattle.wb_meta.specs.declared.read_steps.ReadSteps.TheVariants.{Begun, FirstSlotRead, RootFound, Done as AllRead}
-use Rattle.wb_tasks.specs.declared.step.Answer.{Answer}
-use Rattle.wb_tasks.specs.declared.step.Answer.TheVariants.{Done as Finished, Refused as Refuses}
+use Rattle.wb_meta.specs.Steps.{DoesStep, coming_step}
 use Rattle.wb_tasks.specs.declared.step.DeviceStep.{DeviceStep}
 use Rattle.wb_tasks.specs.declared.step.DeviceStep.TheVariants.{Read as ReadExtent, Write as WriteExtent, Sync, ReadMetadata, WriteNode, WriteRoot}
-use Rattle.wb_tasks.specs.declared.step.DeskStep.TheVariants.{Map, Unmap, ReleaseOrder, BeginCommit, EndCommit}
 use Rattle.wb_tasks.specs.declared.step.Want.{Want}
 use Rattle.wb_tasks.specs.declared.step.Want.TheVariants.{Cell, Device, Desk, End}
-use Rattle.wb_tasks.specs.declared.step.Got.{Got}
-use Rattle.wb_tasks.specs.declared.step.Got.TheVariants.{Begin, Done, Word, Lost, Fault, Refused as GotRefused, Began, More}
+use Rattle.wb_tasks.specs.declared.step.Got.TheVariants.{Fault}
 use Rattle.wb_tasks.specs.Plan.{device_of}
 use Rattle.wb_tasks.specs.Ready.{HoldsBlocks}
 use Rattle.wb_stage.specs.declared.running.RunningCommit.{RunningCommit}
 use Rattle.wb_stage.specs.declared.devices.Devices.{Devices}
-use Rattle.wb_stage.specs.Committing.{goes_on, is_committed}
-use Rattle.wb_stage.specs.Stages.{is_all_done}
-use Rattle.wb_stage.specs.Opened.{HasCome, got_of_refusal}
 use Rattle.wb_runs.specs.declared.job.Job.{Job}
-use Rattle.wb_runs.specs.declared.job.Job.TheVariants.{Read, Write, Flush, Open}
-use Rattle.wb_runs.specs.States.{Shape, State, Target, Phase, Stands, Gone, Opens, OfTarget, OfReading, with_device}
-use Rattle.wb_runs.specs.Happenings.{Chosen, Plain, Cut, Begins, Reaches, Puts, Commits, Opened, LandedOr, sector_put, IsPlain, IsNextOf, DoesPut, FailsPut, DoesSync, FailsSync, DoesRead, DoesBegin, DoesOpen, Gives, Falters}
-use Rattle.wb_runs.specs.Effects.{device_done, device_failed, devices_then, commit_then, phase_then, led}
-use Rattle.wb_runs.proofs.Underway.{Readable, Underway, Found, IsPut, led_on, stopped, sync_does, sync_fails, put_fails, sync_found, found_readable, partly_readable, underway_readable}
-use Rattle.wb_runs.proofs.Metadata.{Quiet, Leading, Broken, AtDesk, HasReached, Rooting, AtOpening, AtGone, MetadataKept, begins_over, ends_over, root_begins, target_stands, kept_readable}
+use Rattle.wb_runs.specs.States.{Shape, State, Target, Phase, Stands, Gone, Opens, with_device}
+use Rattle.wb_runs.specs.Happenings.{Chosen, Plain, Puts, LandedOr, sector_put, IsNextOf, FailsPut, FailsSync, Falters}
+use Rattle.wb_runs.specs.Effects.{device_failed, devices_then, commit_then, phase_then}
+use Rattle.wb_runs.proofs.Underway.{Readable, IsPut, stopped, sync_fails, put_fails, partly_readable}
+use Rattle.wb_runs.proofs.Metadata.{AtDesk, MetadataKept, kept_readable}
 
 -- a device on which blocks stand is not the metadata device
 data_device : (device : Dev) → HoldsBlocks device → (devices : Devices (List History)) (new : List History) → (with_device device devices new).metadata ≡ devices.metadata

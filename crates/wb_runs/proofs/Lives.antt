@@ -1,16 +1,12 @@
 -- Every run keeps what is known of the origin, the notes and the tasks.
-use Rattle.std.proofs.Common.{◌≡◌, ◌≢◌, ◌∙◌, ◌≤◌, ◌+◌, ◌⊎◌, inl, inr, ℕ, zero, suc, Bool, true, false, List, [], ◌∷◌, Option, Some, None, refl, sym, ap, subst, arith, length, slice_get, slice_set, map, replicate, Contains}
-use Rattle.std.proofs.lemmas.Bool.{cases_eq}
+use Rattle.std.proofs.Common.{◌≡◌, ◌∙◌, ◌⊎◌, inl, inr, ℕ, List, Option, Some, None, refl, sym, ap, subst, length, slice_get, slice_set, map, replicate}
 use Rattle.std.proofs.lemmas.List.{length-map}
-use Rattle.wb_types.specs.declared.extent.Extent.{Extent}
 use Rattle.wb_types.specs.declared.mode.Mode.{Mode}
-use Rattle.wb_types.specs.declared.mode.Dev.TheVariants.{Metadata, Cache, Origin}
 use Rattle.wb_disk.specs.Device.{Content as Bytes, History, newest}
-use Rattle.wb_disk.specs.Crash.{Choice, crashed}
+use Rattle.wb_disk.specs.Crash.{Choice}
 use Rattle.wb_disk.specs.Failing.{lands}
-use Rattle.wb_disk.proofs.Crashes.{Crashed-crashed_from}
 use Rattle.wb_meta.specs.declared.read_steps.ReadSteps.{ReadSteps}
-use Rattle.wb_tasks.specs.Plan.{Plan, want, table, device_of}
+use Rattle.wb_tasks.specs.Plan.{Plan, want, device_of}
 use Rattle.wb_tasks.specs.declared.step.Want.{Want}
 use Rattle.wb_tasks.specs.declared.step.Want.TheVariants.{Cell, Device, Desk, End}
 use Rattle.wb_tasks.specs.declared.step.Got.{Got}
@@ -19,16 +15,15 @@ use Rattle.wb_stage.specs.declared.running.RunningCommit.{RunningCommit}
 use Rattle.wb_stage.specs.declared.devices.Devices.{Devices}
 use Rattle.wb_runs.specs.declared.job.Job.{Job}
 use Rattle.wb_runs.specs.declared.job.Job.TheVariants.{Read, Write, Flush, Open}
-use Rattle.wb_runs.specs.States.{Shape, State, Actor, Target, Phase, Stands, Gone, Opens, OfTarget, sector_count, resting}
+use Rattle.wb_runs.specs.States.{Shape, State, Actor, Phase, Stands, Gone, Opens, OfTarget, sector_count}
 use Rattle.wb_runs.specs.Happenings.{Chosen, OfSome, Gives, Falters, MayFailAt}
 use Rattle.wb_runs.specs.Effects.{device_done, device_failed, devices_then, commit_then, phase_then, actor_then, stepped, with_actor, job_of}
 use Rattle.wb_runs.specs.Clerk.{Notes, Doing, noted_step}
 use Rattle.wb_runs.specs.Headline.{shown, shown_in}
-use Rattle.wb_runs.proofs.Sectors.{AllFollow, crash_follows}
 use Rattle.wb_runs.proofs.Metadata.{MetadataKept}
 use Rattle.wb_runs.proofs.MetadataRuns.{Known}
 use Rattle.wb_runs.proofs.Stepping.{done_kept}
-use Rattle.wb_runs.proofs.Contents.{Working, Acting, Linked, IsOpeningJob}
+use Rattle.wb_runs.proofs.Contents.{Working, Acting, Linked}
 use Rattle.wb_runs.proofs.Serves.{stands_done, stands_failed}
 use Rattle.wb_runs.proofs.Opened.{origin_shown}
 use Rattle.wb_runs.proofs.Opens.{opens_done, opens_failed}

@@ -1,23 +1,21 @@
 -- What the metadata of every run are read as: one state or, while a commit runs or after it failed, one of two, in which nothing is
 -- cached yet; and what is known of them where no commit runs, while one does, and as far as an opening has read them.
-use Rattle.std.proofs.Common.{◌≡◌, ◌≢◌, ◌∙◌, ◌⊎◌, ◌+◌, inl, inr, ℕ, Bool, true, false, List, [], ◌∷◌, Option, Some, None, refl, sym, ap, subst, length, map, replicate, if◌then◌else◌, arith}
-use Rattle.wb_types.specs.declared.entry.Entry.{Entry}
+use Rattle.std.proofs.Common.{◌≡◌, ◌∙◌, ◌⊎◌, ◌+◌, inl, inr, ℕ, Bool, true, false, List, Option, Some, None, refl, sym, ap, subst, length, map, if◌then◌else◌}
 use Rattle.wb_types.specs.declared.geometry.Geometry.{Geometry}
 use Rattle.wb_types.specs.declared.mode.Mode.{Mode}
 use Rattle.wb_types.specs.declared.number.Place.{Place}
 use Rattle.wb_disk.specs.Device.{History, newest}
 use Rattle.wb_tree.specs.Mapping.{Mapping}
-use Rattle.wb_tree.specs.declared.image.Image.{Image}
 use Rattle.wb_space.specs.Places.{noted, unused, place_count}
 use Rattle.wb_format.specs.declared.root.Root.{Root}
 use Rattle.wb_meta.specs.declared.read_steps.ReadSteps.{ReadSteps}
 use Rattle.wb_meta.specs.declared.read_steps.ReadSteps.TheVariants.{Begun, FirstSlotRead, RootFound, Done as AllRead}
 use Rattle.wb_meta.specs.declared.read_steps.State.{State as Stored_there}
 use Rattle.wb_meta.specs.declared.commit_steps.CommitSteps.{CommitSteps}
-use Rattle.wb_meta.specs.declared.commit_steps.CommitSteps.TheVariants.{NodesWritten, NodesSynced}
+use Rattle.wb_meta.specs.declared.commit_steps.CommitSteps.TheVariants.{NodesWritten}
 use Rattle.wb_meta.specs.Representing.{Stored}
 use Rattle.wb_meta.specs.Commits.{HasCome}
-use Rattle.wb_meta.specs.Reads.{HasRead, AreStepsOn, IsDone, known_root}
+use Rattle.wb_meta.specs.Reads.{HasRead, AreStepsOn}
 use Rattle.wb_meta.specs.Openings.{IsOpening}
 use Rattle.wb_meta.specs.Imaging.{DeviceStores}
 use Rattle.wb_desk.specs.Desks.{DeskState}
@@ -27,10 +25,10 @@ use Rattle.wb_stage.specs.declared.running.RunningCommit.{RunningCommit}
 use Rattle.wb_stage.specs.Asking.{HasBegun, ended}
 use Rattle.wb_stage.specs.Committing.{is_committed}
 use Rattle.wb_stage.specs.Opened.{HasNextRoot}
-use Rattle.wb_roots.specs.Roots.{MayBeReadAs, Commit, CanBeMade, commit_of, opening_of}
+use Rattle.wb_roots.specs.Roots.{MayBeReadAs, Commit, commit_of, opening_of}
 use Rattle.wb_roots.proofs.Leading.{commit_begins, opening_begins}
 use Rattle.wb_roots.proofs.Deciding.{stored_is_read, read_is_committed}
-use Rattle.wb_runs.specs.States.{Shape, Target, Phase, Stands, Gone, Opens}
+use Rattle.wb_runs.specs.States.{Phase, Stands, Gone, Opens}
 use Rattle.wb_runs.proofs.Underway.{no_entries, IsBare, Readable, Underway, Found, underway_readable, found_readable, all_done}
 
 -- No commit runs: the device stores the desk's tree by the root that stands, on the places that the desk has noted.
@@ -139,7 +137,7 @@ module _ (P : Type 0) (g : Geometry) (desk : DeskState P) (device : List History
       let image = commit.image in
       let places = subst (λ (x : Geometry). desk.space.places.committed ≡ noted q.used (unused (place_count x.cache_blocks))) (sym k.geometry) q.places in
       let both = commit_begins desk.tree tree (next_plan desk false) image device q.stored q.used q.stores (begun.unused q.used places)
-          (record { same_geometry = q.same ∙ sym k.geometry; next = ap (λ n. n + 1) q.generation }) in
+      (record { same_geometry = q.same ∙ sym k.geometry; next = ap (λ n. n + 1) q.generation }) in
       let entries : tree.entries ≡ no_entries g = begun.image_is.same_entries ∙ k.entries in
       record {
         geometry = k.geometry;
@@ -213,6 +211,7 @@ module _ (A : Type 0) (g : Geometry) (device : List History) where
             generation = ap (λ (r : Root). r.generation) opens.root_is ∙ ap (λ (r : Root). r.generation + 1) (sym committed.0);
             entries = committed.1 ∙ k.found.bare;
           }
+
       by_reading : (now : ReadSteps A) → HasReached g now device → HasNextRoot now commit → AtOpening g (Some now) commit device
       by_reading (Begun alloc global) k next = absurd next.is_done
       by_reading (FirstSlotRead alloc global first) k next = absurd next.is_done
@@ -243,5 +242,6 @@ module _ (A : Type 0) (g : Geometry) (device : List History) where
       stored_in : ReadSteps A → Stored_there A
       stored_in (AllRead s) = s
       stored_in other = stored
+
       by_done : {s : Stored_there A} → AllRead stored ≡ AllRead s → s ≡ stored
       by_done e = sym (ap stored_in e)

@@ -1,5 +1,5 @@
 -- Every run keeps what is known of the metadata.
-use Rattle.std.proofs.Common.{◌≡◌, ◌∙◌, ◌⊎◌, inl, inr, ℕ, List, [], ◌∷◌, Option, Some, None, refl, sym, ap, subst, length, slice_get, replicate}
+use Rattle.std.proofs.Common.{◌≡◌, inl, inr, ℕ, List, [], ◌∷◌, Option, Some, None, sym, ap, subst, length, slice_get, replicate}
 use Rattle.wb_types.specs.declared.geometry.Geometry.{Geometry}
 use Rattle.wb_types.specs.declared.mode.Dev.TheVariants.{Metadata}
 use Rattle.wb_disk.specs.Device.{Content as Bytes, History}
@@ -21,7 +21,7 @@ use Rattle.wb_runs.specs.declared.event.Event.{Event}
 use Rattle.wb_runs.specs.declared.event.Event.TheVariants.{Start, Step, FaultStep, Stop}
 use Rattle.wb_runs.specs.declared.event.What.{What}
 use Rattle.wb_runs.specs.declared.event.What.TheVariants.{Skipped, Refused, Started, Stepped, Stopped}
-use Rattle.wb_runs.specs.States.{Shape, State, Actor, Phase, Gone, Opens, start}
+use Rattle.wb_runs.specs.States.{Shape, State, Actor, start}
 use Rattle.wb_runs.specs.Happenings.{Chosen, Happening, OfSome, Gives, Falters, MayFailAt, MayBe}
 use Rattle.wb_runs.specs.Effects.{device_done, device_failed, devices_then, commit_then, phase_then, stepped, with_actor, job_of, cleared, given, after_what, after_happening, after_all, IsRun}
 use Rattle.wb_runs.specs.Headline.{IsEmpty}
@@ -113,9 +113,10 @@ module _ (P A : Type 0) (shape : Shape) where
     where
       old : Represents sectors r.committed.root r.committed.found → IsEmpty shape sectors
       old represents = record { stored = r.committed; represents = represents; geometry = r.read.same_geometry; nothing = r.bare }
+
       by_later : (later : Option Stored) → IsBareToo shape.geometry later → Rattle.wb_roots.specs.Roots.IsOf shape.geometry later → AreOneOf r.committed later sectors → IsEmpty shape sectors
       by_later None b g are = old are
-      by_later (Some s) b g are = elim are [ | inl o ↦ old o | inr n ↦ record { stored = s; represents = n; geometry = g; nothing = b } ]
+      by_later (Some s) b g are = elim are [ inl o ↦ old o | inr n ↦ record { stored = s; represents = n; geometry = g; nothing = b } ]
 
   pub run_empty : (metadata : List History) (hs : List (Happening P A)) → IsFormatted shape.geometry metadata → length metadata ≡ shape.geometry.meta_sectors → IsRun shape (start shape metadata) hs →
       (sectors : List Bytes) → MayLeave (after_all shape (start shape metadata) hs).devices.metadata sectors → IsEmpty shape sectors

@@ -1,31 +1,24 @@
 -- Steps of an opening keep what is known of the origin, the notes and the tasks, and its answer begins a life.
-use Rattle.std.proofs.Common.{◌≡◌, ◌≢◌, ◌∙◌, ◌≤◌, ◌<◌, ◌+◌, ◌*◌, ◌/◌, ◌⊎◌, ◌==◌, inl, inr, ℕ, zero, suc, Bool, true, false, List, [], ◌∷◌, Option, Some, None, if◌then◌else◌, refl, sym, ap, subst, arith, length, slice_get, slice_set, map, replicate, unwrap_or}
+use Rattle.std.proofs.Common.{◌≡◌, ◌≢◌, ◌∙◌, ◌≤◌, ◌<◌, ◌+◌, ◌/◌, inl, inr, ℕ, zero, suc, Bool, List, [], ◌∷◌, Option, Some, None, refl, sym, ap, subst, arith, length, slice_get, slice_set, map, replicate, unwrap_or}
 use Rattle.std.proofs.lemmas.Bool.{cases_eq}
 use Rattle.std.proofs.lemmas.List.{length-map}
 use Rattle.std.proofs.lemmas.Option.{slice_get_within}
 use Rattle.wb_types.specs.declared.entry.Entry.{Entry}
 use Rattle.wb_types.specs.Extents.{rising}
 use Rattle.wb_types.specs.declared.mode.Mode.{Mode}
-use Rattle.wb_types.specs.declared.number.OBlock.{OBlock}
 use Rattle.wb_disk.specs.Device.{Content as Bytes, History, newest, only}
-use Rattle.wb_words.specs.SharedWords.{Words, word_at, fresh_words}
-use Rattle.wb_tasks.specs.Tables.{Opening}
-use Rattle.wb_tasks.specs.Plan.{Plan, want, after}
-use Rattle.wb_tasks.specs.declared.step.Answer.TheVariants.{Done as Finished, Refused as Refuses}
-use Rattle.wb_tasks.specs.declared.step.DeviceStep.{DeviceStep}
-use Rattle.wb_tasks.specs.declared.step.Want.{Want}
-use Rattle.wb_tasks.specs.declared.step.Want.TheVariants.{Cell, Device, Desk, End}
-use Rattle.wb_tasks.specs.declared.step.Got.{Got}
+use Rattle.wb_words.specs.SharedWords.{fresh_words}
+use Rattle.wb_tasks.specs.Plan.{Plan}
 use Rattle.wb_meta.specs.declared.read_steps.ReadSteps.{ReadSteps}
 use Rattle.wb_runs.specs.declared.job.Job.{Job}
-use Rattle.wb_runs.specs.declared.job.Job.TheVariants.{Read, Write, Flush, Open}
-use Rattle.wb_runs.specs.States.{Shape, Actor, Target, Phase, Stands, Gone, Opens, sector_count, block_size}
+use Rattle.wb_runs.specs.declared.job.Job.TheVariants.{Open}
+use Rattle.wb_runs.specs.States.{Shape, Actor, Target, Stands, Gone, Opens, sector_count, block_size}
 use Rattle.wb_runs.specs.Effects.{words_by, sealing_steps}
 use Rattle.wb_runs.specs.Clerk.{Notes, Doing, put, begins}
 use Rattle.wb_runs.specs.Headline.{cached_from, place_of, content_of, shown_by}
-use Rattle.wb_runs.proofs.Sectors.{AllFollow, IsAlone, number_at, set_other, life_begins, low_top}
-use Rattle.wb_runs.proofs.Plans.{NoSeal, ComesOfOpening, IsOriginSync, OpensOnly, Syncs, plan_of}
-use Rattle.wb_runs.proofs.Contents.{OpenKept, Acting, Working, Linked, IsTask, open_after, set_there}
+use Rattle.wb_runs.proofs.Sectors.{AllFollow, IsAlone, number_at, set_other, life_begins}
+use Rattle.wb_runs.proofs.Plans.{NoSeal}
+use Rattle.wb_runs.proofs.Contents.{OpenKept, Acting, Linked, IsTask, set_there}
 
 -- what stands in a list of one thing
 pub replicated : {X : Type 0} (k i : ℕ) (x y : X) → slice_get (replicate k x) i ≡ Some y → y ≡ x
@@ -76,13 +69,13 @@ origin_shown shape entries cache origin k e size =
 
 module _ (P A : Type 0) (shape : Shape) (mode : Mode) (reading : Option (ReadSteps A)) (device : List History) (actors : List Actor) (a : ℕ) (x : Actor) (n : Notes) (l : Linked {P = P} {A = A} shape (Opens mode reading) device actors n) (e : slice_get actors a ≡ Some x)
     (job : Job) (plan : Plan) (xt : x.task ≡ Some (job, plan)) where
-
   -- nobody else is at anything
   alone : (b : ℕ) (z : Actor) → b ≢ a → slice_get actors b ≡ Some z → z.task ≡ None
   alone b z o f = by_task z.task refl
     where
       mine : a ≡ l.standing.0
       mine = l.standing.1 a x e (subst (λ (t : Option (Job × Plan)). IsTask t) (sym xt) tt)
+
       by_task : (t : Option (Job × Plan)) → z.task ≡ t → z.task ≡ None
       by_task None s = s
       by_task (Some k) s = absurd (o (l.standing.1 b z f (subst (λ (t : Option (Job × Plan)). IsTask t) (sym s) tt) ∙ sym mine))
@@ -109,10 +102,13 @@ module _ (P A : Type 0) (shape : Shape) (mode : Mode) (reading : Option (ReadSte
           subst (λ (t : Option (Job × Plan)). Acting {P = P} {A = A} shape (Opens mode reading') device' low' l.top t (slice_get n'.doings b)) (sym (alone b z o was))
           (ap (λ ds. slice_get ds b) d ∙ set_other n.doings a b (Some doing') o ∙ resting b z o was)
     ];
-    standing = (a, λ b z g t. elim (cases_eq b a) [
-      | inl s ↦ s
-      | inr o ↦ absurd (subst (λ (q : Option (Job × Plan)). IsTask q) (alone b z o (sym (set_other actors a b y o) ∙ g)) t)
-    ]);
+    standing = (
+      a,
+      λ b z g t. elim (cases_eq b a) [
+        | inl s ↦ s
+        | inr o ↦ absurd (subst (λ (q : Option (Job × Plan)). IsTask q) (alone b z o (sym (set_other actors a b y o) ∙ g)) t)
+      ],
+    );
     device_size = size ∙ l.device_size;
     history_size = many ∙ l.history_size;
   }

@@ -1,40 +1,37 @@
 -- A step of an opening, done or failed.
-use Rattle.std.proofs.Common.{◌≡◌, ◌≢◌, ◌∙◌, ◌≤◌, ◌+◌, ◌⊎◌, inl, inr, ℕ, zero, suc, Bool, true, false, List, [], ◌∷◌, Option, Some, None, refl, sym, ap, subst, arith, length, slice_get, slice_set, map, replicate}
+use Rattle.std.proofs.Common.{◌≡◌, ◌≢◌, ◌∙◌, ◌≤◌, ◌⊎◌, inl, inr, ℕ, List, [], ◌∷◌, Option, Some, None, refl, sym, ap, subst, arith, length, slice_get, slice_set, map, replicate}
 use Rattle.std.proofs.lemmas.List.{length-map}
 use Rattle.wb_types.specs.declared.mode.Mode.{Mode}
-use Rattle.wb_types.specs.declared.mode.Dev.{Dev}
 use Rattle.wb_types.specs.declared.mode.Dev.TheVariants.{Metadata, Cache, Origin}
 use Rattle.wb_types.specs.declared.refusal.Refusal.{Refusal}
 use Rattle.wb_types.specs.declared.refusal.Refusal.TheVariants.{Io}
-use Rattle.wb_disk.specs.Device.{Content as Bytes, History, newest, only, synced}
+use Rattle.wb_disk.specs.Device.{Content as Bytes, History, newest, synced}
 use Rattle.wb_disk.specs.Crash.{Choice}
 use Rattle.wb_disk.specs.Failing.{lands, synced_where}
 use Rattle.wb_disk.proofs.FailedSyncs.{length-synced_from}
-use Rattle.wb_meta.specs.Reads.{IsDone}
 use Rattle.wb_meta.specs.declared.read_steps.ReadSteps.{ReadSteps}
 use Rattle.wb_meta.specs.declared.read_steps.ReadSteps.TheVariants.{Begun, FirstSlotRead, RootFound, Done as AllRead}
 use Rattle.wb_tasks.specs.Tables.{Opening}
 use Rattle.wb_tasks.specs.Plan.{Plan, want, after, device_of}
-use Rattle.wb_tasks.specs.declared.step.Answer.{Answer}
 use Rattle.wb_tasks.specs.declared.step.Answer.TheVariants.{Done as Finished, Refused as Refuses}
 use Rattle.wb_tasks.specs.declared.step.DeviceStep.{DeviceStep}
 use Rattle.wb_tasks.specs.declared.step.DeviceStep.TheVariants.{Read as ReadExtent, Write as WriteExtent, Sync, ReadMetadata, WriteNode, WriteRoot}
 use Rattle.wb_tasks.specs.declared.step.Want.{Want}
 use Rattle.wb_tasks.specs.declared.step.Want.TheVariants.{Cell, Device, Desk, End}
 use Rattle.wb_tasks.specs.declared.step.Got.{Got}
-use Rattle.wb_tasks.specs.declared.step.Got.TheVariants.{Begin, Done, Word, Lost, Fault, Refused as GotRefused, Began, More}
+use Rattle.wb_tasks.specs.declared.step.Got.TheVariants.{Done, Fault, Refused as GotRefused, More}
 use Rattle.wb_stage.specs.declared.running.RunningCommit.{RunningCommit}
 use Rattle.wb_stage.specs.declared.devices.Devices.{Devices}
 use Rattle.wb_stage.specs.Opened.{HasCome, got_of_refusal}
 use Rattle.wb_runs.specs.declared.job.Job.{Job}
-use Rattle.wb_runs.specs.declared.job.Job.TheVariants.{Read, Write, Flush, Open}
+use Rattle.wb_runs.specs.declared.job.Job.TheVariants.{Open}
 use Rattle.wb_runs.specs.States.{Shape, State, Actor, Target, Phase, Stands, Gone, Opens, OfTarget}
-use Rattle.wb_runs.specs.Happenings.{Chosen, Plain, Reaches, Opened, DoesRead, DoesOpen, Gives, Falters}
+use Rattle.wb_runs.specs.Happenings.{Chosen, Reaches, Opened, DoesRead, DoesOpen, Gives, Falters}
 use Rattle.wb_runs.specs.Effects.{device_done, device_failed, devices_then, phase_then, actor_then, task_then, reading_then}
 use Rattle.wb_runs.specs.Clerk.{Notes, Doing, put, failing, device_note, finished_note, noted_step}
 use Rattle.wb_runs.proofs.Sectors.{AllFollow, IsAlone, all_synced, synced_alone, partly_follow, partly_alone, low_top}
-use Rattle.wb_runs.proofs.Plans.{NoSeal, ComesOfOpening, IsOriginSync, OpensOnly, Syncs, plan_of}
-use Rattle.wb_runs.proofs.Contents.{OpenKept, IsOpeningJob, Working, Linked, open_after, set_there}
+use Rattle.wb_runs.proofs.Plans.{ComesOfOpening, IsOriginSync, OpensOnly, Syncs, plan_of}
+use Rattle.wb_runs.proofs.Contents.{OpenKept, Linked, open_after, set_there}
 use Rattle.wb_runs.proofs.Opened.{opens_on, opens_not, opens_all}
 
 abbrev IsOpenNext : Want → Type 0
@@ -72,7 +69,6 @@ failing_same doing step got = refl
 
 module _ (P A : Type 0) (shape : Shape) (mode : Mode) (reading : Option (ReadSteps A)) (devices : Devices (List History)) (commit : Option RunningCommit) (actors : List Actor) (a : ℕ) (x : Actor) (n : Notes) (l : Linked {P = P} {A = A} shape (Opens mode reading) devices.origin actors n) (e : slice_get actors a ≡ Some x)
     (m' : Mode) (plan : Plan) (xt : x.task ≡ Some (Open m', plan)) (doing : Doing) (noted : slice_get n.doings a ≡ Some (Some doing)) (j : doing.job ≡ Open m') (k : OpenKept plan doing devices.origin) (shown : List Bytes) where
-
   abbrev w : State P A
   w = record { devices = devices; commit = commit; phase = Opens mode reading; actors = actors }
 

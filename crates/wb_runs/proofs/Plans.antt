@@ -1,8 +1,7 @@
 -- What may be left of the task of a read, a write, a flush or an opening where nothing is cached, and that each step leaves such.
-use Rattle.std.proofs.Common.{◌≡◌, ◌≢◌, ◌∙◌, ◌⊎◌, ◌==◌, ◌&&◌, ◌+◌, ◌-◌, inl, inr, ℕ, zero, suc, Bool, true, false, if◌then◌else◌, List, [], ◌∷◌, ◌++◌, Option, Some, None, refl, sym, ap, subst, arith, map, Contains}
+use Rattle.std.proofs.Common.{◌≡◌, ◌⊎◌, ◌==◌, ◌+◌, ◌-◌, inl, inr, ℕ, zero, suc, Bool, true, false, if◌then◌else◌, List, [], ◌∷◌, ◌++◌, Option, Some, None, refl, sym, subst, map, Contains}
 use Rattle.wb_types.proofs.Lists.{Contains-first, Contains-behind}
 use Rattle.wb_types.specs.declared.extent.Extent.{Extent}
-use Rattle.wb_types.specs.declared.mode.Dev.{Dev}
 use Rattle.wb_types.specs.declared.mode.Dev.TheVariants.{Metadata, Cache, Origin}
 use Rattle.wb_types.specs.declared.number.OBlock.{OBlock}
 use Rattle.wb_types.specs.declared.number.CBlock.{CBlock}
@@ -14,17 +13,16 @@ use Rattle.wb_words.specs.declared.step.CellStep.TheVariants.{Look, Take, Releas
 use Rattle.wb_words.specs.declared.step.CellResult.TheVariants.{Done as Won, Lost as NotWon}
 use Rattle.wb_words.specs.SharedWords.{Words, word_at, place_in, dirty_in}
 use Rattle.wb_words.specs.Effects.{result_of}
-use Rattle.wb_tasks.specs.Tables.{BlockRange, BlockJob, TaskJob, Reading, Writing, OnBlock, Flushing, Opening, read_step, write_step, work, read_count}
-use Rattle.wb_tasks.specs.Plan.{Plan, want, after, got_of, is_worn, may_take, exchange, gives_back, node_writes, root_steps, commit_steps, device_of}
+use Rattle.wb_tasks.specs.Tables.{TaskJob, Reading, Writing, OnBlock, Flushing, Opening, read_step, write_step, work}
+use Rattle.wb_tasks.specs.Plan.{Plan, after, got_of, is_worn, may_take, exchange, gives_back, node_writes, root_steps, commit_steps, device_of}
 use Rattle.wb_tasks.specs.declared.step.Answer.{Answer}
 use Rattle.wb_tasks.specs.declared.step.Answer.TheVariants.{Done as Finished, Refused as Refuses}
-use Rattle.wb_tasks.specs.declared.step.DeviceStep.{DeviceStep}
 use Rattle.wb_tasks.specs.declared.step.DeviceStep.TheVariants.{Read as ReadExtent, Write as WriteExtent, Sync, ReadMetadata, WriteNode, WriteRoot}
-use Rattle.wb_tasks.specs.declared.step.DeskStep.TheVariants.{Map, Unmap, ReleaseOrder, BeginCommit, EndCommit}
+use Rattle.wb_tasks.specs.declared.step.DeskStep.TheVariants.{BeginCommit, EndCommit}
 use Rattle.wb_tasks.specs.declared.step.Want.{Want}
 use Rattle.wb_tasks.specs.declared.step.Want.TheVariants.{Cell, Device, Desk, End}
 use Rattle.wb_tasks.specs.declared.step.Got.{Got}
-use Rattle.wb_tasks.specs.declared.step.Got.TheVariants.{Begin, Done, Word, Lost, Fault, Refused as GotRefused, Began, More}
+use Rattle.wb_tasks.specs.declared.step.Got.TheVariants.{Done, Word, Fault, Refused as GotRefused, Began, More}
 use Rattle.wb_runs.specs.States.{Shape}
 use Rattle.wb_runs.specs.Happenings.{block_range}
 use Rattle.wb_runs.specs.Clerk.{sector_for}

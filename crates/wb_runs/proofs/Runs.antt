@@ -1,32 +1,29 @@
 -- Every run is linked, so whatever a crash leaves of it is allowed.
-use Rattle.std.proofs.Common.{◌≡◌, ◌≢◌, ◌∙◌, ◌≤◌, ◌+◌, ◌⊎◌, inl, inr, ℕ, zero, suc, Bool, true, false, List, [], ◌∷◌, Option, Some, None, refl, sym, ap, subst, arith, length, slice_get, slice_set, map, replicate, Contains}
+use Rattle.std.proofs.Common.{◌≡◌, ◌∙◌, inl, inr, ℕ, zero, suc, List, [], ◌∷◌, Option, Some, None, refl, sym, ap, subst, arith, length, slice_get, slice_set, map, replicate}
 use Rattle.std.proofs.lemmas.List.{length-replicate}
 use Rattle.std.proofs.lemmas.Option.{slice_get_within, slice_get-get_or}
-use Rattle.wb_types.specs.declared.extent.Extent.{Extent}
-use Rattle.wb_types.specs.declared.mode.Mode.{Mode}
 use Rattle.wb_types.specs.declared.mode.Dev.TheVariants.{Origin}
-use Rattle.wb_disk.specs.Device.{Content as Bytes, History, newest, entries}
+use Rattle.wb_disk.specs.Device.{Content as Bytes, History}
 use Rattle.wb_disk.specs.Memory.{blank}
-use Rattle.wb_disk.specs.Crash.{Choice, crashed}
+use Rattle.wb_disk.specs.Crash.{crashed}
 use Rattle.wb_disk.specs.Crashes.{MayLeave}
 use Rattle.wb_disk.proofs.Crashes.{Crashed-crashed_from}
 use Rattle.wb_meta.specs.Formats.{IsFormatted}
-use Rattle.wb_tasks.specs.Plan.{Plan, want}
+use Rattle.wb_tasks.specs.Plan.{Plan}
 use Rattle.wb_tasks.specs.declared.step.Got.{Got}
-use Rattle.wb_tasks.specs.declared.step.Got.TheVariants.{Fault}
 use Rattle.wb_runs.specs.declared.job.Job.{Job}
 use Rattle.wb_runs.specs.declared.job.Job.TheVariants.{Read, Write, Flush, Open}
 use Rattle.wb_runs.specs.declared.event.Event.{Event}
 use Rattle.wb_runs.specs.declared.event.Event.TheVariants.{Start, Step, FaultStep, Stop}
 use Rattle.wb_runs.specs.declared.event.What.{What}
 use Rattle.wb_runs.specs.declared.event.What.TheVariants.{Skipped, Refused, Started, Stepped, Stopped}
-use Rattle.wb_runs.specs.States.{Shape, State, Actor, Target, Phase, Stands, Gone, Opens, resting, sector_count, start}
+use Rattle.wb_runs.specs.States.{Shape, State, Actor, Phase, Stands, Gone, Opens, resting, sector_count, start}
 use Rattle.wb_runs.specs.Happenings.{Chosen, Plain, Cut, Happening, DoesNotApply, StartGives, MayBe}
 use Rattle.wb_runs.specs.Effects.{with_actor, cleared, given, after_what, after_happening, after_all, IsRun}
 use Rattle.wb_runs.specs.Clerk.{Notes, noted_what, formatted}
 use Rattle.wb_runs.specs.Headline.{ShowsAllowed, ShowsOpened, CrashConsistent, IsEmpty, shown, shown_by, noted, note_happening}
 use Rattle.wb_runs.proofs.Sectors.{AllFollow, Follows, number_at, low_top}
-use Rattle.wb_runs.proofs.MetadataRuns.{Known, known_after, known_always, known_at_start, run_empty}
+use Rattle.wb_runs.proofs.MetadataRuns.{Known, known_after, known_at_start, run_empty}
 use Rattle.wb_runs.proofs.Contents.{Linked, Acting}
 use Rattle.wb_runs.proofs.Opened.{origin_shown, replicated, replicated_there}
 use Rattle.wb_runs.proofs.Lives.{LinkedTo, step_links, fault_links}
@@ -39,6 +36,7 @@ module _ (P A : Type 0) (shape : Shape) where
       at_task : (x : Actor) (t : Option (Job × Plan)) → slice_get w.actors a ≡ Some x → x.task ≡ t → x.task ≡ None
       at_task x None e f = f
       at_task x (Some doing) e f = absurd (applies (inr (inl (rw (e, f) tt))))
+
       at_actor : (o : Option Actor) → slice_get w.actors a ≡ o → (x : Actor) × (slice_get w.actors a ≡ Some x) × (x.task ≡ None)
       at_actor None e = absurd (applies (inl e))
       at_actor (Some x) e = (x, e, at_task x x.task e refl)
@@ -135,6 +133,7 @@ module _ (P A : Type 0) (shape : Shape) where
     where
       first : Follows blank blank 0 0
       first = record { each = λ d m. (0, omega arith, ap (λ (x : Bytes). Some x) (Rattle.wb_contents.proofs.Positions.only_one blank.first d m)); last = refl; order = omega arith }
+
       one : (o : Option History) → ((h : History) → o ≡ Some h → h ≡ blank) → Rattle.wb_runs.proofs.Sectors.FollowsAt o o 0 0
       one None f = omega arith
       one (Some h) f = subst (λ (x : History). Follows x x 0 0) (sym (f h refl)) first

@@ -1,8 +1,7 @@
 -- What the origin holds of each sector, beside the sector's history: entries from a position on, the newest one at another.
-use Rattle.std.proofs.Common.{◌≡◌, ◌≢◌, ◌∙◌, ◌≤◌, ◌<◌, ◌+◌, ◌⊎◌, inl, inr, ℕ, zero, suc, Bool, true, false, if◌then◌else◌, List, [], ◌∷◌, ◌++◌, Option, Some, None, refl, sym, ap, subst, arith, length, slice_get, slice_set, unwrap_or, max, map, replicate, Contains, add-one}
+use Rattle.std.proofs.Common.{◌≡◌, ◌≢◌, ◌∙◌, ◌≤◌, ◌+◌, inl, inr, ℕ, zero, suc, Bool, true, false, if◌then◌else◌, List, [], ◌∷◌, Option, Some, None, refl, sym, ap, subst, arith, length, slice_get, slice_set, unwrap_or, max, map, replicate, Contains, add-one}
 use Rattle.std.proofs.lemmas.Bool.{cases_eq, cases_order}
 use Rattle.std.proofs.lemmas.Option.{slice_get_within, slice_get-get_or}
-use Rattle.std.proofs.lemmas.List.{length-set}
 use Rattle.std.proofs.lemmas.List.Elements.{Contains-push_cases}
 use Rattle.wb_types.proofs.Lists.{Contains-first, Contains-behind}
 use Rattle.wb_types.specs.Extents.{rising}
@@ -157,10 +156,13 @@ wrote_one device low top true content at e all = record {
   where
     tops : ℕ → ℕ
     tops = changed top at (next_top (slice_get e.histories at) (top at))
+
     same : tops at ≡ next_top (slice_get e.histories at) (top at)
     same = changed_same top at (next_top (slice_get e.histories at) (top at))
+
     grown : (top at ≤ next_top (slice_get e.histories at) (top at)) × (next_position (slice_get e.histories at) ≤ next_top (slice_get e.histories at) (top at))
     grown = grows_at (slice_get device at) (slice_get e.histories at) (low at) (top at) (all at)
+
     rises : (k : ℕ) → top k ≤ tops k
     rises k = elim (cases_eq k at) [
       | inl s ↦ subst (λ (i : ℕ). top i ≤ tops i) (sym s) (omega (arith, same, grown.0))
@@ -233,12 +235,14 @@ crash_follows device crashed histories low top all crash = (λ at. (here at).0, 
         go : (o n g : Option History) → slice_get device at ≡ o → slice_get crashed at ≡ n → FollowsAt o g (low at) (top at) → (t : ℕ) × FollowsAt n g (low at) t
         go (Some h) (Some k) (Some g) eo en f =
             let keep = crash.each at h k eo en in
-            let entry = f.each keep.0 keep.1 in
-            (entry.0, subst (λ (x : History). Follows x g (low at) entry.0) (sym keep.2) (record {
-              each = λ d m. subst (λ (x : Content). IsEntryFrom (low at) g x) (only_one keep.0 d m) entry;
-              last = entry.2;
-              order = entry.1;
-            }))
+            let entry = f.each keep.0 keep.1 in (
+              entry.0,
+              subst (λ (x : History). Follows x g (low at) entry.0) (sym keep.2) (record {
+                each = λ d m. subst (λ (x : Content). IsEntryFrom (low at) g x) (only_one keep.0 d m) entry;
+                last = entry.2;
+                order = entry.1;
+              }),
+            )
         go None None None eo en f = (low at, omega arith)
         go (Some h) None (Some g) eo en f = let w = slice_get_within device at h eo in let there = slice_get-get_or crashed at h (omega (arith, w, crash.size)) in absurd (cc)
         go None (Some k) None eo en f = let w = slice_get_within crashed at k en in let there = slice_get-get_or device at k (omega (arith, w, crash.size)) in absurd (cc)
@@ -299,6 +303,7 @@ life_begins device alone at = go (slice_get device at) refl
     mapped [] i = refl
     mapped (x ∷ xs) zero = refl
     mapped (x ∷ xs) (suc i) = mapped xs i
+
     one : (h : History) → h.later ≡ [] → Follows h (only (newest h)) 0 0
     one h e = record {
       each = λ d m. (0, omega arith, ap (λ (x : Content). Some x) (single h d e m));
@@ -308,6 +313,7 @@ life_begins device alone at = go (slice_get device at) refl
       where
         single : (h : History) (d : Content) → h.later ≡ [] → Contains (entries h) d → newest h ≡ d
         single h d e m = ap (last_of h.first) e ∙ only_one h.first d (subst (λ (ls : List Content). Contains (h.first ∷ ls) d) e m)
+
     go : (o : Option History) → slice_get device at ≡ o → FollowsAt (slice_get device at) (slice_get (map only (map newest device)) at) 0 0
     go None e = rw (mapped device at, e) (omega arith)
     go (Some h) e = rw (mapped device at, e) (one h (alone at h e))

@@ -1,42 +1,32 @@
 -- A step of an actor where a target stands, done or failed.
-use Rattle.std.proofs.Common.{◌≡◌, ◌≢◌, ◌∙◌, ◌≤◌, ◌<◌, ◌+◌, ◌⊎◌, inl, inr, ℕ, zero, suc, Bool, true, false, List, [], ◌∷◌, Option, Some, None, refl, sym, ap, subst, arith, length, slice_get, slice_set, map, replicate}
+use Rattle.std.proofs.Common.{◌≡◌, ◌≤◌, inl, inr, ℕ, Bool, true, List, Option, Some, refl, sym, ap, subst, arith, slice_get, slice_set}
 use Rattle.std.proofs.lemmas.List.{length-map}
 use Rattle.wb_types.specs.declared.extent.Extent.{Extent}
 use Rattle.wb_types.specs.declared.mode.Dev.{Dev}
 use Rattle.wb_types.specs.declared.mode.Dev.TheVariants.{Metadata, Cache, Origin}
-use Rattle.wb_types.specs.Extents.{rising}
 use Rattle.wb_disk.specs.Device.{Content as Bytes, History, synced}
-use Rattle.wb_disk.specs.Extents.{written_where}
 use Rattle.wb_disk.specs.Crash.{Choice}
 use Rattle.wb_disk.specs.Failing.{lands, synced_where}
 use Rattle.wb_disk.proofs.FailedSyncs.{length-synced_from}
-use Rattle.wb_words.specs.declared.step.CellStep.{CellStep}
-use Rattle.wb_words.specs.declared.step.CellStep.TheVariants.{Look, Take, Release, Seal, Finish, Count, SetFailed, SetSuspended}
-use Rattle.wb_words.specs.declared.word.Word.TheVariants.{Cell as LockWord, Seal as SealWord, Number, Count as CountWord, Fail}
-use Rattle.wb_tasks.specs.Tables.{Flushing}
-use Rattle.wb_tasks.specs.Plan.{Plan, want, after, device_of}
-use Rattle.wb_tasks.specs.Ready.{HoldsBlocks}
-use Rattle.wb_tasks.specs.declared.step.Answer.{Answer}
-use Rattle.wb_tasks.specs.declared.step.Answer.TheVariants.{Done as Finished, Refused as Refuses}
-use Rattle.wb_tasks.specs.declared.step.DeviceStep.{DeviceStep}
+use Rattle.wb_tasks.specs.Plan.{Plan, want, device_of}
 use Rattle.wb_tasks.specs.declared.step.DeviceStep.TheVariants.{Read as ReadExtent, Write as WriteExtent, Sync, ReadMetadata, WriteNode, WriteRoot}
 use Rattle.wb_tasks.specs.declared.step.DeskStep.TheVariants.{Map, Unmap, ReleaseOrder, BeginCommit, EndCommit}
 use Rattle.wb_tasks.specs.declared.step.Want.{Want}
 use Rattle.wb_tasks.specs.declared.step.Want.TheVariants.{Cell, Device, Desk, End}
 use Rattle.wb_tasks.specs.declared.step.Got.{Got}
-use Rattle.wb_tasks.specs.declared.step.Got.TheVariants.{Begin, Done, Word, Lost, Fault, Refused as GotRefused, Began, More}
+use Rattle.wb_tasks.specs.declared.step.Got.TheVariants.{Fault, Refused as GotRefused, Began}
 use Rattle.wb_stage.specs.declared.running.RunningCommit.{RunningCommit}
 use Rattle.wb_stage.specs.declared.devices.Devices.{Devices}
 use Rattle.wb_stage.specs.Moving.{device_in}
 use Rattle.wb_runs.specs.declared.job.Job.{Job}
 use Rattle.wb_runs.specs.declared.job.Job.TheVariants.{Read, Write, Flush, Open}
-use Rattle.wb_runs.specs.States.{Shape, State, Actor, Target, Phase, Stands, Gone, Opens, with_device}
-use Rattle.wb_runs.specs.Happenings.{Chosen, Plain, Puts, Commits, DoesBegin, Gives, Falters}
+use Rattle.wb_runs.specs.States.{Shape, State, Actor, Target, Stands, with_device}
+use Rattle.wb_runs.specs.Happenings.{Chosen, Plain, Commits, DoesBegin, Gives, Falters}
 use Rattle.wb_runs.specs.Effects.{device_done, device_failed, devices_then, phase_then, actor_then, task_then, contents_for}
-use Rattle.wb_runs.specs.Clerk.{Notes, Doing, Entering, enter_each, entering, put, failing, device_note, finished_note, noted_step, sector_for}
+use Rattle.wb_runs.specs.Clerk.{Notes, Doing, noted_step}
 use Rattle.wb_runs.proofs.Sectors.{AllFollow, AreBelow, number_at, all_synced, partly_follow, all_raised_below, greater_below}
-use Rattle.wb_runs.proofs.Plans.{NoSeal, ComesOfFlush, plan_of, reading, writing, ReadsOnly, WritesOnly, FlushesOnly, IsOriginSync}
-use Rattle.wb_runs.proofs.Contents.{ReadKept, WriteKept, FlushKept, JobKept, IsOpeningJob, Working, Linked, read_after, write_after, flush_after}
+use Rattle.wb_runs.proofs.Plans.{ComesOfFlush}
+use Rattle.wb_runs.proofs.Contents.{Working, Linked}
 use Rattle.wb_runs.proofs.Standing.{seals_stay}
 use Rattle.wb_runs.proofs.Serving.{read_next, write_next, flush_next, read_cell, read_device, write_cell, write_device, flush_same, flush_device, flush_sync, gives_answer}
 
@@ -47,7 +37,6 @@ same_origin Origin devices = refl
 
 module _ (P A : Type 0) (shape : Shape) (t : Target P) (devices : Devices (List History)) (commit : Option RunningCommit) (actors : List Actor) (a : ℕ) (x : Actor) (n : Notes) (l : Linked {P = P} {A = A} shape (Stands t) devices.origin actors n) (e : slice_get actors a ≡ Some x)
     (plan : Plan) (shown : List Bytes) where
-
   abbrev w : State P A
   w = record { devices = devices; commit = commit; phase = Stands t; actors = actors }
 

@@ -1,43 +1,36 @@
 -- Every step of a task where a target stands, done or failed, keeps what is known of the origin, the notes and the tasks.
-use Rattle.std.proofs.Common.{◌≡◌, ◌≢◌, ◌∙◌, ◌≤◌, ◌<◌, ◌+◌, ◌⊎◌, inl, inr, ℕ, zero, suc, Bool, true, false, List, [], ◌∷◌, Option, Some, None, refl, sym, ap, subst, arith, length, slice_get, slice_set, map, replicate}
-use Rattle.std.proofs.lemmas.List.{length-map}
+use Rattle.std.proofs.Common.{◌≡◌, ◌∙◌, ◌≤◌, ◌⊎◌, inl, inr, ℕ, Bool, true, List, [], ◌∷◌, Some, None, refl, sym, ap, subst, arith, length, slice_get, slice_set, replicate}
 use Rattle.wb_types.specs.declared.extent.Extent.{Extent}
 use Rattle.wb_types.specs.declared.mode.Dev.{Dev}
 use Rattle.wb_types.specs.declared.mode.Dev.TheVariants.{Metadata, Cache, Origin}
 use Rattle.wb_types.specs.Extents.{rising}
-use Rattle.wb_disk.specs.Device.{Content as Bytes, History, synced}
+use Rattle.wb_disk.specs.Device.{Content as Bytes, History}
 use Rattle.wb_disk.specs.Extents.{written_where}
-use Rattle.wb_disk.specs.Crash.{Choice}
-use Rattle.wb_disk.specs.Failing.{lands, synced_where}
-use Rattle.wb_disk.proofs.FailedSyncs.{length-synced_from}
+use Rattle.wb_disk.specs.Failing.{lands}
 use Rattle.wb_words.specs.declared.step.CellStep.{CellStep}
 use Rattle.wb_words.specs.declared.step.CellStep.TheVariants.{Look, Take, Release, Seal, Finish, Count, SetFailed, SetSuspended}
 use Rattle.wb_words.specs.declared.word.Word.TheVariants.{Cell as LockWord, Seal as SealWord, Number, Count as CountWord, Fail}
 use Rattle.wb_tasks.specs.Tables.{Flushing}
 use Rattle.wb_tasks.specs.Plan.{Plan, want, after, device_of}
-use Rattle.wb_tasks.specs.Ready.{HoldsBlocks}
 use Rattle.wb_tasks.specs.declared.step.Answer.{Answer}
 use Rattle.wb_tasks.specs.declared.step.Answer.TheVariants.{Done as Finished, Refused as Refuses}
 use Rattle.wb_tasks.specs.declared.step.DeviceStep.{DeviceStep}
 use Rattle.wb_tasks.specs.declared.step.DeviceStep.TheVariants.{Read as ReadExtent, Write as WriteExtent, Sync, ReadMetadata, WriteNode, WriteRoot}
-use Rattle.wb_tasks.specs.declared.step.DeskStep.TheVariants.{Map, Unmap, ReleaseOrder, BeginCommit, EndCommit}
+use Rattle.wb_tasks.specs.declared.step.DeskStep.TheVariants.{BeginCommit, EndCommit}
 use Rattle.wb_tasks.specs.declared.step.Want.{Want}
 use Rattle.wb_tasks.specs.declared.step.Want.TheVariants.{Cell, Device, Desk, End}
 use Rattle.wb_tasks.specs.declared.step.Got.{Got}
-use Rattle.wb_tasks.specs.declared.step.Got.TheVariants.{Begin, Done, Word, Lost, Fault, Refused as GotRefused, Began, More}
-use Rattle.wb_stage.specs.declared.running.RunningCommit.{RunningCommit}
+use Rattle.wb_tasks.specs.declared.step.Got.TheVariants.{Done, Fault}
 use Rattle.wb_stage.specs.declared.devices.Devices.{Devices}
 use Rattle.wb_stage.specs.Moving.{device_in}
 use Rattle.wb_runs.specs.declared.job.Job.{Job}
 use Rattle.wb_runs.specs.declared.job.Job.TheVariants.{Read, Write, Flush, Open}
-use Rattle.wb_runs.specs.States.{Shape, State, Actor, Target, Phase, Stands, Gone, Opens, with_device}
-use Rattle.wb_runs.specs.Happenings.{Chosen, Plain, Puts, Commits, DoesBegin, Gives, Falters}
-use Rattle.wb_runs.specs.Effects.{device_done, device_failed, devices_then, phase_then, actor_then, task_then, contents_for}
-use Rattle.wb_runs.specs.Clerk.{Notes, Doing, Entering, enter_each, entering, put, failing, device_note, finished_note, noted_step, sector_for}
-use Rattle.wb_runs.proofs.Sectors.{AllFollow, AreBelow, number_at, all_synced, partly_follow, all_raised_below, greater_below}
+use Rattle.wb_runs.specs.States.{Shape, Actor, Target, Stands, with_device}
+use Rattle.wb_runs.specs.Clerk.{Notes, Doing, enter_each, entering, put, failing, device_note, finished_note, noted_step, sector_for}
+use Rattle.wb_runs.proofs.Sectors.{AllFollow, AreBelow, number_at, all_raised_below, greater_below}
 use Rattle.wb_runs.proofs.Plans.{NoSeal, plan_of, reading, writing, ReadsOnly, WritesOnly, FlushesOnly, IsOriginSync}
-use Rattle.wb_runs.proofs.Contents.{ReadKept, WriteKept, FlushKept, JobKept, IsOpeningJob, Working, Linked, read_after, write_after, flush_after}
-use Rattle.wb_runs.proofs.Standing.{IsSeal, seals_stay, Noted, put_noted, twice, quiet, resynced, answered, wrote}
+use Rattle.wb_runs.proofs.Contents.{ReadKept, WriteKept, FlushKept, JobKept, IsOpeningJob, Linked, read_after, write_after, flush_after}
+use Rattle.wb_runs.proofs.Standing.{IsSeal, Noted, put_noted, twice, quiet, resynced, answered, wrote}
 
 -- ---- what a task may do next
 
@@ -172,7 +165,6 @@ failing_job doing step got (inr e) = rw e (refl, refl, refl)
 
 module _ (P A : Type 0) (shape : Shape) (t : Target P) (devices : Devices (List History)) (actors : List Actor) (a : ℕ) (x : Actor) (n : Notes) (l : Linked {P = P} {A = A} shape (Stands t) devices.origin actors n) (e : slice_get actors a ≡ Some x)
     (doing : Doing) (noted : slice_get n.doings a ≡ Some (Some doing)) (plan : Plan) (shown : List Bytes) where
-
   abbrev Then : Target P → List History → Actor → Notes → Type 0
   Then t' origin y n' = Linked {P = P} {A = A} shape (Stands t') origin (slice_set actors a y) n'
 
@@ -238,9 +230,12 @@ module _ (P A : Type 0) (shape : Shape) (t : Target P) (devices : Devices (List 
       outcome : ((got ≡ Done) × ((k : ℕ) → lands k ≡ true)) ⊎ (got ≡ Fault) → (got ≡ Done) ⊎ (got ≡ Fault)
       outcome (inl d) = inl d.0
       outcome (inr f) = inr f
+
       noted_as : (mid : Doing) → mid.entered ≡ doing.entered → sector_for shape extent ex ≡ ex.first →
-          device_note shape (put n a (Some mid)) a mid doing.job (WriteExtent Origin ex) got read ≡ record n { histories = (enter_each content (rising ex.first ex.count) (entering n doing)).histories;
-            doings = slice_set (slice_set n.doings a (Some mid)) a (Some (record mid { entered = (enter_each content (rising ex.first ex.count) (entering n doing)).entered })) }
+          device_note shape (put n a (Some mid)) a mid doing.job (WriteExtent Origin ex) got read ≡ record n {
+            histories = (enter_each content (rising ex.first ex.count) (entering n doing)).histories;
+            doings = slice_set (slice_set n.doings a (Some mid)) a (Some (record mid { entered = (enter_each content (rising ex.first ex.count) (entering n doing)).entered }));
+          }
       noted_as mid me own =
           ap (λ (q : Job). device_note shape (put n a (Some mid)) a mid q (WriteExtent Origin ex) got read) j
           ∙ ap (λ (first : ℕ). let f = enter_each content (rising first ex.count) (record { histories = n.histories; entered = mid.entered }) in record n { histories = f.histories; doings = slice_set (slice_set n.doings a (Some mid)) a (Some (record mid { entered = f.entered })) }) own

@@ -1,34 +1,30 @@
 -- Each step of a read, write or flush keeps what is known of the origin, the notes and the tasks.
-use Rattle.std.proofs.Common.{◌≡◌, ◌≢◌, ◌∙◌, ◌≤◌, ◌<◌, ◌+◌, ◌⊎◌, ◌==◌, inl, inr, ℕ, zero, suc, Bool, true, false, if◌then◌else◌, List, [], ◌∷◌, ◌++◌, Option, Some, None, refl, sym, ap, subst, arith, length, slice_get, slice_set, map, replicate, Contains}
+use Rattle.std.proofs.Common.{◌≡◌, ◌≢◌, ◌∙◌, ◌≤◌, ◌⊎◌, ◌==◌, inl, inr, ℕ, suc, Bool, true, false, if◌then◌else◌, List, [], ◌∷◌, Option, Some, None, refl, sym, ap, subst, arith, length, slice_get, slice_set, replicate}
 use Rattle.std.proofs.lemmas.List.{length-set}
 use Rattle.wb_types.specs.declared.extent.Extent.{Extent}
 use Rattle.wb_types.specs.Extents.{rising}
-use Rattle.wb_types.specs.declared.mode.Dev.{Dev}
-use Rattle.wb_types.specs.declared.mode.Dev.TheVariants.{Metadata, Cache, Origin}
-use Rattle.wb_disk.specs.Device.{Content as Bytes, History, newest, only, grown, written, synced}
+use Rattle.wb_types.specs.declared.mode.Dev.TheVariants.{Origin}
+use Rattle.wb_disk.specs.Device.{Content as Bytes, History, grown, written}
 use Rattle.wb_disk.specs.Extents.{written_where}
 use Rattle.wb_words.specs.SharedWords.{Words, word_at}
-use Rattle.wb_words.specs.Effects.{words_after, result_of}
+use Rattle.wb_words.specs.Effects.{words_after}
 use Rattle.wb_words.specs.declared.step.CellStep.{CellStep}
 use Rattle.wb_words.specs.declared.step.CellStep.TheVariants.{Look, Take, Release, Seal, Finish, Count, SetFailed, SetSuspended}
 use Rattle.wb_words.specs.declared.word.Kind.TheVariants.{ReadHit, ReadMiss, WriteHit, WriteMiss}
 use Rattle.wb_tasks.specs.Plan.{Plan, want, after}
-use Rattle.wb_tasks.specs.declared.step.Answer.{Answer}
-use Rattle.wb_tasks.specs.declared.step.Answer.TheVariants.{Done as Finished, Refused as Refuses}
-use Rattle.wb_tasks.specs.declared.step.DeviceStep.{DeviceStep}
-use Rattle.wb_tasks.specs.declared.step.DeviceStep.TheVariants.{Read as ReadExtent, Write as WriteExtent, Sync, ReadMetadata, WriteNode, WriteRoot}
+use Rattle.wb_tasks.specs.declared.step.Answer.TheVariants.{Done as Finished}
+use Rattle.wb_tasks.specs.declared.step.DeviceStep.TheVariants.{Write as WriteExtent}
 use Rattle.wb_tasks.specs.declared.step.Want.{Want}
-use Rattle.wb_tasks.specs.declared.step.Want.TheVariants.{Cell, Device, Desk, End}
+use Rattle.wb_tasks.specs.declared.step.Want.TheVariants.{Device}
 use Rattle.wb_tasks.specs.declared.step.Got.{Got}
-use Rattle.wb_tasks.specs.declared.step.Got.TheVariants.{Begin, Done, Word, Lost, Fault, Refused as GotRefused, Began, More}
+use Rattle.wb_tasks.specs.declared.step.Got.TheVariants.{Done, Fault}
 use Rattle.wb_runs.specs.declared.job.Job.{Job}
-use Rattle.wb_runs.specs.declared.job.Job.TheVariants.{Read, Write, Flush, Open}
-use Rattle.wb_runs.specs.States.{Shape, Actor, Target, Phase, Stands, Gone, Opens, sector_count}
-use Rattle.wb_runs.specs.Effects.{task_then}
-use Rattle.wb_runs.specs.Clerk.{Notes, Doing, Entering, enter, enter_each, entering, put, failing, device_note, finished_note, noted_step, sector_for, readings_from}
-use Rattle.wb_runs.proofs.Sectors.{AllFollow, AreBelow, Wrote, number_at, set_other, wrote_extent, all_synced, partly_follow, all_raised_below, greater_below}
-use Rattle.wb_runs.proofs.Plans.{NoSeal, Comes, ComesOfFlush, IsOriginSync, plan_of, ReadsOnly, WritesOnly, FlushesOnly}
-use Rattle.wb_runs.proofs.Contents.{ReadKept, WriteKept, FlushKept, JobKept, IsOpeningJob, Working, Acting, Linked, Moves, moved, set_there, read_after, write_after, flush_after}
+use Rattle.wb_runs.specs.declared.job.Job.TheVariants.{Write}
+use Rattle.wb_runs.specs.States.{Shape, Actor, Target, Stands}
+use Rattle.wb_runs.specs.Clerk.{Notes, Doing, Entering, enter, enter_each, entering, put, sector_for}
+use Rattle.wb_runs.proofs.Sectors.{AllFollow, AreBelow, number_at, set_other, wrote_extent}
+use Rattle.wb_runs.proofs.Plans.{NoSeal, plan_of}
+use Rattle.wb_runs.proofs.Contents.{WriteKept, JobKept, IsOpeningJob, Acting, Linked, moved, set_there, write_after}
 
 abbrev pub IsSeal : CellStep → Type 0
 IsSeal (Seal block place dirty) = Unit {0}
@@ -166,10 +162,12 @@ module _ (P A : Type 0) (shape : Shape) (t : Target P) (device : List History) (
       comes : ((got ≡ Done) × ((k : ℕ) → lands k ≡ true)) ⊎ (got ≡ Fault) → (got ≡ Done) ⊎ (got ≡ Fault)
       comes (inl d) = inl d.0
       comes (inr f) = inr f
+
       -- after a fault it is refused
       refused : (steps : List Want) → plan ≡ plan_of plan.job steps plan.answer → Device (WriteExtent Origin ex) ≡ want (plan_of plan.job steps plan.answer) → (after (plan_of plan.job steps plan.answer) Fault).answer ≡ Finished → ⊥
       refused [] i w f = absurd (cc)
       refused (v ∷ ws) i w f = absurd (let same : v ≡ Device (WriteExtent Origin ex) = sym w in let g = subst (λ (q : Want). (after (plan_of plan.job (q ∷ ws) plan.answer) Fault).answer ≡ Finished) same f in cc)
+
       all : ((got ≡ Done) × ((k : ℕ) → lands k ≡ true)) ⊎ (got ≡ Fault) → (after plan got).answer ≡ Finished → (k : ℕ) → lands k ≡ true
       all (inl d) fin = d.1
       all (inr f) fin = absurd (refused plan.steps refl w (subst (λ (g : Got). (after plan g).answer ≡ Finished) f fin))

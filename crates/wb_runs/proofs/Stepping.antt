@@ -1,41 +1,33 @@
 -- Each step of an actor, done or failed, keeps what is known of the metadata.
 use Rattle.std.proofs.lemmas.List.{length-map}
-use Rattle.std.proofs.Common.{◌≡◌, ◌≢◌, ◌∙◌, ◌⊎◌, ◌+◌, inl, inr, ℕ, Bool, true, false, List, [], ◌∷◌, Option, Some, None, refl, sym, ap, subst, length, map, arith}
-use Rattle.wb_types.specs.declared.geometry.Geometry.{Geometry}
-use Rattle.wb_types.specs.declared.mode.Mode.{Mode}
+use Rattle.std.proofs.Common.{◌≡◌, ◌≢◌, ◌⊎◌, inl, inr, ℕ, Bool, true, List, Option, Some, None, refl, sym, subst, map, arith}
 use Rattle.wb_types.specs.declared.mode.Dev.{Dev}
 use Rattle.wb_types.specs.declared.mode.Dev.TheVariants.{Metadata, Cache, Origin}
-use Rattle.wb_types.specs.declared.refusal.Refusal.{Refusal}
 use Rattle.wb_disk.specs.Device.{Content as Bytes, History, newest, synced}
-use Rattle.wb_disk.specs.Failing.{lands, synced_where}
-use Rattle.wb_disk.specs.Crash.{Choice}
-use Rattle.wb_tree.specs.Mapping.{Mapping}
-use Rattle.wb_meta.specs.Steps.{DoesStep, coming_step, steps_after}
-use Rattle.wb_meta.specs.Reads.{AgreeThere, ReadingGoesOn, StopsBy, HasRead, AreStepsOn, IsDone, sectors_read}
+use Rattle.wb_meta.specs.Steps.{DoesStep, steps_after}
+use Rattle.wb_meta.specs.Reads.{IsDone, sectors_read}
 use Rattle.wb_meta.specs.declared.read_steps.ReadSteps.{ReadSteps}
 use Rattle.wb_meta.specs.declared.read_steps.ReadSteps.TheVariants.{Begun, FirstSlotRead, RootFound, Done as AllRead}
 use Rattle.wb_tasks.specs.declared.step.Answer.{Answer}
 use Rattle.wb_tasks.specs.declared.step.Answer.TheVariants.{Done as Finished, Refused as Refuses}
-use Rattle.wb_tasks.specs.declared.step.DeviceStep.{DeviceStep}
 use Rattle.wb_tasks.specs.declared.step.DeviceStep.TheVariants.{Read as ReadExtent, Write as WriteExtent, Sync, ReadMetadata, WriteNode, WriteRoot}
 use Rattle.wb_tasks.specs.declared.step.DeskStep.TheVariants.{Map, Unmap, ReleaseOrder, BeginCommit, EndCommit}
 use Rattle.wb_tasks.specs.declared.step.Want.{Want}
 use Rattle.wb_tasks.specs.declared.step.Want.TheVariants.{Cell, Device, Desk, End}
 use Rattle.wb_tasks.specs.declared.step.Got.{Got}
-use Rattle.wb_tasks.specs.declared.step.Got.TheVariants.{Begin, Done, Word, Lost, Fault, Refused as GotRefused, Began, More}
+use Rattle.wb_tasks.specs.declared.step.Got.TheVariants.{Done, Fault, Refused as GotRefused, Began, More}
 use Rattle.wb_tasks.specs.Ready.{HoldsBlocks}
 use Rattle.wb_stage.specs.declared.running.RunningCommit.{RunningCommit}
 use Rattle.wb_stage.specs.declared.devices.Devices.{Devices}
-use Rattle.wb_stage.specs.Committing.{goes_on, is_committed}
 use Rattle.wb_stage.specs.Stages.{is_all_done}
-use Rattle.wb_stage.specs.Opened.{HasCome, got_of_refusal}
+use Rattle.wb_stage.specs.Opened.{HasCome}
 use Rattle.wb_runs.specs.declared.job.Job.{Job}
 use Rattle.wb_runs.specs.declared.job.Job.TheVariants.{Read, Write, Flush, Open}
 use Rattle.wb_runs.specs.States.{Shape, State, Target, Phase, Stands, Gone, Opens, OfTarget, OfReading, with_device}
-use Rattle.wb_runs.specs.Happenings.{Chosen, Plain, Cut, Begins, Reaches, Puts, Commits, Opened, LandedOr, sector_put, IsPlain, IsNextOf, DoesPut, FailsPut, DoesSync, FailsSync, DoesRead, DoesBegin, DoesOpen, Gives, Falters}
-use Rattle.wb_runs.specs.Effects.{device_done, device_failed, devices_then, commit_then, phase_then, led}
-use Rattle.wb_runs.proofs.Underway.{Readable, Underway, Found, IsPut, led_on, stopped, sync_does, sync_fails, put_fails, sync_found, found_readable, partly_readable, underway_readable}
-use Rattle.wb_runs.proofs.Metadata.{Quiet, Leading, Broken, AtDesk, HasReached, Rooting, AtOpening, AtGone, MetadataKept, begins_over, ends_over, root_begins, target_stands, kept_readable}
+use Rattle.wb_runs.specs.Happenings.{Chosen, Plain, Cut, Begins, Reaches, Puts, Commits, Opened, DoesPut, DoesSync, DoesRead, DoesBegin, DoesOpen, Gives}
+use Rattle.wb_runs.specs.Effects.{device_done, devices_then, commit_then, phase_then}
+use Rattle.wb_runs.proofs.Underway.{Readable, Found, led_on, sync_does, sync_found, found_readable}
+use Rattle.wb_runs.proofs.Metadata.{AtDesk, HasReached, Rooting, AtOpening, MetadataKept, begins_over, ends_over, root_begins, target_stands, kept_readable}
 
 -- a device on which blocks stand is not the metadata device
 data_device : (device : Dev) → HoldsBlocks device → (devices : Devices (List History)) (new : List History) → (with_device device devices new).metadata ≡ devices.metadata
@@ -132,6 +124,7 @@ module _ (P A : Type 0) (shape : Shape) where
     where
       base : Found shape.geometry (synced m)
       base = sync_found shape.geometry m (kept_readable P A shape.geometry (Opens mode reading) None m k)
+
       begun : (now : ReadSteps A) → sectors_read now ≡ 0 → HasReached shape.geometry now (synced m)
       begun (Begun alloc global) e = record { found = base; come = tt; on = tt }
       begun (FirstSlotRead alloc global first) e = absurd (omega (arith, e))
@@ -173,8 +166,10 @@ module _ (P A : Type 0) (shape : Shape) where
     where
       now : ReadSteps A
       now = more.0
+
       reached : HasReached shape.geometry now m
       reached = record { found = k.found; come = more.1 (map newest m) (record { size = length-map m newest; here = λ place e. refl }) k.come; on = more.2 }
+
       by_got : (got : Got) → (got ≢ Fault) → HasCome shape.geometry left now None got after commit → AtOpening shape.geometry after commit m
       by_got More n h = subst (λ (r : Option (ReadSteps A)). AtOpening shape.geometry r commit m) (sym h.1) (subst (λ (c : Option RunningCommit). AtOpening shape.geometry (Some now) c m) (sym h.3) reached)
       by_got Done n h = subst (λ (r : Option (ReadSteps A)). AtOpening shape.geometry r commit m) (sym h.0) (root_begins A shape.geometry m now commit reached h.2)
@@ -347,6 +342,7 @@ module _ (P A : Type 0) (shape : Shape) where
                 by_phase (Opens mode (Some was)) h = absurd h
             by_chosen (Commits c t) h = refl
             by_chosen (Opened p) h = refl
+
         by_commit : (commit : Option RunningCommit) → commit ≡ None → K w.phase commit m → OfReading w.phase (λ mode was. DoesRead shape.geometry left was m commit got chosen) →
             K (phase_then shape w.phase (Device (ReadMetadata left)) got chosen) (commit_then w.phase commit (Device (ReadMetadata left)) got chosen) (device_done job (ReadMetadata left) chosen m)
         by_commit None e k h = subst (λ (n : List History). K (phase_then shape w.phase (Device (ReadMetadata left)) got chosen) (commit_then w.phase None (Device (ReadMetadata left)) got chosen) n) (sym same)

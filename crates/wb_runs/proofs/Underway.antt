@@ -1,11 +1,10 @@
 -- A commit on its way to metadata in which nothing is cached: how it goes on, fails and ends.
-use Rattle.std.proofs.Common.{◌≡◌, ◌≢◌, ◌∙◌, ◌⊎◌, ◌+◌, ◌&&◌, ◌==◌, inl, inr, ℕ, Bool, true, false, List, Option, Some, None, refl, sym, ap, subst, slice_get, replicate, length, map, is_some, is_none, arith}
-use Rattle.std.proofs.lemmas.Bool.{true≢false}
+use Rattle.std.proofs.Common.{◌≡◌, ◌⊎◌, ◌&&◌, ◌==◌, inl, inr, ℕ, Bool, true, false, List, Option, Some, None, refl, sym, subst, slice_get, replicate, length, is_some, is_none}
 use Rattle.wb_types.specs.declared.entry.Entry.{Entry}
 use Rattle.wb_types.specs.declared.geometry.Geometry.{Geometry}
 use Rattle.wb_types.specs.declared.number.Place.{Place}
 use Rattle.wb_types.specs.declared.mode.Dev.TheVariants.{Metadata}
-use Rattle.wb_disk.specs.Device.{History, newest, synced, PartlySynced, Crashed}
+use Rattle.wb_disk.specs.Device.{History, synced, PartlySynced, Crashed}
 use Rattle.wb_disk.specs.Failing.{synced_where}
 use Rattle.wb_disk.proofs.FailedSyncs.{partly_synced}
 use Rattle.wb_format.specs.declared.node.Node.{Node}
@@ -13,7 +12,7 @@ use Rattle.wb_tree.specs.declared.image.Image.{Image}
 use Rattle.wb_meta.specs.declared.commit_steps.CommitSteps.{CommitSteps}
 use Rattle.wb_meta.specs.declared.commit_steps.CommitSteps.TheVariants.{NodesWritten, NodesSynced, RootWritten, Done as Committed}
 use Rattle.wb_meta.specs.Representing.{Stored}
-use Rattle.wb_meta.specs.Commits.{HasCome, HasFailed}
+use Rattle.wb_meta.specs.Commits.{HasCome}
 use Rattle.wb_meta.specs.Steps.{DoesStep, FailsStep, steps_after}
 use Rattle.wb_meta.specs.Imaging.{DeviceStores}
 use Rattle.wb_meta.proofs.Stepping.{goes_on as step_goes_on, fails as step_fails}
@@ -138,6 +137,7 @@ put_coming image (NodesWritten count) (WriteNode number) old new p e r = by_node
     and_right : (a b : Bool) → (a && b) ≡ true → b ≡ true
     and_right true b e = e
     and_right false b e = absurd (cc)
+
     by_node : (o : Option (Place × Node)) → is_some o ≡ true → (Rattle.wb_meta.specs.Steps.NodeOrSync o old new ⊎ (new ≡ old)) → Rattle.wb_meta.specs.Steps.MayNodeOrSync o old new
     by_node None e r = absurd (cc)
     by_node (Some node) e (inl d) = inr d

@@ -1,5 +1,5 @@
 -- What an event may do in a state.
-use Rattle.std.specs.Prelude.{◌≡◌, ◌≢◌, ◌≤◌, ◌+◌, ◌-◌, ◌*◌, ◌/◌, ◌&&◌, ◌==◌, ◌⊎◌, ℕ, Bool, true, false, List, [], ◌∷◌, Option, Some, None, length, slice_get, if◌then◌else◌, nat_le}
+use Rattle.std.specs.Prelude.{◌≡◌, ◌≢◌, ◌≤◌, ◌+◌, ◌-◌, ◌/◌, ◌&&◌, ◌==◌, ◌⊎◌, ℕ, Bool, true, false, List, [], Option, Some, None, length, slice_get, if◌then◌else◌, nat_le}
 use Rattle.wb_types.specs.Limits.{node_count}
 use Rattle.wb_types.specs.declared.extent.Extent.{Extent}
 use Rattle.wb_types.specs.declared.geometry.Geometry.{Geometry}
@@ -13,7 +13,6 @@ use Rattle.wb_disk.specs.Extents.{GivesEach}
 use Rattle.wb_disk.specs.Failing.{MayFail, lands}
 use Rattle.wb_disk.specs.Crash.{Choice, Applies}
 use Rattle.wb_tree.specs.Mapping.{Mapping}
-use Rattle.wb_tree.specs.declared.image.Image.{Image}
 use Rattle.wb_meta.specs.Steps.{DoesStep, coming_step}
 use Rattle.wb_meta.specs.Reads.{ReadingGoesOn, StopsBy, AreStepsOn, IsDone, sectors_read}
 use Rattle.wb_meta.specs.States.{IsOfReading}
@@ -23,7 +22,7 @@ use Rattle.wb_meta.specs.declared.commit_steps.CommitStep.TheVariants.{WriteNode
 use Rattle.wb_meta.specs.declared.commit_steps.CommitSteps.TheVariants.{NodesWritten}
 use Rattle.wb_desk.specs.Desks.{DeskState}
 use Rattle.wb_desk.specs.Commits.{IsBeginRefused, commit_begun}
-use Rattle.wb_tasks.specs.Tables.{BlockJob, TaskJob, Reading, Writing, OnBlock, Flushing, Opening, BlockRange}
+use Rattle.wb_tasks.specs.Tables.{TaskJob, Reading, Writing, OnBlock, Flushing, Opening, BlockRange}
 use Rattle.wb_tasks.specs.Plan.{Plan, want, got_of, device_of}
 use Rattle.wb_tasks.specs.Ready.{HoldsBlocks}
 use Rattle.wb_words.specs.Effects.{result_of}
@@ -49,7 +48,7 @@ use Rattle.wb_runs.specs.declared.event.Event.TheVariants.{Start, Step, FaultSte
 use Rattle.wb_runs.specs.declared.event.What.{What}
 use Rattle.wb_runs.specs.declared.event.What.TheVariants.{Skipped, Refused, Started, Stepped, Stopped}
 use Rattle.wb_runs.specs.declared.event.Record.{Record}
-use Rattle.wb_runs.specs.States.{Shape, State, Target, Phase, Stands, Gone, Opens, OfTarget, OfReading, sector_count, block_size}
+use Rattle.wb_runs.specs.States.{Shape, State, Phase, Opens, OfTarget, OfReading, sector_count, block_size}
 
 -- What no record holds of what was free at it: into which extents a job's sectors are cut, in the order in which they are
 -- taken; a reading that has read nothing; how far it has come after a step, and the commit of the opening's root once all was
@@ -182,7 +181,7 @@ FailsSync phase None device = ⊥
 abbrev pub DoesRead : {P A : Type 0} → Geometry → ℕ → ReadSteps A → List History → Option RunningCommit → Got → Chosen P A → Type 0
 DoesRead {P} {A} geometry left was device commit got (Reaches after commit') = (got ≢ Fault)
     × (((now : ReadSteps A) × ReadingGoesOn was device now × AreStepsOn (length device) now × HasCome geometry left now commit got after commit')
-        ⊎ ((refusal : Refusal) × IsOfReading refusal × StopsBy was device refusal × (got ≡ got_of_refusal refusal) × (after ≡ None) × (commit' ≡ commit)))
+    ⊎ ((refusal : Refusal) × IsOfReading refusal × StopsBy was device refusal × (got ≡ got_of_refusal refusal) × (after ≡ None) × (commit' ≡ commit)))
 DoesRead geometry left was device commit got chosen = ⊥
 
 -- A commit begins, of an image of the desk's tree, with at most so many nodes; or the desk refuses it.

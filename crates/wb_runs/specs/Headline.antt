@@ -20,7 +20,6 @@ use Rattle.wb_runs.specs.declared.event.Event.{Event}
 use Rattle.wb_runs.specs.declared.event.Event.TheVariants.{Step}
 use Rattle.wb_runs.specs.declared.event.What.{What}
 use Rattle.wb_runs.specs.declared.event.What.TheVariants.{Stepped}
-use Rattle.wb_runs.specs.declared.event.Record.{Record}
 use Rattle.wb_runs.specs.States.{Shape, State, Phase, Stands, block_size, sector_count, start}
 use Rattle.wb_runs.specs.Happenings.{Happening, Chosen, MayBe}
 use Rattle.wb_runs.specs.Effects.{after_happening, after_all, IsRun}

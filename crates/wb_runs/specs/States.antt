@@ -1,5 +1,5 @@
 -- A cache target over three devices as a pure machine: its states.
-use Rattle.std.specs.Prelude.{◌*◌, ℕ, List, [], Option, Some, None, replicate}
+use Rattle.std.specs.Prelude.{◌*◌, ℕ, List, Option, Some, None, replicate}
 use Rattle.wb_types.specs.declared.geometry.Geometry.{Geometry}
 use Rattle.wb_types.specs.declared.mode.Mode.{Mode}
 use Rattle.wb_types.specs.declared.mode.Dev.{Dev}
