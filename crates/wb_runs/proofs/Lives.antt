@@ -33,7 +33,7 @@ module _ (P A : Type 0) (shape : Shape) where
   LinkedTo w n = Linked {P = P} {A = A} shape w.phase w.devices.origin w.actors n
 
   -- what a target shows over metadata in which nothing is cached
-  shows_or : (phase : Phase P A) (commit : Option RunningCommit) (m : List History) (devices : Devices (List History)) → MetadataKept shape.geometry phase commit m → length devices.origin ≡ sector_count shape →
+  pub shows_or : (phase : Phase P A) (commit : Option RunningCommit) (m : List History) (devices : Devices (List History)) → MetadataKept shape.geometry phase commit m → length devices.origin ≡ sector_count shape →
       OfTarget phase (λ t. (t.desk.tree.entries ≡ replicate shape.geometry.cache_blocks None) × (shown_in shape devices phase ≡ map newest devices.origin)) ⊎ (¬ OfTarget phase (λ t. Unit {0}))
   shows_or (Stands t) commit m devices k size = inl (k.entries, origin_shown shape t.desk.tree.entries (map newest devices.cache) (map newest devices.origin) shape.geometry.cache_blocks k.entries (length-map devices.origin newest ∙ size))
   shows_or Gone commit m devices k size = inr (λ z. z)

@@ -28,6 +28,22 @@ use Rattle.wb_runs.proofs.Contents.{Linked, Acting}
 use Rattle.wb_runs.proofs.Opened.{origin_shown, replicated, replicated_there}
 use Rattle.wb_runs.proofs.Lives.{LinkedTo, step_links, fault_links}
 use Rattle.wb_runs.proofs.Begins.{crash_links, open_starts, task_starts, read_starts, write_starts, flush_starts}
+use Rattle.wb_disk.proofs.Leaving.{read-left}
+use Rattle.wb_meta.specs.declared.read_steps.ReadSteps.{ReadSteps}
+use Rattle.wb_meta.specs.declared.read_steps.ReadSteps.TheVariants.{Begun, FirstSlotRead, RootFound, Done as AllRead}
+use Rattle.wb_tasks.specs.Plan.{Plan, want}
+use Rattle.wb_tasks.specs.declared.step.Answer.TheVariants.{Done as Finished, Refused as Refuses}
+use Rattle.wb_tasks.specs.declared.step.Want.TheVariants.{Cell, Device, Desk, End}
+use Rattle.wb_stage.specs.declared.running.RunningCommit.{RunningCommit}
+use Rattle.wb_types.specs.declared.mode.Mode.{Mode}
+use Rattle.wb_disk.specs.Device.{newest}
+use Rattle.wb_runs.specs.States.{OfTarget, Target}
+use Rattle.wb_runs.specs.Happenings.{OfSome, Gives, DoesOpen, Opened}
+use Rattle.wb_runs.specs.Effects.{stepped, device_done, job_of, phase_then, phase_opened, commit_then}
+use Rattle.wb_runs.specs.Clerk.{Doing}
+use Rattle.wb_runs.specs.Headline.{ShownBy, ShowsRightly, OpensRightly, AllOpenRightly, shown_in}
+use Rattle.wb_runs.proofs.Stepping.{done_kept}
+use Rattle.wb_runs.proofs.Lives.{shows_or}
 
 module _ (P A : Type 0) (shape : Shape) where
   free : (w : State P A) (n : Notes) (a : ℕ) (job : Job) → (¬ DoesNotApply w (Start a job)) → (x : Actor) × (slice_get w.actors a ≡ Some x) × (x.task ≡ None)
@@ -162,3 +178,77 @@ module _ (P A : Type 0) (shape : Shape) where
         represents = empty.represents;
         shows = subst (λ (os : List Bytes). ShowsAllowed n os) (sym (origin_shown shape empty.stored.found.entries cs os shape.geometry.cache_blocks empty.nothing (leaves_o.size ∙ l.device_size))) (allowed w n l os leaves_o);
       }
+
+  -- ---- openings
+
+  -- the phase after an opening's answer is that of a target
+  opened_stands : (mode : Mode) (r : Option (ReadSteps A)) (commit : Option RunningCommit) (ch : Chosen P A) → DoesOpen {P = P} {A = A} (Opens mode r) commit ch → OfTarget (phase_opened shape mode r ch) (λ t. Unit {0})
+  opened_stands mode (Some (AllRead stored)) commit (Opened policy) g = tt
+  opened_stands mode (Some (Begun alloc global)) commit (Opened policy) g = absurd g.0
+  opened_stands mode (Some (FirstSlotRead alloc global first)) commit (Opened policy) g = absurd g.0
+  opened_stands mode (Some (RootFound global root loader)) commit (Opened policy) g = absurd g.0
+  opened_stands mode None commit (Opened policy) g = absurd g.0
+  opened_stands mode r commit ch g = absurd g
+
+  stands_then : (phase : Phase P A) (commit : Option RunningCommit) (ch : Chosen P A) (got : Got) → DoesOpen phase commit ch → OfTarget (phase_then shape phase (End Finished) got ch) (λ t. Unit {0})
+  stands_then (Opens mode r) commit ch got g = opened_stands mode r commit ch g
+  stands_then (Stands t) commit ch got g = tt
+  stands_then Gone commit (Opened policy) got g = absurd g.0
+  stands_then Gone commit ch got g = absurd g
+
+  second : (phase : Phase P A) (X : Target P → Type 0) (Y : Type 0) → OfTarget phase (λ t. X t × Y) → Y
+  second (Stands t) X Y h = h.1
+  second Gone X Y h = absurd h
+  second (Opens mode r) X Y h = absurd h
+
+  -- what it shows is the origin
+  answer_shows : (w : State P A) (n : Notes) (a : ℕ) (got : Got) (read : List Bytes) (chosen : Chosen P A) (x : Actor) (mode : Mode) → Known P A shape w → LinkedTo P A shape w n → Gives shape w (Open mode) (End Finished) got read chosen →
+      ShowsAllowed n (shown shape (stepped shape w a x (End Finished) got chosen (λ step. device_done (job_of x.task) step chosen)))
+  answer_shows w n a got read chosen x mode known l g =
+      let k = done_kept P A shape w got read chosen (Open mode) (End Finished) known g in
+      let phase' = phase_then shape w.phase (End Finished) got chosen in
+      elim (shows_or P A shape phase' (commit_then w.phase w.commit (End Finished) got chosen) w.devices.metadata w.devices k l.device_size) [
+        | inl s ↦ subst (λ (cs : List Bytes). ShowsAllowed n cs) (sym (second phase' (λ t. t.desk.tree.entries ≡ replicate shape.geometry.cache_blocks None) (shown_in shape w.devices phase' ≡ map newest w.devices.origin) s)) (allowed w n l (map newest w.devices.origin) (read-left w.devices.origin))
+        | inr none ↦ absurd (none (stands_then w.phase w.commit chosen got g.2))
+      ]
+
+  one_opens : (w : State P A) (n : Notes) (a : ℕ) (got : Got) (read : List Bytes) (chosen : Chosen P A) (o : Option Actor) → slice_get w.actors a ≡ o → Known P A shape w → LinkedTo P A shape w n →
+      OfSome o (λ x. OfSome x.task (λ doing. (End Finished ≡ want doing.1) × Gives shape w doing.0 (End Finished) got read chosen)) →
+      ShowsRightly n (shown shape (with_actor w o (λ x. stepped shape w a x (End Finished) got chosen (λ step. device_done (job_of x.task) step chosen)))) (slice_get n.doings a)
+  one_opens w n a got read chosen None e known l h = absurd h
+  one_opens w n a got read chosen (Some x) e known l h = by_task x.task (l.acting a x e) h
+    where
+      by_task : (t : Option (Job × Plan)) → Acting shape w.phase w.devices.origin l.low l.top t (slice_get n.doings a) → OfSome t (λ doing. (End Finished ≡ want doing.1) × Gives shape w doing.0 (End Finished) got read chosen) →
+          ShowsRightly n (shown shape (stepped shape w a x (End Finished) got chosen (λ step. device_done (job_of x.task) step chosen))) (slice_get n.doings a)
+      by_task None k h = absurd h
+      by_task (Some doing) k h = subst (λ (d : Option (Option Doing)). ShowsRightly n (shown shape (stepped shape w a x (End Finished) got chosen (λ step. device_done (job_of x.task) step chosen))) d) (sym k.is)
+          (subst (λ (j : Job). ShownBy n (shown shape (stepped shape w a x (End Finished) got chosen (λ step. device_done (job_of x.task) step chosen))) j) (sym k.job_is) (by_job doing.0 h.1))
+        where
+          by_job : (j : Job) → Gives shape w j (End Finished) got read chosen → ShownBy n (shown shape (stepped shape w a x (End Finished) got chosen (λ step. device_done (job_of x.task) step chosen))) j
+          by_job (Open mode) g = answer_shows w n a got read chosen x mode known l g
+          by_job (Read extent) g = tt
+          by_job (Write extent content) g = tt
+          by_job Flush g = tt
+
+  opens_rightly : (w : State P A) (n : Notes) (event : Event) (what : What) (read : List Bytes) (chosen : Chosen P A) → Known P A shape w → LinkedTo P A shape w n → MayBe shape w event what read chosen → OpensRightly (shown shape (after_what shape w event what chosen)) n event what
+  opens_rightly w n (Step a) (Stepped (End Finished) got) read chosen known l h = one_opens w n a got read chosen (slice_get w.actors a) refl known l h
+  opens_rightly w n (Step a) (Stepped (End (Refuses refusal)) got) read chosen known l h = tt
+  opens_rightly w n (Step a) (Stepped (Cell step) got) read chosen known l h = tt
+  opens_rightly w n (Step a) (Stepped (Device step) got) read chosen known l h = tt
+  opens_rightly w n (Step a) (Stepped (Desk step) got) read chosen known l h = tt
+  opens_rightly w n (Step a) Skipped read chosen known l h = tt
+  opens_rightly w n (Step a) (Refused refusal) read chosen known l h = tt
+  opens_rightly w n (Step a) Started read chosen known l h = tt
+  opens_rightly w n (Step a) Stopped read chosen known l h = tt
+  opens_rightly w n (Start a job) what read chosen known l h = tt
+  opens_rightly w n (FaultStep a choice) what read chosen known l h = tt
+  opens_rightly w n (Stop choice) what read chosen known l h = tt
+
+  all_open : (w : State P A) (n : Notes) (hs : List (Happening P A)) → Known P A shape w → LinkedTo P A shape w n → IsRun shape w hs → AllOpenRightly shape w n hs
+  all_open w n [] known l r = tt
+  all_open w n (h ∷ hs) known l r = (opens_rightly w n h.record_is.event h.record_is.what h.record_is.read.items h.chosen known l r.0,
+      all_open (after_happening shape w h) (note_happening shape w n h) hs (known_after P A shape w h known r.0)
+      (by_what w n h.record_is.event h.record_is.what h.record_is.read.items h.chosen known l r.0) r.1)
+
+  pub run_opens : (metadata : List History) (hs : List (Happening P A)) → IsFormatted shape.geometry metadata → length metadata ≡ shape.geometry.meta_sectors → IsRun shape (start shape metadata) hs → AllOpenRightly shape (start shape metadata) (formatted shape) hs
+  run_opens metadata hs f size run = all_open (start shape metadata) (formatted shape) hs (known_at_start P A shape metadata f size) (at_start metadata) run

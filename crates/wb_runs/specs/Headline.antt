@@ -139,6 +139,25 @@ pub record GivesSomething {P A : Type 0} (shape : Shape) (w : State P A) (a : �
   pub chosen : Chosen P A
   pub may : MayBe shape w (Step a) (Stepped next got) read chosen
 
+-- An opening that is answered done shows of each sector what is allowed.
+abbrev pub ShownBy : Notes → List Bytes → Job → Type 0
+ShownBy n shown (Open mode) = ShowsAllowed n shown
+ShownBy n shown job = Unit {0}
+
+abbrev pub ShowsRightly : Notes → List Bytes → Option (Option Doing) → Type 0
+ShowsRightly n shown (Some (Some doing)) = ShownBy n shown doing.job
+ShowsRightly n shown doing = Unit {0}
+
+abbrev pub OpensRightly : List Bytes → Notes → Event → What → Type 0
+OpensRightly shown n (Step a) (Stepped (End Finished) got) = ShowsRightly n shown (slice_get n.doings a)
+OpensRightly shown n event what = Unit {0}
+
+-- every opening of a run does
+abbrev pub AllOpenRightly : {P A : Type 0} → Shape → State P A → Notes → List (Happening P A) → Type 0
+AllOpenRightly shape w n [] = Unit {0}
+AllOpenRightly shape w n (h ∷ hs) = OpensRightly (shown shape (after_happening shape w h)) n h.record_is.event h.record_is.what
+    × AllOpenRightly shape (after_happening shape w h) (note_happening shape w n h) hs
+
 -- ---- laws
 
 -- A run from formatted metadata, and what is so after it.
@@ -153,3 +172,7 @@ MetadataAreRead P A = InEveryRun P A (λ shape metadata hs. (sectors : List Byte
 -- whatever a crash leaves of the three devices, what an opening then shows is allowed
 abbrev pub AllCrashConsistent : (P A : Type 0) → Type 0
 AllCrashConsistent P A = InEveryRun P A (λ shape metadata hs. CrashConsistent shape (noted shape (start shape metadata) (formatted shape) hs) (after_all shape (start shape metadata) hs).devices)
+
+-- what every opening shows that is answered done is allowed
+abbrev pub AllOpeningsShowAllowed : (P A : Type 0) → Type 0
+AllOpeningsShowAllowed P A = InEveryRun P A (λ shape metadata hs. AllOpenRightly shape (start shape metadata) (formatted shape) hs)
