@@ -246,9 +246,11 @@ module _ (P A : Type 0) (shape : Shape) where
 
   all_open : (w : State P A) (n : Notes) (hs : List (Happening P A)) → Known P A shape w → LinkedTo P A shape w n → IsRun shape w hs → AllOpenRightly shape w n hs
   all_open w n [] known l r = tt
-  all_open w n (h ∷ hs) known l r = (opens_rightly w n h.record_is.event h.record_is.what h.record_is.read.items h.chosen known l r.0,
-      all_open (after_happening shape w h) (note_happening shape w n h) hs (known_after P A shape w h known r.0)
-      (by_what w n h.record_is.event h.record_is.what h.record_is.read.items h.chosen known l r.0) r.1)
+  all_open w n (h ∷ hs) known l r = (
+    opens_rightly w n h.record_is.event h.record_is.what h.record_is.read.items h.chosen known l r.0,
+    all_open (after_happening shape w h) (note_happening shape w n h) hs (known_after P A shape w h known r.0)
+        (by_what w n h.record_is.event h.record_is.what h.record_is.read.items h.chosen known l r.0) r.1,
+  )
 
   pub run_opens : (metadata : List History) (hs : List (Happening P A)) → IsFormatted shape.geometry metadata → length metadata ≡ shape.geometry.meta_sectors → IsRun shape (start shape metadata) hs → AllOpenRightly shape (start shape metadata) (formatted shape) hs
   run_opens metadata hs f size run = all_open (start shape metadata) (formatted shape) hs (known_at_start P A shape metadata f size) (at_start metadata) run
