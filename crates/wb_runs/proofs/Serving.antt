@@ -156,9 +156,6 @@ same_origin Metadata devices = refl
 same_origin Cache devices = refl
 same_origin Origin devices = refl
 
-failing_done : (doing : Doing) (step : DeviceStep) (got : Got) → got ≡ Done → failing doing step got ≡ doing
-failing_done doing step got e = ap (λ g. failing doing step g) e
-
 failing_job : (doing : Doing) (step : DeviceStep) (got : Got) → (got ≡ Done) ⊎ (got ≡ Fault) → ((failing doing step got).job ≡ doing.job) × ((failing doing step got).entered ≡ doing.entered) × ((failing doing step got).then_finished ≡ doing.then_finished)
 failing_job doing step got (inl e) = rw e (refl, refl, refl)
 failing_job doing step got (inr e) = rw e (refl, refl, refl)

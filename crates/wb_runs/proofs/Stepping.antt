@@ -94,20 +94,6 @@ module _ (P A : Type 0) (shape : Shape) where
     entries = k.entries;
   }
 
-  commit_on : (phase : Phase P A) (c : RunningCommit) (old new : List History) → K phase (Some c) old → DoesStep c.image c.steps old new → K phase (Some (record c { steps = steps_after c.image c.steps })) new
-  commit_on (Stands t) c old new k does = leading_on t c old new k does
-  commit_on Gone c old new k does = absurd k
-  commit_on (Opens mode None) c old new k does = absurd k
-  commit_on (Opens mode (Some reading)) c old new k does = rooting_on reading c old new k does
-
-  -- a phase in which a commit was stopped, and an opening has nothing more to read
-  abbrev over : Phase P A → Phase P A
-  over (Opens mode reading) = Opens mode None
-  over phase = phase
-
-  commit_stops : (t : Target P) (c : RunningCommit) (old new : List History) → AtDesk shape.geometry t.desk (Some c) old → Readable shape.geometry new → AtDesk shape.geometry t.desk None new
-  commit_stops t c old new k r = record { geometry = k.geometry; entries = k.entries; stands = inr (record { readable = r; busy = k.stands.busy }) }
-
   -- ---- done steps
 
   sync_metadata : (phase : Phase P A) (commit : Option RunningCommit) (m : List History) (chosen : Chosen P A) → K phase commit m → DoesSync phase commit m chosen →
