@@ -1,0 +1,17 @@
+mod Underway
+mod Metadata
+mod Stepping
+mod Faltering
+mod MetadataRuns
+mod Sectors
+mod Extents
+mod Plans
+mod Contents
+mod Standing
+mod Serving
+mod Serves
+mod Opened
+mod Opens
+mod Lives
+mod Begins
+mod Runs

@@ -1,0 +1,5 @@
+pub mod States
+pub mod Happenings
+pub mod Effects
+pub mod Clerk
+pub mod Headline

@@ -1,0 +1,22 @@
+//! The theorems over all runs.
+
+ghost use Rattle.wb_runs.specs.Headline.{MetadataAreRead, AllCrashConsistent, AllOpeningsShowAllowed};
+
+/// In every run, over any policy: whatever a crash leaves of the metadata device, it represents a root of this geometry and a
+/// tree, so an opening finds one. Nothing is cached yet.
+pub fn metadata_are_read<P, A>()
+    ensures { MetadataAreRead P A }
+{}
+
+/// In every run of reads, writes, flushes and openings, with failing steps and crashes anywhere and over any number of lives: whatever
+/// a crash leaves of the three devices, the metadata represent a tree, and what an opening shows by it of each sector is an entry
+/// of the sector's write history at its durable floor or later.
+pub fn every_crash_is_consistent<P, A>()
+    ensures { AllCrashConsistent P A }
+{}
+
+/// In every such run what an opening shows that is answered done is, of each sector, an entry of the write history before it, at the
+/// durable floor or later; the next history begins with it.
+pub fn every_opening_shows_allowed<P, A>()
+    ensures { AllOpeningsShowAllowed P A }
+{}

@@ -1,0 +1,11 @@
+//! Every interleaving of reads, writes, flushes and openings on three devices, one atomic step at a time, with failing steps
+//! and crashes: definitions and laws, no code but the records of what happened.
+#![tactic(auto)]
+
+mod event;
+mod job;
+mod law;
+
+pub use event::{Event, Record, What};
+pub use job::Job;
+pub use law::{every_crash_is_consistent, every_opening_shows_allowed, metadata_are_read};
