@@ -115,17 +115,22 @@ fn crew_beside_an_owner(alloc: Global) -> Result<Crew, Refusal>
     Ok(crew)
 }
 
-/// What is asked of that block is refused, and a promotion keeps its order; another block is free.
+/// Another block is free; what is asked of that block is refused, and a promotion keeps its order.
 fn is_kept_out(cache: &mut Cache) -> bool
     requires { cache.old.stage.crew.blocks ≡ 10 }
 {
+    if play(cache, &Job::Read(64, 2), 64) != Some(Answer::Done) {
+        return false;
+    }
     for job in [WRITE, Job::Read(0, 2), PROMOTE] {
         if play(cache, &job, 64) != Some(Answer::Refused(Refusal::Busy)) {
             return false;
         }
     }
-    cache.stage.desk.is_live(Order::Promote(OBlock(0), CBlock(0)))
-        && play(cache, &Job::Read(64, 2), 64) == Some(Answer::Done)
+    cache
+        .stage
+        .desk
+        .is_live(Order::Promote(OBlock(0), CBlock(0)))
 }
 
 #[test]

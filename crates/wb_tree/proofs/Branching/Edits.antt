@@ -10,8 +10,8 @@ use Rattle.wb_types.specs.declared.entry.Entry.{Entry}
 use Rattle.wb_types.specs.declared.number.Place.{Place}
 use Rattle.wb_types.proofs.Truth.{yes}
 use Rattle.wb_tree.specs.declared.placed.PlacedNode.{PlacedNode}
-use Rattle.wb_tree.specs.Mapping.{Mapping, Forgets, IsOnPath, IsSound, place_in, place_of}
-use Rattle.wb_tree.specs.Edits.{IsChangedAt, IsEdited}
+use Rattle.wb_tree.specs.Mapping.{Mapping, Forgets, IsOnPath, IsSound, place_in}
+use Rattle.wb_tree.specs.Edits.{IsChangedAt}
 use Rattle.wb_tree.specs.Fields.{AreApart}
 use Rattle.wb_tree.specs.Branches.{AreBoxes, Branch, IsSlot, boxes_of, entries_in, forget, known_in, rewritten, sole_branch}
 use Rattle.wb_tree.proofs.Reading.Grown.{up_block}
