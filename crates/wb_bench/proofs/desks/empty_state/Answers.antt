@@ -1,4 +1,4 @@
-use Rattle.wb_bench.proofs.States.{no_entry}
+use Rattle.wb_desk.proofs.Empty.{no_entry}
 use Rattle.wb_bench.proofs.desks.empty_state.Goals as goal
 
 pub returns-clause-fits : goal.returns-clause-fits

@@ -1,5 +1,5 @@
 use Rattle.std.proofs.Common.{◌≡◌, ◌∙◌, None, replicate, rules}
-use Rattle.wb_tests_desk.proofs.States.{empty_known}
+use Rattle.wb_desk.proofs.Empty.{empty_known}
 use Rattle.wb_tests_desk.proofs.desk.empty.Goals as goal
 
 pub new-requires-3-clause-knows : goal.new-requires-3-clause-knows

@@ -1,5 +1,5 @@
 use Rattle.std.proofs.Common.{◌∙◌, ℕ, None, replicate, sym, ap}
-use Rattle.wb_tests_desk.proofs.States.{no_entry}
+use Rattle.wb_desk.proofs.Empty.{no_entry}
 use Rattle.wb_tests_desk.proofs.desk.empty_state.Goals as goal
 
 pub returns-clause-fits : goal.returns-clause-fits

@@ -12,7 +12,7 @@ use Rattle.wb_tree.specs.Mapping.{Mapping, IsMapping, IsSound, place_in}
 use Rattle.wb_policy.specs.Law.{Holdings, origins, IsMapping as IsPolicyMapping}
 use Rattle.wb_meta.specs.Reads.{FitsDevice}
 
-none_there : (known : List PlacedNode) → known ≡ [] → (level index : ℕ) (p : Place) → place_in known level index ≡ Some p → ⊥
+pub none_there : (known : List PlacedNode) → known ≡ [] → (level index : ℕ) (p : Place) → place_in known level index ≡ Some p → ⊥
 none_there [] e level index p k = absurd cc
 none_there (n ∷ ns) e level index p k = absurd cc
 
