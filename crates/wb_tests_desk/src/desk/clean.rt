@@ -1,10 +1,10 @@
 //! Clean images.
 
-use super::{Call, are_answered, are_answered_by, empty};
+use super::{Call, are_answered, are_answered_by, are_done, empty};
 use std::alloc::Global;
 use std::test::Fail;
 use wb_desk::Desk;
-use wb_policy::{Order, Quiet, TinyLfu};
+use wb_policy::{Order, Policy, Quiet, TinyLfu};
 use wb_types::{CBlock, Mode, OBlock, Place, Refusal};
 
 /// Where no node changed, and all dirty bits and hints are those of the entries, a clean image writes none; and one that marks
@@ -81,37 +81,61 @@ fn a_clean_image_has_the_hints_of_the_policy(rt: HostRuntime) -> Result<(), Fail
     Ok(())
 }
 
-/// How many nodes a clean image writes that marks the last of so many cache blocks dirty, after a commit, and none of the others:
-/// block 0 is cached in the first and block 1 in the last.
-fn nodes_of_one_mark(alloc: Global, cache_blocks: u32) -> Result<usize, Refusal> {
-    let mut desk = empty::<Quiet>(alloc, u64::from(cache_blocks), 2, Mode::Writeback)?;
-    let last = desk.geometry().cache_blocks - 1;
-    bring(&mut desk, OBlock(0), CBlock(0))?;
-    bring(&mut desk, OBlock(1), CBlock(last))?;
-    let _image = desk.begin_commit(alloc, None)?;
-    if desk.is_committing() {
-        desk.end_commit();
+/// Block 0 comes into the first cache block and block 1 into the last, of 64 or of 32, and a commit is made.
+const INTO_64: [(Call, bool); 6] = [
+    (Call::Reserve(Order::Promote(OBlock(0), CBlock(0))), true),
+    (Call::Reserve(Order::Promote(OBlock(1), CBlock(63))), true),
+    (Call::Map(0, 0), true),
+    (Call::Map(1, 63), true),
+    (Call::Begin, true),
+    (Call::End, true),
+];
+
+const INTO_32: [(Call, bool); 6] = [
+    (Call::Reserve(Order::Promote(OBlock(0), CBlock(0))), true),
+    (Call::Reserve(Order::Promote(OBlock(1), CBlock(31))), true),
+    (Call::Map(0, 0), true),
+    (Call::Map(1, 31), true),
+    (Call::Begin, true),
+    (Call::End, true),
+];
+
+/// How many nodes a clean image writes that marks the last of so many cache blocks dirty, after these calls, and none of the
+/// others. None where a call comes out otherwise.
+fn nodes_of_one_mark(
+    alloc: Global,
+    cache_blocks: u64,
+    calls: &[(Call, bool)],
+) -> Result<Option<usize>, Refusal> {
+    let mut desk = empty::<Quiet>(alloc, cache_blocks, 2, Mode::Writeback)?;
+    mark_after(&mut desk, alloc, calls)
+}
+
+fn mark_after<P: Policy>(
+    desk: &mut Desk<P>,
+    alloc: Global,
+    calls: &[(Call, bool)],
+) -> Result<Option<usize>, Refusal> {
+    if are_done(desk, alloc, calls)? {
+        mark_last(desk, alloc)
+    } else {
+        Ok(None)
     }
+}
+
+fn mark_last<P: Policy>(desk: &mut Desk<P>, alloc: Global) -> Result<Option<usize>, Refusal> {
     let mut dirty = vec![in alloc; false; desk.geometry().cache_blocks as usize]?;
     if let Some(bit) = dirty.last_mut() {
         *bit = true;
     }
     let image = desk.begin_commit(alloc, Some(dirty.as_slice()))?;
-    Ok(image.nodes.len())
-}
-
-fn bring(desk: &mut Desk<Quiet>, b: OBlock, c: CBlock) -> Result<(), Refusal> {
-    desk.reserve(Order::Promote(b, c))?;
-    if desk.may_map(b, c) {
-        desk.map(b, c)?;
-    }
-    Ok(())
+    Ok(Some(image.nodes.len()))
 }
 
 /// One leaf with the top above it, of the two leaves of 64 cache blocks; of 32 the one leaf.
 #[test]
 fn one_dirty_bit_writes_the_nodes_above_it(rt: HostRuntime) -> Result<(), Fail> {
-    assert!(rt; nodes_of_one_mark(rt.alloc(), 64)? == 2);
-    assert!(rt; nodes_of_one_mark(rt.alloc(), 32)? == 1);
+    assert!(rt; nodes_of_one_mark(rt.alloc(), 64, &INTO_64)? == Some(2));
+    assert!(rt; nodes_of_one_mark(rt.alloc(), 32, &INTO_32)? == Some(1));
     Ok(())
 }
