@@ -1,5 +1,5 @@
 -- What holds of every desk holds after a commit has begun, and after it has ended.
-use Rattle.std.proofs.Common.{◌≡◌, ◌≤◌, ◌<◌, ◌^◌, ℕ, Bool, true, false, if◌then◌else◌, List, [], ◌∷◌, Option, Some, None, length, map, get_or, is_some, inl, inr, ◌+◌, ◌%◌, refl, sym, ap, subst, ◌∙◌, arith}
+use Rattle.std.proofs.Common.{◌≡◌, ◌<◌, ◌^◌, ℕ, Bool, true, false, if◌then◌else◌, List, [], ◌∷◌, Option, Some, None, length, map, get_or, is_some, inl, inr, ◌+◌, ◌%◌, refl, sym, ap, subst, ◌∙◌, arith}
 use Rattle.std.specs.Prelude.{Contains}
 use Rattle.std.proofs.lemmas.List.{length-map}
 use Rattle.std.proofs.Math.ListN.{get_or-map}
@@ -7,7 +7,8 @@ use Rattle.wb_types.specs.declared.entry.Entry.{Entry}
 use Rattle.wb_types.specs.declared.number.CBlock.{CBlock}
 use Rattle.wb_types.specs.declared.number.Place.{Place}
 use Rattle.wb_tree.specs.Mapping.{Mapping, IsMapping, IsSound, AreInside}
-use Rattle.wb_tree.specs.Images.{AreFree, IsImage, ImagePlan}
+use Rattle.wb_tree.specs.Edits.{IsEdited}
+use Rattle.wb_tree.specs.Images.{AreFree, IsImage}
 use Rattle.wb_tree.specs.declared.image.Image.{Image}
 use Rattle.wb_policy.specs.declared.order.Order.{Order}
 use Rattle.wb_policy.specs.declared.order.Order.TheVariants.{Promote, Replace, Demote, Clean}
@@ -19,13 +20,12 @@ use Rattle.wb_space.specs.Places.{noted, unused, place_count}
 use Rattle.wb_space.proofs.Noted.{length-noted_alone}
 use Rattle.wb_orders.specs.declared.live_order.LiveOrder.{LiveOrder}
 use Rattle.wb_orders.specs.Orders.{order_at}
-use Rattle.wb_meta.specs.Imaging.{AreUnused}
-use Rattle.wb_meta.proofs.Round.{free_of_used, unused_for_changed}
-use Rattle.wb_desk.specs.InUse.{AreFlagged}
+use Rattle.wb_tree.proofs.Stored.Edited.{places-edited}
+use Rattle.wb_meta.specs.Imaging.{AreUnusedFor}
+use Rattle.wb_meta.proofs.Round.{free_of_unused}
+use Rattle.wb_desk.specs.InUse.{AreFlagged, places_for}
 use Rattle.wb_desk.specs.Desks.{DeskState, DeskInvariant, IsRight, NamesWhatIs, Names, holdings, is_mapped}
 use Rattle.wb_desk.specs.Fields.{IsIndex, AreParts}
-use Rattle.wb_types.specs.Limits.{node_count}
-use Rattle.wb_types.specs.declared.geometry.Geometry.{Geometry}
 use Rattle.wb_desk.specs.Marks.{OfImaged}
 use Rattle.wb_desk.proofs.Marking.{ImageFacts, of_imaged, same_some, same_count}
 use Rattle.wb_desk.specs.Commits.{MayBegin, IsOnUnused, next_plan, commit_begun, commit_ended}
@@ -150,44 +150,40 @@ module _ {P : Type 0} (knows : P → Holdings → Type 0) where
   idle_flags d i idle = i.places.running.are ∙ ap (λ (ps : List Place). noted ps (unused (place_count d.geometry.cache_blocks)))
       (none_used i.places.running.used (i.places.running.many ∙ i.places.idle idle))
 
-  unused_for : (d : DeskState P) (used : List Place) → DeskInvariant knows d → d.space.committing ≡ false
-      → d.space.places.committed ≡ noted used (unused (place_count d.geometry.cache_blocks)) → AreUnused d.geometry used (next_plan d false).free
-  unused_for d used i idle are = unused_places d.geometry d.space.places d.nodes used i.places.committed (idle_flags d i idle) i.places.room are
+  unused_for : (d : DeskState P) (m : Mapping) (used : List Place) → DeskInvariant knows d → d.space.committing ≡ false → length m.entries ≡ d.geometry.cache_blocks
+      → d.space.places.committed ≡ noted used (unused (place_count d.geometry.cache_blocks)) → AreUnusedFor m d.geometry used (places_for m d.geometry d.space.places)
+  unused_for d m used i idle size are = unused_places m d.geometry d.space.places d.nodes used size i.places.committed (idle_flags d i idle) i.places.room are
 
-  -- the places that the next image is planned with are free for it
-  pub free_for : (d : DeskState P) → DeskInvariant knows d → d.space.committing ≡ false → AreFree d.tree d.geometry (next_plan d false).free
-  free_for d i idle = free_of_used d.tree d.geometry i.places.committed.used (next_plan d false).free i.mapping.size
-      (λ p is. subst (λ (b : Bool). Contains (if b then i.places.running.used else i.places.committed.used) p) idle (i.places.known p is))
-      (unused_for d i.places.committed.used i idle i.places.committed.are)
+  -- the places that the next image is planned with are free for it, whatever edits left of the tree
+  pub free_for : (d : DeskState P) → DeskInvariant knows d → d.space.committing ≡ false → (m : Mapping) → IsEdited d.tree m → length m.entries ≡ d.geometry.cache_blocks
+      → AreFree m d.geometry (places_for m d.geometry d.space.places)
+  free_for d i idle m edited size = free_of_unused m d.geometry i.places.committed.used (places_for m d.geometry d.space.places)
+      (λ p is. subst (λ (b : Bool). Contains (if b then i.places.running.used else i.places.committed.used) p) idle (i.places.known p (places-edited d.tree m p edited is)))
+      (unused_for d m i.places.committed.used i idle size i.places.committed.are)
 
-  -- and enough for every tree of this size
-  pub many_for : (d : DeskState P) → DeskInvariant knows d → d.space.committing ≡ false → node_count d.geometry.cache_blocks ≤ length (next_plan d false).free
-  many_for d i idle = (unused_for d i.places.committed.used i idle i.places.committed.are).enough
-
-  -- the image that was planned with the next generation and these places
-  pub image_for : (d : DeskState P) (hint : ℕ → ℕ) (clean : Option (List Bool)) (flag : Bool) (tree : Mapping) (generation : ℕ) (free : List Place) (image : Image) → DeskInvariant knows d → generation ≡ d.generation + 1 → free ≡ (next_plan d false).free
-      → OfImaged hint clean d.tree (λ m. IsImage m tree (record { geometry = d.geometry; generation = generation; clean = flag; free = free }) image)
-      → OfImaged hint clean d.tree (λ m. IsImage m tree (next_plan d flag) image)
-  image_for d hint clean flag tree generation free image i next same is = of_imaged hint clean d.tree _ _
-      (λ m is. subst (λ (n : ℕ). IsImage m tree (record { geometry = d.geometry; generation = n; clean = flag; free = (next_plan d false).free }) image) next
-      (subst (λ (ps : List Place). IsImage m tree (record { geometry = d.geometry; generation = generation; clean = flag; free = ps }) image) same is)) is
+  -- the image that was planned with the next generation
+  pub image_for : (d : DeskState P) (hint : ℕ → ℕ) (clean : Option (List Bool)) (flag : Bool) (tree : Mapping) (generation : ℕ) (image : Image) → DeskInvariant knows d → generation ≡ d.generation + 1
+      → OfImaged hint clean d.tree (λ m. IsImage m tree (record { geometry = d.geometry; generation = generation; clean = flag; free = places_for m d.geometry d.space.places }) image)
+      → OfImaged hint clean d.tree (λ m. IsImage m tree (next_plan d m flag) image)
+  image_for d hint clean flag tree generation image i next is = of_imaged hint clean d.tree _ _
+      (λ m is. subst (λ (n : ℕ). IsImage m tree (record { geometry = d.geometry; generation = n; clean = flag; free = places_for m d.geometry d.space.places }) image) next is) is
 
   pub on_unused : (d : DeskState P) (hint : ℕ → ℕ) (clean : Option (List Bool)) (flag : Bool) (tree : Mapping) (image : Image) → DeskInvariant knows d → d.space.committing ≡ false
-      → OfImaged hint clean d.tree (λ m. IsImage m tree (next_plan d flag) image) → IsMapping d.geometry.cache_blocks d.geometry.origin_blocks tree.entries
+      → OfImaged hint clean d.tree (λ m. IsImage m tree (next_plan d m flag) image) → IsMapping d.geometry.cache_blocks d.geometry.origin_blocks tree.entries
       → IsSound tree → AreInside d.geometry.meta_sectors tree → OfImaged hint clean d.tree (λ m. IsOnUnused d m tree flag image)
   on_unused d hint clean flag tree image i idle is mapping sound inside = of_imaged hint clean d.tree _ _ (λ m is used are.
       let kept : IsMapping d.geometry.cache_blocks d.geometry.origin_blocks m.entries = subst (λ (xs : List (Option Entry)). IsMapping d.geometry.cache_blocks d.geometry.origin_blocks xs) is.same_entries mapping in
       record {
         mapping = kept;
-        free_are = unused_for_changed m d.geometry used (next_plan d false).free kept.size (unused_for d used i idle are);
+        free_are = unused_for d m used i idle kept.size are;
         image_is = is;
         sound = sound;
         inside = inside;
       }) is
 
-  pub begun_kept : (d : DeskState P) (tree : Mapping) (plan : ImagePlan) (image : Image) → DeskInvariant knows d → MayBegin d → ImageFacts d.tree tree plan image → plan.geometry ≡ d.geometry
+  pub begun_kept : (d : DeskState P) (tree : Mapping) (image : Image) → DeskInvariant knows d → MayBegin d → ImageFacts d.tree tree d.geometry.cache_blocks image
       → IsMapping d.geometry.cache_blocks d.geometry.origin_blocks tree.entries → AreInside d.geometry.meta_sectors tree → DeskInvariant knows (commit_begun d tree image.used.items)
-  begun_kept d tree plan image i may is sizes mapping inside = record {
+  begun_kept d tree image i may is mapping inside = record {
     mapping = mapping;
     blocks = length-map d.space.blocks block_begun ∙ i.blocks;
     slots = i.slots;
@@ -196,7 +192,7 @@ module _ {P : Type 0} (knows : P → Holdings → Type 0) where
       room = i.places.room;
       inside = inside;
       committed = i.places.committed;
-      running = record { used = image.used.items; are = refl; many = refl; few = subst (λ (g : Geometry). length image.used.items ≤ node_count g.cache_blocks) sizes is.used_few };
+      running = record { used = image.used.items; are = refl; many = refl; few = is.used_few };
       known = λ p at. (is.used_are p).1 at;
       idle = λ e. absurd cc;
     };
@@ -208,11 +204,11 @@ module _ {P : Type 0} (knows : P → Holdings → Type 0) where
     known = subst (λ (m : Holdings). knows d.policy m) (sym is.origins) i.known;
   }
 
-  pub begun_parts : (d : DeskState P) (tree : Mapping) (plan : ImagePlan) (image : Image) (cached : List (Option CBlock)) (mapped : ℕ) → AreParts knows d cached mapped → MayBegin d
-      → ImageFacts d.tree tree plan image → plan.geometry ≡ d.geometry → IsMapping d.geometry.cache_blocks d.geometry.origin_blocks tree.entries
+  pub begun_parts : (d : DeskState P) (tree : Mapping) (image : Image) (cached : List (Option CBlock)) (mapped : ℕ) → AreParts knows d cached mapped → MayBegin d
+      → ImageFacts d.tree tree d.geometry.cache_blocks image → IsMapping d.geometry.cache_blocks d.geometry.origin_blocks tree.entries
       → AreInside d.geometry.meta_sectors tree → AreParts knows (commit_begun d tree image.used.items) cached mapped
-  begun_parts d tree plan image cached mapped parts may is sizes mapping inside = record {
-    desk = begun_kept d tree plan image parts.desk may is sizes mapping inside;
+  begun_parts d tree image cached mapped parts may is mapping inside = record {
+    desk = begun_kept d tree image parts.desk may is mapping inside;
     index = subst (λ (m : Holdings). IsIndex d.geometry.origin_blocks m cached) (sym is.origins) parts.index;
     count = parts.count ∙ sym (same_count tree.entries d.tree.entries is.origins);
   }

@@ -4,15 +4,17 @@ use Rattle.std.specs.Prelude.{filter, Contains, slice_index_or}
 use Rattle.std.specs.List.{range_with_len}
 use Rattle.std.proofs.lemmas.Bool.{cases_eq, cases_lt}
 use Rattle.std.proofs.lemmas.List.{length-set, length-map, length-take-le, set_past}
-use Rattle.wb_types.specs.Limits.{node_count}
+use Rattle.wb_types.specs.Limits.{depth_of, node_count}
 use Rattle.wb_types.specs.declared.geometry.Geometry.{Geometry}
 use Rattle.wb_types.specs.declared.number.Place.{Place}
 use Rattle.wb_types.proofs.Lists.{map_there}
+use Rattle.wb_tree.specs.Mapping.{Mapping, changed}
+use Rattle.wb_tree.proofs.Images.Changes.{few_changed}
 use Rattle.wb_space.specs.Places.{PlacesInUse, noted, unused, place_count, is_free_place, free_places, place}
 use Rattle.wb_space.proofs.Noted.{length-noted_alone}
 use Rattle.wb_space.proofs.Suffices.{places_suffice}
-use Rattle.wb_meta.specs.Imaging.{AreUnused}
-use Rattle.wb_desk.specs.InUse.{AreFlagged}
+use Rattle.wb_meta.specs.Imaging.{AreUnusedFor}
+use Rattle.wb_desk.specs.InUse.{AreFlagged, places_for}
 
 -- ---- flags
 
@@ -115,23 +117,26 @@ free_at places n i p e =
       free = ap (λ (x : ℕ). get_or places.committed x false) (sym same) ∙ not_flagged (get_or places.committed w.0 false) (get_or places.running w.0 false) c.chosen;
     }
 
--- outside a commit, the so many least free places are enough for an image, and the committed one uses none of them
-pub unused_places : (geometry : Geometry) (places : PlacesInUse) (nodes : ℕ) (used : List Place) → AreFlagged geometry.cache_blocks nodes places.committed
+-- outside a commit, the least free places are enough for the nodes of a tree that changed, and the committed image uses none of them
+pub unused_places : (m : Mapping) (geometry : Geometry) (places : PlacesInUse) (nodes : ℕ) (used : List Place) → length m.entries ≡ geometry.cache_blocks → AreFlagged geometry.cache_blocks nodes places.committed
     → places.running ≡ unused (place_count geometry.cache_blocks) → 2 + 2 * node_count geometry.cache_blocks ≤ geometry.meta_sectors
     → places.committed ≡ noted used (unused (place_count geometry.cache_blocks))
-    → AreUnused geometry used (map place (take (node_count geometry.cache_blocks) (free_places places)))
-unused_places geometry places nodes used flags idle room are = record {
-  enough = omega (arith, length-map (take n (free_places places)) place, length-take-le n (free_places places) many);
-  behind = λ i p e. (free_at places n i p e).from;
-  inside = λ i p e. omega (arith, (free_at places n i p e).to, size, room);
-  apart = λ i j p e f. chosen_apart (is_free_place places) 2 (length places.committed - 2) i j p.0 (free_at places n i p e).there (free_at places n j p f).there;
+    → AreUnusedFor m geometry used (places_for m geometry places)
+unused_places m geometry places nodes used sized flags idle room are = record {
+  enough = omega (arith, length-map (take count (free_places places)) place, length-take-le count (free_places places) many);
+  behind = λ i p e. (free_at places count i p e).from;
+  inside = λ i p e. omega (arith, (free_at places count i p e).to, size, room);
+  apart = λ i j p e f. chosen_apart (is_free_place places) 2 (length places.committed - 2) i j p.0 (free_at places count i p e).there (free_at places count j p f).there;
   unused = λ i p e has. yes_and_no (get_or places.committed p.0 false)
-      (ap (λ (xs : List Bool). get_or xs p.0 false) are ∙ flagged used none p has (omega (arith, (free_at places n i p e).to, size, length-noted_alone [] (place_count geometry.cache_blocks))))
-      (free_at places n i p e).free;
+      (ap (λ (xs : List Bool). get_or xs p.0 false) are ∙ flagged used none p has (omega (arith, (free_at places count i p e).to, size, length-noted_alone [] (place_count geometry.cache_blocks))))
+      (free_at places count i p e).free;
 }
   where
     n : ℕ
     n = node_count geometry.cache_blocks
+
+    count : ℕ
+    count = length (changed m (depth_of geometry.cache_blocks))
 
     none : List Bool
     none = unused (place_count geometry.cache_blocks)
@@ -139,10 +144,10 @@ unused_places geometry places nodes used flags idle room are = record {
     size : length places.committed ≡ place_count geometry.cache_blocks
     size = ap (λ (xs : List Bool). length xs) are ∙ length-noted_alone used (place_count geometry.cache_blocks)
 
-    many : n ≤ length (free_places places)
+    many : count ≤ length (free_places places)
     many =
         let enough : 2 * n ≤ length (free_places (record { committed = noted flags.used none; running = none })) + length flags.used + 0 = places_suffice n flags.used [] in
         let as_committed = subst (λ (xs : List Bool). 2 * n ≤ length (free_places (record { committed = xs; running = none })) + length flags.used + 0) (sym flags.are) enough in
         let as_running : 2 * n ≤ length (free_places (record { committed = places.committed; running = places.running })) + length flags.used + 0 =
         subst (λ (xs : List Bool). 2 * n ≤ length (free_places (record { committed = places.committed; running = xs })) + length flags.used + 0) (sym idle) as_committed in
-        omega (arith, as_running, flags.many, flags.few)
+        omega (arith, as_running, flags.many, flags.few, few_changed m geometry.cache_blocks sized)

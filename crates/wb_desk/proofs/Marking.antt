@@ -4,18 +4,18 @@ use Rattle.std.specs.Prelude.{Contains}
 use Rattle.std.specs.List.{count_by}
 use Rattle.std.specs.Option.{option_map}
 use Rattle.std.proofs.lemmas.Bool.{cases_eq, cases_lt}
-use Rattle.std.proofs.lemmas.List.{length-set, ext_get_or}
+use Rattle.std.proofs.lemmas.List.{length-map, length-set, ext_get_or}
 use Rattle.std.proofs.lemmas.List.Sums.{sum_by-cons}
 use Rattle.wb_types.specs.Limits.{node_count}
 use Rattle.wb_types.specs.declared.entry.Entry.{Entry}
-use Rattle.wb_types.specs.declared.geometry.Geometry.{Geometry}
 use Rattle.wb_types.specs.declared.number.Place.{Place}
+use Rattle.wb_format.specs.declared.node.Node.{Node}
 use Rattle.wb_tree.specs.Mapping.{Mapping, IsMapping, NodeName, IsSound, IsOnPath, IsPlaceOf, changed, changed_of, nodes_of, place_of}
 use Rattle.wb_tree.specs.Edits.{IsEdited}
-use Rattle.wb_tree.specs.Images.{AreFree, IsImage, ImagePlan}
+use Rattle.wb_tree.specs.Images.{IsImage, ImagePlan, name_of}
 use Rattle.wb_tree.specs.declared.image.Image.{Image}
 use Rattle.wb_tree.proofs.Images.Changes.{few_changed}
-use Rattle.wb_tree.proofs.Stored.Edited.{places-edited, edited-none, edited-more}
+use Rattle.wb_tree.proofs.Stored.Edited.{edited-none, edited-more}
 use Rattle.wb_policy.specs.Law.{origins}
 use Rattle.wb_desk.specs.Marks.{marked_entry, marked, AreMarked, OfImaged}
 
@@ -206,18 +206,22 @@ module _ (hint : ℕ → ℕ) (dirty : List Bool) (old : Mapping) (n : ℕ) (m :
 -- ---- images
 
 -- what an image leads to, whether it is clean or not
-pub record ImageFacts (old tree : Mapping) (plan : ImagePlan) (image : Image) : Type 0 where
+pub record ImageFacts (old tree : Mapping) (cache_blocks : ℕ) (image : Image) : Type 0 where
   pub origins : origins tree.entries ≡ origins old.entries
   pub used_are : (place : Place) → Contains image.used.items place ↔ IsPlaceOf tree place
-  pub used_few : length image.used.items ≤ node_count plan.geometry.cache_blocks
+  pub used_few : length image.used.items ≤ node_count cache_blocks
 
-pub image_facts : (hint : ℕ → ℕ) (clean : Option (List Bool)) (old tree : Mapping) (plan : ImagePlan) (image : Image)
-    → OfImaged hint clean old (λ imaged. IsImage imaged tree plan image) → ImageFacts old tree plan image
-image_facts hint None old tree plan image is = record { origins = ap (λ (es : List (Option Entry)). origins es) is.same_entries; used_are = is.used_are; used_few = is.used_few }
-image_facts hint (Some dirty) old tree plan image is = record {
+pub image_facts : (hint : ℕ → ℕ) (clean : Option (List Bool)) (old tree : Mapping) (n : ℕ) (plan : Mapping → ImagePlan) (image : Image) → ((m : Mapping) → (plan m).geometry.cache_blocks ≡ n)
+    → OfImaged hint clean old (λ imaged. IsImage imaged tree (plan imaged) image) → ImageFacts old tree n image
+image_facts hint None old tree n plan image sizes is = record {
+  origins = ap (λ (es : List (Option Entry)). origins es) is.same_entries;
+  used_are = is.used_are;
+  used_few = subst (λ (k : ℕ). length image.used.items ≤ node_count k) (sizes old) is.used_few;
+}
+image_facts hint (Some dirty) old tree n plan image sizes is = record {
   origins = ap (λ (es : List (Option Entry)). origins es) (is.2.same_entries ∙ is.1.entries) ∙ origins-marked hint dirty old.entries;
   used_are = is.2.used_are;
-  used_few = is.2.used_few;
+  used_few = subst (λ (k : ℕ). length image.used.items ≤ node_count k) (sizes is.0) is.2.used_few;
 }
 
 -- what follows of each tree that an image may be made of is so of the one that it is made of
@@ -225,26 +229,22 @@ pub of_imaged : (hint : ℕ → ℕ) (clean : Option (List Bool)) (old : Mapping
 of_imaged hint None old P Q f so = f old so
 of_imaged hint (Some dirty) old P Q f so = (so.0, so.1, f so.0 so.2)
 
--- and after edits
-pub free_edited : (old m : Mapping) (geometry : Geometry) (free : List Place) → IsEdited old m → length m.entries ≡ geometry.cache_blocks → node_count geometry.cache_blocks ≤ length free
-    → AreFree old geometry free → AreFree m geometry free
-free_edited old m geometry free edited size many f = record {
-  enough = omega (arith, many, few_changed m geometry.cache_blocks size);
-  behind = f.behind;
-  inside = f.inside;
-  apart = f.apart;
-  unused = λ i p there at. f.unused i p there (places-edited old m p edited at);
-}
+-- and what follows of each edited tree of this size is so where it is so of that one
+pub by_imaged : (hint : ℕ → ℕ) (clean : Option (List Bool)) (old : Mapping) (n : ℕ) (P : Mapping → Type 0) (Q : Type 0)
+    → ((m : Mapping) → IsEdited old m → length m.entries ≡ n → P m → Q) → length old.entries ≡ n → OfImaged hint clean old P → Q
+by_imaged hint None old n P Q law size so = law old (edited-none old) size so
+by_imaged hint (Some dirty) old n P Q law size so =
+    law so.0 so.1.edited (ap (λ (es : List (Option Entry)). length es) so.1.entries ∙ length-marked hint dirty old.entries ∙ size) so.2
 
--- so what follows of each image on free places is so of one of marked entries
-pub of_free : (hint : ℕ → ℕ) (clean : Option (List Bool)) (old tree : Mapping) (plan : ImagePlan) (image : Image) (Q : Type 0)
-    → ((m : Mapping) → AreFree m plan.geometry plan.free → IsImage m tree plan image → Q)
-    → length old.entries ≡ plan.geometry.cache_blocks → node_count plan.geometry.cache_blocks ≤ length plan.free → AreFree old plan.geometry plan.free
-    → OfImaged hint clean old (λ imaged. IsImage imaged tree plan image) → Q
-of_free hint None old tree plan image Q law size many free is = law old free is
-of_free hint (Some dirty) old tree plan image Q law size many free is =
-    let same : length is.0.entries ≡ plan.geometry.cache_blocks = ap (λ (es : List (Option Entry)). length es) is.1.entries ∙ length-marked hint dirty old.entries ∙ size in
-    law is.0 (free_edited old is.0 plan.geometry plan.free is.1.edited same many free) is.2
+-- an image has no more nodes than a tree of its size
+pub few_nodes : (m n : Mapping) (plan : ImagePlan) (image : Image) → IsImage m n plan image → length m.entries ≡ plan.geometry.cache_blocks
+    → length image.nodes.items ≤ node_count plan.geometry.cache_blocks
+few_nodes m n plan image is size = omega (
+  arith,
+  length-map image.nodes.items (λ (node : Place × Node). name_of node.1),
+  ap (λ (xs : List NodeName). length xs) is.nodes_are,
+  few_changed m plan.geometry.cache_blocks size,
+)
 
 -- ---- nodes that are not written
 

@@ -1,6 +1,5 @@
 -- What a commit makes of a desk, and when it is refused.
-use Rattle.std.specs.Prelude.{◌≡◌, ◌<◌, ◌+◌, ◌^◌, Bool, true, false, List, map, take, length}
-use Rattle.wb_types.specs.Limits.{node_count}
+use Rattle.std.specs.Prelude.{◌≡◌, ◌<◌, ◌+◌, ◌^◌, Bool, true, false, List, map, length}
 use Rattle.wb_types.specs.declared.number.Place.{Place}
 use Rattle.wb_types.specs.declared.refusal.Refusal.{Refusal}
 use Rattle.wb_types.specs.declared.refusal.Refusal.TheVariants.{Busy, Memory, GenerationEnd}
@@ -8,9 +7,10 @@ use Rattle.wb_tree.specs.Mapping.{Mapping}
 use Rattle.wb_tree.specs.Images.{ImagePlan}
 use Rattle.wb_tree.specs.declared.image.Image.{Image}
 use Rattle.wb_space.specs.Blocks.{commit_begun as block_begun, commit_ended as block_ended}
-use Rattle.wb_space.specs.Places.{noted, unused, place_count, free_places, place}
+use Rattle.wb_space.specs.Places.{noted, unused, place_count}
 use Rattle.wb_meta.specs.Imaging.{IsPlanned}
 use Rattle.wb_desk.specs.Desks.{DeskState}
+use Rattle.wb_desk.specs.InUse.{places_for}
 
 -- A commit may begin: none runs, and there is a next generation.
 pub record MayBegin {P : Type 0} (d : DeskState P) : Type 0 where
@@ -24,14 +24,14 @@ IsBeginRefused d GenerationEnd = (d.space.committing ≡ false) × (d.generation
 IsBeginRefused d Memory = MayBegin d
 IsBeginRefused d _ = ⊥
 
--- what the next image is planned with: the next generation, whether it is clean, and the least free places, one for each node
--- that a tree of this size can have
-abbrev pub next_plan : {P : Type 0} → DeskState P → Bool → ImagePlan
-next_plan d clean = record {
+-- what the next image of a tree is planned with: the next generation, whether it is clean, and the least free places, one for
+-- each node that changed
+abbrev pub next_plan : {P : Type 0} → DeskState P → Mapping → Bool → ImagePlan
+next_plan d imaged clean = record {
   geometry = d.geometry;
   generation = d.generation + 1;
   clean = clean;
-  free = map place (take (node_count d.geometry.cache_blocks) (free_places d.space.places));
+  free = places_for imaged d.geometry d.space.places;
 }
 
 -- A commit begins, whose image leads to this tree and uses these places: what is quarantined was removed before.
@@ -50,7 +50,7 @@ commit_begun d tree used = record d {
 -- places was noted.
 abbrev pub IsOnUnused : {P : Type 0} → DeskState P → Mapping → Mapping → Bool → Image → Type 0
 IsOnUnused d imaged tree clean image = (used : List Place) → d.space.places.committed ≡ noted used (unused (place_count d.geometry.cache_blocks))
-    → IsPlanned imaged tree (next_plan d clean) image used
+    → IsPlanned imaged tree (next_plan d imaged clean) image used
 
 -- The running commit ends: its image is the committed one, by the next generation, and what was removed before it began is
 -- free, or reserved where it is claimed.

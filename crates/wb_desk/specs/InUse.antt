@@ -1,10 +1,14 @@
 -- Which places of the metadata device the images use, and where the nodes of the tree are known to stand.
-use Rattle.std.specs.Prelude.{◌≡◌, ◌≤◌, ◌+◌, ◌*◌, ℕ, Bool, false, if◌then◌else◌, List, length, Contains}
-use Rattle.wb_types.specs.Limits.{node_count}
+use Rattle.std.specs.Prelude.{◌≡◌, ◌≤◌, ◌+◌, ◌*◌, ℕ, Bool, false, if◌then◌else◌, List, length, map, take, Contains}
+use Rattle.wb_types.specs.Limits.{depth_of, node_count}
 use Rattle.wb_types.specs.declared.geometry.Geometry.{Geometry}
 use Rattle.wb_types.specs.declared.number.Place.{Place}
-use Rattle.wb_tree.specs.Mapping.{Mapping, IsPlaceOf, AreInside}
-use Rattle.wb_space.specs.Places.{PlacesInUse, noted, unused, place_count}
+use Rattle.wb_tree.specs.Mapping.{Mapping, IsPlaceOf, AreInside, changed}
+use Rattle.wb_space.specs.Places.{PlacesInUse, free_places, noted, place, place_count, unused}
+
+-- the least free places, one for each node of a tree that changed
+abbrev pub places_for : Mapping → Geometry → PlacesInUse → List Place
+places_for m geometry places = map place (take (length (changed m (depth_of geometry.cache_blocks))) (free_places places))
 
 -- The places that an image of so many nodes uses are flagged, and no others: as many at most as a tree of this size can
 -- have nodes.

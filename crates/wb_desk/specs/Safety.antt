@@ -131,7 +131,7 @@ QuarantineStays P knows = (d new : DeskState P) (call : Call) → DeskInvariant 
 -- What the contracts of the calls say is that they do so.
 abbrev pub BeginningDoes : (P : Type 0) → (P → ℕ → ℕ) → Type 0
 BeginningDoes P hint_of = (d new : DeskState P) (clean : Option (List Bool)) (image : Image) → MayBegin d
-    → OfImaged (hint_of d.policy) clean d.tree (λ imaged. IsImage imaged new.tree (next_plan d (is_some clean)) image) → new ≡ commit_begun d new.tree image.used.items
+    → OfImaged (hint_of d.policy) clean d.tree (λ imaged. IsImage imaged new.tree (next_plan d imaged (is_some clean)) image) → new ≡ commit_begun d new.tree image.used.items
     → Does d (BeginCommit image.used.items) new
 
 abbrev pub MappingDoes : (P : Type 0) → (P → ℕ → ℕ → P) → Type 0

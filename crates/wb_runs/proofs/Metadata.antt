@@ -136,7 +136,7 @@ module _ (P : Type 0) (g : Geometry) (desk : DeskState P) (device : List History
   begins_over commit tree k q steps begun =
       let image = commit.image in
       let places = subst (λ (x : Geometry). desk.space.places.committed ≡ noted q.used (unused (place_count x.cache_blocks))) (sym k.geometry) q.places in
-      let both = commit_begins desk.tree tree (next_plan desk false) image device q.stored q.used q.stores (begun.unused q.used places)
+      let both = commit_begins desk.tree tree (next_plan desk desk.tree false) image device q.stored q.used q.stores (begun.unused q.used places)
       (record { same_geometry = q.same ∙ sym k.geometry; next = ap (λ n. n + 1) q.generation }) in
       let entries : tree.entries ≡ no_entries g = begun.image_is.same_entries ∙ k.entries in
       record {

@@ -1,3 +1,2 @@
-pub mod Counting
 pub mod Releasing
 pub mod Readying

@@ -50,7 +50,7 @@ DidRelease held b d d' = IsGivenUp (order_of b held) d d'
 pub record HasBegun {P : Type 0} (d : DeskState P) (image : Image) (d' : DeskState P) : Type 0 where
   pub may : MayBegin d
   pub state : d' ≡ commit_begun d d'.tree image.used.items
-  pub image_is : IsImage d.tree d'.tree (next_plan d false) image
+  pub image_is : IsImage d.tree d'.tree (next_plan d d.tree false) image
   pub unused : IsOnUnused d d.tree d'.tree false image
 
 -- None began: the desk refused it, where so many nodes are enough for every image, and nothing changed.

@@ -51,7 +51,6 @@ pub fn release<P: Policy>(desk: &mut Desk<P>, held: &[Order], block: OBlock)
 
 /// Takes the image of a commit, of at most so many nodes. `Busy`, `GenerationEnd` and `Memory` as the desk says; `Memory` also
 /// where an image may have more nodes. Then nothing changed.
-#[tactic(auto, using(crate::proofs::Counting::few_nodes))]
 pub fn begin<P: Policy>(
     alloc: Global,
     desk: &mut Desk<P>,

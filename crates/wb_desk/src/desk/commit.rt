@@ -1,6 +1,6 @@
 //! The commits of a desk.
 
-ghost use Rattle.std.specs.Prelude.{◌≡◌, ◌<◌, ◌+◌, ◌^◌, true, IfOk, IfErr, OnErr, is_some, length};
+ghost use Rattle.std.specs.Prelude.{◌≡◌, ◌<◌, ◌≤◌, ◌+◌, ◌^◌, true, IfOk, IfErr, OnErr, is_some, length};
 ghost use Rattle.std.specs.Option.{IfSome, option_map};
 ghost use Rattle.wb_types.specs.Limits.{node_count};
 ghost use Rattle.wb_meta.specs.Placing.{HavePlaces};
@@ -31,9 +31,10 @@ impl<P: Policy> Desk<P> {
         ensures may { IfOk result (λ _. MayBegin self.old) }
         ensures state { IfOk result (λ image. self.new ≡ commit_begun self.old self.new.tree image.used.items) }
         ensures image { IfOk result (λ image. OfImaged (P.hint_of self.old.policy) (option_map (λ dirty. dirty.now) clean.entry) self.old.tree (λ imaged.
-            IsImage imaged self.new.tree (next_plan self.old (is_some clean.entry)) image)) }
+            IsImage imaged self.new.tree (next_plan self.old imaged (is_some clean.entry)) image)) }
         ensures unused { IfOk result (λ image. OfImaged (P.hint_of self.old.policy) (option_map (λ dirty. dirty.now) clean.entry) self.old.tree (λ imaged.
             IsOnUnused self.old imaged self.new.tree (is_some clean.entry) image)) }
+        ensures few { IfOk result (λ image. length image.nodes.items ≤ node_count self.old.geometry.cache_blocks) }
         ensures places { IfOk result (λ image. HavePlaces image.nodes.items self.old.geometry.meta_sectors) }
         ensures err { OnErr result (self.new ≡ self.old) }
         ensures refused { IfErr result (IsBeginRefused self.old) }
@@ -45,17 +46,14 @@ impl<P: Policy> Desk<P> {
             return Err(Refusal::GenerationEnd);
         };
         let geometry = self.geometry;
-        let free = self
-            .space
-            .free_places(alloc, geometry.node_count() as usize)?;
         let image = plan(
             alloc,
             &mut self.tree,
             &self.policy,
+            &self.space,
             &geometry,
             generation,
             clean,
-            &free,
         )?;
         image_law();
         self.space.begin(&image.used);

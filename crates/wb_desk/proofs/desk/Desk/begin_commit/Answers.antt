@@ -1,51 +1,47 @@
-use Rattle.std.proofs.Common.{◌≡◌, ℕ, length, map, take, is_some, refl, ap, subst, sym, ◌∙◌, arith, rules}
+use Rattle.std.proofs.Common.{◌≡◌, ◌≤◌, ◌∙◌, length, is_some, refl, subst, sym, arith, rules}
 use Rattle.std.specs.Option.{option_map}
+use Rattle.wb_types.specs.Limits.{node_count}
+use Rattle.wb_tree.specs.Images.{IsImage}
+use Rattle.wb_meta.specs.Placing.{HavePlaces}
 use Rattle.wb_desk.specs.Desks.{DeskState}
 use Rattle.wb_desk.specs.Marks.{OfImaged}
-use Rattle.wb_tree.specs.Images.{IsImage}
 use Rattle.wb_desk.specs.Commits.{IsOnUnused, next_plan}
-use Rattle.wb_meta.specs.Placing.{HavePlaces}
-use Rattle.wb_space.specs.Places.{free_places, place}
-use Rattle.wb_desk.proofs.Marking.{image_facts, of_free}
-use Rattle.wb_desk.proofs.Committing.{begun_parts, free_for, image_for, many_for, length_flags, on_unused}
+use Rattle.wb_desk.proofs.Marking.{by_imaged, few_nodes, image_facts}
+use Rattle.wb_desk.proofs.Committing.{begun_parts, free_for, image_for, length_flags, on_unused}
 use Rattle.wb_desk.proofs.desk.Desk.begin_commit.Goals as goal
 
 pub plan-requires-clause-free : goal.plan-requires-clause-free
-plan-requires-clause-free g c = rw (c.deref.ensures.value ∙ c.in_ok-free.ensures.ok, c.node_count.ensures.value)
-    (free_for g.P.Policy.knows _ c.self.invariant.desk (sym c.is_committing.ensures ∙ c.if-is_committing.false))
-
-pub plan-requires-clause-many : goal.plan-requires-clause-many
-plan-requires-clause-many g c = rw (c.deref.ensures.value ∙ c.in_ok-free.ensures.ok, c.node_count.ensures.value)
-    (many_for g.P.Policy.knows _ c.self.invariant.desk (sym c.is_committing.ensures ∙ c.if-is_committing.false))
+plan-requires-clause-free g c = free_for g.P.Policy.knows _ c.self.invariant.desk (sym c.is_committing.ensures ∙ c.if-is_committing.false)
 
 pub invariant_of-self-2 : goal.invariant_of-self-2
 invariant_of-self-2 g c =
     let idle = sym c.is_committing.ensures ∙ c.if-is_committing.false in
     let many : c.len.result ≡ length c.in_ok-image.image.used.items = search rules in
-    rw (c.begin.ensures, c.deref-2.ensures.value, many, length_flags _ _ _ c.self.invariant.desk.places.running) (begun_parts g.P.Policy.knows _ c.plan.new.tree _ c.in_ok-image.image c.self.inside.cached.items c.self.inside.mapped
+    rw (c.begin.ensures, c.deref.ensures.value, many, length_flags _ _ _ c.self.invariant.desk.places.running) (begun_parts g.P.Policy.knows _ c.plan.new.tree c.in_ok-image.image c.self.inside.cached.items c.self.inside.mapped
     (record { desk = c.self.invariant.desk; index = c.self.invariant.index; count = c.self.invariant.count }) (record { idle = idle; next = omega arith })
-    (image_facts _ _ c.self.inside.tree c.plan.new.tree _ c.in_ok-image.image c.in_ok-image.ensures.image) refl c.in_ok-image.ensures.mapping c.in_ok-image.ensures.inside)
+    (image_facts _ _ c.self.inside.tree c.plan.new.tree _ _ c.in_ok-image.image (λ m. refl) c.in_ok-image.ensures.image) c.in_ok-image.ensures.mapping c.in_ok-image.ensures.inside)
 
 pub returns-clause-image : goal.returns-clause-image
 returns-clause-image g c =
-    let free = c.deref.ensures.value ∙ c.in_ok-free.ensures.ok ∙ ap (λ (n : ℕ). map place (take n (free_places c.self.inside.space.places))) c.node_count.ensures.value in
-    subst (λ (d : DeskState _). OfImaged (g.P.Policy.hint_of d.policy) (option_map (λ dirty. dirty.now) c.args.clean) d.tree (λ m. IsImage m c.plan.new.tree (next_plan d (is_some c.args.clean)) c.in_ok-image.image)) c.self.view_is
-    (image_for g.P.Policy.knows _ _ _ _ c.plan.new.tree c.in-Some.generation c.deref.result.now c.in_ok-image.image c.self.invariant.desk (omega arith) free c.in_ok-image.ensures.image)
+    subst (λ (d : DeskState _). OfImaged (g.P.Policy.hint_of d.policy) (option_map (λ dirty. dirty.now) c.args.clean) d.tree (λ m. IsImage m c.plan.new.tree (next_plan d m (is_some c.args.clean)) c.in_ok-image.image)) c.self.view_is
+    (image_for g.P.Policy.knows _ _ _ _ c.plan.new.tree c.in-Some.generation c.in_ok-image.image c.self.invariant.desk (omega arith) c.in_ok-image.ensures.image)
 
 pub returns-clause-unused : goal.returns-clause-unused
 returns-clause-unused g c =
-    let free = c.deref.ensures.value ∙ c.in_ok-free.ensures.ok ∙ ap (λ (n : ℕ). map place (take n (free_places c.self.inside.space.places))) c.node_count.ensures.value in
     let idle = sym c.is_committing.ensures ∙ c.if-is_committing.false in
     subst (λ (d : DeskState _). OfImaged (g.P.Policy.hint_of d.policy) (option_map (λ dirty. dirty.now) c.args.clean) d.tree (λ m. IsOnUnused d m c.plan.new.tree (is_some c.args.clean) c.in_ok-image.image)) c.self.view_is
     (on_unused g.P.Policy.knows _ _ _ _ c.plan.new.tree c.in_ok-image.image c.self.invariant.desk idle
-    (image_for g.P.Policy.knows _ _ _ _ c.plan.new.tree c.in-Some.generation c.deref.result.now c.in_ok-image.image c.self.invariant.desk (omega arith) free c.in_ok-image.ensures.image)
+    (image_for g.P.Policy.knows _ _ _ _ c.plan.new.tree c.in-Some.generation c.in_ok-image.image c.self.invariant.desk (omega arith) c.in_ok-image.ensures.image)
     c.in_ok-image.ensures.mapping c.in_ok-image.ensures.sound c.in_ok-image.ensures.inside)
+
+pub returns-clause-few : goal.returns-clause-few
+returns-clause-few g c =
+    subst (λ (d : DeskState _). length c.in_ok-image.image.nodes.items ≤ node_count d.geometry.cache_blocks) c.self.view_is
+    (by_imaged _ _ _ _ _ _ (λ m edited size is. few_nodes m c.plan.new.tree _ c.in_ok-image.image is size) c.self.invariant.desk.mapping.size c.in_ok-image.ensures.image)
 
 pub returns-clause-places : goal.returns-clause-places
 returns-clause-places g c =
+    let idle = sym c.is_committing.ensures ∙ c.if-is_committing.false in
     subst (λ (d : DeskState _). HavePlaces c.in_ok-image.image.nodes.items d.geometry.meta_sectors) c.self.view_is
-    (of_free _ _ c.self.inside.tree c.plan.new.tree _ c.in_ok-image.image _ (λ m free is. c.image_law.ensures.places m c.plan.new.tree _ c.in_ok-image.image free is) c.self.invariant.desk.mapping.size
-    (rw (c.deref.ensures.value ∙ c.in_ok-free.ensures.ok, c.node_count.ensures.value) (many_for g.P.Policy.knows _ c.self.invariant.desk (sym c.is_committing.ensures ∙ c.if-is_committing.false)))
-    (rw (c.deref.ensures.value ∙ c.in_ok-free.ensures.ok, c.node_count.ensures.value)
-    (free_for g.P.Policy.knows _ c.self.invariant.desk (sym c.is_committing.ensures ∙ c.if-is_committing.false)))
-    c.in_ok-image.ensures.image)
+    (by_imaged _ _ _ _ _ _ (λ m edited size is. c.image_law.ensures.places m c.plan.new.tree _ c.in_ok-image.image (free_for g.P.Policy.knows _ c.self.invariant.desk idle m edited size) is)
+    c.self.invariant.desk.mapping.size c.in_ok-image.ensures.image)
