@@ -1,12 +1,13 @@
 #!/bin/sh
 # Times accesses through a desk, each order carried out: the calls a second of each part, its share, and the memory.
-# Usage: sh bench/desk.sh [accesses]
+# Usage: sh bench/desk.sh [accesses|trace]
+# A trace is a file that has the number of an origin block on each line, below 1,048,576, in the order of the accesses. Without one
+# so many are drawn by Zipf's law, 5,000,000 by default.
 set -eu
 top=$(cd "$(dirname "$0")/.." && pwd)
 sh "$top/scripts/build.sh" wb_bench
 run="$top/bin/wb_bench"
 accesses=${1:-5000000}
-
 table() { # cache blocks
   printf '%s cache blocks\n' "$1"
   "$run" desk "$1" 1048576 "$accesses" | awk '

@@ -5,6 +5,7 @@ ghost use Rattle.std.specs.Prelude.{◌≤◌};
 use crate::desks::Accessed;
 use crate::edits::{Edits, Work};
 use crate::shares::{Crowd, Shares};
+use crate::traces::Trace;
 use crate::turnover::Turnover;
 
 /// The most sectors of a request: 1 MiB.
@@ -39,7 +40,7 @@ pub enum Asked<'a> {
     Settles { cache_blocks: u32, accesses: u64 },
     Ticks { cache_blocks: u32, ticks: u64 },
     /// Accesses through a desk.
-    Desk(Accessed),
+    Desk(Accessed<'a>),
     Turnover(Turnover),
     Edits(Edits),
     Shares(Shares),
@@ -52,77 +53,132 @@ pub enum Asked<'a> {
 /// Reads the words of the command line, the program's name first.
 pub fn read_asked(words: &[String]) -> Option<Asked<'_>> {
     match words {
-        [_, sketch, cache_blocks, reset]
-            if sketch.as_str() == "sketch" && reset.as_str() == "reset" => {
-            Some(Asked::Reset {
-                cache_blocks: cache_blocks.as_str().parse::<u32>().ok()?,
-            })
-        }
-        [_, sketch, cache_blocks, adds] if sketch.as_str() == "sketch" => Some(Asked::Accesses {
-            cache_blocks: cache_blocks.as_str().parse::<u32>().ok()?,
-            adds: adds.as_str().parse::<u64>().ok()?,
-        }),
-        [_, settles, cache_blocks, accesses] if settles.as_str() == "settles" => {
-            Some(Asked::Settles {
-                cache_blocks: cache_blocks.as_str().parse::<u32>().ok()?,
-                accesses: accesses.as_str().parse::<u64>().ok()?,
-            })
-        }
-        [_, word, cache_blocks, ticks] if word.as_str() == "ticks" => Some(Asked::Ticks {
-            cache_blocks: cache_blocks.as_str().parse::<u32>().ok()?,
-            ticks: ticks.as_str().parse::<u64>().ok()?,
-        }),
-        [_, word, cache_blocks, origin_blocks, accesses] if word.as_str() == "desk" => {
-            Some(Asked::Desk(Accessed {
-                cache_blocks: cache_blocks.as_str().parse::<u32>().ok()?,
-                origin_blocks: origin_blocks.as_str().parse::<u32>().ok()?,
-                accesses: accesses.as_str().parse::<u64>().ok()?,
-            }))
-        }
-        [_, space, cache_blocks, rounds, removed] if space.as_str() == "space" => {
-            Some(Asked::Turnover(Turnover {
-                cache_blocks: cache_blocks.as_str().parse::<u32>().ok()?,
-                rounds: rounds.as_str().parse::<u64>().ok()?,
-                removed: removed.as_str().parse::<u64>().ok()?,
-            }))
-        }
-        [_, tree, cache_blocks, work, rounds] if tree.as_str() == "tree" => {
-            Some(Asked::Edits(Edits {
-                cache_blocks: cache_blocks.as_str().parse::<u32>().ok()?,
-                work: read_work(work.as_str())?,
-                rounds: rounds.as_str().parse::<u64>().ok()?,
-            }))
-        }
-        [_, shares, blocks, threads, rounds] if shares.as_str() == "shares" => {
-            Some(Asked::Shares(Shares {
-                crowd: read_crowd(threads.as_str())?,
-                apart: read_apart(blocks.as_str())?,
-                rounds: rounds.as_str().parse::<u32>().ok()?,
-            }))
-        }
-        [_, file, mapping, cache_blocks] if mapping.as_str() == "mapping" => Some(Asked::Mapping {
-            file: file.as_str(),
-            cache_blocks: cache_blocks.as_str().parse::<u32>().ok()?,
-        }),
-        [_, file, state] if state.as_str() == "state" => Some(Asked::State {
-            file: file.as_str(),
-        }),
-        [_, file, direction, sectors, requests] => {
-            let requests = requests.as_str().parse::<u64>().ok()?;
-            let sectors = sectors.as_str().parse::<u64>().ok()?;
-            let direction = read_direction(direction.as_str())?;
-            if sectors == 0 || sectors > MOST_SECTORS {
-                return None;
-            }
-            Some(Asked::Requests(Requests {
-                file: file.as_str(),
-                direction,
-                sectors,
-                requests,
-            }))
-        }
+        [_, file, state] => read_state(file.as_str(), state.as_str()),
+        [_, first, second, third] => { read_three(first.as_str(), second.as_str(), third.as_str()) }
+        [_, first, second, third, fourth] => read_four(
+            first.as_str(),
+            second.as_str(),
+            third.as_str(),
+            fourth.as_str(),
+        ),
         _ => None,
     }
+}
+
+fn read_state<'a>(file: &'a str, word: &str) -> Option<Asked<'a>> {
+    (word == "state").then_some(Asked::State { file })
+}
+
+fn read_three<'a>(first: &'a str, second: &str, third: &str) -> Option<Asked<'a>> {
+    if second == "mapping" {
+        return Some(Asked::Mapping {
+            file: first,
+            cache_blocks: read_u32(third)?,
+        });
+    }
+    let cache_blocks = read_u32(second)?;
+    if first == "sketch" && third == "reset" {
+        return Some(Asked::Reset { cache_blocks });
+    }
+    read_counted(first, cache_blocks, read_u64(third)?)
+}
+
+/// What is done so many times over so many cache blocks.
+fn read_counted<'a>(word: &str, cache_blocks: u32, times: u64) -> Option<Asked<'a>> {
+    match word {
+        "sketch" => Some(Asked::Accesses {
+            cache_blocks,
+            adds: times,
+        }),
+        "settles" => Some(Asked::Settles {
+            cache_blocks,
+            accesses: times,
+        }),
+        "ticks" => Some(Asked::Ticks {
+            cache_blocks,
+            ticks: times,
+        }),
+        _ => None,
+    }
+}
+
+fn read_four<'a>(first: &'a str, second: &str, third: &str, fourth: &'a str) -> Option<Asked<'a>> {
+    if first == "desk" {
+        return read_desk(second, third, fourth);
+    }
+    if first == "space" {
+        return read_turnover(second, third, fourth);
+    }
+    if first == "tree" {
+        return read_edits(second, third, fourth);
+    }
+    if first == "shares" {
+        return read_shares(second, third, fourth);
+    }
+    read_requests(first, second, third, fourth)
+}
+
+fn read_desk<'a>(cache_blocks: &str, origin_blocks: &str, trace: &'a str) -> Option<Asked<'a>> {
+    Some(Asked::Desk(Accessed {
+        cache_blocks: read_u32(cache_blocks)?,
+        origin_blocks: read_u32(origin_blocks)?,
+        trace: match read_u64(trace) {
+            Some(accesses) => Trace::Zipf(accesses),
+            None => Trace::File(trace),
+        },
+    }))
+}
+
+fn read_turnover<'a>(cache_blocks: &str, rounds: &str, removed: &str) -> Option<Asked<'a>> {
+    Some(Asked::Turnover(Turnover {
+        cache_blocks: read_u32(cache_blocks)?,
+        rounds: read_u64(rounds)?,
+        removed: read_u64(removed)?,
+    }))
+}
+
+fn read_edits<'a>(cache_blocks: &str, work: &str, rounds: &str) -> Option<Asked<'a>> {
+    Some(Asked::Edits(Edits {
+        cache_blocks: read_u32(cache_blocks)?,
+        work: read_work(work)?,
+        rounds: read_u64(rounds)?,
+    }))
+}
+
+fn read_shares<'a>(blocks: &str, threads: &str, rounds: &str) -> Option<Asked<'a>> {
+    Some(Asked::Shares(Shares {
+        crowd: read_crowd(threads)?,
+        apart: read_apart(blocks)?,
+        rounds: read_u32(rounds)?,
+    }))
+}
+
+fn read_requests<'a>(
+    file: &'a str,
+    direction: &str,
+    sectors: &str,
+    requests: &str,
+) -> Option<Asked<'a>> {
+    let direction = read_direction(direction)?;
+    let sectors = read_u64(sectors)?;
+    let requests = read_u64(requests)?;
+    if sectors == 0 || sectors > MOST_SECTORS {
+        return None;
+    }
+    Some(Asked::Requests(Requests {
+        file,
+        direction,
+        sectors,
+        requests,
+    }))
+}
+
+fn read_u32(word: &str) -> Option<u32> {
+    word.parse::<u32>().ok()
+}
+
+fn read_u64(word: &str) -> Option<u64> {
+    word.parse::<u64>().ok()
 }
 
 fn read_direction(word: &str) -> Option<Direction> {

@@ -3,7 +3,7 @@
 ghost use Rattle.std.specs.Prelude.{◌≡◌, None, IfOk, replicate};
 ghost use Rattle.wb_meta.specs.Reads.{FitsDevice};
 
-use crate::settles::Zipf;
+use crate::traces::Trace;
 use std::alloc::Global;
 use std::time::Instant;
 use wb_desk::Desk;
@@ -18,10 +18,10 @@ const COMMIT_EVERY: usize = 1_000;
 
 /// A cache, and the accesses to it.
 #[derive(Clone, Copy, Debug)]
-pub struct Accessed {
+pub struct Accessed<'a> {
     pub cache_blocks: u32,
     pub origin_blocks: u32,
-    pub accesses: u64,
+    pub trace: Trace<'a>,
 }
 
 /// What takes time.
@@ -42,24 +42,37 @@ pub struct Spent {
     pub nanoseconds: [u64; 6],
 }
 
-/// Settles accesses by Zipf's law over an empty cache, a thousand at a time: then their orders are taken, promotions mapped,
+/// Settles the accesses to these blocks over an empty cache, a thousand at a time: then their orders are taken, promotions mapped,
 /// the victims of replacements unmapped, a commit begun and ended, the new blocks of the replacements mapped, and an order to
 /// clean each new block reserved and given up. None where the clock cannot be read; `Memory` and `Geometry` as the desk has it.
-pub fn access_all(rt: &HostRuntime, asked: &Accessed) -> Result<Option<Spent>, Refusal> {
-    let alloc = rt.alloc();
-    let mut desk = empty_desk::<TinyLfu>(alloc, asked)?;
-    let mut zipf = Zipf::new();
-    let mut blocks = vec![in alloc; OBlock(0); COMMIT_EVERY]?;
+pub fn access_all(
+    rt: &HostRuntime,
+    asked: &Accessed<'_>,
+    blocks: &[OBlock],
+) -> Result<Option<Spent>, Refusal> {
+    access_by::<TinyLfu>(rt, asked, blocks)
+}
+
+fn access_by<P: Policy>(
+    rt: &HostRuntime,
+    asked: &Accessed<'_>,
+    blocks: &[OBlock],
+) -> Result<Option<Spent>, Refusal> {
+    let mut desk = empty_desk::<P>(rt.alloc(), asked)?;
+    go_over(rt, &mut desk, blocks)
+}
+
+fn go_over<P: Policy>(
+    rt: &HostRuntime,
+    desk: &mut Desk<P>,
+    blocks: &[OBlock],
+) -> Result<Option<Spent>, Refusal> {
     let mut spent = Spent {
         calls: [0; 6],
         nanoseconds: [0; 6],
     };
-    for _ in 0..asked.accesses / 1_000 {
-        for slot in blocks.iter_mut() {
-            let OBlock(number) = zipf.block();
-            *slot = OBlock(number % asked.origin_blocks.max(1));
-        }
-        if !round(rt, alloc, &mut desk, blocks.as_slice(), &mut spent)? {
+    for some in blocks.chunks(COMMIT_EVERY) {
+        if !round(rt, rt.alloc(), desk, some, &mut spent)? {
             return Ok(None);
         }
     }
@@ -67,7 +80,7 @@ pub fn access_all(rt: &HostRuntime, asked: &Accessed) -> Result<Option<Spent>, R
 }
 
 /// An empty cache with the greatest threshold.
-fn empty_desk<P: Policy>(alloc: Global, asked: &Accessed) -> Result<Desk<P>, Refusal> {
+fn empty_desk<P: Policy>(alloc: Global, asked: &Accessed<'_>) -> Result<Desk<P>, Refusal> {
     let geometry = Geometry::new(
         64,
         u64::from(asked.cache_blocks),
@@ -104,10 +117,10 @@ fn empty_state(alloc: Global, geometry: Geometry) -> State<Global>
 }
 
 /// One round; false where the clock cannot be read.
-fn round(
+fn round<P: Policy>(
     rt: &HostRuntime,
     alloc: Global,
-    desk: &mut Desk<TinyLfu>,
+    desk: &mut Desk<P>,
     blocks: &[OBlock],
     spent: &mut Spent,
 ) -> Result<bool, Refusal> {
@@ -175,7 +188,7 @@ fn passed(rt: &HostRuntime, start: &Instant) -> u64 {
     }
 }
 
-fn map_promoted(desk: &mut Desk<TinyLfu>, orders: &[Order]) -> Result<u64, Refusal> {
+fn map_promoted<P: Policy>(desk: &mut Desk<P>, orders: &[Order]) -> Result<u64, Refusal> {
     let mut count: u64 = 0;
     for order in orders {
         if let Order::Promote(b, c) = *order {
@@ -186,7 +199,7 @@ fn map_promoted(desk: &mut Desk<TinyLfu>, orders: &[Order]) -> Result<u64, Refus
     Ok(count)
 }
 
-fn map_replacing(desk: &mut Desk<TinyLfu>, orders: &[Order]) -> Result<u64, Refusal> {
+fn map_replacing<P: Policy>(desk: &mut Desk<P>, orders: &[Order]) -> Result<u64, Refusal> {
     let mut count: u64 = 0;
     for order in orders {
         if let Order::Replace(_, b, c) = *order {
@@ -197,14 +210,14 @@ fn map_replacing(desk: &mut Desk<TinyLfu>, orders: &[Order]) -> Result<u64, Refu
     Ok(count)
 }
 
-fn map(desk: &mut Desk<TinyLfu>, b: OBlock, c: CBlock) -> Result<(), Refusal> {
+fn map<P: Policy>(desk: &mut Desk<P>, b: OBlock, c: CBlock) -> Result<(), Refusal> {
     if desk.may_map(b, c) {
         desk.map(b, c)?;
     }
     Ok(())
 }
 
-fn unmap_victims(desk: &mut Desk<TinyLfu>, orders: &[Order]) -> u64 {
+fn unmap_victims<P: Policy>(desk: &mut Desk<P>, orders: &[Order]) -> u64 {
     let mut count: u64 = 0;
     for order in orders {
         if let Order::Replace(victim, _, _) = *order {
@@ -217,7 +230,7 @@ fn unmap_victims(desk: &mut Desk<TinyLfu>, orders: &[Order]) -> u64 {
     count
 }
 
-fn clean_new(desk: &mut Desk<TinyLfu>, orders: &[Order]) -> u64 {
+fn clean_new<P: Policy>(desk: &mut Desk<P>, orders: &[Order]) -> u64 {
     let mut count: u64 = 0;
     for order in orders {
         match *order {

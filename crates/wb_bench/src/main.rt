@@ -9,8 +9,9 @@
 //! it so many times on so many threads, all the same block or each its own, and prints how many shares there were.
 //! `wb_bench settles CACHE_BLOCKS ACCESSES` settles accesses by Zipf's law over a cache that TinyLfu fills, and prints
 //! how many were hits; `wb_bench ticks CACHE_BLOCKS TICKS` ticks over a full cache, and prints how often one was ordered.
-//! `wb_bench desk CACHE_BLOCKS ORIGIN_BLOCKS ACCESSES` settles such accesses through a desk, carries its orders out and
-//! commits after each thousand; it prints for each part its calls and their nanoseconds.
+//! `wb_bench desk CACHE_BLOCKS ORIGIN_BLOCKS ACCESSES|FILE` settles so many such accesses through a desk, or those of a file that
+//! has the number of a block on each line, carries its orders out and commits after each thousand; it prints for each part its
+//! calls and their nanoseconds.
 //! `wb_bench tree CACHE_BLOCKS get|set|clear|CHANGES ROUNDS` looks up, sets or clears a block of a full mapping in each
 //! round, or sets so many blocks and plans an image, and prints the sum of the hints found, or of the nodes written.
 //! `wb_bench FILE mapping CACHE_BLOCKS` makes the file a metadata device that holds a full mapping of so many cache
@@ -26,6 +27,7 @@ mod edits;
 mod mapping;
 mod settles;
 mod shares;
+mod traces;
 mod turnover;
 mod unnoted;
 
@@ -36,6 +38,7 @@ use crate::edits::edit_all;
 use crate::mapping::{read_mapping, write_mapping};
 use crate::settles::{settle_all, tick_all};
 use crate::shares::share_all;
+use crate::traces::read_trace;
 use crate::turnover::turn_over;
 use crate::unnoted::Unnoted;
 use std::env;
@@ -60,7 +63,7 @@ const USAGE: [&str; 10] = [
     "       wb_bench sketch CACHE_BLOCKS ADDS|reset",
     "       wb_bench settles CACHE_BLOCKS ACCESSES",
     "       wb_bench ticks CACHE_BLOCKS TICKS",
-    "       wb_bench desk CACHE_BLOCKS ORIGIN_BLOCKS ACCESSES",
+    "       wb_bench desk CACHE_BLOCKS ORIGIN_BLOCKS ACCESSES|FILE",
     "       wb_bench space CACHE_BLOCKS ROUNDS REMOVED",
     "       wb_bench tree CACHE_BLOCKS get|set|clear|CHANGES ROUNDS",
     "       wb_bench shares same|apart 1|2|4 ROUNDS",
@@ -129,8 +132,11 @@ fn tell_sum(rt: &HostRuntime, sum: Result<u64, Refusal>) -> ExitCode {
 }
 
 /// Prints the calls of each part of a desk's work and their nanoseconds.
-fn tell_spent(rt: &HostRuntime, accessed: &Accessed) -> ExitCode {
-    let spent = match access_all(rt, accessed) {
+fn tell_spent(rt: &HostRuntime, accessed: &Accessed<'_>) -> ExitCode {
+    let Some(blocks) = read_trace(rt, accessed.trace) else {
+        return failed(rt, "the trace cannot be read");
+    };
+    let spent = match access_all(rt, accessed, blocks.as_slice()) {
         Ok(Some(spent)) => spent,
         Ok(None) => return failed(rt, "no clock"),
         Err(refusal) => return tell_sum(rt, Err(refusal)),
