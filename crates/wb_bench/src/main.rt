@@ -58,18 +58,16 @@ const STREAM_FAILED: u8 = 4;
 const MOST_BLOCKS: u64 = 1_048_576;
 
 /// What it can be asked.
-const USAGE: [&str; 10] = [
-    "usage: wb_bench FILE read|write SECTORS REQUESTS",
-    "       wb_bench sketch CACHE_BLOCKS ADDS|reset",
-    "       wb_bench settles CACHE_BLOCKS ACCESSES",
-    "       wb_bench ticks CACHE_BLOCKS TICKS",
-    "       wb_bench desk CACHE_BLOCKS ORIGIN_BLOCKS ACCESSES|FILE",
-    "       wb_bench space CACHE_BLOCKS ROUNDS REMOVED",
-    "       wb_bench tree CACHE_BLOCKS get|set|clear|CHANGES ROUNDS",
-    "       wb_bench shares same|apart 1|2|4 ROUNDS",
-    "       wb_bench FILE mapping CACHE_BLOCKS",
-    "       wb_bench FILE state",
-];
+const USAGE: &str = "usage: wb_bench FILE read|write SECTORS REQUESTS
+       wb_bench sketch CACHE_BLOCKS ADDS|reset
+       wb_bench settles CACHE_BLOCKS ACCESSES
+       wb_bench ticks CACHE_BLOCKS TICKS
+       wb_bench desk CACHE_BLOCKS ORIGIN_BLOCKS ACCESSES|FILE
+       wb_bench space CACHE_BLOCKS ROUNDS REMOVED
+       wb_bench tree CACHE_BLOCKS get|set|clear|CHANGES ROUNDS
+       wb_bench shares same|apart 1|2|4 ROUNDS
+       wb_bench FILE mapping CACHE_BLOCKS
+       wb_bench FILE state";
 
 fn main(rt: HostRuntime) -> ExitCode {
     // Before any file is opened.
@@ -227,9 +225,7 @@ fn drive_all(asked: &Requests<'_>, blocks: u64, owner: &mut Owner<FileDisk, Unno
 }
 
 fn usage(rt: &HostRuntime) -> ExitCode {
-    for line in USAGE {
-        let _ = eprintln!(rt; "{line}");
-    }
+    let _ = eprintln!(rt; "{USAGE}");
     ExitCode::from(2)
 }
 
