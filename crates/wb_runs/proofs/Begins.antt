@@ -13,7 +13,9 @@ use Rattle.wb_runs.specs.States.{Shape, Actor, Target, Phase, Stands, Gone, Open
 use Rattle.wb_runs.specs.Happenings.{task_job, extent_refusal}
 use Rattle.wb_runs.specs.Clerk.{Notes, Doing, put, nobody, begun}
 use Rattle.wb_runs.proofs.Sectors.{number_at, set_other, crash_follows}
-use Rattle.wb_runs.proofs.Extents.{cut_own}
+use Rattle.wb_types.specs.Extents.{IsCutInto}
+use Rattle.wb_runs.proofs.Plans.{Own}
+use Rattle.wb_runs.proofs.Extents.{cut_own, cut_inside, may_start, cut_within}
 use Rattle.wb_runs.proofs.Contents.{ReadKept, WriteKept, FlushKept, JobKept, Acting, Linked, IsTask, IsOpeningJob, moved, set_there}
 
 all_none : (doings : List (Option Doing)) (b : ℕ) (o : Option Doing) → slice_get doings b ≡ Some o → slice_get (nobody doings) b ≡ Some None
@@ -105,13 +107,16 @@ module _ (P A : Type 0) (shape : Shape) where
     history_size = refl;
   })
 
-  pub read_starts : (extent : Extent) (cut : List Extent) → ReadKept shape extent (table (task_job shape (Read extent) cut))
-  read_starts extent cut = record { cut = cut; steps = first_steps (task_job shape (Read extent) cut); answer = Finished; is = refl; fine = tt }
+  own_cut : (extent : Extent) (cut : List Extent) → extent_refusal shape extent ≡ None → IsCutInto extent cut → Own shape extent cut
+  own_cut extent cut f i e m = (cut_own shape extent cut (may_start shape extent f) (cut_within extent cut i) e m, cut_inside shape extent cut (may_start shape extent f) (cut_within extent cut i) e m)
 
-  pub write_starts : (extent : Extent) (content : Bytes) (cut : List Extent) (n : Notes) (top : ℕ → ℕ) → extent_refusal shape extent ≡ None → Rattle.wb_types.specs.Extents.IsCutInto extent cut → WriteKept shape extent (table (task_job shape (Write extent content) cut)) (begun n (Write extent content)) top
+  pub read_starts : (extent : Extent) (cut : List Extent) → extent_refusal shape extent ≡ None → IsCutInto extent cut → ReadKept shape extent (table (task_job shape (Read extent) cut))
+  read_starts extent cut f i = record { cut = cut; own = own_cut extent cut f i; steps = first_steps (task_job shape (Read extent) cut); answer = Finished; is = refl; fine = tt }
+
+  pub write_starts : (extent : Extent) (content : Bytes) (cut : List Extent) (n : Notes) (top : ℕ → ℕ) → extent_refusal shape extent ≡ None → IsCutInto extent cut → WriteKept shape extent (table (task_job shape (Write extent content) cut)) (begun n (Write extent content)) top
   write_starts extent content cut n top f i = record {
     cut = cut;
-    own = λ e m. cut_own shape extent cut (Rattle.wb_runs.proofs.Extents.may_start shape extent f) (Rattle.wb_runs.proofs.Extents.cut_within extent cut i) e m;
+    own = own_cut extent cut f i;
     steps = first_steps (task_job shape (Write extent content) cut);
     answer = Finished;
     is = refl;

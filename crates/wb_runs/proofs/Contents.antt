@@ -21,10 +21,11 @@ use Rattle.wb_runs.proofs.Plans.{plan_of, NoSeal, Comes, ComesOfFlush, ComesOfOp
 
 pub record ReadKept (shape : Shape) (extent : Extent) (plan : Plan) : Type 0 where
   pub cut : List Extent
+  pub own : Own shape extent cut
   pub steps : List Want
   pub answer : Answer
   pub is : plan ≡ plan_of (reading shape extent cut) steps answer
-  pub fine : ReadsOnly steps
+  pub fine : ReadsOnly shape steps
 
 -- while it may answer done, all that it entered is on the device, or later entries are
 pub record WriteKept (shape : Shape) (extent : Extent) (plan : Plan) (doing : Doing) (top : ℕ → ℕ) : Type 0 where
@@ -105,14 +106,14 @@ pub record Linked {P A : Type 0} (shape : Shape) (phase : Phase P A) (device : L
 
 -- ---- the claims of a task after a step of it
 
-pub read_after : (shape : Shape) (extent : Extent) (plan : Plan) (words : Words) (next : Want) (got : Got) → ReadKept shape extent plan → next ≡ want plan → Comes words next got → ReadKept shape extent (after plan got)
-read_after shape extent plan words next got k e c = by_steps k.steps k.is k.fine
+pub read_after : (shape : Shape) (extent : Extent) (plan : Plan) (words : Words) (next : Want) (got : Got) → NoSeal words → ReadKept shape extent plan → next ≡ want plan → Comes words next got → ReadKept shape extent (after plan got)
+read_after shape extent plan words next got z k e c = by_steps k.steps k.is k.fine
   where
-    by_steps : (steps : List Want) → plan ≡ plan_of (reading shape extent k.cut) steps k.answer → ReadsOnly steps → ReadKept shape extent (after plan got)
+    by_steps : (steps : List Want) → plan ≡ plan_of (reading shape extent k.cut) steps k.answer → ReadsOnly shape steps → ReadKept shape extent (after plan got)
     by_steps [] is f = absurd (subst (λ (v : Want). Comes words v got) (e ∙ ap want is) c)
     by_steps (w ∷ ws) is f =
-        let left = read_goes shape extent k.cut words w ws k.answer got f (subst (λ (v : Want). Comes words v got) (e ∙ ap want is) c) in
-        record { cut = k.cut; steps = left.steps; answer = left.answer; is = ap (λ s. after s got) is ∙ left.is; fine = left.fine }
+        let left = read_goes shape extent k.cut words w ws k.answer got z k.own f (subst (λ (v : Want). Comes words v got) (e ∙ ap want is) c) in
+        record { cut = k.cut; own = k.own; steps = left.steps; answer = left.answer; is = ap (λ s. after s got) is ∙ left.is; fine = left.fine }
 
 -- what it has entered then, if it was not refused
 pub write_after : (shape : Shape) (extent : Extent) (plan : Plan) (doing doing' : Doing) (top top' : ℕ → ℕ) (words : Words) (next : Want) (got : Got) → NoSeal words → WriteKept shape extent plan doing top → next ≡ want plan → Comes words next got →

@@ -15,3 +15,5 @@ mod Opens
 mod Lives
 mod Begins
 mod Runs
+mod Spelling
+mod Applying

@@ -75,7 +75,7 @@ module _ (P A : Type 0) (shape : Shape) where
     where
       by_phase : (phase : Phase P A) (actors : List Actor) → Linked {P = P} {A = A} shape phase w.devices.origin actors n → slice_get actors a ≡ Some (free w n a (Read extent) applies).0 → ¬ Rattle.wb_runs.specs.Happenings.IsOutOfPlace phase (Read extent) →
           Linked {P = P} {A = A} shape phase w.devices.origin (slice_set actors a (given {P = P} {A = A} shape (free w n a (Read extent) applies).0 (Read extent) (Cut cut))) (noted_what shape s n (Start a (Read extent)) Started [])
-      by_phase (Stands t) actors l e p = let f = free w n a (Read extent) applies in task_starts P A shape t w.devices.origin actors n a f.0 (given {P = P} {A = A} shape f.0 (Read extent) (Cut cut)) (Read extent) _ l e f.2 refl (λ i. i) (read_starts P A shape extent cut)
+      by_phase (Stands t) actors l e p = let f = free w n a (Read extent) applies in task_starts P A shape t w.devices.origin actors n a f.0 (given {P = P} {A = A} shape f.0 (Read extent) (Cut cut)) (Read extent) _ l e f.2 refl (λ i. i) (read_starts P A shape extent cut gives.0 gives.1)
       by_phase Gone actors l e p = absurd (p (λ z. z))
       by_phase (Opens mode reading) actors l e p = absurd (p (λ z. z))
   starts w n a (Write extent content) (Cut cut) l applies gives s =
