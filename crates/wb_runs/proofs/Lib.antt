@@ -17,3 +17,6 @@ mod Begins
 mod Runs
 mod Spelling
 mod Applying
+mod Bare
+mod Points
+mod Going
