@@ -148,3 +148,96 @@ module _ (P A : Type 0) (shape : Shape) (t : Target P) (commit : Option RunningC
     flush_moves ToEnd at l g = done _ _ g.1 _ (leading None answer ToAnswer _ refl tt (l tt))
     flush_moves ToSetFailed at l g = done _ _ g.1 commit (quietly answer ToAnswer _ refl tt (λ i. absurd i))
     flush_moves ToAnswer at l g = record { leader' = leader; here = tt; others = λ b p o k. k }
+
+  -- a step that fails
+  pub flush_fails : (w : State P A) (choice : Choice) (chosen : Chosen P A) (point : FlushPoint) → AtFlush point commit → (IsLeading point → a ≡ leader) → Falters w choice (want (F (flush_left most point))) chosen →
+      Moved commit (commit_then {P = P} {A = A} (Stands t) commit (want (F (flush_left most point))) Fault chosen) a leader (task_then (Some (Flush, F (flush_left most point))) (want (F (flush_left most point))) Fault)
+  flush_fails w choice chosen ToLook at l g = absurd g
+  flush_fails w choice chosen ToBegin at l g = absurd g
+  flush_fails w choice chosen ToSyncCache at l g = leading commit (Refuses (Io Cache)) ToSetFailed _ refl tt (l tt)
+  flush_fails w choice chosen ToSyncOrigin at l g = leading commit (Refuses (Io Origin)) ToSetFailed _ refl tt (l tt)
+  flush_fails w choice chosen ToSyncNodes at l g = leading _ (Refuses (Io Metadata)) ToSetFailed _ refl tt (l tt)
+  flush_fails w choice chosen ToWriteRoot at l g = leading _ (Refuses (Io Metadata)) ToSetFailed _ refl tt (l tt)
+  flush_fails w choice chosen ToSyncRoot at l g = leading _ (Refuses (Io Metadata)) ToSetFailed _ refl tt (l tt)
+  flush_fails w choice chosen ToEnd at l g = absurd g
+  flush_fails w choice chosen ToSetFailed at l g = absurd g
+  flush_fails w choice chosen ToAnswer at l g = absurd g
+
+-- ---- an opening
+
+module _ (P A : Type 0) (shape : Shape) (mode m' : Mode) (reading : Option (ReadSteps A)) (commit : Option RunningCommit) (w : State P A) (n : ℕ) where
+  abbrev O : OpenPoint → Plan
+  O point = plan_of (Opening n) (open_left n point) (open_answer point)
+
+  abbrev here : State P A
+  here = record { devices = w.devices; commit = commit; phase = Opens mode reading; actors = w.actors }
+
+  refuses : (r' : Option (ReadSteps A)) (c' : Option RunningCommit) (refusal : Refusal) (plan : Plan) → plan ≡ O (AtRefusal refusal) → OpenAt r' c' plan
+  refuses r' c' refusal plan e = record { sectors = n; point = AtRefusal refusal; is = e; at = tt }
+
+  module _ (got : Got) (read : List Bytes) (chosen : Chosen P A) where
+    syncs_first : (c : Option RunningCommit) → c ≡ None → 1 ≤ n → got ≡ Done → (ch : Chosen P A) → DoesSync {P = P} {A = A} (Opens mode reading) c w.devices.metadata ch →
+        OpenAt (reading_then reading (want (O AtFirst)) got ch) (commit_then {P = P} {A = A} (Opens mode reading) c (want (O AtFirst)) got ch) (after (O AtFirst) got)
+    syncs_first (Some c) e k g ch d = absurd (cc)
+    syncs_first None e k g (Begins now) d = subst (λ (x : Got). OpenAt (reading_then {P = P} {A = A} reading (want (O AtFirst)) x (Begins now)) (Rattle.wb_runs.specs.Effects.led None x) (after (O AtFirst) x)) (sym g)
+        (record { sectors = n; point = AtCache; is = refl; at = (refl, k) })
+    syncs_first None e k g ch d = absurd d
+
+    reads : (left : ℕ) (was : ReadSteps A) → commit ≡ None → (ch : Chosen P A) → DoesRead shape.geometry left was w.devices.metadata commit got ch →
+        OpenAt (reading_then (Some was) (want (O (AtRead left))) got ch) (commit_then {P = P} {A = A} (Opens mode (Some was)) commit (want (O (AtRead left))) got ch) (after (O (AtRead left)) got)
+    reads left was e (Reaches r c) (fine, inl more) = by_got got fine more.3
+      where
+        by_got : (got : Got) → (got ≢ Fault) → HasCome shape.geometry left more.0 commit got r c → OpenAt r c (after (O (AtRead left)) got)
+        by_got More f h = record {
+          sectors = n;
+          point = AtRead (left - 1);
+          is = refl;
+          at = (h.3 ∙ e, subst (λ (x : Option (ReadSteps A)). OfSome x (λ now. sectors_read now ≡ 0 → 1 ≤ left - 1)) (sym h.1) (λ z. absurd (omega (arith, z, more.4))));
+        }
+        by_got Done f h = record { sectors = n; point = AtRoot; is = refl; at = subst (λ (x : Option RunningCommit). Runs NodesSynced x) (sym h.2.commit_is) (h.2.opens.no_nodes, subst (λ (x : Option RunningCommit). HasGeneration x) h.2.commit_is more.5, h.2.steps) }
+        by_got (GotRefused refusal) f h = refuses r c refusal _ refl
+        by_got Fault f h = absurd (f refl)
+        by_got got f h = absurd h
+    reads left was e (Reaches r c) (fine, inr more) = by_refusal more.0 more.3
+      where
+        by_refusal : (refusal : Refusal) → got ≡ got_of_refusal refusal → OpenAt r c (after (O (AtRead left)) got)
+        by_refusal (Io d) h = absurd (fine h)
+        by_refusal refusal h = subst (λ (x : Got). OpenAt r c (after (O (AtRead left)) x)) (sym h) (refuses r c refusal _ refl)
+    reads left was e ch g = absurd g
+
+    on_reading : (left : ℕ) (r : Option (ReadSteps A)) → commit ≡ None → Rattle.wb_runs.specs.States.OfReading {P = P} {A = A} (Opens mode r) (λ mode was. DoesRead shape.geometry left was w.devices.metadata commit got chosen) →
+        OpenAt (reading_then r (want (O (AtRead left))) got chosen) (commit_then {P = P} {A = A} (Opens mode r) commit (want (O (AtRead left))) got chosen) (after (O (AtRead left)) got)
+    on_reading left (Some was) e g = reads left was e chosen g
+    on_reading left None e g = absurd g
+
+    led_on : got ≡ Done → (steps steps' : CommitSteps) → Runs steps commit → ((image : Image) → image.nodes.items ≡ [] → steps_after image steps ≡ steps') → Runs steps' (Rattle.wb_runs.specs.Effects.led commit got)
+    led_on e steps steps' r f = subst (λ (g : Got). Runs steps' (Rattle.wb_runs.specs.Effects.led commit g)) (sym e) (leads_on commit steps r steps' f)
+
+    on_to : (p q : OpenPoint) (r' : Option (ReadSteps A)) (c' : Option RunningCommit) → got ≡ Done → after (O p) Done ≡ O q → AtOpen n q r' c' → OpenAt r' c' (after (O p) got)
+    on_to p q r' c' e is at = subst (λ (x : Got). OpenAt r' c' (after (O p) x)) (sym e) (record { sectors = n; point = q; is = is; at = at })
+
+    pub open_moves : (point : OpenPoint) → AtOpen n point reading commit → Gives shape here (Open m') (want (O point)) got read chosen →
+        Rattle.wb_runs.proofs.Points.OpenTask (reading_then reading (want (O point)) got chosen) (commit_then {P = P} {A = A} (Opens mode reading) commit (want (O point)) got chosen) (task_then (Some (Open m', O point)) (want (O point)) got)
+    open_moves AtFirst at g = syncs_first commit at.0 at.1 g.1 chosen g.2
+    open_moves AtCache at g = on_to AtCache AtOrigin reading commit g.1 refl at
+    open_moves AtOrigin at g = on_to AtOrigin (AtRead n) reading commit g.1 refl (at.0, any reading at.1)
+      where
+        any : (r : Option (ReadSteps A)) → OfSome r (λ was. 1 ≤ n) → OfSome r (λ was. sectors_read was ≡ 0 → 1 ≤ n)
+        any None o = absurd o
+        any (Some was) o = λ z. o
+    open_moves (AtRead left) at g = on_reading left reading at.0 g.2
+    open_moves AtRoot at g = on_to AtRoot AtRootSync _ _ g.1 refl (led_on g.1 NodesSynced RootWritten at (λ i e. refl))
+    open_moves AtRootSync at g = on_to AtRootSync AtEnd _ _ g.1 refl (led_on g.1 RootWritten Committed at (λ i e. refl))
+    open_moves AtEnd at g = tt
+    open_moves (AtRefusal refusal) at g = tt
+
+  pub open_fails : (choice : Choice) (chosen : Chosen P A) (point : OpenPoint) → Falters here choice (want (O point)) chosen →
+      Rattle.wb_runs.proofs.Points.OpenTask (reading_then reading (want (O point)) Fault chosen) (commit_then {P = P} {A = A} (Opens mode reading) commit (want (O point)) Fault chosen) (task_then (Some (Open m', O point)) (want (O point)) Fault)
+  open_fails choice chosen AtFirst g = refuses _ _ (Io Metadata) _ refl
+  open_fails choice chosen AtCache g = refuses _ _ (Io Cache) _ refl
+  open_fails choice chosen AtOrigin g = refuses _ _ (Io Origin) _ refl
+  open_fails choice chosen (AtRead left) g = refuses _ _ (Io Metadata) _ refl
+  open_fails choice chosen AtRoot g = refuses _ _ (Io Metadata) _ refl
+  open_fails choice chosen AtRootSync g = refuses _ _ (Io Metadata) _ refl
+  open_fails choice chosen AtEnd g = absurd g
+  open_fails choice chosen (AtRefusal refusal) g = absurd g
