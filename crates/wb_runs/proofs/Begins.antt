@@ -24,7 +24,7 @@ all_none (d ∷ ds) zero o e = refl
 all_none (d ∷ ds) (suc b) o e = all_none ds b o e
 
 -- an actor of a list in which all rest
-rests : (actors : List Actor) (b : ℕ) (z : Actor) → slice_get (map (λ (x : Actor). resting) actors) b ≡ Some z → (z.task ≡ None) × ((x : Actor) × (slice_get actors b ≡ Some x))
+pub rests : (actors : List Actor) (b : ℕ) (z : Actor) → slice_get (map (λ (x : Actor). resting) actors) b ≡ Some z → (z.task ≡ None) × ((x : Actor) × (slice_get actors b ≡ Some x))
 rests [] b z e = absurd (cc)
 rests (x ∷ xs) zero z e = let same : resting ≡ z = cc in (ap (λ (v : Actor). v.task) (sym same), (x, refl))
 rests (x ∷ xs) (suc b) z e = rests xs b z e

@@ -20,3 +20,4 @@ mod Applying
 mod Bare
 mod Points
 mod Going
+mod Progressing
