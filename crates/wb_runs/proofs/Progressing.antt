@@ -24,7 +24,7 @@ use Rattle.wb_runs.specs.declared.event.Event.{Event}
 use Rattle.wb_runs.specs.declared.event.Event.TheVariants.{Start, Step, FaultStep, Stop}
 use Rattle.wb_runs.specs.declared.event.What.{What}
 use Rattle.wb_runs.specs.declared.event.What.TheVariants.{Skipped, Refused, Started, Stepped, Stopped}
-use Rattle.wb_runs.specs.States.{Shape, State, Actor, Target, Phase, Stands, Gone, Opens, resting, start}
+use Rattle.wb_runs.specs.States.{Shape, State, Actor, Target, Phase, Stands, Gone, Opens, OfTarget, resting, start}
 use Rattle.wb_runs.specs.Happenings.{Chosen, Happening, OfSome, Gives, Falters, MayFailAt, DoesNotApply, StartGives, MayBe, task_job}
 use Rattle.wb_runs.specs.Effects.{device_done, device_failed, commit_then, reading_then, task_then, phase_then, phase_opened, actor_then, stepped, with_actor, cleared, given, job_of, cut_of, after_what, after_happening, after_all, IsRun}
 use Rattle.wb_runs.specs.Clerk.{Notes, Doing, formatted}
@@ -235,3 +235,127 @@ module _ (P A : Type 0) (shape : Shape) where
     opens_failed (Read extent) plan next choice chosen xt h g = absurd (opening_work (Read extent) plan xt).here
     opens_failed (Write extent content) plan next choice chosen xt h g = absurd (opening_work (Write extent content) plan xt).here
     opens_failed Flush plan next choice chosen xt h g = absurd (opening_work Flush plan xt).here
+
+  -- ---- events
+
+  step_by_phase : (w : State P A) (n : Notes) (a : ℕ) (x : Actor) (job : Job) (plan : Plan) (next : Want) (got : Got) (read : List Bytes) (chosen : Chosen P A) → Known P A shape w → LinkedTo P A shape w n → GoesOn w → slice_get w.actors a ≡ Some x → x.task ≡ Some (job, plan) →
+      next ≡ want plan → Gives shape w job next got read chosen → Going {P = P} {A = A} (phase_then shape w.phase next got chosen) (commit_then w.phase w.commit next got chosen) (slice_set w.actors a (actor_then shape w.phase x next got))
+  step_by_phase w n a x job plan next got read chosen known l k e xt h g = cases w.devices w.commit w.phase w.actors known l k e g
+    where
+      cases : (devices : Devices (List History)) (commit : Option RunningCommit) (phase : Phase P A) (actors : List Actor) → Known P A shape (record { devices = devices; commit = commit; phase = phase; actors = actors }) → Linked {P = P} {A = A} shape phase devices.origin actors n → Going phase commit actors →
+          slice_get actors a ≡ Some x → Gives shape (record { devices = devices; commit = commit; phase = phase; actors = actors }) job next got read chosen → Going {P = P} {A = A} (phase_then shape phase next got chosen) (commit_then phase commit next got chosen) (slice_set actors a (actor_then shape phase x next got))
+      cases devices commit (Stands t) actors known l k e g = stands_done t devices commit actors n known l k.0 k.1 a x e job plan next got read chosen xt h g
+      cases devices commit Gone actors known l k e g = tt
+      cases devices commit (Opens mode reading) actors known l k e g = opens_done mode reading devices commit actors n l k a x e job plan next got read chosen xt h g
+
+  fault_by_phase : (w : State P A) (n : Notes) (a : ℕ) (x : Actor) (job : Job) (plan : Plan) (next : Want) (choice : Choice) (chosen : Chosen P A) → Known P A shape w → LinkedTo P A shape w n → GoesOn w → slice_get w.actors a ≡ Some x → x.task ≡ Some (job, plan) →
+      next ≡ want plan → Falters w choice next chosen → Going {P = P} {A = A} (phase_then shape w.phase next Fault chosen) (commit_then w.phase w.commit next Fault chosen) (slice_set w.actors a (actor_then shape w.phase x next Fault))
+  fault_by_phase w n a x job plan next choice chosen known l k e xt h g = cases w.devices w.commit w.phase w.actors known l k e g
+    where
+      cases : (devices : Devices (List History)) (commit : Option RunningCommit) (phase : Phase P A) (actors : List Actor) → Known P A shape (record { devices = devices; commit = commit; phase = phase; actors = actors }) → Linked {P = P} {A = A} shape phase devices.origin actors n → Going phase commit actors →
+          slice_get actors a ≡ Some x → Falters (record { devices = devices; commit = commit; phase = phase; actors = actors }) choice next chosen → Going {P = P} {A = A} (phase_then shape phase next Fault chosen) (commit_then phase commit next Fault chosen) (slice_set actors a (actor_then shape phase x next Fault))
+      cases devices commit (Stands t) actors known l k e g = stands_failed t devices commit actors n known l k.0 k.1 a x e job plan next choice chosen xt h g
+      cases devices commit Gone actors known l k e g = tt
+      cases devices commit (Opens mode reading) actors known l k e g = opens_failed mode reading devices commit actors n l k a x e job plan next choice chosen xt h g
+
+  by_step : (w : State P A) (n : Notes) (a : ℕ) (next : Want) (got : Got) (read : List Bytes) (chosen : Chosen P A) (o : Option Actor) → slice_get w.actors a ≡ o → Known P A shape w → LinkedTo P A shape w n → GoesOn w →
+      OfSome o (λ x. OfSome x.task (λ doing. (next ≡ want doing.1) × Gives shape w doing.0 next got read chosen)) → GoesOn (with_actor w o (λ x. stepped shape w a x next got chosen (λ step. device_done (job_of x.task) step chosen)))
+  by_step w n a next got read chosen None e known l k h = absurd h
+  by_step w n a next got read chosen (Some x) e known l k h = by_task x.task refl h
+    where
+      by_task : (task : Option (Job × Plan)) → x.task ≡ task → OfSome task (λ doing. (next ≡ want doing.1) × Gives shape w doing.0 next got read chosen) → GoesOn (stepped shape w a x next got chosen (λ step. device_done (job_of x.task) step chosen))
+      by_task None xt h = absurd h
+      by_task (Some doing) xt h = step_by_phase w n a x doing.0 doing.1 next got read chosen known l k e xt h.0 h.1
+
+  by_fault : (w : State P A) (n : Notes) (a : ℕ) (choice : Choice) (next : Want) (chosen : Chosen P A) (o : Option Actor) → slice_get w.actors a ≡ o → Known P A shape w → LinkedTo P A shape w n → GoesOn w →
+      OfSome o (λ x. OfSome x.task (λ doing. (next ≡ want doing.1) × MayFailAt w.devices choice next × Falters w choice next chosen)) →
+      GoesOn (with_actor w o (λ x. stepped shape w a x next Fault chosen (λ step. device_failed (lands (device_of step) choice) (job_of x.task) step chosen)))
+  by_fault w n a choice next chosen None e known l k h = absurd h
+  by_fault w n a choice next chosen (Some x) e known l k h = by_task x.task refl h
+    where
+      by_task : (task : Option (Job × Plan)) → x.task ≡ task → OfSome task (λ doing. (next ≡ want doing.1) × MayFailAt w.devices choice next × Falters w choice next chosen) →
+          GoesOn (stepped shape w a x next Fault chosen (λ step. device_failed (lands (device_of step) choice) (job_of x.task) step chosen))
+      by_task None xt h = absurd h
+      by_task (Some doing) xt h = fault_by_phase w n a x doing.0 doing.1 next choice chosen known l k e xt h.0 h.2
+
+  -- an opening starts, alone
+  opening_starts : (mode : Mode) (actors : List Actor) (a : ℕ) (chosen : Chosen P A) (x : Actor) → slice_get (map (λ (x : Actor). resting) actors) a ≡ Some x →
+      (b : ℕ) (z : Actor) → slice_get (slice_set (map (λ (x : Actor). resting) actors) a (given {P = P} {A = A} shape x (Open mode) chosen)) b ≡ Some z → OpenTask {A = A} None None z.task
+  opening_starts mode actors a chosen x e b z f = elim (cases_eq b a) [
+    | inl s ↦ let there : Some y ≡ Some z = sym (set_there rs a x y e) ∙ ap (slice_get (slice_set rs a y)) (sym s) ∙ f in
+        let same : y ≡ z = cc in
+        subst (λ (v : Actor). OpenTask {A = A} None None v.task) same first
+    | inr o ↦ subst (λ (k : Option (Job × Plan)). OpenTask {A = A} None None k) (sym (rests actors b z (sym (set_other rs a b y o) ∙ f)).0) tt
+  ]
+    where
+      rs : List Actor
+      rs = map (λ (x : Actor). resting) actors
+
+      y : Actor
+      y = given {P = P} {A = A} shape x (Open mode) chosen
+
+      first : OpenAt {A = A} None None (table (task_job shape (Open mode) (cut_of chosen)))
+      first = record { sectors = shape.geometry.meta_sectors; point = AtFirst; is = refl; at = (refl, omega (arith, shape.geometry.within.meta_from)) }
+
+  task_by_phase : (w : State P A) (n : Notes) (a : ℕ) (x : Actor) (job : Job) (chosen : Chosen P A) → Known P A shape w → LinkedTo P A shape w n → GoesOn w → slice_get w.actors a ≡ Some x → (¬ (¬ OfTarget w.phase (λ t. Unit {0}))) →
+      Going w.phase w.commit (slice_set w.actors a (given shape x job chosen))
+  task_by_phase w n a x job chosen known l k e p = cases w.devices w.commit w.phase w.actors known l k e p
+    where
+      cases : (devices : Devices (List History)) (commit : Option RunningCommit) (phase : Phase P A) (actors : List Actor) → Known P A shape (record { devices = devices; commit = commit; phase = phase; actors = actors }) → Linked {P = P} {A = A} shape phase devices.origin actors n → Going phase commit actors →
+          slice_get actors a ≡ Some x → (¬ (¬ OfTarget phase (λ t. Unit {0}))) → Going phase commit (slice_set actors a (given shape x job chosen))
+      cases devices commit (Stands t) actors known l k e p = task_starts t devices commit actors n known l k.0 k.1 a x e job chosen
+      cases devices commit Gone actors known l k e p = tt
+      cases devices commit (Opens mode reading) actors known l k e p = absurd (p (λ z. z))
+
+  starts : (w : State P A) (n : Notes) (a : ℕ) (job : Job) (chosen : Chosen P A) → Known P A shape w → LinkedTo P A shape w n → GoesOn w → (¬ DoesNotApply w (Start a job)) →
+      GoesOn (with_actor (cleared w job) (slice_get (cleared w job).actors a) (λ x. record (cleared w job) { actors = slice_set (cleared w job).actors a (given shape x job chosen) }))
+  starts w n a (Open mode) chosen known l k applies = by_actor (slice_get (map (λ (x : Actor). resting) w.actors) a) refl
+    where
+      by_actor : (o : Option Actor) → slice_get (map (λ (x : Actor). resting) w.actors) a ≡ o →
+          GoesOn (with_actor (cleared w (Open mode)) o (λ x. record (cleared w (Open mode)) { actors = slice_set (cleared w (Open mode)).actors a (given shape x (Open mode) chosen) }))
+      by_actor None e = λ b z f. subst (λ (k : Option (Job × Plan)). OpenTask {A = A} None None k) (sym (rests w.actors b z f).0) tt
+      by_actor (Some x) e = opening_starts mode w.actors a chosen x e
+  starts w n a (Read extent) chosen known l k applies = let f = free P A shape w n a (Read extent) applies in
+      subst (λ (o : Option Actor). GoesOn (with_actor w o (λ x. record w { actors = slice_set w.actors a (given shape x (Read extent) chosen) }))) (sym f.1) (task_by_phase w n a f.0 (Read extent) chosen known l k f.1 (λ p. applies (inr (inr p))))
+  starts w n a (Write extent content) chosen known l k applies = let f = free P A shape w n a (Write extent content) applies in
+      subst (λ (o : Option Actor). GoesOn (with_actor w o (λ x. record w { actors = slice_set w.actors a (given shape x (Write extent content) chosen) }))) (sym f.1) (task_by_phase w n a f.0 (Write extent content) chosen known l k f.1 (λ p. applies (inr (inr p))))
+  starts w n a Flush chosen known l k applies = let f = free P A shape w n a Flush applies in
+      subst (λ (o : Option Actor). GoesOn (with_actor w o (λ x. record w { actors = slice_set w.actors a (given shape x Flush chosen) }))) (sym f.1) (task_by_phase w n a f.0 Flush chosen known l k f.1 (λ p. applies (inr (inr p))))
+
+  by_event : (w : State P A) (n : Notes) (event : Event) (what : What) (read : List Bytes) (chosen : Chosen P A) → Known P A shape w → LinkedTo P A shape w n → GoesOn w → MayBe shape w event what read chosen → GoesOn (after_what shape w event what chosen)
+  by_event w n (Start a job) Started read chosen known l k h = starts w n a job chosen known l k h.1
+  by_event w n (Start a job) Skipped read chosen known l k h = k
+  by_event w n (Start a job) (Refused refusal) read chosen known l k h = k
+  by_event w n (Start a job) (Stepped next got) read chosen known l k h = k
+  by_event w n (Start a job) Stopped read chosen known l k h = k
+  by_event w n (Step a) (Stepped next got) read chosen known l k h = by_step w n a next got read chosen (slice_get w.actors a) refl known l k h
+  by_event w n (Step a) Skipped read chosen known l k h = k
+  by_event w n (Step a) (Refused refusal) read chosen known l k h = k
+  by_event w n (Step a) Started read chosen known l k h = k
+  by_event w n (Step a) Stopped read chosen known l k h = k
+  by_event w n (FaultStep a choice) (Stepped next got) read chosen known l k h =
+      subst (λ (g : Got). GoesOn (after_what shape w (FaultStep a choice) (Stepped next g) chosen)) (sym h.1) (by_fault w n a choice next chosen (slice_get w.actors a) refl known l k h.2)
+  by_event w n (FaultStep a choice) Skipped read chosen known l k h = k
+  by_event w n (FaultStep a choice) (Refused refusal) read chosen known l k h = k
+  by_event w n (FaultStep a choice) Started read chosen known l k h = k
+  by_event w n (FaultStep a choice) Stopped read chosen known l k h = k
+  by_event w n (Stop choice) Stopped read chosen known l k h = tt
+  by_event w n (Stop choice) Skipped read chosen known l k h = k
+  by_event w n (Stop choice) (Refused refusal) read chosen known l k h = k
+  by_event w n (Stop choice) Started read chosen known l k h = k
+  by_event w n (Stop choice) (Stepped next got) read chosen known l k h = k
+
+  -- what every run keeps
+  pub record Kept (w : State P A) : Type 0 where
+    pub notes : Notes
+    pub known : Known P A shape w
+    pub linked : LinkedTo P A shape w notes
+    pub goes : GoesOn w
+
+  always_kept : (w : State P A) (n : Notes) (hs : List (Happening P A)) → Known P A shape w → LinkedTo P A shape w n → GoesOn w → IsRun shape w hs → Kept (after_all shape w hs)
+  always_kept w n [] known l k r = record { notes = n; known = known; linked = l; goes = k }
+  always_kept w n (h ∷ hs) known l k r = always_kept (after_happening shape w h) (note_happening shape w n h) hs (known_after P A shape w h known r.0)
+      (by_what P A shape w n h.record_is.event h.record_is.what h.record_is.read.items h.chosen known l r.0) (by_event w n h.record_is.event h.record_is.what h.record_is.read.items h.chosen known l k r.0) r.1
+
+  pub run_kept : (metadata : List History) (hs : List (Happening P A)) → IsFormatted shape.geometry metadata → length metadata ≡ shape.geometry.meta_sectors → IsRun shape (start shape metadata) hs → Kept (after_all shape (start shape metadata) hs)
+  run_kept metadata hs f size run = always_kept (start shape metadata) (formatted shape) hs (known_at_start P A shape metadata f size) (at_start P A shape metadata) tt run
