@@ -21,3 +21,5 @@ mod Bare
 mod Points
 mod Going
 mod Progressing
+mod Readings
+mod Giving
