@@ -23,3 +23,4 @@ mod Going
 mod Progressing
 mod Readings
 mod Giving
+mod Free
