@@ -73,7 +73,7 @@ module _ (P A : Type 0) (shape : Shape) where
               subst (λ (i : ℕ). Acting {P = P} {A = A} shape (Opens mode None) device l.low l.top z.task (slice_get (slice_set (nobody n.doings) a (Some (begun n (Open mode)))) i)) (sym s)
               (subst (λ (v : Actor). Acting {P = P} {A = A} shape (Opens mode None) device l.low l.top v.task (slice_get (slice_set (nobody n.doings) a (Some (begun n (Open mode)))) a)) same
               (subst (λ (t : Option (Job × Plan)). Acting {P = P} {A = A} shape (Opens mode None) device l.low l.top t (slice_get (slice_set (nobody n.doings) a (Some (begun n (Open mode)))) a)) (sym yt)
-              (record { doing = begun n (Open mode); is = mine; job_is = refl; here = tt; kept = record { left = shape.geometry.meta_sectors; steps = first_steps (task_job shape (Open mode) cut); answer = Finished; is = refl; fine = tt; durable = λ f. inl tt } })))
+              (record { doing = begun n (Open mode); is = mine; job_is = refl; here = tt; kept = record { left = shape.geometry.meta_sectors; steps = first_steps (task_job shape (Open mode) cut); answer = Finished; is = refl; fine = tt; durable = λ f. inl tt; cause = λ r e. absurd (cc) } })))
           | inr o ↦ let was = sym (set_other rs a b y o) ∙ g in let r = rests actors b z was in
               let d = noted_there phase device l.low l.top r.1.0.task (slice_get n.doings b) (l.acting b r.1.0 r.1.1) in
               subst (λ (t : Option (Job × Plan)). Acting {P = P} {A = A} shape (Opens mode None) device l.low l.top t (slice_get (slice_set (nobody n.doings) a (Some (begun n (Open mode)))) b)) (sym r.0)

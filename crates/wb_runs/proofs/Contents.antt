@@ -6,7 +6,9 @@ use Rattle.wb_disk.specs.Device.{History}
 use Rattle.wb_tasks.specs.Tables.{Flushing, Opening}
 use Rattle.wb_tasks.specs.Plan.{Plan, want, after}
 use Rattle.wb_tasks.specs.declared.step.Answer.{Answer}
-use Rattle.wb_tasks.specs.declared.step.Answer.TheVariants.{Done as Finished}
+use Rattle.wb_tasks.specs.declared.step.Answer.TheVariants.{Done as Finished, Refused as Refuses}
+use Rattle.wb_types.specs.declared.refusal.Refusal.{Refusal}
+use Rattle.wb_runs.specs.Headline.{MayRefuse}
 use Rattle.wb_tasks.specs.declared.step.Want.{Want}
 use Rattle.wb_tasks.specs.declared.step.Got.{Got}
 use Rattle.wb_words.specs.SharedWords.{Words}
@@ -15,7 +17,7 @@ use Rattle.wb_runs.specs.declared.job.Job.TheVariants.{Read, Write, Flush, Open}
 use Rattle.wb_runs.specs.States.{Shape, Actor, Target, Phase, Stands, Gone, Opens, sector_count}
 use Rattle.wb_runs.specs.Clerk.{Notes, Doing}
 use Rattle.wb_runs.proofs.Sectors.{AllFollow, AreBelow, IsAlone, number_at, set_other}
-use Rattle.wb_runs.proofs.Plans.{plan_of, NoSeal, Comes, ComesOfFlush, ComesOfOpening, IsOriginSync, ReadsOnly, WritesOnly, FlushesOnly, OpensOnly, Syncs, Own, reading, writing, read_goes, write_goes, flush_goes, open_goes}
+use Rattle.wb_runs.proofs.Plans.{plan_of, NoSeal, Comes, ComesOfFlush, ComesOfOpening, IsOriginSync, Causes, ReadsOnly, WritesOnly, FlushesOnly, OpensOnly, Syncs, Own, reading, writing, read_goes, write_goes, flush_goes, open_goes}
 
 -- ---- the claims of each task
 
@@ -47,7 +49,7 @@ pub record FlushKept (plan : Plan) (doing : Doing) (low top : ℕ → ℕ) : Typ
   pub reached : (at : ℕ) → number_at doing.then_finished at ≤ top at
   pub durable : answer ≡ Finished → Syncs steps ⊎ ((at : ℕ) → number_at doing.then_finished at ≤ low at)
 
--- while it may answer done, the origin is to be synced yet, or was
+-- While it may answer done, the origin is to be synced yet, or was; and where it is to be refused there is a cause.
 pub record OpenKept (plan : Plan) (doing : Doing) (device : List History) : Type 0 where
   pub left : ℕ
   pub steps : List Want
@@ -55,6 +57,7 @@ pub record OpenKept (plan : Plan) (doing : Doing) (device : List History) : Type
   pub is : plan ≡ plan_of (Opening left) steps answer
   pub fine : OpensOnly steps
   pub durable : answer ≡ Finished → Syncs steps ⊎ IsAlone device
+  pub cause : (refusal : Refusal) → answer ≡ Refuses refusal → MayRefuse doing refusal
 
 abbrev pub JobKept : Shape → Job → Plan → Doing → (low top : ℕ → ℕ) → List History → Type 0
 JobKept shape (Read extent) plan doing low top device = ReadKept shape extent plan
@@ -164,8 +167,8 @@ flush_after plan doing low low' top top' words next got k e c up rise settle doi
         }
 
 pub open_after : (plan : Plan) (doing doing' : Doing) (device device' : List History) (next : Want) (got : Got) → OpenKept plan doing device → next ≡ want plan → ComesOfOpening next got →
-    (IsAlone device → IsAlone device') → (IsOriginSync next got → IsAlone device') → OpenKept (after plan got) doing' device'
-open_after plan doing doing' device device' next got k e c still settle = by_steps k.steps k.is k.fine k.durable
+    (IsAlone device → IsAlone device') → (IsOriginSync next got → IsAlone device') → ((refusal : Refusal) → MayRefuse doing refusal → MayRefuse doing' refusal) → ((refusal : Refusal) → Causes next got refusal → MayRefuse doing' refusal) → OpenKept (after plan got) doing' device'
+open_after plan doing doing' device device' next got k e c still settle grows why = by_steps k.steps k.is k.fine k.durable
   where
     by_steps : (steps : List Want) → plan ≡ plan_of (Opening k.left) steps k.answer → OpensOnly steps → (k.answer ≡ Finished → Syncs steps ⊎ IsAlone device) → OpenKept (after plan got) doing' device'
     by_steps [] is f d = absurd (subst (λ (v : Want). ComesOfOpening v got) (e ∙ ap want is) c)
@@ -184,6 +187,10 @@ open_after plan doing doing' device device' next got k e c still settle = by_ste
               | inr now ↦ inr (settle (subst (λ (v : Want). IsOriginSync v got) (sym here) now))
             ]
             | inr s ↦ inr (still s)
+          ];
+          cause = λ r y. elim (goes.cause r y) [
+            | inl before ↦ grows r (k.cause r before)
+            | inr now ↦ why r (subst (λ (v : Want). Causes v got r) (sym here) now)
           ];
         }
 

@@ -1,5 +1,5 @@
 -- After every run every event has a happening, and whoever has a task may do its next step.
-use Rattle.std.proofs.Common.{◌≡◌, ◌≢◌, ◌∙◌, ◌≤◌, ◌⊎◌, inl, inr, ℕ, List, [], ◌∷◌, Option, Some, None, refl, sym, ap, subst, arith, length, slice_get}
+use Rattle.std.proofs.Common.{Global, ◌≡◌, ◌≢◌, ◌∙◌, ◌≤◌, ◌⊎◌, inl, inr, ℕ, List, [], ◌∷◌, Option, Some, None, refl, sym, ap, subst, arith, length, slice_get}
 use Rattle.wb_types.specs.declared.extent.Extent.{Extent}
 use Rattle.wb_types.specs.declared.refusal.Refusal.{Refusal}
 use Rattle.wb_types.proofs.Cutting.{pieces_cut}
@@ -9,6 +9,7 @@ use Rattle.wb_disk.specs.Crash.{Choice}
 use Rattle.wb_meta.specs.Formats.{IsFormatted}
 use Rattle.wb_meta.specs.Reads.{sectors_read}
 use Rattle.wb_meta.specs.declared.read_steps.ReadSteps.{ReadSteps}
+use Rattle.wb_meta.specs.declared.read_steps.ReadSteps.TheVariants.{Begun, FirstSlotRead, RootFound, Done as AllRead}
 use Rattle.wb_tasks.specs.Plan.{Plan, want}
 use Rattle.wb_tasks.specs.declared.step.Want.{Want}
 use Rattle.wb_tasks.specs.declared.step.Got.{Got}
@@ -28,7 +29,9 @@ use Rattle.wb_runs.specs.Clerk.{Notes}
 use Rattle.wb_runs.specs.Headline.{GivesSomething}
 use Rattle.wb_runs.specs.Progress.{HasHappening, IsFree}
 use Rattle.wb_runs.proofs.Contents.{Working, Acting, Linked}
+use Rattle.wb_runs.proofs.Metadata.{MetadataKept}
 use Rattle.wb_runs.proofs.MetadataRuns.{Known}
+use Rattle.wb_runs.proofs.Beginning.{desk_begins}
 use Rattle.wb_runs.proofs.Extents.{may_start}
 use Rattle.wb_runs.proofs.Applying.{may_stop, may_fail_at, out_of_place}
 use Rattle.wb_runs.proofs.Spelling.{Decided}
@@ -129,6 +132,13 @@ module _ (P A : Type 0) (shape : Shape) (policy : P) (first : ReadSteps A) (begi
 
   -- ---- every event
 
+  -- a reading that has read nothing names the heap
+  heap_of : (reading : ReadSteps A) → sectors_read reading ≡ 0 → Global
+  heap_of (Begun alloc global) e = global
+  heap_of (FirstSlotRead alloc global found) e = global
+  heap_of (RootFound global root loader) e = global
+  heap_of (AllRead state) e = absurd (omega (arith, e))
+
   steps : (w : State P A) → Kept P A shape w → (a : ℕ) → Tasked w a → GivesSomething shape w a
   steps w kept a k = let g = steps_on w kept a k in record {
     next = want k.plan;
@@ -207,4 +217,6 @@ module _ (P A : Type 0) (shape : Shape) (policy : P) (first : ReadSteps A) (begi
       | inl k ↦ steps w kept a k
       | inr none ↦ absurd (none (λ job s. Unit {0}) h)
     ];
+    commits = λ t most is may. desk_begins (heap_of first begins) P A shape.geometry t.desk w.commit w.devices.metadata
+        (subst (λ (phase : Phase P A). MetadataKept shape.geometry phase w.commit w.devices.metadata) is kept.known) most may;
   }

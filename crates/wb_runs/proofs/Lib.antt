@@ -11,6 +11,7 @@ mod Standing
 mod Serving
 mod Serves
 mod Opened
+mod Refusing
 mod Opens
 mod Lives
 mod Begins
@@ -18,6 +19,7 @@ mod Runs
 mod Spelling
 mod Applying
 mod Bare
+mod Beginning
 mod Points
 mod Going
 mod Progressing

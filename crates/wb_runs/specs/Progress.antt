@@ -20,10 +20,15 @@ pub record HasHappening {P A : Type 0} (shape : Shape) (w : State P A) (event : 
   pub chosen : Chosen P A
   pub may : MayBe shape w event what read chosen
 
--- Every event has a happening, and whoever has a task may do its next step.
+-- a commit begins, where a flush allows so many nodes
+abbrev pub CanBegin : (P A : Type 0) → ℕ → DeskState P → Type 0
+CanBegin P A most desk = (nodes : ℕ) × ((chosen : Chosen P A) × DoesBegin most desk (Began nodes) chosen)
+
+-- Every event has a happening, and whoever has a task may do its next step; and where a commit may begin, one can.
 pub record IsFree {P A : Type 0} (shape : Shape) (w : State P A) : Type 0 where
   pub events : (event : Event) → HasHappening shape w event
   pub steps : (a : ℕ) → HasTask w a → GivesSomething shape w a
+  pub commits : (target : Target P) (most : ℕ) → w.phase ≡ Stands target → MayBegin target.desk → CanBegin P A most target.desk
 
 -- So it is after every run, where there is a policy to open with, and a reading that has read nothing.
 abbrev pub NeverStuck : (P A : Type 0) → Type 0
