@@ -26,3 +26,4 @@ mod Progressing
 mod Readings
 mod Giving
 mod Free
+mod Causing
