@@ -13,7 +13,9 @@ use Rattle.wb_runs.specs.States.{Shape, Actor, Target, Phase, Stands, Gone, Open
 use Rattle.wb_runs.specs.Happenings.{task_job, extent_refusal}
 use Rattle.wb_runs.specs.Clerk.{Notes, Doing, put, nobody, begun}
 use Rattle.wb_runs.proofs.Sectors.{number_at, set_other, crash_follows}
-use Rattle.wb_runs.proofs.Extents.{cut_own}
+use Rattle.wb_types.specs.Extents.{IsCutInto}
+use Rattle.wb_runs.proofs.Plans.{Own}
+use Rattle.wb_runs.proofs.Extents.{cut_own, cut_inside, may_start, cut_within}
 use Rattle.wb_runs.proofs.Contents.{ReadKept, WriteKept, FlushKept, JobKept, Acting, Linked, IsTask, IsOpeningJob, moved, set_there}
 
 all_none : (doings : List (Option Doing)) (b : ℕ) (o : Option Doing) → slice_get doings b ≡ Some o → slice_get (nobody doings) b ≡ Some None
@@ -22,7 +24,7 @@ all_none (d ∷ ds) zero o e = refl
 all_none (d ∷ ds) (suc b) o e = all_none ds b o e
 
 -- an actor of a list in which all rest
-rests : (actors : List Actor) (b : ℕ) (z : Actor) → slice_get (map (λ (x : Actor). resting) actors) b ≡ Some z → (z.task ≡ None) × ((x : Actor) × (slice_get actors b ≡ Some x))
+pub rests : (actors : List Actor) (b : ℕ) (z : Actor) → slice_get (map (λ (x : Actor). resting) actors) b ≡ Some z → (z.task ≡ None) × ((x : Actor) × (slice_get actors b ≡ Some x))
 rests [] b z e = absurd (cc)
 rests (x ∷ xs) zero z e = let same : resting ≡ z = cc in (ap (λ (v : Actor). v.task) (sym same), (x, refl))
 rests (x ∷ xs) (suc b) z e = rests xs b z e
@@ -71,7 +73,7 @@ module _ (P A : Type 0) (shape : Shape) where
               subst (λ (i : ℕ). Acting {P = P} {A = A} shape (Opens mode None) device l.low l.top z.task (slice_get (slice_set (nobody n.doings) a (Some (begun n (Open mode)))) i)) (sym s)
               (subst (λ (v : Actor). Acting {P = P} {A = A} shape (Opens mode None) device l.low l.top v.task (slice_get (slice_set (nobody n.doings) a (Some (begun n (Open mode)))) a)) same
               (subst (λ (t : Option (Job × Plan)). Acting {P = P} {A = A} shape (Opens mode None) device l.low l.top t (slice_get (slice_set (nobody n.doings) a (Some (begun n (Open mode)))) a)) (sym yt)
-              (record { doing = begun n (Open mode); is = mine; job_is = refl; here = tt; kept = record { left = shape.geometry.meta_sectors; steps = first_steps (task_job shape (Open mode) cut); answer = Finished; is = refl; fine = tt; durable = λ f. inl tt } })))
+              (record { doing = begun n (Open mode); is = mine; job_is = refl; here = tt; kept = record { left = shape.geometry.meta_sectors; steps = first_steps (task_job shape (Open mode) cut); answer = Finished; is = refl; fine = tt; durable = λ f. inl tt; cause = λ r e. absurd (cc) } })))
           | inr o ↦ let was = sym (set_other rs a b y o) ∙ g in let r = rests actors b z was in
               let d = noted_there phase device l.low l.top r.1.0.task (slice_get n.doings b) (l.acting b r.1.0 r.1.1) in
               subst (λ (t : Option (Job × Plan)). Acting {P = P} {A = A} shape (Opens mode None) device l.low l.top t (slice_get (slice_set (nobody n.doings) a (Some (begun n (Open mode)))) b)) (sym r.0)
@@ -105,13 +107,16 @@ module _ (P A : Type 0) (shape : Shape) where
     history_size = refl;
   })
 
-  pub read_starts : (extent : Extent) (cut : List Extent) → ReadKept shape extent (table (task_job shape (Read extent) cut))
-  read_starts extent cut = record { cut = cut; steps = first_steps (task_job shape (Read extent) cut); answer = Finished; is = refl; fine = tt }
+  own_cut : (extent : Extent) (cut : List Extent) → extent_refusal shape extent ≡ None → IsCutInto extent cut → Own shape extent cut
+  own_cut extent cut f i e m = (cut_own shape extent cut (may_start shape extent f) (cut_within extent cut i) e m, cut_inside shape extent cut (may_start shape extent f) (cut_within extent cut i) e m)
 
-  pub write_starts : (extent : Extent) (content : Bytes) (cut : List Extent) (n : Notes) (top : ℕ → ℕ) → extent_refusal shape extent ≡ None → Rattle.wb_types.specs.Extents.IsCutInto extent cut → WriteKept shape extent (table (task_job shape (Write extent content) cut)) (begun n (Write extent content)) top
+  pub read_starts : (extent : Extent) (cut : List Extent) → extent_refusal shape extent ≡ None → IsCutInto extent cut → ReadKept shape extent (table (task_job shape (Read extent) cut))
+  read_starts extent cut f i = record { cut = cut; own = own_cut extent cut f i; steps = first_steps (task_job shape (Read extent) cut); answer = Finished; is = refl; fine = tt }
+
+  pub write_starts : (extent : Extent) (content : Bytes) (cut : List Extent) (n : Notes) (top : ℕ → ℕ) → extent_refusal shape extent ≡ None → IsCutInto extent cut → WriteKept shape extent (table (task_job shape (Write extent content) cut)) (begun n (Write extent content)) top
   write_starts extent content cut n top f i = record {
     cut = cut;
-    own = λ e m. cut_own shape extent cut (Rattle.wb_runs.proofs.Extents.may_start shape extent f) (Rattle.wb_runs.proofs.Extents.cut_within extent cut i) e m;
+    own = own_cut extent cut f i;
     steps = first_steps (task_job shape (Write extent content) cut);
     answer = Finished;
     is = refl;

@@ -6,7 +6,9 @@ use Rattle.wb_disk.specs.Device.{History}
 use Rattle.wb_tasks.specs.Tables.{Flushing, Opening}
 use Rattle.wb_tasks.specs.Plan.{Plan, want, after}
 use Rattle.wb_tasks.specs.declared.step.Answer.{Answer}
-use Rattle.wb_tasks.specs.declared.step.Answer.TheVariants.{Done as Finished}
+use Rattle.wb_tasks.specs.declared.step.Answer.TheVariants.{Done as Finished, Refused as Refuses}
+use Rattle.wb_types.specs.declared.refusal.Refusal.{Refusal}
+use Rattle.wb_runs.specs.Headline.{MayRefuse}
 use Rattle.wb_tasks.specs.declared.step.Want.{Want}
 use Rattle.wb_tasks.specs.declared.step.Got.{Got}
 use Rattle.wb_words.specs.SharedWords.{Words}
@@ -15,16 +17,17 @@ use Rattle.wb_runs.specs.declared.job.Job.TheVariants.{Read, Write, Flush, Open}
 use Rattle.wb_runs.specs.States.{Shape, Actor, Target, Phase, Stands, Gone, Opens, sector_count}
 use Rattle.wb_runs.specs.Clerk.{Notes, Doing}
 use Rattle.wb_runs.proofs.Sectors.{AllFollow, AreBelow, IsAlone, number_at, set_other}
-use Rattle.wb_runs.proofs.Plans.{plan_of, NoSeal, Comes, ComesOfFlush, ComesOfOpening, IsOriginSync, ReadsOnly, WritesOnly, FlushesOnly, OpensOnly, Syncs, Own, reading, writing, read_goes, write_goes, flush_goes, open_goes}
+use Rattle.wb_runs.proofs.Plans.{plan_of, NoSeal, Comes, ComesOfFlush, ComesOfOpening, IsOriginSync, Causes, ReadsOnly, WritesOnly, FlushesOnly, OpensOnly, Syncs, Own, reading, writing, read_goes, write_goes, flush_goes, open_goes}
 
 -- ---- the claims of each task
 
 pub record ReadKept (shape : Shape) (extent : Extent) (plan : Plan) : Type 0 where
   pub cut : List Extent
+  pub own : Own shape extent cut
   pub steps : List Want
   pub answer : Answer
   pub is : plan ≡ plan_of (reading shape extent cut) steps answer
-  pub fine : ReadsOnly steps
+  pub fine : ReadsOnly shape steps
 
 -- while it may answer done, all that it entered is on the device, or later entries are
 pub record WriteKept (shape : Shape) (extent : Extent) (plan : Plan) (doing : Doing) (top : ℕ → ℕ) : Type 0 where
@@ -46,7 +49,7 @@ pub record FlushKept (plan : Plan) (doing : Doing) (low top : ℕ → ℕ) : Typ
   pub reached : (at : ℕ) → number_at doing.then_finished at ≤ top at
   pub durable : answer ≡ Finished → Syncs steps ⊎ ((at : ℕ) → number_at doing.then_finished at ≤ low at)
 
--- while it may answer done, the origin is to be synced yet, or was
+-- While it may answer done, the origin is to be synced yet, or was; and where it is to be refused there is a cause.
 pub record OpenKept (plan : Plan) (doing : Doing) (device : List History) : Type 0 where
   pub left : ℕ
   pub steps : List Want
@@ -54,6 +57,7 @@ pub record OpenKept (plan : Plan) (doing : Doing) (device : List History) : Type
   pub is : plan ≡ plan_of (Opening left) steps answer
   pub fine : OpensOnly steps
   pub durable : answer ≡ Finished → Syncs steps ⊎ IsAlone device
+  pub cause : (refusal : Refusal) → answer ≡ Refuses refusal → MayRefuse doing refusal
 
 abbrev pub JobKept : Shape → Job → Plan → Doing → (low top : ℕ → ℕ) → List History → Type 0
 JobKept shape (Read extent) plan doing low top device = ReadKept shape extent plan
@@ -105,14 +109,14 @@ pub record Linked {P A : Type 0} (shape : Shape) (phase : Phase P A) (device : L
 
 -- ---- the claims of a task after a step of it
 
-pub read_after : (shape : Shape) (extent : Extent) (plan : Plan) (words : Words) (next : Want) (got : Got) → ReadKept shape extent plan → next ≡ want plan → Comes words next got → ReadKept shape extent (after plan got)
-read_after shape extent plan words next got k e c = by_steps k.steps k.is k.fine
+pub read_after : (shape : Shape) (extent : Extent) (plan : Plan) (words : Words) (next : Want) (got : Got) → NoSeal words → ReadKept shape extent plan → next ≡ want plan → Comes words next got → ReadKept shape extent (after plan got)
+read_after shape extent plan words next got z k e c = by_steps k.steps k.is k.fine
   where
-    by_steps : (steps : List Want) → plan ≡ plan_of (reading shape extent k.cut) steps k.answer → ReadsOnly steps → ReadKept shape extent (after plan got)
+    by_steps : (steps : List Want) → plan ≡ plan_of (reading shape extent k.cut) steps k.answer → ReadsOnly shape steps → ReadKept shape extent (after plan got)
     by_steps [] is f = absurd (subst (λ (v : Want). Comes words v got) (e ∙ ap want is) c)
     by_steps (w ∷ ws) is f =
-        let left = read_goes shape extent k.cut words w ws k.answer got f (subst (λ (v : Want). Comes words v got) (e ∙ ap want is) c) in
-        record { cut = k.cut; steps = left.steps; answer = left.answer; is = ap (λ s. after s got) is ∙ left.is; fine = left.fine }
+        let left = read_goes shape extent k.cut words w ws k.answer got z k.own f (subst (λ (v : Want). Comes words v got) (e ∙ ap want is) c) in
+        record { cut = k.cut; own = k.own; steps = left.steps; answer = left.answer; is = ap (λ s. after s got) is ∙ left.is; fine = left.fine }
 
 -- what it has entered then, if it was not refused
 pub write_after : (shape : Shape) (extent : Extent) (plan : Plan) (doing doing' : Doing) (top top' : ℕ → ℕ) (words : Words) (next : Want) (got : Got) → NoSeal words → WriteKept shape extent plan doing top → next ≡ want plan → Comes words next got →
@@ -163,8 +167,8 @@ flush_after plan doing low low' top top' words next got k e c up rise settle doi
         }
 
 pub open_after : (plan : Plan) (doing doing' : Doing) (device device' : List History) (next : Want) (got : Got) → OpenKept plan doing device → next ≡ want plan → ComesOfOpening next got →
-    (IsAlone device → IsAlone device') → (IsOriginSync next got → IsAlone device') → OpenKept (after plan got) doing' device'
-open_after plan doing doing' device device' next got k e c still settle = by_steps k.steps k.is k.fine k.durable
+    (IsAlone device → IsAlone device') → (IsOriginSync next got → IsAlone device') → ((refusal : Refusal) → MayRefuse doing refusal → MayRefuse doing' refusal) → ((refusal : Refusal) → Causes next got refusal → MayRefuse doing' refusal) → OpenKept (after plan got) doing' device'
+open_after plan doing doing' device device' next got k e c still settle grows why = by_steps k.steps k.is k.fine k.durable
   where
     by_steps : (steps : List Want) → plan ≡ plan_of (Opening k.left) steps k.answer → OpensOnly steps → (k.answer ≡ Finished → Syncs steps ⊎ IsAlone device) → OpenKept (after plan got) doing' device'
     by_steps [] is f d = absurd (subst (λ (v : Want). ComesOfOpening v got) (e ∙ ap want is) c)
@@ -183,6 +187,10 @@ open_after plan doing doing' device device' next got k e c still settle = by_ste
               | inr now ↦ inr (settle (subst (λ (v : Want). IsOriginSync v got) (sym here) now))
             ]
             | inr s ↦ inr (still s)
+          ];
+          cause = λ r y. elim (goes.cause r y) [
+            | inl before ↦ grows r (k.cause r before)
+            | inr now ↦ why r (subst (λ (v : Want). Causes v got r) (sym here) now)
           ];
         }
 

@@ -113,3 +113,11 @@ cut_own shape extent (x ∷ xs) m i e c = elim (Contains-append_cases (x ∷ [])
   | inl s ↦ subst (λ (y : Extent). sector_for shape extent y ≡ y.first) (sym (Contains-one x e s)) (sector_is shape extent x m i.0)
   | inr r ↦ cut_own shape extent xs m i.1 e r
 ]
+
+-- and they are sectors of the origin
+pub cut_inside : (shape : Shape) (extent : Extent) (cut : List Extent) → MayStart shape extent → AllWithin extent cut → (e : Extent) → Contains cut e → e.first + e.count ≤ sector_count shape
+cut_inside shape extent [] m i e c = absurd (omega (arith, c.1))
+cut_inside shape extent (x ∷ xs) m i e c = elim (Contains-append_cases (x ∷ []) xs e c) [
+  | inl s ↦ subst (λ (y : Extent). y.first + y.count ≤ sector_count shape) (sym (Contains-one x e s)) (omega (arith, i.0.to, m.inside))
+  | inr r ↦ cut_inside shape extent xs m i.1 e r
+]

@@ -49,7 +49,7 @@ module _ (P A : Type 0) (shape : Shape) where
       MetadataKept {P = P} {A = A} shape.geometry (Opens mode reading) commit devices.metadata → (l : Linked {P = P} {A = A} shape (Opens mode reading) devices.origin actors n) → slice_get actors a ≡ Some x → x.task ≡ Some (job, plan) → (k : Working {P = P} {A = A} shape (Opens mode reading) devices.origin l.low l.top job plan (slice_get n.doings a)) →
       next ≡ want plan → Gives shape (record { devices = devices; commit = commit; phase = Opens mode reading; actors = actors }) job next got read chosen → After (record { devices = devices; commit = commit; phase = Opens mode reading; actors = actors }) a next got read chosen n x job k.doing
   on_open devices commit mode reading actors n a next got read chosen x (Open m') plan known l e xt k h g =
-      opens_done P A shape mode reading devices commit actors a x n l e m' plan xt k.doing k.is k.job_is k.kept (shown_in shape (devices_then (λ step. device_done (Open m') step chosen) devices next) (phase_then shape (Opens mode reading) next got chosen)) got read chosen next h g (shows next g)
+      opens_done P A shape mode reading devices commit actors a x n l e m' plan xt k.doing k.is k.job_is k.kept (shown_in shape (devices_then (λ step. device_done (Open m') step chosen) devices next) (phase_then shape (Opens mode reading) next got chosen)) known got read chosen next h g (shows next g)
     where
       shows : (next : Want) → Gives shape (record { devices = devices; commit = commit; phase = Opens mode reading; actors = actors }) (Open m') next got read chosen →
           OfTarget (phase_then shape (Opens mode reading) next got chosen) (λ t. (t.desk.tree.entries ≡ replicate shape.geometry.cache_blocks None) × (shown_in shape (devices_then (λ step. device_done (Open m') step chosen) devices next) (phase_then shape (Opens mode reading) next got chosen) ≡ map newest devices.origin))

@@ -41,6 +41,7 @@ pub record Quiet {P : Type 0} (g : Geometry) (desk : DeskState P) (device : List
   pub same : stored.root.geometry ≡ g
   pub bare : IsBare g stored
   pub idle : desk.space.committing ≡ false
+  pub none_running : desk.space.places.running ≡ unused (place_count g.cache_blocks)
 
 -- One runs, that leads to the desk's tree.
 pub record Leading {P : Type 0} (g : Geometry) (desk : DeskState P) (commit : RunningCommit) (device : List History) : Type 0 where
@@ -178,6 +179,7 @@ module _ (P : Type 0) (g : Geometry) (desk : DeskState P) (device : List History
           same = l.under.can.same_geometry ∙ l.under.same;
           bare = l.under.bare_new;
           idle = refl;
+          none_running = ap (λ (x : Geometry). unused (place_count x.cache_blocks)) k.geometry;
         });
       })
 
@@ -236,6 +238,7 @@ module _ (A : Type 0) (g : Geometry) (device : List History) where
           same = k.under.can.same_geometry ∙ k.under.same;
           bare = k.under.bare_new;
           idle = refl;
+          none_running = refl;
         });
       }
     where

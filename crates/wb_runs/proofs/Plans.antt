@@ -1,5 +1,5 @@
 -- What may be left of the task of a read, a write, a flush or an opening where nothing is cached, and that each step leaves such.
-use Rattle.std.proofs.Common.{◌≡◌, ◌⊎◌, ◌==◌, ◌+◌, ◌-◌, inl, inr, ℕ, zero, suc, Bool, true, false, if◌then◌else◌, List, [], ◌∷◌, ◌++◌, Option, Some, None, refl, sym, subst, map, Contains}
+use Rattle.std.proofs.Common.{◌≡◌, ◌⊎◌, ◌==◌, ◌+◌, ◌-◌, ◌≤◌, inl, inr, ℕ, zero, suc, Bool, true, false, if◌then◌else◌, List, [], ◌∷◌, ◌++◌, Option, Some, None, refl, sym, subst, map, Contains}
 use Rattle.wb_types.proofs.Lists.{Contains-first, Contains-behind}
 use Rattle.wb_types.specs.declared.extent.Extent.{Extent}
 use Rattle.wb_types.specs.declared.mode.Dev.TheVariants.{Metadata, Cache, Origin}
@@ -11,7 +11,7 @@ use Rattle.wb_words.specs.declared.word.Word.TheVariants.{Cell as LockWord, Seal
 use Rattle.wb_words.specs.declared.step.CellStep.{CellStep}
 use Rattle.wb_words.specs.declared.step.CellStep.TheVariants.{Look, Take, Release, Seal, Finish, Count, SetFailed, SetSuspended}
 use Rattle.wb_words.specs.declared.step.CellResult.TheVariants.{Done as Won, Lost as NotWon}
-use Rattle.wb_words.specs.SharedWords.{Words, word_at, place_in, dirty_in}
+use Rattle.wb_words.specs.SharedWords.{Words, word_at}
 use Rattle.wb_words.specs.Effects.{result_of}
 use Rattle.wb_tasks.specs.Tables.{TaskJob, Reading, Writing, OnBlock, Flushing, Opening, read_step, write_step, work}
 use Rattle.wb_tasks.specs.Plan.{Plan, after, got_of, is_worn, may_take, exchange, gives_back, node_writes, root_steps, commit_steps, device_of}
@@ -23,7 +23,7 @@ use Rattle.wb_tasks.specs.declared.step.Want.{Want}
 use Rattle.wb_tasks.specs.declared.step.Want.TheVariants.{Cell, Device, Desk, End}
 use Rattle.wb_tasks.specs.declared.step.Got.{Got}
 use Rattle.wb_tasks.specs.declared.step.Got.TheVariants.{Done, Word, Fault, Refused as GotRefused, Began, More}
-use Rattle.wb_runs.specs.States.{Shape}
+use Rattle.wb_runs.specs.States.{Shape, sector_count}
 use Rattle.wb_runs.specs.Happenings.{block_range}
 use Rattle.wb_runs.specs.Clerk.{sector_for}
 
@@ -51,25 +51,29 @@ Comes words next got = ⊥
 
 -- ---- reads and writes
 
--- steps of a read: none seals
-abbrev pub ReadsOnly : List Want → Type 0
-ReadsOnly [] = Unit {0}
-ReadsOnly (Cell (Seal block place dirty) ∷ ws) = ⊥
-ReadsOnly (Cell step ∷ ws) = ReadsOnly ws
-ReadsOnly (Device (ReadExtent device e) ∷ ws) = ReadsOnly ws
-ReadsOnly (w ∷ ws) = ⊥
+-- an extent of sectors of the origin
+abbrev pub IsInside : Shape → Extent → Type 0
+IsInside shape e = e.first + e.count ≤ sector_count shape
+
+-- steps of a read: none seals, and each reads sectors of the origin
+abbrev pub ReadsOnly : Shape → List Want → Type 0
+ReadsOnly shape [] = Unit {0}
+ReadsOnly shape (Cell (Seal block place dirty) ∷ ws) = ⊥
+ReadsOnly shape (Cell step ∷ ws) = ReadsOnly shape ws
+ReadsOnly shape (Device (ReadExtent Origin e) ∷ ws) = IsInside shape e × ReadsOnly shape ws
+ReadsOnly shape (w ∷ ws) = ⊥
 
 -- steps of a write: none seals, and each writes sectors of the origin that are those of the request
 abbrev pub WritesOnly : Shape → Extent → List Want → Type 0
 WritesOnly shape extent [] = Unit {0}
 WritesOnly shape extent (Cell (Seal block place dirty) ∷ ws) = ⊥
 WritesOnly shape extent (Cell step ∷ ws) = WritesOnly shape extent ws
-WritesOnly shape extent (Device (WriteExtent Origin e) ∷ ws) = (sector_for shape extent e ≡ e.first) × WritesOnly shape extent ws
+WritesOnly shape extent (Device (WriteExtent Origin e) ∷ ws) = ((sector_for shape extent e ≡ e.first) × IsInside shape e) × WritesOnly shape extent ws
 WritesOnly shape extent (w ∷ ws) = ⊥
 
 -- all extents of a cut are of the origin's own addresses
 abbrev pub Own : Shape → Extent → List Extent → Type 0
-Own shape extent cut = (e : Extent) → Contains cut e → sector_for shape extent e ≡ e.first
+Own shape extent cut = (e : Extent) → Contains cut e → (sector_for shape extent e ≡ e.first) × IsInside shape e
 
 module _ (shape : Shape) (extent : Extent) (cut : List Extent) where
   abbrev pub reading : TaskJob
@@ -78,61 +82,62 @@ module _ (shape : Shape) (extent : Extent) (cut : List Extent) where
   abbrev pub writing : TaskJob
   writing = OnBlock (Writing (block_range shape extent cut))
 
+  abbrev R : List Want → Type 0
+  R ws = ReadsOnly shape ws
+
   -- onward, or refused with nothing left
-  read_or : (t : Bool) (w : Want) (ws : List Want) (answer : Answer) (refusal : Refusal) → ReadsOnly ws → Left reading ReadsOnly answer (if t then plan_of reading ws answer else plan_of reading [] (Refuses refusal))
+  read_or : (t : Bool) (w : Want) (ws : List Want) (answer : Answer) (refusal : Refusal) → R ws → Left reading R answer (if t then plan_of reading ws answer else plan_of reading [] (Refuses refusal))
   read_or true w ws answer refusal f = record { steps = ws; answer = answer; is = refl; fine = f; done = λ e. e }
   read_or false w ws answer refusal f = record { steps = []; answer = Refuses refusal; is = refl; fine = tt; done = λ e. absurd (cc) }
 
-  reads_all : (place : Option CBlock) (es : List Extent) (ws : List Want) → ReadsOnly ws → ReadsOnly (map (read_step (block_range shape extent cut) place) es ++ ws)
-  reads_all None [] ws f = f
-  reads_all (Some c) [] ws f = f
-  reads_all None (e ∷ es) ws f = reads_all None es ws f
-  reads_all (Some c) (e ∷ es) ws f = reads_all (Some c) es ws f
+  reads_all : (es : List Extent) (ws : List Want) → Own shape extent es → R ws → R (map (read_step (block_range shape extent cut) None) es ++ ws)
+  reads_all [] ws o f = f
+  reads_all (e ∷ es) ws o f = ((o e (Contains-first e es)).1, reads_all es ws (λ x m. o x (Contains-behind e es x m)) f)
 
-  reads_work : (place : Option CBlock) (dirty : Bool) → ReadsOnly (work (Reading (block_range shape extent cut)) place dirty)
-  reads_work None dirty = reads_all None cut _ tt
-  reads_work (Some c) dirty = reads_all (Some c) cut _ tt
-
-  read_cell : (words : Words) (step : CellStep) (ws : List Want) (answer : Answer) → ReadsOnly (Cell step ∷ ws) →
-      Left reading ReadsOnly answer (after (plan_of reading (Cell step ∷ ws) answer) (got_of (result_of words step)))
-  read_cell words (Look Fail) ws answer f = read_or _ (Cell (Look Fail)) ws answer Failed f
-  read_cell words (Look (LockWord b)) ws answer f = by_test (may_take reading (word_at words.cells b))
+  read_cell : (words : Words) (step : CellStep) (ws : List Want) (answer : Answer) → NoSeal words → Own shape extent cut → R (Cell step ∷ ws) →
+      Left reading R answer (after (plan_of reading (Cell step ∷ ws) answer) (got_of (result_of words step)))
+  read_cell words (Look Fail) ws answer z o f = read_or _ (Cell (Look Fail)) ws answer Failed f
+  read_cell words (Look (LockWord b)) ws answer z o f = by_test (may_take reading (word_at words.cells b))
     where
-      by_test : (t : Bool) → Left reading ReadsOnly answer (if t then plan_of reading (exchange reading (word_at words.cells b)) answer else plan_of reading [] (Refuses Busy))
+      by_test : (t : Bool) → Left reading R answer (if t then plan_of reading (exchange reading (word_at words.cells b)) answer else plan_of reading [] (Refuses Busy))
       by_test true = record { steps = _; answer = answer; is = refl; fine = tt; done = λ e. e }
       by_test false = record { steps = []; answer = Refuses Busy; is = refl; fine = tt; done = λ e. absurd (cc) }
-  read_cell words (Look (SealWord b)) ws answer f = record { steps = _; answer = answer; is = refl; fine = reads_work (place_in (word_at words.seals b)) (dirty_in (word_at words.seals b)); done = λ e. e }
-  read_cell words (Look (Number b)) ws answer f = by_test (is_worn reading (word_at words.numbers b))
+  read_cell words (Look (SealWord b)) ws answer z o f =
+      subst (λ (x : ℕ). Left reading R answer (after (plan_of reading (Cell (Look (SealWord b)) ∷ ws) answer) (Word x))) (sym (z b))
+      (record { steps = _; answer = answer; is = refl; fine = reads_all cut _ o tt; done = λ e. e })
+  read_cell words (Look (Number b)) ws answer z o f = by_test (is_worn reading (word_at words.numbers b))
     where
-      by_test : (t : Bool) → Left reading ReadsOnly answer (if t then plan_of reading (gives_back reading) (Refuses Worn) else plan_of reading ws answer)
+      by_test : (t : Bool) → Left reading R answer (if t then plan_of reading (gives_back reading) (Refuses Worn) else plan_of reading ws answer)
       by_test true = record { steps = _; answer = Refuses Worn; is = refl; fine = tt; done = λ e. absurd (cc) }
       by_test false = record { steps = ws; answer = answer; is = refl; fine = f; done = λ e. e }
-  read_cell words (Look (CountWord kind)) ws answer f = record { steps = ws; answer = answer; is = refl; fine = f; done = λ e. e }
-  read_cell words (Take access b seen) ws answer f = by_test (word_at words.cells b == seen)
+  read_cell words (Look (CountWord kind)) ws answer z o f = record { steps = ws; answer = answer; is = refl; fine = f; done = λ e. e }
+  read_cell words (Take access b seen) ws answer z o f = by_test (word_at words.cells b == seen)
     where
-      by_test : (t : Bool) → Left reading ReadsOnly answer (after (plan_of reading (Cell (Take access b seen) ∷ ws) answer) (got_of (if t then Won else NotWon)))
+      by_test : (t : Bool) → Left reading R answer (after (plan_of reading (Cell (Take access b seen) ∷ ws) answer) (got_of (if t then Won else NotWon)))
       by_test true = record { steps = ws; answer = answer; is = refl; fine = f; done = λ e. e }
       by_test false = record { steps = []; answer = Refuses Busy; is = refl; fine = tt; done = λ e. absurd (cc) }
-  read_cell words (Release access b) ws answer f = record { steps = ws; answer = answer; is = refl; fine = f; done = λ e. e }
-  read_cell words (Seal b place dirty) ws answer f = absurd f
-  read_cell words (Finish b) ws answer f = record { steps = ws; answer = answer; is = refl; fine = f; done = λ e. e }
-  read_cell words (Count kind) ws answer f = record { steps = ws; answer = answer; is = refl; fine = f; done = λ e. e }
-  read_cell words SetFailed ws answer f = record { steps = ws; answer = answer; is = refl; fine = f; done = λ e. e }
-  read_cell words SetSuspended ws answer f = record { steps = ws; answer = answer; is = refl; fine = f; done = λ e. e }
+  read_cell words (Release access b) ws answer z o f = record { steps = ws; answer = answer; is = refl; fine = f; done = λ e. e }
+  read_cell words (Seal b place dirty) ws answer z o f = absurd f
+  read_cell words (Finish b) ws answer z o f = record { steps = ws; answer = answer; is = refl; fine = f; done = λ e. e }
+  read_cell words (Count kind) ws answer z o f = record { steps = ws; answer = answer; is = refl; fine = f; done = λ e. e }
+  read_cell words SetFailed ws answer z o f = record { steps = ws; answer = answer; is = refl; fine = f; done = λ e. e }
+  read_cell words SetSuspended ws answer z o f = record { steps = ws; answer = answer; is = refl; fine = f; done = λ e. e }
 
-  pub read_goes : (words : Words) (w : Want) (ws : List Want) (answer : Answer) (got : Got) → ReadsOnly (w ∷ ws) → Comes words w got → Left reading ReadsOnly answer (after (plan_of reading (w ∷ ws) answer) got)
-  read_goes words (Cell step) ws answer got f c = subst (λ (g : Got). Left reading ReadsOnly answer (after (plan_of reading (Cell step ∷ ws) answer) g)) (sym c) (read_cell words step ws answer f)
-  read_goes words (Device (ReadExtent d e)) ws answer got f (inl c) = subst (λ (g : Got). Left reading ReadsOnly answer (after (plan_of reading (Device (ReadExtent d e) ∷ ws) answer) g)) (sym c)
-      (record { steps = ws; answer = answer; is = refl; fine = f; done = λ e. e })
-  read_goes words (Device (ReadExtent d e)) ws answer got f (inr c) = subst (λ (g : Got). Left reading ReadsOnly answer (after (plan_of reading (Device (ReadExtent d e) ∷ ws) answer) g)) (sym c)
-      (record { steps = _; answer = Refuses (Io d); is = refl; fine = tt; done = λ e. absurd (cc) })
-  read_goes words (Device (WriteExtent d e)) ws answer got f c = absurd f
-  read_goes words (Device (Sync d)) ws answer got f c = absurd f
-  read_goes words (Device (ReadMetadata n)) ws answer got f c = absurd f
-  read_goes words (Device (WriteNode n)) ws answer got f c = absurd f
-  read_goes words (Device WriteRoot) ws answer got f c = absurd f
-  read_goes words (Desk step) ws answer got f c = absurd f
-  read_goes words (End a) ws answer got f c = absurd f
+  pub read_goes : (words : Words) (w : Want) (ws : List Want) (answer : Answer) (got : Got) → NoSeal words → Own shape extent cut → R (w ∷ ws) → Comes words w got → Left reading R answer (after (plan_of reading (w ∷ ws) answer) got)
+  read_goes words (Cell step) ws answer got z o f c = subst (λ (g : Got). Left reading R answer (after (plan_of reading (Cell step ∷ ws) answer) g)) (sym c) (read_cell words step ws answer z o f)
+  read_goes words (Device (ReadExtent Origin e)) ws answer got z o f (inl c) = subst (λ (g : Got). Left reading R answer (after (plan_of reading (Device (ReadExtent Origin e) ∷ ws) answer) g)) (sym c)
+      (record { steps = ws; answer = answer; is = refl; fine = f.1; done = λ e. e })
+  read_goes words (Device (ReadExtent Origin e)) ws answer got z o f (inr c) = subst (λ (g : Got). Left reading R answer (after (plan_of reading (Device (ReadExtent Origin e) ∷ ws) answer) g)) (sym c)
+      (record { steps = _; answer = Refuses (Io Origin); is = refl; fine = tt; done = λ e. absurd (cc) })
+  read_goes words (Device (ReadExtent Cache e)) ws answer got z o f c = absurd f
+  read_goes words (Device (ReadExtent Metadata e)) ws answer got z o f c = absurd f
+  read_goes words (Device (WriteExtent d e)) ws answer got z o f c = absurd f
+  read_goes words (Device (Sync d)) ws answer got z o f c = absurd f
+  read_goes words (Device (ReadMetadata n)) ws answer got z o f c = absurd f
+  read_goes words (Device (WriteNode n)) ws answer got z o f c = absurd f
+  read_goes words (Device WriteRoot) ws answer got z o f c = absurd f
+  read_goes words (Desk step) ws answer got z o f c = absurd f
+  read_goes words (End a) ws answer got z o f c = absurd f
 
   abbrev W : List Want → Type 0
   W ws = WritesOnly shape extent ws

@@ -46,7 +46,7 @@ use Rattle.wb_runs.proofs.Stepping.{done_kept}
 use Rattle.wb_runs.proofs.Lives.{shows_or}
 
 module _ (P A : Type 0) (shape : Shape) where
-  free : (w : State P A) (n : Notes) (a : ℕ) (job : Job) → (¬ DoesNotApply w (Start a job)) → (x : Actor) × (slice_get w.actors a ≡ Some x) × (x.task ≡ None)
+  pub free : (w : State P A) (n : Notes) (a : ℕ) (job : Job) → (¬ DoesNotApply w (Start a job)) → (x : Actor) × (slice_get w.actors a ≡ Some x) × (x.task ≡ None)
   free w n a job applies = at_actor (slice_get w.actors a) refl
     where
       at_task : (x : Actor) (t : Option (Job × Plan)) → slice_get w.actors a ≡ Some x → x.task ≡ t → x.task ≡ None
@@ -75,7 +75,7 @@ module _ (P A : Type 0) (shape : Shape) where
     where
       by_phase : (phase : Phase P A) (actors : List Actor) → Linked {P = P} {A = A} shape phase w.devices.origin actors n → slice_get actors a ≡ Some (free w n a (Read extent) applies).0 → ¬ Rattle.wb_runs.specs.Happenings.IsOutOfPlace phase (Read extent) →
           Linked {P = P} {A = A} shape phase w.devices.origin (slice_set actors a (given {P = P} {A = A} shape (free w n a (Read extent) applies).0 (Read extent) (Cut cut))) (noted_what shape s n (Start a (Read extent)) Started [])
-      by_phase (Stands t) actors l e p = let f = free w n a (Read extent) applies in task_starts P A shape t w.devices.origin actors n a f.0 (given {P = P} {A = A} shape f.0 (Read extent) (Cut cut)) (Read extent) _ l e f.2 refl (λ i. i) (read_starts P A shape extent cut)
+      by_phase (Stands t) actors l e p = let f = free w n a (Read extent) applies in task_starts P A shape t w.devices.origin actors n a f.0 (given {P = P} {A = A} shape f.0 (Read extent) (Cut cut)) (Read extent) _ l e f.2 refl (λ i. i) (read_starts P A shape extent cut gives.0 gives.1)
       by_phase Gone actors l e p = absurd (p (λ z. z))
       by_phase (Opens mode reading) actors l e p = absurd (p (λ z. z))
   starts w n a (Write extent content) (Cut cut) l applies gives s =
@@ -99,7 +99,7 @@ module _ (P A : Type 0) (shape : Shape) where
   starts w n a (Read extent) chosen l applies gives s = absurd gives
   starts w n a (Write extent content) chosen l applies gives s = absurd gives
 
-  by_what : (w : State P A) (n : Notes) (event : Event) (what : What) (read : List Bytes) (chosen : Chosen P A) → Known P A shape w → LinkedTo P A shape w n → MayBe shape w event what read chosen → LinkedTo P A shape (after_what shape w event what chosen) (noted_what shape (shown shape (after_what shape w event what chosen)) n event what read)
+  pub by_what : (w : State P A) (n : Notes) (event : Event) (what : What) (read : List Bytes) (chosen : Chosen P A) → Known P A shape w → LinkedTo P A shape w n → MayBe shape w event what read chosen → LinkedTo P A shape (after_what shape w event what chosen) (noted_what shape (shown shape (after_what shape w event what chosen)) n event what read)
   by_what w n (Start a job) Skipped read chosen known l h = l
   by_what w n (Start a job) (Refused refusal) read chosen known l h = l
   by_what w n (Start a job) Started read chosen known l h = starts w n a job chosen l h.1 h.2 (shown shape (after_what shape w (Start a job) Started chosen))
@@ -123,7 +123,7 @@ module _ (P A : Type 0) (shape : Shape) where
   by_what w n (Stop choice) (Stepped next got) read chosen known l h = l
   by_what w n (Stop choice) Stopped read chosen known l h = crash_links P A shape w.phase w.devices.origin (crashed Origin choice w.devices.origin) w.actors n l (Crashed-crashed_from Origin choice 0 w.devices.origin)
 
-  always : (w : State P A) (n : Notes) (hs : List (Happening P A)) → Known P A shape w → LinkedTo P A shape w n → IsRun shape w hs → LinkedTo P A shape (after_all shape w hs) (noted shape w n hs)
+  pub always : (w : State P A) (n : Notes) (hs : List (Happening P A)) → Known P A shape w → LinkedTo P A shape w n → IsRun shape w hs → LinkedTo P A shape (after_all shape w hs) (noted shape w n hs)
   always w n [] known l r = l
   always w n (h ∷ hs) known l r = always (after_happening shape w h) (note_happening shape w n h) hs (known_after P A shape w h known r.0)
       (by_what w n h.record_is.event h.record_is.what h.record_is.read.items h.chosen known l r.0) r.1
@@ -133,7 +133,7 @@ module _ (P A : Type 0) (shape : Shape) where
   zeros (suc k) zero = refl
   zeros (suc k) (suc at) = zeros k at
 
-  at_start : (metadata : List History) → LinkedTo P A shape (start shape metadata) (formatted shape)
+  pub at_start : (metadata : List History) → LinkedTo P A shape (start shape metadata) (formatted shape)
   at_start metadata = record {
     low = λ at. 0;
     top = λ at. 0;

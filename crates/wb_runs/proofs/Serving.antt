@@ -28,21 +28,21 @@ use Rattle.wb_runs.specs.declared.job.Job.TheVariants.{Read, Write, Flush, Open}
 use Rattle.wb_runs.specs.States.{Shape, Actor, Target, Stands, with_device}
 use Rattle.wb_runs.specs.Clerk.{Notes, Doing, enter_each, entering, put, failing, device_note, finished_note, noted_step, sector_for}
 use Rattle.wb_runs.proofs.Sectors.{AllFollow, AreBelow, number_at, all_raised_below, greater_below}
-use Rattle.wb_runs.proofs.Plans.{NoSeal, plan_of, reading, writing, ReadsOnly, WritesOnly, FlushesOnly, IsOriginSync}
+use Rattle.wb_runs.proofs.Plans.{NoSeal, plan_of, reading, writing, IsInside, ReadsOnly, WritesOnly, FlushesOnly, IsOriginSync}
 use Rattle.wb_runs.proofs.Contents.{ReadKept, WriteKept, FlushKept, JobKept, IsOpeningJob, Linked, read_after, write_after, flush_after}
 use Rattle.wb_runs.proofs.Standing.{IsSeal, Noted, put_noted, twice, quiet, resynced, answered, wrote}
 
 -- ---- what a task may do next
 
-abbrev pub IsReadNext : Want → Type 0
-IsReadNext (Cell step) = ¬ IsSeal step
-IsReadNext (Device (ReadExtent device e)) = Unit {0}
-IsReadNext (End answer) = Unit {0}
-IsReadNext w = ⊥
+abbrev pub IsReadNext : Shape → Want → Type 0
+IsReadNext shape (Cell step) = ¬ IsSeal step
+IsReadNext shape (Device (ReadExtent Origin e)) = IsInside shape e
+IsReadNext shape (End answer) = Unit {0}
+IsReadNext shape w = ⊥
 
 abbrev pub IsWriteNext : Shape → Extent → Want → Type 0
 IsWriteNext shape extent (Cell step) = ¬ IsSeal step
-IsWriteNext shape extent (Device (WriteExtent Origin e)) = sector_for shape extent e ≡ e.first
+IsWriteNext shape extent (Device (WriteExtent Origin e)) = (sector_for shape extent e ≡ e.first) × IsInside shape e
 IsWriteNext shape extent (End answer) = Unit {0}
 IsWriteNext shape extent w = ⊥
 
@@ -56,23 +56,25 @@ IsFlushNext (Desk EndCommit) = Unit {0}
 IsFlushNext (End answer) = Unit {0}
 IsFlushNext w = ⊥
 
-read_first : (w : Want) (ws : List Want) → ReadsOnly (w ∷ ws) → IsReadNext w
-read_first (Cell (Look word)) ws f = λ s. s
-read_first (Cell (Take access b seen)) ws f = λ s. s
-read_first (Cell (Release access b)) ws f = λ s. s
-read_first (Cell (Seal b place dirty)) ws f = absurd f
-read_first (Cell (Finish b)) ws f = λ s. s
-read_first (Cell (Count kind)) ws f = λ s. s
-read_first (Cell SetFailed) ws f = λ s. s
-read_first (Cell SetSuspended) ws f = λ s. s
-read_first (Device (ReadExtent d e)) ws f = tt
-read_first (Device (WriteExtent d e)) ws f = absurd f
-read_first (Device (Sync d)) ws f = absurd f
-read_first (Device (ReadMetadata k)) ws f = absurd f
-read_first (Device (WriteNode k)) ws f = absurd f
-read_first (Device WriteRoot) ws f = absurd f
-read_first (Desk step) ws f = absurd f
-read_first (End answer) ws f = absurd f
+read_first : (shape : Shape) (w : Want) (ws : List Want) → ReadsOnly shape (w ∷ ws) → IsReadNext shape w
+read_first shape (Cell (Look word)) ws f = λ s. s
+read_first shape (Cell (Take access b seen)) ws f = λ s. s
+read_first shape (Cell (Release access b)) ws f = λ s. s
+read_first shape (Cell (Seal b place dirty)) ws f = absurd f
+read_first shape (Cell (Finish b)) ws f = λ s. s
+read_first shape (Cell (Count kind)) ws f = λ s. s
+read_first shape (Cell SetFailed) ws f = λ s. s
+read_first shape (Cell SetSuspended) ws f = λ s. s
+read_first shape (Device (ReadExtent Origin e)) ws f = f.0
+read_first shape (Device (ReadExtent Cache e)) ws f = absurd f
+read_first shape (Device (ReadExtent Metadata e)) ws f = absurd f
+read_first shape (Device (WriteExtent d e)) ws f = absurd f
+read_first shape (Device (Sync d)) ws f = absurd f
+read_first shape (Device (ReadMetadata k)) ws f = absurd f
+read_first shape (Device (WriteNode k)) ws f = absurd f
+read_first shape (Device WriteRoot) ws f = absurd f
+read_first shape (Desk step) ws f = absurd f
+read_first shape (End answer) ws f = absurd f
 
 write_first : (shape : Shape) (extent : Extent) (w : Want) (ws : List Want) → WritesOnly shape extent (w ∷ ws) → IsWriteNext shape extent w
 write_first shape extent (Cell (Look word)) ws f = λ s. s
@@ -108,12 +110,12 @@ flush_first (Desk (BeginCommit clean most)) ws f = tt
 flush_first (Desk EndCommit) ws f = tt
 flush_first w ws f = absurd f
 
-pub read_next : (shape : Shape) (extent : Extent) (plan : Plan) (next : Want) → ReadKept shape extent plan → next ≡ want plan → IsReadNext next
-read_next shape extent plan next k e = subst (λ (v : Want). IsReadNext v) (sym (e ∙ ap want k.is)) (by_steps k.steps k.fine)
+pub read_next : (shape : Shape) (extent : Extent) (plan : Plan) (next : Want) → ReadKept shape extent plan → next ≡ want plan → IsReadNext shape next
+read_next shape extent plan next k e = subst (λ (v : Want). IsReadNext shape v) (sym (e ∙ ap want k.is)) (by_steps k.steps k.fine)
   where
-    by_steps : (steps : List Want) → ReadsOnly steps → IsReadNext (want (plan_of (reading shape extent k.cut) steps k.answer))
+    by_steps : (steps : List Want) → ReadsOnly shape steps → IsReadNext shape (want (plan_of (reading shape extent k.cut) steps k.answer))
     by_steps [] f = tt
-    by_steps (w ∷ ws) f = read_first w ws f
+    by_steps (w ∷ ws) f = read_first shape w ws f
 
 pub write_next : (shape : Shape) (extent : Extent) (plan : Plan) (doing : Doing) (top : ℕ → ℕ) (next : Want) → WriteKept shape extent plan doing top → next ≡ want plan → IsWriteNext shape extent next
 write_next shape extent plan doing top next k e = subst (λ (v : Want). IsWriteNext shape extent v) (sym (e ∙ ap want k.is)) (by_steps k.steps k.fine)
@@ -182,7 +184,7 @@ module _ (P A : Type 0) (shape : Shape) (t : Target P) (devices : Devices (List 
 
   pub read_cell : (t' : Target P) (y : Actor) (extent : Extent) (step : CellStep) (got : Got) → ReadKept shape extent plan → doing.job ≡ Read extent → Cell step ≡ want plan → NoSeal t'.words → got ≡ Rattle.wb_tasks.specs.Plan.got_of (Rattle.wb_words.specs.Effects.result_of t.words step) →
       y.task ≡ Some (Read extent, after plan got) → Then t' devices.origin y n
-  read_cell t' y extent step got k j w z c yt = on_words t' y (Read extent) (after plan got) z yt j (λ i. i) (read_after shape extent plan t.words (Cell step) got k w c)
+  read_cell t' y extent step got k j w z c yt = on_words t' y (Read extent) (after plan got) z yt j (λ i. i) (read_after shape extent plan t.words (Cell step) got l.standing.0 k w c)
 
   -- what is noted of a read's step
   read_noted : (extent : Extent) (d : Dev) (ex : Extent) (got : Got) (read : List Bytes) (m : Notes) (doing' : Doing) → (got ≡ Done) ⊎ (got ≡ Fault) → slice_get m.doings a ≡ Some (Some doing') →
@@ -202,7 +204,7 @@ module _ (P A : Type 0) (shape : Shape) (t : Target P) (devices : Devices (List 
       subst (λ (o : List History). Then t' o y (noted_step shape shown n a (Some (Some doing)) (Device (ReadExtent d ex)) got read)) (sym s)
       (subst (λ (q : Job). Then t' devices.origin y (device_note shape first a mid q (ReadExtent d ex) got read)) (sym j)
       (quiet P A shape t devices.origin actors a x n l e doing noted t' y n' (Read extent) (after plan got) more.0
-      (record { others = λ b o. more.2.others b o ∙ m1.others b o; here = more.2.here; floors = more.2.floors; finished = more.2.finished }) more.3 z yt (more.1 ∙ facts.0 ∙ j) (λ i. i) (read_after shape extent plan t.words (Device (ReadExtent d ex)) got k w how)))
+      (record { others = λ b o. more.2.others b o ∙ m1.others b o; here = more.2.here; floors = more.2.floors; finished = more.2.finished }) more.3 z yt (more.1 ∙ facts.0 ∙ j) (λ i. i) (read_after shape extent plan t.words (Device (ReadExtent d ex)) got l.standing.0 k w how)))
 
   -- ---- writes
 
@@ -215,7 +217,7 @@ module _ (P A : Type 0) (shape : Shape) (t : Target P) (devices : Devices (List 
       Then t' (written_where lands devices.origin ex.first (replicate ex.count content)) y (noted_step shape shown n a (Some (Some doing)) (Device (WriteExtent Origin ex)) got read)
   write_device t' y extent content ex lands got read k j w z how yt =
       let mid = failing doing (WriteExtent Origin ex) got in
-      let own = write_next shape extent plan doing l.top (Device (WriteExtent Origin ex)) k w in
+      let own = (write_next shape extent plan doing l.top (Device (WriteExtent Origin ex)) k w).0 in
       let facts = failing_job doing (WriteExtent Origin ex) got (outcome how) in
       let entered = enter_each content (rising ex.first ex.count) (entering n doing) in
       let n' = record n { histories = entered.histories; doings = slice_set (slice_set n.doings a (Some mid)) a (Some (record mid { entered = entered.entered })) } in

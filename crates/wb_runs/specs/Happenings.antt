@@ -1,5 +1,5 @@
 -- What an event may do in a state.
-use Rattle.std.specs.Prelude.{◌≡◌, ◌≢◌, ◌≤◌, ◌+◌, ◌-◌, ◌/◌, ◌&&◌, ◌==◌, ◌⊎◌, ℕ, Bool, true, false, List, [], Option, Some, None, length, slice_get, if◌then◌else◌, nat_le}
+use Rattle.std.specs.Prelude.{◌≡◌, ◌≢◌, ◌≤◌, ◌<◌, ◌+◌, ◌-◌, ◌/◌, ◌^◌, ◌&&◌, ◌==◌, ◌⊎◌, ℕ, Bool, true, false, List, [], Option, Some, None, length, slice_get, if◌then◌else◌, nat_le}
 use Rattle.wb_types.specs.Limits.{node_count}
 use Rattle.wb_types.specs.declared.extent.Extent.{Extent}
 use Rattle.wb_types.specs.declared.geometry.Geometry.{Geometry}
@@ -176,11 +176,17 @@ FailsSync phase (Some commit) device = IsNextOf (Some commit) (Sync Metadata) de
 FailsSync (Opens mode reading) None device = Unit {0}
 FailsSync phase None device = ⊥
 
+-- the root that a commit writes, if one runs, is of a generation that a sector can spell
+abbrev pub HasGeneration : Option RunningCommit → Type 0
+HasGeneration None = Unit {0}
+HasGeneration (Some commit) = commit.image.root.generation < 2 ^ 64
+
 -- An opening has read one sector more. Its reading goes on, and all is read, or it is refused: for what stands there, for want
 -- of memory, for a root of another geometry, or since no generation is left.
 abbrev pub DoesRead : {P A : Type 0} → Geometry → ℕ → ReadSteps A → List History → Option RunningCommit → Got → Chosen P A → Type 0
 DoesRead {P} {A} geometry left was device commit got (Reaches after commit') = (got ≢ Fault)
-    × (((now : ReadSteps A) × ReadingGoesOn was device now × AreStepsOn (length device) now × HasCome geometry left now commit got after commit')
+    × (((now : ReadSteps A) × ReadingGoesOn was device now × AreStepsOn (length device) now × HasCome geometry left now commit got after commit'
+        × (sectors_read now ≡ sectors_read was + 1) × HasGeneration commit')
     ⊎ ((refusal : Refusal) × IsOfReading refusal × StopsBy was device refusal × (got ≡ got_of_refusal refusal) × (after ≡ None) × (commit' ≡ commit)))
 DoesRead geometry left was device commit got chosen = ⊥
 

@@ -158,6 +158,24 @@ AllOpenRightly shape w n [] = Unit {0}
 AllOpenRightly shape w n (h ∷ hs) = OpensRightly (shown shape (after_happening shape w h)) n h.record_is.event h.record_is.what
     × AllOpenRightly shape (after_happening shape w h) (note_happening shape w n h) hs
 
+-- An opening that is refused has a cause: a step of it has failed on that device, memory was wanted, or no generation is left.
+abbrev pub RefusedBy : Doing → Job → Refusal → Type 0
+RefusedBy doing (Open mode) refusal = MayRefuse doing refusal
+RefusedBy doing job refusal = Unit {0}
+
+abbrev pub RefusedRightly : Option (Option Doing) → Refusal → Type 0
+RefusedRightly (Some (Some doing)) refusal = RefusedBy doing doing.job refusal
+RefusedRightly doing refusal = Unit {0}
+
+abbrev pub RefusesByCause : Notes → Event → What → Type 0
+RefusesByCause n (Step a) (Stepped (End (Refuses refusal)) got) = RefusedRightly (slice_get n.doings a) refusal
+RefusesByCause n event what = Unit {0}
+
+-- every opening of a run that is refused does
+abbrev pub AllRefuseByCause : {P A : Type 0} → Shape → State P A → Notes → List (Happening P A) → Type 0
+AllRefuseByCause shape w n [] = Unit {0}
+AllRefuseByCause shape w n (h ∷ hs) = RefusesByCause n h.record_is.event h.record_is.what × AllRefuseByCause shape (after_happening shape w h) (note_happening shape w n h) hs
+
 -- ---- laws
 
 -- A run from formatted metadata, and what is so after it.
@@ -176,3 +194,7 @@ AllCrashConsistent P A = InEveryRun P A (λ shape metadata hs. CrashConsistent s
 -- what every opening shows that is answered done is allowed
 abbrev pub AllOpeningsShowAllowed : (P A : Type 0) → Type 0
 AllOpeningsShowAllowed P A = InEveryRun P A (λ shape metadata hs. AllOpenRightly shape (start shape metadata) (formatted shape) hs)
+
+-- no opening is refused for what the metadata hold
+abbrev pub OpeningsRefuseByCause : (P A : Type 0) → Type 0
+OpeningsRefuseByCause P A = InEveryRun P A (λ shape metadata hs. AllRefuseByCause shape (start shape metadata) (formatted shape) hs)

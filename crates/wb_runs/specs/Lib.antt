@@ -3,3 +3,4 @@ pub mod Happenings
 pub mod Effects
 pub mod Clerk
 pub mod Headline
+pub mod Progress

@@ -1,6 +1,7 @@
 //! The theorems over all runs.
 
-ghost use Rattle.wb_runs.specs.Headline.{MetadataAreRead, AllCrashConsistent, AllOpeningsShowAllowed};
+ghost use Rattle.wb_runs.specs.Headline.{MetadataAreRead, AllCrashConsistent, AllOpeningsShowAllowed, OpeningsRefuseByCause};
+ghost use Rattle.wb_runs.specs.Progress.{NeverStuck};
 
 /// In every run, over any policy: whatever a crash leaves of the metadata device, it represents a root of this geometry and a
 /// tree, so an opening finds one. Nothing is cached yet.
@@ -19,4 +20,16 @@ pub fn every_crash_is_consistent<P, A>()
 /// durable floor or later; the next history begins with it.
 pub fn every_opening_shows_allowed<P, A>()
     ensures { AllOpeningsShowAllowed P A }
+{}
+
+/// No run is ever stuck, given some policy to open with and a reading that has read nothing: after every run each event has a
+/// happening, which skips it only where it does not apply, and whoever has a task may do its next step.
+pub fn never_stuck<P, A>()
+    ensures { NeverStuck P A }
+{}
+
+/// In every run an opening is refused only where a step of it has failed, and then by that device, for want of memory, or since no
+/// generation is left; never for what the metadata hold.
+pub fn openings_refuse_by_cause<P, A>()
+    ensures { OpeningsRefuseByCause P A }
 {}

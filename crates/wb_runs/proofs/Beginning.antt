@@ -1,0 +1,136 @@
+-- Where a desk may begin a commit there is an image to begin it with: the tree has no node, and the image none to write.
+use Rattle.std.proofs.Common.{Global, ◌≡◌, ◌∙◌, ◌≤◌, ◌<◌, ◌+◌, ◌^◌, ◌⊎◌, inl, inr, ℕ, zero, suc, Bool, true, false, List, [], ◌∷◌, Option, Some, None, refl, sym, ap, subst, arith, length, slice_get, slice_index_or, replicate, map}
+use Rattle.std.proofs.lemmas.List.{length-replicate}
+use Rattle.std.proofs.lemmas.List.Elements.{All-nil}
+use Rattle.wb_types.specs.declared.entry.Entry.{Entry}
+use Rattle.wb_types.specs.declared.geometry.Geometry.{Geometry}
+use Rattle.wb_types.specs.declared.number.Place.{Place}
+use Rattle.wb_disk.specs.Device.{History}
+use Rattle.wb_format.specs.declared.root.Root.{Root}
+use Rattle.wb_format.specs.declared.version.Version.TheVariants.{One}
+use Rattle.wb_format.specs.Sizes.{IsTop}
+use Rattle.wb_meta.specs.Placing.{HavePlaces}
+use Rattle.wb_space.specs.Places.{noted, unused, place_count}
+use Rattle.wb_tree.specs.declared.image.Image.{Image}
+use Rattle.wb_tree.specs.Mapping.{Mapping, IsMapping, IsSound, IsPlaceOf, AreInside, place_of}
+use Rattle.wb_tree.specs.Images.{ImagePlan, IsImage, levels_of}
+use Rattle.wb_meta.specs.Imaging.{IsPlanned}
+use Rattle.wb_meta.specs.declared.commit_steps.CommitSteps.TheVariants.{NodesWritten}
+use Rattle.wb_meta.proofs.Round.{unused_for_changed}
+use Rattle.wb_types.specs.Limits.{node_count}
+use Rattle.wb_desk.specs.InUse.{AreFlagged}
+use Rattle.wb_desk.specs.Desks.{DeskState}
+use Rattle.wb_desk.specs.Commits.{MayBegin, IsOnUnused, next_plan, commit_begun}
+use Rattle.wb_desk.proofs.FreePlaces.{unused_places}
+use Rattle.wb_devices.specs.declared.running.RunningCommit.{RunningCommit}
+use Rattle.wb_stage.specs.Asking.{HasBegun}
+use Rattle.wb_tasks.specs.declared.step.Got.TheVariants.{Began}
+use denote.RawPtr.{null_ptr}
+use Rattle.wb_runs.specs.Happenings.{Chosen, Commits, DoesBegin}
+use Rattle.wb_runs.specs.Progress.{CanBegin}
+use Rattle.wb_runs.proofs.Underway.{no_entries}
+use Rattle.wb_runs.proofs.Bare.{nothing_exists, nothing_changed}
+use Rattle.wb_runs.proofs.Metadata.{AtDesk, Quiet}
+
+no_entry : (n block : ℕ) (entry : Entry) → slice_index_or (replicate n None) block None ≡ Some entry → ⊥
+no_entry zero block entry e = absurd (cc)
+no_entry (suc n) zero entry e = absurd (cc)
+no_entry (suc n) (suc block) entry e = no_entry n block entry e
+
+-- a sound tree with no entry has no node that stands anywhere
+no_place : (g : Geometry) (m : Mapping) → m.entries ≡ no_entries g → IsSound m → (level index : ℕ) (place : Place) → place_of m level index ≡ Some place → ⊥
+no_place g m e sound level index place h = absurd (let there = sound.known_exist level index place h in
+    let none = subst (λ (es : List (Option Entry)). Rattle.wb_tree.specs.Mapping.exists es level index ≡ false) (sym e) (nothing_exists g.cache_blocks level index) in cc)
+
+no_top : (sectors : ℕ) → IsTop sectors None
+no_top sectors p e = absurd (cc)
+
+no_node : (sectors : ℕ) → 2 ≤ sectors → HavePlaces [] sectors
+no_node sectors some = record { slots = some; from = λ i node e. absurd (cc); to = λ i node e. absurd (cc); apart = λ i j node other e f h. absurd (cc) }
+
+abbrev bare_root : (g : Geometry) (generation : ℕ) → Root
+bare_root g generation = record { generation = generation; version = One; clean = false; geometry = g; top = None; top_inside = no_top g.meta_sectors }
+
+module _ (heap : Global) where
+  -- an image of one root, which writes nothing else
+  abbrev bare_image : Root → Image
+  bare_image root = record {
+    root = root;
+    nodes = record { ptr = null_ptr; len = 0; cap = 0; alloc = heap; items = []; ok = (refl, omega arith); small = omega arith };
+    used = record { ptr = null_ptr; len = 0; cap = 0; alloc = heap; items = []; ok = (refl, omega arith); small = omega arith };
+  }
+
+  abbrev bare_commit : Geometry → ℕ → RunningCommit
+  bare_commit g generation = record {
+    image = bare_image (bare_root g generation);
+    steps = NodesWritten 0;
+    placed = no_node g.meta_sectors (omega (arith, g.within.meta_from));
+  }
+
+  is_image : (g : Geometry) (m : Mapping) (plan : ImagePlan) → m.entries ≡ no_entries g → IsSound m → plan.geometry ≡ g → plan.clean ≡ false → IsImage m m plan (bare_image (bare_root g plan.generation))
+  is_image g m plan e sound same unclean = record {
+    same_entries = refl;
+    stays = λ level index place h. h;
+    none_changed = nothing_changed g m (levels_of plan) e;
+    nodes_are = sym (nothing_changed g m (levels_of plan) e);
+    places_are = refl;
+    stands = All-nil _;
+    generations = All-nil _;
+    words = All-nil _;
+    used_are = λ place. ((λ c. absurd (omega (arith, c.1))), (λ at. absurd (no_place g m e sound at.level at.index place at.known)));
+    used_few = omega arith;
+    used_once = λ i j place f h. absurd (cc);
+    root_generation = refl;
+    root_version = refl;
+    root_clean = sym unclean;
+    root_geometry = sym same;
+    root_top = by_top (place_of m (levels_of plan) 0) refl;
+  }
+    where
+      by_top : (o : Option Place) → place_of m (levels_of plan) 0 ≡ o → None ≡ place_of m (levels_of plan) 0
+      by_top None h = sym h
+      by_top (Some p) h = absurd (no_place g m e sound (levels_of plan) 0 p h)
+
+  module _ (P A : Type 0) (g : Geometry) (desk : DeskState P) (device : List History) (known : AtDesk g desk None device) (q : Quiet g desk device) where
+    planned : IsImage desk.tree desk.tree (next_plan desk false) (bare_image (bare_root g (desk.generation + 1)))
+    planned = is_image g desk.tree (next_plan desk false) known.entries q.stores.sound known.geometry refl
+
+    on_unused : IsOnUnused desk desk.tree desk.tree false (bare_image (bare_root g (desk.generation + 1)))
+    on_unused = λ used are. record {
+      mapping = mapping;
+      free_are = unused_for_changed desk.tree desk.geometry used (next_plan desk false).free mapping.size
+          (unused_places desk.geometry desk.space.places (length q.used) used flags (q.none_running ∙ ap (λ (x : Geometry). unused (place_count x.cache_blocks)) (sym known.geometry)) desk.geometry.within.meta_from are);
+      image_is = planned;
+      sound = q.stores.sound;
+      inside = λ place at. absurd (no_place g desk.tree known.entries q.stores.sound at.level at.index place at.known);
+    }
+      where
+        blocks : g.cache_blocks ≡ desk.geometry.cache_blocks
+        blocks = ap (λ (x : Geometry). x.cache_blocks) (sym known.geometry)
+
+        mapping : IsMapping desk.geometry.cache_blocks desk.geometry.origin_blocks desk.tree.entries
+        mapping = subst (λ (es : List (Option Entry)). IsMapping desk.geometry.cache_blocks desk.geometry.origin_blocks es) (sym known.entries) (record {
+          size = length-replicate g.cache_blocks None ∙ blocks;
+          within = λ block entry e. absurd (no_entry g.cache_blocks block entry e);
+          once = λ block other entry same e f h. absurd (no_entry g.cache_blocks block entry e);
+        })
+
+        flags : AreFlagged desk.geometry.cache_blocks (length q.used) desk.space.places.committed
+        flags = record {
+          used = q.used;
+          are = q.places ∙ ap (λ (n : ℕ). noted q.used (unused (place_count n))) blocks;
+          many = refl;
+          few = subst (λ (n : ℕ). length q.used ≤ node_count n) (ap (λ (x : Geometry). x.cache_blocks) q.same ∙ blocks) q.stores.used_few;
+        }
+
+    -- a commit that may begin can begin
+    pub can_begin : (most : ℕ) → MayBegin desk → (chosen : Chosen P A) × DoesBegin most desk (Began 0) chosen
+    can_begin most may = (Commits (bare_commit g (desk.generation + 1)) desk.tree, (omega arith, refl, refl, record { may = may; state = refl; image_is = planned; unused = on_unused }))
+
+  -- so it is of the desk of every target
+  pub desk_begins : (P A : Type 0) (g : Geometry) (desk : DeskState P) (commit : Option RunningCommit) (device : List History) → AtDesk g desk commit device → (most : ℕ) → MayBegin desk → CanBegin P A most desk
+  desk_begins P A g desk (Some c) device k most may = absurd (let busy = k.stands.busy in let idle = may.idle in cc)
+  desk_begins P A g desk None device k most may = elim k.stands [
+    | inl q ↦ (0, can_begin P A g desk device k q most may)
+    | inr broken ↦ absurd (let busy = broken.busy in let idle = may.idle in cc)
+  ]

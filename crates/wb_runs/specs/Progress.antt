@@ -1,0 +1,35 @@
+-- That no run is ever stuck.
+use Rattle.std.specs.Prelude.{◌≡◌, ℕ, List}
+use Rattle.wb_disk.specs.Device.{Content as Bytes}
+use Rattle.wb_meta.specs.Reads.{sectors_read}
+use Rattle.wb_meta.specs.declared.read_steps.ReadSteps.{ReadSteps}
+use Rattle.wb_desk.specs.Commits.{MayBegin}
+use Rattle.wb_desk.specs.Desks.{DeskState}
+use Rattle.wb_tasks.specs.declared.step.Got.TheVariants.{Began}
+use Rattle.wb_runs.specs.declared.event.Event.{Event}
+use Rattle.wb_runs.specs.declared.event.What.{What}
+use Rattle.wb_runs.specs.States.{Shape, State, Target, Stands, start}
+use Rattle.wb_runs.specs.Happenings.{Chosen, HasTask, DoesBegin, MayBe}
+use Rattle.wb_runs.specs.Effects.{after_all}
+use Rattle.wb_runs.specs.Headline.{GivesSomething, InEveryRun}
+
+-- the event does something here, or is skipped where it does not apply
+pub record HasHappening {P A : Type 0} (shape : Shape) (w : State P A) (event : Event) : Type 0 where
+  pub what : What
+  pub read : List Bytes
+  pub chosen : Chosen P A
+  pub may : MayBe shape w event what read chosen
+
+-- a commit begins, where a flush allows so many nodes
+abbrev pub CanBegin : (P A : Type 0) → ℕ → DeskState P → Type 0
+CanBegin P A most desk = (nodes : ℕ) × ((chosen : Chosen P A) × DoesBegin most desk (Began nodes) chosen)
+
+-- Every event has a happening, and whoever has a task may do its next step; and where a commit may begin, one can.
+pub record IsFree {P A : Type 0} (shape : Shape) (w : State P A) : Type 0 where
+  pub events : (event : Event) → HasHappening shape w event
+  pub steps : (a : ℕ) → HasTask w a → GivesSomething shape w a
+  pub commits : (target : Target P) (most : ℕ) → w.phase ≡ Stands target → MayBegin target.desk → CanBegin P A most target.desk
+
+-- So it is after every run, where there is a policy to open with, and a reading that has read nothing.
+abbrev pub NeverStuck : (P A : Type 0) → Type 0
+NeverStuck P A = (policy : P) (reading : ReadSteps A) → sectors_read reading ≡ 0 → InEveryRun P A (λ shape metadata hs. IsFree shape (after_all shape (start shape metadata) hs))
