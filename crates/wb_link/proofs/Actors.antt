@@ -77,9 +77,10 @@ leads_was s leads End_running got g e = absurd (cc)
 leads_was s leads w got g e = inl e
 
 -- a task goes on with its job
-fault_on : (script : Script) (w : Want) → (after_fault script w).job ≡ script.job
-fault_on script (Read_at location b o) = refl
-fault_on script w = refl
+fault_on : (script : Script) (more : Bool) (w : Want) → (after_fault script more w).job ≡ script.job
+fault_on script more (Read_at location b o) = refl
+fault_on script more (Write_at location b o) = refl
+fault_on script more w = refl
 
 flag_on : (script : Script) (f : Bool) → (after_flag script f).job ≡ script.job
 flag_on script true = refl
@@ -95,7 +96,7 @@ job_on script (Ticket number) = refl
 job_on script Served = refl
 job_on script Broken = refl
 job_on script Short = refl
-job_on script (Fault choice) = fault_on script (want script)
+job_on script (Fault choice) = fault_on script choice.more (want script)
 
 -- a task that is alone was so
 pub alone_was : (script : Script) (w : Want) (got : Got) → is_alone (task_after script w got) ≡ true → job_alone script.job ≡ true

@@ -1,5 +1,5 @@
 -- What is left of a write is safe, from its start on.
-use Rattle.std.proofs.Common.{◌≡◌, ◌≢◌, ◌⊎◌, inl, inr, ℕ, zero, suc, Bool, true, false, List, [], ◌∷◌, Option, Some, None, refl, sym, ap, subst, ◌∙◌, length}
+use Rattle.std.proofs.Common.{◌≡◌, ◌≢◌, ◌<◌, ◌⊎◌, inl, inr, ℕ, zero, suc, Bool, true, false, List, [], ◌∷◌, Option, Some, None, refl, sym, ap, subst, ◌∙◌, length}
 use Rattle.wb_disk.specs.Device.{Content, History, added}
 use Rattle.wb_contents.specs.Volume.{Volume, Standing, Whole, changed, changed_at}
 use Rattle.wb_types.specs.declared.mode.Mode.{Mode}
@@ -8,7 +8,7 @@ use Rattle.wb_contents.specs.Acts.{sector_written, after as after_act, Write, Fi
 use Rattle.std.proofs.lemmas.Bool.{cases_eq}
 use Rattle.wb_contents.proofs.Positions.{changed_same}
 use Rattle.wb_contents.proofs.Sectors.{here_is, elsewhere_is}
-use Rattle.wb_link.specs.Tables.{Job, Writing, Answer, Finished, Busy, Failed, Io, Want, Look_fail, Own, Look_seal, Set_seal, Disown, Set_failed, Write_at, End, Choice, Got, Done, Lost, Flag, Seen, Fault, Seal, dirtying, write_each}
+use Rattle.wb_link.specs.Tables.{Job, Writing, Answer, Finished, Busy, Failed, Io, Want, Look_fail, Own, Look_seal, Set_seal, Disown, Set_failed, Write_at, End, Choice, Got, Done, Lost, Flag, Seen, Fault, Seal, dirtying, write_each, until_failed, steps_after_fault}
 use Rattle.wb_link.specs.World.{Shared, Held, Nothing, Owns, Actor, Within, actor_after, put_sector, if_landed}
 use Rattle.wb_link.specs.Clerk.{histories_after}
 use Rattle.wb_link.proofs.Views.{BlockView, block_view, Holds}
@@ -95,6 +95,76 @@ pub written_life : (m : Mode) (e : Volume) (p : Option ℕ) (b o : ℕ) (x : Con
 written_life m e None b o x l = l
 written_life m e (Some j) b o x l = l
 
+-- What a write still knows of its block after a fault: what is unmapped or dirty may be written.
+abbrev Reaches : Option ℕ → BlockView → Type 0
+Reaches to v = Writable v × (to ≡ v.location)
+
+reaches_on : (a b : ℕ) (x : Actor) (to : Option ℕ) (s t : Shared) (d e : Volume) → x.held ≡ Owns b → Others a x s d t e → Reaches to (block_view d b) → Reaches to (block_view e b)
+reaches_on a b x to s t d e h o k = subst (λ (v : BlockView). Reaches to v) (sym (o.block b (subst (λ (v : Held). Holds v b) (sym h) refl))) k
+
+reaches_written : (to : Option ℕ) (e : Volume) (p : Option ℕ) (b o : ℕ) (x : Content) → Reaches to (block_view e b) → Reaches to (block_view (sector_written e p b o x) b)
+reaches_written to e None b o x k = k
+reaches_written to e (Some j) b o x k = k
+
+-- the writes that are left after a fault on one of their step
+until_each : (to : Option ℕ) (b : ℕ) (os : List ℕ) (last : List Want) → until_failed last ≡ Set_failed ∷ [] → until_failed (write_each to b os last) ≡ write_each to b os (Set_failed ∷ [])
+until_each to b [] last e = e
+until_each to b (o ∷ os) last e = ap (λ ws. Write_at to b o ∷ ws) (until_each to b os last e)
+
+module _ (n size a b : ℕ) (all : List ℕ) (q : ℕ) (os : List ℕ) (x : Content) (to : Option ℕ) (last : List Want) (answer : Answer) (c : Content) (until : until_failed last ≡ Set_failed ∷ []) (inside : q < size)
+    (next : (t : Shared) (e : Volume) → Life Writeback e → Reaches to (block_view e b) → Safe n size a (writing_of b all x (write_each to b os (Set_failed ∷ [])) Io (Owns b) c) t e) where
+  left_after : (more : Bool) (t : Shared) (e : Volume) → Life Writeback e → Reaches to (block_view e b) → Safe n size a (writing_of b all x (steps_after_fault (Writing b all x) more (write_each to b os last)) Io (Owns b) c) t e
+  left_after true t e life k = subst (λ (ws : List Want). Safe n size a (writing_of b all x ws Io (Owns b) c) t e) (sym (until_each to b os last until)) (next t e life k)
+  left_after false t e life k = failing n size a b all x c t e
+
+  -- a sector's write fails
+  failed : (choice : Choice) (t : Shared) (e : Volume) → Good size t e → Life Writeback e → Reaches to (block_view e b) → (landed : Bool) →
+      Goes size a (λ y u f. Safe n size a y u f) (writing_of b all x (write_each to b (q ∷ os) last) answer (Owns b) c) (script_of (Writing b all x) (write_each to b (q ∷ os) last) answer) (Write_at to b q) (Fault choice)
+      t (if_landed landed (put_sector t to b q x) t) e (after_acts e (landed_write landed b q x)) (landed_write landed b q x)
+  failed choice t e g life k true = record {
+    run = ((life.0, k.0), tt);
+    mine = ((refl, inside), tt);
+    agrees = write_agrees t e to b q x k.1 g.agrees;
+    ready = refl;
+    owes = tt;
+    right = plain a b all x (Write_at to b q) (Fault choice) e (after_act e (Write b q x)) (written_books e (e.mapping b) b q x);
+    left = left_after choice.more _ _ (written_life Writeback e (e.mapping b) b q x life) (reaches_written to e (e.mapping b) b q x k);
+  }
+  failed choice t e g life k false = record {
+    run = (life.0, tt);
+    mine = ((refl, inside), tt);
+    agrees = lose_agrees t e b q x g.agrees;
+    ready = refl;
+    owes = tt;
+    right = plain a b all x (Write_at to b q) (Fault choice) e (after_act e (Fail_write b q x)) refl;
+    left = left_after choice.more _ _ life k;
+  }
+
+-- one of the writes that are left after a fault
+failing_one : (n size a b : ℕ) (all : List ℕ) (q : ℕ) (os : List ℕ) (x : Content) (to : Option ℕ) (c : Content) (s : Shared) (d : Volume) → q < size → Life Writeback d → Reaches to (block_view d b) →
+    ((t : Shared) (e : Volume) → Life Writeback e → Reaches to (block_view e b) → Safe n size a (writing_of b all x (write_each to b os (Set_failed ∷ [])) Io (Owns b) c) t e) →
+    Safe (suc n) size a (writing_of b all x (write_each to b (q ∷ os) (Set_failed ∷ [])) Io (Owns b) c) s d
+failing_one n size a b all q os x to c s d m l k next = λ t e got o g v r.
+    let life : Life Writeback e = life_on a (writing_of b all x (write_each to b (q ∷ os) (Set_failed ∷ [])) Io (Owns b) c) s t d e Writeback o l in
+    let now : Reaches to (block_view e b) = reaches_on a b _ to s t d e refl o k in
+    gives_write t to b q (λ w. Result n size a (Writing b all x) (write_each to b (q ∷ os) (Set_failed ∷ [])) Io (Owns b) c t e w)
+    (record {
+      run = ((life.0, now.0), (written_whole e (e.mapping b) b q x, tt));
+      mine = ((refl, m), (refl, tt));
+      agrees = finish_agrees _ _ b q (write_agrees t e to b q x now.1 g.agrees);
+      ready = refl;
+      owes = tt;
+      right = plain a b all x (Write_at to b q) Done e (after_act (after_act e (Write b q x)) (Finish b q)) (written_books e (e.mapping b) b q x);
+      left = next _ _ (written_life Writeback e (e.mapping b) b q x life) (reaches_written to e (e.mapping b) b q x now);
+    })
+    (λ choice. failed n size a b all q os x to (Set_failed ∷ []) Io c refl m next choice t e g life now choice.landed)
+    got v
+
+failing_each : (n size a b : ℕ) (all os : List ℕ) (x : Content) (to : Option ℕ) (c : Content) (s : Shared) (d : Volume) → Within size os → Life Writeback d → Reaches to (block_view d b) → Safe n size a (writing_of b all x (write_each to b os (Set_failed ∷ [])) Io (Owns b) c) s d
+failing_each zero size a b all os x to c s d m l k = tt
+failing_each (suc n) size a b all [] x to c s d m l k = failing (suc n) size a b all x c s d
+failing_each (suc n) size a b all (q ∷ os) x to c s d m l k = failing_one n size a b all q os x to c s d m.0 l k (λ t e life r. failing_each n size a b all os x to c t e m.1 life r)
+
 writing : (n size a b : ℕ) (all os : List ℕ) (x : Content) (to : Option ℕ) (c : Content) (s : Shared) (d : Volume) → Within size os → Life Writeback d → Owning to (s.seals b) (block_view d b) → Safe n size a (writing_of b all x (write_each to b os (Disown b ∷ [])) Finished (Owns b) c) s d
 writing zero size a b all os x to c s d m l k = tt
 writing (suc n) size a b all [] x to c s d m l k = disowning (suc n) size a b all x Finished c s d k.rests
@@ -111,33 +181,11 @@ writing (suc n) size a b all (q ∷ os) x to c s d m l k = λ t e got o g v r.
       right = plain a b all x (Write_at to b q) Done e (after_act (after_act e (Write b q x)) (Finish b q)) (written_books e (e.mapping b) b q x);
       left = writing n size a b all os x to c _ _ m.1 (written_life Writeback e (e.mapping b) b q x life) (on t e now);
     })
-    (λ choice. failed choice t e g life now choice.landed)
+    (λ choice. failed n size a b all q os x to (Disown b ∷ []) Finished c refl m.0 (λ t e life r. failing_each n size a b all os x to c t e m.1 life r) choice t e g life (now.writable, now.route) choice.landed)
     got v
   where
     on : (t : Shared) (e : Volume) → Owning to (t.seals b) (block_view e b) → Owning to ((put_sector t to b q x).seals b) (block_view (after_act (after_act e (Write b q x)) (Finish b q)) b)
     on t e now = subst (λ (f : ℕ → Seal). Owning to (f b) (block_view (after_act (sector_written e (e.mapping b) b q x) (Finish b q)) b)) (sym (put_sector_desk t to b q x).seals) (written_owning to (t.seals b) e (e.mapping b) b q x now)
-
-    failed : (choice : Choice) (t : Shared) (e : Volume) → Good size t e → Life Writeback e → Owning to (t.seals b) (block_view e b) → (landed : Bool) →
-        Goes size a (λ y u f. Safe n size a y u f) (writing_of b all x (write_each to b (q ∷ os) (Disown b ∷ [])) Finished (Owns b) c) (script_of (Writing b all x) (write_each to b (q ∷ os) (Disown b ∷ [])) Finished) (Write_at to b q) (Fault choice)
-        t (if_landed landed (put_sector t to b q x) t) e (after_acts e (landed_write landed b q x)) (landed_write landed b q x)
-    failed choice t e g life now true = record {
-      run = ((life.0, now.writable), tt);
-      mine = ((refl, m.0), tt);
-      agrees = write_agrees t e to b q x now.route g.agrees;
-      ready = refl;
-      owes = tt;
-      right = plain a b all x (Write_at to b q) (Fault choice) e (after_act e (Write b q x)) (written_books e (e.mapping b) b q x);
-      left = failing n size a b all x c _ _;
-    }
-    failed choice t e g life now false = record {
-      run = (life.0, tt);
-      mine = ((refl, m.0), tt);
-      agrees = lose_agrees t e b q x g.agrees;
-      ready = refl;
-      owes = tt;
-      right = plain a b all x (Write_at to b q) (Fault choice) e (after_act e (Fail_write b q x)) refl;
-      left = failing n size a b all x c _ _;
-    }
 
 -- The seal, and what comes of it.
 

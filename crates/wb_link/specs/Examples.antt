@@ -132,7 +132,7 @@ lives_of s = Stopped (settles s false) ∷
     Begins Writeback ∷
     Advances (Settled false) ∷
     Advances Fine ∷
-    Advances (Broke (record { landed = false; settled = λ b o. false })) ∷
+    Advances (Broke (record { landed = false; more = false; settled = λ b o. false })) ∷
     Begins Writethrough ∷
     Advances (Settled false) ∷
     Advances Fine ∷

@@ -58,9 +58,11 @@ pub data Want : Type 0 where
   Give_up : Order → Want
   End : Answer → Want
 
--- what a fault leaves: whether what was written has landed; of a sync, which sectors are settled
+-- What a fault leaves: whether what was written has landed, and whether it was of one step with the sectors that a write
+-- has still to write, each of which lands or not; of a sync, which sectors are settled.
 pub record Choice : Type 0 where
   pub landed : Bool
+  pub more : Bool
   pub settled : ℕ → ℕ → Bool
 
 pub data Got : Type 0 where
@@ -181,9 +183,20 @@ breaking (Flushing order) = Set_failed ∷ Break_commits ∷ []
 breaking Suspending = Set_failed ∷ Break_commits ∷ []
 breaking job = Set_failed ∷ []
 
-abbrev pub after_fault : Script → Want → Script
-after_fault s (Read_at location b o) = refused s (release s.job) Io
-after_fault s w = refused s (breaking s.job) Io
+-- the writes that come next, and then the failed bit
+abbrev pub until_failed : List Want → List Want
+until_failed (Write_at location b o ∷ ws) = Write_at location b o ∷ until_failed ws
+until_failed ws = Set_failed ∷ []
+
+-- after a fault of a write
+abbrev pub steps_after_fault : Job → (more : Bool) → List Want → List Want
+steps_after_fault (Writing b os c) true ws = until_failed ws
+steps_after_fault job more ws = breaking job
+
+abbrev pub after_fault : Script → (more : Bool) → Want → Script
+after_fault s more (Read_at location b o) = refused s (release s.job) Io
+after_fault s more (Write_at location b o) = refused s (steps_after_fault s.job more (later_steps s.steps)) Io
+after_fault s more w = refused s (breaking s.job) Io
 
 abbrev pub after_flag : Script → Bool → Script
 after_flag s true = refused s [] Failed
@@ -208,4 +221,4 @@ after s (Ticket k) = record s { steps = Begin (Some k) ∷ later_steps s.steps }
 after s Served = refused s [] Finished
 after s Broken = refused s [] Failed
 after s Short = refused s (letting s.job) Failed
-after s (Fault choice) = after_fault s (want s)
+after s (Fault choice) = after_fault s choice.more (want s)
