@@ -1,2 +1,3 @@
 pub mod Translation
+pub mod Going
 pub mod Laws
