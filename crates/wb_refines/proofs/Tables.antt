@@ -51,11 +51,11 @@ module _ (part : BlockRange) (some : 0 < part.block_sectors) where
       ∙ ap (write_each (Some c.0) (block_in job) (offsets_in size e)) (writes_are job (Some c) es ws) ∙ sym (write_both (Some c.0) (block_in job) (offsets_in size e) (offsets size es) (wants_of size job ws))
 
   -- what a read or write does once it has seen its block's seal
-  read_work : (content : Content) (place : Option CBlock) (dirty : Bool) → wants_of size (job_for size content (OnBlock (Reading part))) (work (Reading part) place dirty) ≡ work_there (job_for size content (OnBlock (Reading part))) (record { location = number_of place; dirty = dirty })
+  pub read_work : (content : Content) (place : Option CBlock) (dirty : Bool) → wants_of size (job_for size content (OnBlock (Reading part))) (work (Reading part) place dirty) ≡ work_there (job_for size content (OnBlock (Reading part))) (record { location = number_of place; dirty = dirty })
   read_work content None dirty = reads_are (job_for size content (OnBlock (Reading part))) None part.extents _
   read_work content (Some c) dirty = reads_are (job_for size content (OnBlock (Reading part))) (Some c) part.extents _
 
-  write_work : (content : Content) (place : Option CBlock) (dirty : Bool) → wants_of size (job_for size content (OnBlock (Writing part))) (work (Writing part) place dirty) ≡ work_there (job_for size content (OnBlock (Writing part))) (record { location = number_of place; dirty = dirty })
+  pub write_work : (content : Content) (place : Option CBlock) (dirty : Bool) → wants_of size (job_for size content (OnBlock (Writing part))) (work (Writing part) place dirty) ≡ work_there (job_for size content (OnBlock (Writing part))) (record { location = number_of place; dirty = dirty })
   write_work content None dirty = writes_are (job_for size content (OnBlock (Writing part))) None part.extents _
   write_work content (Some c) true = writes_are (job_for size content (OnBlock (Writing part))) (Some c) part.extents _
   write_work content (Some c) false = ap (λ ws. Set_seal part.block.0 (record { location = Some c.0; dirty = true }) ∷ ws) (writes_are (job_for size content (OnBlock (Writing part))) (Some c) part.extents _)

@@ -1,3 +1,4 @@
 pub mod Translation
 pub mod Going
+pub mod Models
 pub mod Laws

@@ -1,0 +1,205 @@
+-- Each step of a read or a write on the shared words is followed in the abstract world.
+use Rattle.std.proofs.Common.{◌≡◌, ◌≢◌, ◌<◌, ◌==◌, ◌∙◌, ◌⊎◌, cond, inl, inr, ℕ, zero, suc, Bool, true, false, if◌then◌else◌, List, [], ◌∷◌, ◌++◌, map, Option, Some, None, refl, sym, ap, subst}
+use Rattle.std.proofs.lemmas.Bool.{eqb-true, eq-eqb}
+use Rattle.wb_types.specs.declared.number.OBlock.{OBlock}
+use Rattle.wb_types.specs.declared.number.CBlock.{CBlock}
+use Rattle.wb_types.specs.declared.extent.Extent.{Extent}
+use Rattle.wb_types.specs.declared.refusal.Refusal.TheVariants.{Busy, Failed, Worn}
+use Rattle.wb_disk.specs.Device.{Content}
+use Rattle.wb_words.specs.declared.word.Access.{Access}
+use Rattle.wb_words.specs.declared.word.Access.TheVariants.{Shared as Sharing, Owned}
+use Rattle.wb_words.specs.declared.word.Word.TheVariants.{Cell as LockWord, Seal as SealWord, Number, Count as CountWord, Fail}
+use Rattle.wb_words.specs.declared.card.Hold.TheVariants.{Nothing as HoldsNothing, Held as HoldsBlock}
+use Rattle.wb_words.specs.declared.card.Card.{Card}
+use Rattle.wb_words.specs.declared.step.CellStep.{CellStep}
+use Rattle.wb_words.specs.declared.step.CellStep.TheVariants.{Look, Take, Release, Seal, Finish, Count, SetFailed}
+use Rattle.wb_words.specs.declared.step.CellResult.TheVariants.{Done as Won, Lost as NotWon}
+use Rattle.wb_words.specs.SharedWords.{Words, word_at, flag, taken, with_cell, counted, place_in, dirty_in}
+use Rattle.wb_words.specs.Cards.{looked, holding, losing, is_own_seal, finishing, counting}
+use Rattle.wb_words.specs.declared.word.Kind.{Kind}
+use Rattle.wb_words.specs.declared.word.Kind.TheVariants.{ReadHit, ReadMiss, WriteHit, WriteMiss}
+use Rattle.wb_words.specs.Effects.{result_of, words_after, card_after}
+use Rattle.wb_tasks.specs.Tables.{BlockJob, BlockRange, Reading, Writing, Migrating, OnBlock, taking, work, read_step, read_count}
+use Rattle.wb_tasks.specs.Plan.{Plan, after, got_of, may_take, exchange, is_worn, gives_back, work_of}
+use Rattle.wb_tasks.specs.declared.step.Answer.{Answer}
+use Rattle.wb_tasks.specs.declared.step.Answer.TheVariants.{Refused as Refuses}
+use Rattle.wb_tasks.specs.declared.step.Want.{Want}
+use Rattle.wb_tasks.specs.declared.step.Want.TheVariants.{Cell}
+use Rattle.wb_tasks.specs.declared.step.Got.TheVariants.{Word}
+use Rattle.wb_link.specs.Tables.{Done, Lost, Flag, Seen, Share, Leave, read_each, work as work_there}
+use Rattle.wb_link.specs.World.{Shared, Nothing, Shares, Actor}
+use Rattle.wb_refines.specs.Translation.{script_for, job_for, answer_for, wants_of, number_of, offsets}
+use Rattle.wb_refines.specs.Going.{WinsBeside}
+use Rattle.wb_refines.proofs.Tables.{read_work, write_work}
+use Rattle.wb_refines.specs.Models.{SealAgrees, WordsAgree, held_of, held_for, SawSeal, IsAt, HasFailed, SameElse, Follows}
+
+abbrev pub plan_of : BlockJob → List Want → Answer → Plan
+plan_of job steps answer = record { job = OnBlock job; steps = steps; answer = answer }
+
+-- nothing is changed
+same : (s : Shared) → SameElse s s
+same s = record { origin = refl; cache = refl; mapping = refl; blocks = refl; committing = refl; live = refl; mode = refl }
+
+-- the actor that is at this
+abbrev pub at : ℕ → Content → Plan → Card → Content → Actor
+at size content plan card buffer = record { task = Some (script_for size content plan); held = held_for plan.steps card; order = None; leads = false; buffer = buffer }
+
+-- a read or a write
+abbrev pub IsRequest : BlockJob → Type 0
+IsRequest (Migrating migration part) = ⊥
+IsRequest job = Unit {0}
+
+flag_of : (n : ℕ) (t : Bool) → (n == 0) ≡ t → flag n ≡ cond t false true
+flag_of zero true e = refl
+flag_of zero false e = absurd (cc)
+flag_of (suc n) false e = refl
+flag_of (suc n) true e = let bad : suc n ≡ zero = eqb-true (suc n) 0 e in absurd (cc)
+
+-- who holds a block knows its seal once it was looked at
+own_seal : (access : Access) (block : OBlock) (seal : ℕ) (card : Card) → card.hold ≡ HoldsBlock access block → (looked (SealWord block) seal card).seal ≡ Some seal
+own_seal access block seal card h = ap (λ v. cond (is_own_seal v (SealWord block)) (Some seal) card.seal) h ∙ ap (λ t. cond t (Some seal) card.seal) (eq-eqb block.0 block.0 refl)
+
+-- the next of these steps is no look at a seal or a number
+abbrev pub IsPlain : List Want → Type 0
+IsPlain (Cell (Look (SealWord block)) ∷ ws) = ⊥
+IsPlain (Cell (Look (Number block)) ∷ ws) = ⊥
+IsPlain ws = Unit {0}
+
+pub held_plain : (ws : List Want) (card : Card) → IsPlain ws → held_for ws card ≡ held_of card.hold
+held_plain (Cell (Look (SealWord block)) ∷ ws) card p = absurd p
+held_plain (Cell (Look (Number block)) ∷ ws) card p = absurd p
+held_plain ws card p = refl
+
+pub saw_plain : (plan : Plan) (ws : List Want) (card : Card) → IsPlain ws → SawSeal plan ws card
+saw_plain plan (Cell (Look (SealWord block)) ∷ ws) card p = absurd p
+saw_plain plan (Cell (Look (Number block)) ∷ ws) card p = absurd p
+saw_plain plan ws card p = tt
+
+-- so it is where a read begins its work
+reads_plain : (part : BlockRange) (place : Option CBlock) (dirty : Bool) → IsPlain (work (Reading part) place dirty)
+reads_plain part place dirty = by_extents part.extents place
+  where
+    by_extents : (es : List Extent) (place : Option CBlock) → IsPlain (map (read_step part place) es ++ read_count place ∷ Cell (Release Sharing part.block) ∷ [])
+    by_extents [] None = tt
+    by_extents [] (Some c) = tt
+    by_extents (e ∷ es) None = tt
+    by_extents (e ∷ es) (Some c) = tt
+
+counted_agree : (words : Words) (kind : Kind) (s : Shared) → WordsAgree words s → WordsAgree (counted words kind) s
+counted_agree words ReadHit s w = record { fail = w.fail; seals = w.seals }
+counted_agree words ReadMiss s w = record { fail = w.fail; seals = w.seals }
+counted_agree words WriteHit s w = record { fail = w.fail; seals = w.seals }
+counted_agree words WriteMiss s w = record { fail = w.fail; seals = w.seals }
+
+module _ (size : ℕ) (content : Content) (actors : List Actor) (a : ℕ) (s : Shared) (buffer : Content) where
+  abbrev Then : Plan → Card → Words → Plan → Card → Type 0
+  Then plan card words plan' card' = Follows size content actors a s (at size content plan card buffer) words plan' card'
+
+  -- the fail word is looked at
+  looks_fail : (job : BlockJob) (block : OBlock) (answer : Answer) (words : Words) (card : Card) → WordsAgree words s →
+      Then (plan_of job (Cell (Look Fail) ∷ Cell (Look (LockWord block)) ∷ []) answer) card words (after (plan_of job (Cell (Look Fail) ∷ Cell (Look (LockWord block)) ∷ []) answer) (Word words.fail)) (looked Fail words.fail card)
+  looks_fail job block answer words card w = by_test (words.fail == 0) (flag_of words.fail (words.fail == 0) refl)
+    where
+      by_test : (t : Bool) → flag words.fail ≡ cond t false true → Then (plan_of job (Cell (Look Fail) ∷ Cell (Look (LockWord block)) ∷ []) answer) card words (if t then plan_of job (Cell (Look (LockWord block)) ∷ []) answer else plan_of job [] (Refuses Failed)) (looked Fail words.fail card)
+      by_test true f = record { results = Flag false ∷ []; may = (sym (w.fail ∙ f), tt, tt); words_agree = w; same = same s; at = inl (record { buffer = buffer; is = refl; saw = tt }) }
+      by_test false f = record { results = Flag true ∷ []; may = (sym (w.fail ∙ f), tt, tt); words_agree = w; same = same s; at = inl (record { buffer = buffer; is = refl; saw = tt }) }
+
+  -- The lock word rules the exchange out, or it is tried next.
+  looks_lock : (job : BlockJob) → IsRequest job → (block : OBlock) (answer : Answer) (words : Words) (card : Card) → WordsAgree words s →
+      Then (plan_of job (Cell (Look (LockWord block)) ∷ []) answer) card words (after (plan_of job (Cell (Look (LockWord block)) ∷ []) answer) (Word (word_at words.cells block))) (looked (LockWord block) (word_at words.cells block) card)
+  looks_lock (Reading part) r block answer words card w = by_test (may_take (OnBlock (Reading part)) (word_at words.cells block))
+    where
+      by_test : (t : Bool) → Then (plan_of (Reading part) (Cell (Look (LockWord block)) ∷ []) answer) card words (if t then plan_of (Reading part) (exchange (OnBlock (Reading part)) (word_at words.cells block)) answer else plan_of (Reading part) [] (Refuses Busy)) (looked (LockWord block) (word_at words.cells block) card)
+      by_test true = record { results = []; may = tt; words_agree = w; same = same s; at = inl (record { buffer = buffer; is = refl; saw = tt }) }
+      by_test false = record { results = Lost ∷ []; may = (tt, tt, tt); words_agree = w; same = same s; at = inl (record { buffer = buffer; is = refl; saw = tt }) }
+  looks_lock (Writing part) r block answer words card w = by_test (may_take (OnBlock (Writing part)) (word_at words.cells block))
+    where
+      by_test : (t : Bool) → Then (plan_of (Writing part) (Cell (Look (LockWord block)) ∷ []) answer) card words (if t then plan_of (Writing part) (exchange (OnBlock (Writing part)) (word_at words.cells block)) answer else plan_of (Writing part) [] (Refuses Busy)) (looked (LockWord block) (word_at words.cells block) card)
+      by_test true = record { results = []; may = tt; words_agree = w; same = same s; at = inl (record { buffer = buffer; is = refl; saw = tt }) }
+      by_test false = record { results = Lost ∷ []; may = (tt, tt, tt); words_agree = w; same = same s; at = inl (record { buffer = buffer; is = refl; saw = tt }) }
+  looks_lock (Migrating migration part) r block answer words card w = absurd r
+
+  -- The exchange is won, and the abstract actor has still to take the block; or it is lost.
+  takes : (job : BlockJob) → IsRequest job → (access : Access) (block : OBlock) (seen : ℕ) (answer : Answer) (words : Words) (card : Card) → card.hold ≡ HoldsNothing → WordsAgree words s →
+      Then (plan_of job (taking access block seen) answer) card (words_after words (Take access block seen)) (after (plan_of job (taking access block seen) answer) (got_of (result_of words (Take access block seen)))) (card_after words (Take access block seen) card)
+  takes (Reading part) r access block seen answer words card h w = by_test (word_at words.cells block == seen)
+    where
+      by_test : (t : Bool) → Then (plan_of (Reading part) (taking access block seen) answer) card (if t then with_cell words block (taken access seen) else words) (after (plan_of (Reading part) (taking access block seen) answer) (got_of (if t then Won else NotWon))) (if t then holding (HoldsBlock access block) card else losing block (word_at words.cells block) card)
+      by_test true = record { results = []; may = tt; words_agree = record { fail = w.fail; seals = w.seals }; same = same s; at = inl (record { buffer = buffer; is = λ i. record (at size content (plan_of (Reading part) (taking access block seen) answer) card buffer) { held = held_of (h i) }; saw = tt }) }
+      by_test false = record { results = Lost ∷ []; may = (tt, tt, tt); words_agree = w; same = same s; at = inl (record { buffer = buffer; is = refl; saw = tt }) }
+  takes (Writing part) r access block seen answer words card h w = by_test (word_at words.cells block == seen)
+    where
+      by_test : (t : Bool) → Then (plan_of (Writing part) (taking access block seen) answer) card (if t then with_cell words block (taken access seen) else words) (after (plan_of (Writing part) (taking access block seen) answer) (got_of (if t then Won else NotWon))) (if t then holding (HoldsBlock access block) card else losing block (word_at words.cells block) card)
+      by_test true = record { results = []; may = tt; words_agree = record { fail = w.fail; seals = w.seals }; same = same s; at = inl (record { buffer = buffer; is = λ i. record (at size content (plan_of (Writing part) (taking access block seen) answer) card buffer) { held = held_of (h i) }; saw = tt }) }
+      by_test false = record { results = Lost ∷ []; may = (tt, tt, tt); words_agree = w; same = same s; at = inl (record { buffer = buffer; is = refl; saw = tt }) }
+  takes (Migrating migration part) r access block seen answer words card h w = absurd r
+
+  -- the seal is looked at; the abstract actor sees it with the number
+  looks_seal : (job : BlockJob) (access : Access) (block : OBlock) (answer : Answer) (words : Words) (card : Card) → IsRequest job → card.hold ≡ HoldsBlock access block → WordsAgree words s →
+      Then (plan_of job (Cell (Look (SealWord block)) ∷ []) answer) card words (after (plan_of job (Cell (Look (SealWord block)) ∷ []) answer) (Word (word_at words.seals block))) (looked (SealWord block) (word_at words.seals block) card)
+  looks_seal (Reading part) access block answer words card r h w = record { results = []; may = tt; words_agree = w; same = same s; at = inl (record { buffer = buffer; is = refl; saw = (word_at words.seals block, own_seal access block (word_at words.seals block) card h, refl) }) }
+  looks_seal (Writing part) access block answer words card r h w = record { results = []; may = tt; words_agree = w; same = same s; at = inl (record { buffer = buffer; is = refl; saw = (word_at words.seals block, own_seal access block (word_at words.seals block) card h, refl) }) }
+  looks_seal (Migrating migration part) access block answer words card r h w = absurd r
+
+  -- The number is looked at: a worn write gives its block back, which the abstract actor has not taken; else that takes it, and
+  -- sees the seal.
+  looks_number : (part : BlockRange) (answer : Answer) (words : Words) (card : Card) (seen : ℕ) → 0 < part.block_sectors → size ≡ part.block_sectors → card.hold ≡ HoldsBlock Sharing part.block → word_at words.seals part.block ≡ seen → WordsAgree words s →
+      WinsBeside actors a Nothing (Share part.block.0) Done →
+      Then (plan_of (Reading part) (Cell (Look (Number part.block)) ∷ work_of (OnBlock (Reading part)) seen) answer) card words (after (plan_of (Reading part) (Cell (Look (Number part.block)) ∷ work_of (OnBlock (Reading part)) seen) answer) (Word (word_at words.numbers part.block))) (looked (Number part.block) (word_at words.numbers part.block) card)
+  looks_number part answer words card seen some e h k w wins = record {
+    results = Done ∷ Seen (s.seals part.block.0) ∷ [];
+    may = (tt, wins, (refl, tt, tt));
+    words_agree = w;
+    same = same s;
+    at = inl (record {
+      buffer = buffer;
+      is = λ i. record { task = Some (record { job = job_for size content (OnBlock (Reading part)); steps = steps_are i; answer = answer_for (job_for size content (OnBlock (Reading part))) answer }); held = held_is i; order = None; leads = false; buffer = buffer };
+      saw = saw_plain (plan_of (Reading part) (work_of (OnBlock (Reading part)) seen) answer) (work_of (OnBlock (Reading part)) seen) _ (reads_plain part (place_in seen) (dirty_in seen));
+    });
+  }
+    where
+      agrees : SealAgrees seen (s.seals part.block.0)
+      agrees = subst (λ (n : ℕ). SealAgrees n (s.seals part.block.0)) k (w.seals part.block)
+
+      steps_are : work_there (job_for size content (OnBlock (Reading part))) (s.seals part.block.0) ≡ wants_of size (job_for size content (OnBlock (Reading part))) (work_of (OnBlock (Reading part)) seen)
+      steps_are = ap (λ (l : Option ℕ). read_each l part.block.0 (offsets size part.extents) (Leave part.block.0 ∷ [])) agrees.location
+          ∙ subst (λ (n : ℕ). work_there (job_for n content (OnBlock (Reading part))) (record { location = number_of (place_in seen); dirty = dirty_in seen }) ≡ wants_of n (job_for n content (OnBlock (Reading part))) (work_of (OnBlock (Reading part)) seen)) (sym e)
+          (sym (read_work part some content (place_in seen) (dirty_in seen)))
+
+      held_is : Shares part.block.0 ≡ held_for (work_of (OnBlock (Reading part)) seen) (looked (Number part.block) (word_at words.numbers part.block) card)
+      held_is = ap held_of (sym h) ∙ sym (held_plain (work_of (OnBlock (Reading part)) seen) _ (reads_plain part (place_in seen) (dirty_in seen)))
+
+  -- a block is given back
+  releases : (job : BlockJob) (access : Access) (block : OBlock) (answer : Answer) (words : Words) (card : Card) → WordsAgree words s →
+      Then (plan_of job (Cell (Release access block) ∷ []) answer) card (words_after words (Release access block)) (after (plan_of job (Cell (Release access block) ∷ []) answer) (got_of (result_of words (Release access block)))) (card_after words (Release access block) card)
+  releases job Sharing block answer words card w = record { results = Done ∷ []; may = (tt, tt, tt); words_agree = record { fail = w.fail; seals = w.seals }; same = same s; at = inl (record { buffer = buffer; is = refl; saw = tt }) }
+  releases job Owned block answer words card w = record { results = Done ∷ []; may = (tt, tt, tt); words_agree = record { fail = w.fail; seals = w.seals }; same = same s; at = inl (record { buffer = buffer; is = refl; saw = tt }) }
+
+  -- a write is finished, and what was done is counted; nothing of the abstract world is
+  finishes : (job : BlockJob) (block : OBlock) (ws : List Want) (answer : Answer) (words : Words) (card : Card) → IsPlain ws → WordsAgree words s →
+      Then (plan_of job (Cell (Finish block) ∷ ws) answer) card (words_after words (Finish block)) (after (plan_of job (Cell (Finish block) ∷ ws) answer) (got_of (result_of words (Finish block)))) (card_after words (Finish block) card)
+  finishes job block ws answer words card p w = record {
+    results = [];
+    may = tt;
+    words_agree = record { fail = w.fail; seals = w.seals };
+    same = same s;
+    at = inl (record {
+      buffer = buffer;
+      is = λ i. record (at size content (plan_of job (Cell (Finish block) ∷ ws) answer) card buffer) { held = sym (held_plain ws (finishing block card) p) i };
+      saw = saw_plain (plan_of job ws answer) ws _ p;
+    });
+  }
+
+  counts : (job : BlockJob) (kind : Kind) (ws : List Want) (answer : Answer) (words : Words) (card : Card) → IsPlain ws → WordsAgree words s →
+      Then (plan_of job (Cell (Count kind) ∷ ws) answer) card (words_after words (Count kind)) (after (plan_of job (Cell (Count kind) ∷ ws) answer) (got_of (result_of words (Count kind)))) (card_after words (Count kind) card)
+  counts job kind ws answer words card p w = record {
+    results = [];
+    may = tt;
+    words_agree = counted_agree words kind s w;
+    same = same s;
+    at = inl (record {
+      buffer = buffer;
+      is = λ i. record (at size content (plan_of job (Cell (Count kind) ∷ ws) answer) card buffer) { held = sym (held_plain ws (counting kind card) p) i };
+      saw = saw_plain (plan_of job ws answer) ws _ p;
+    });
+  }
