@@ -1,10 +1,11 @@
 -- Each step of a read or a write on the shared words is followed in the abstract world.
-use Rattle.std.proofs.Common.{◌≡◌, ◌≢◌, ◌<◌, ◌==◌, ◌∙◌, ◌⊎◌, cond, inl, inr, ℕ, zero, suc, Bool, true, false, if◌then◌else◌, List, [], ◌∷◌, ◌++◌, map, Option, Some, None, refl, sym, ap, subst}
+use Rattle.std.proofs.Common.{bit_or, ◌+◌, ◌≡◌, ◌≢◌, ◌<◌, ◌==◌, ◌∙◌, ◌⊎◌, cond, inl, inr, ℕ, zero, suc, Bool, true, false, if◌then◌else◌, List, [], ◌∷◌, ◌++◌, map, Option, Some, None, refl, sym, ap, subst}
 use Rattle.std.proofs.lemmas.Bool.{eqb-true, eq-eqb}
 use Rattle.wb_types.specs.declared.number.OBlock.{OBlock}
 use Rattle.wb_types.specs.declared.number.CBlock.{CBlock}
 use Rattle.wb_types.specs.declared.extent.Extent.{Extent}
-use Rattle.wb_types.specs.declared.refusal.Refusal.TheVariants.{Busy, Failed, Worn}
+use Rattle.wb_types.specs.declared.refusal.Refusal.{Refusal}
+use Rattle.wb_types.specs.declared.refusal.Refusal.TheVariants.{Busy, Failed, Worn, Io}
 use Rattle.wb_disk.specs.Device.{Content}
 use Rattle.wb_words.specs.declared.word.Access.{Access}
 use Rattle.wb_words.specs.declared.word.Access.TheVariants.{Shared as Sharing, Owned}
@@ -14,24 +15,24 @@ use Rattle.wb_words.specs.declared.card.Card.{Card}
 use Rattle.wb_words.specs.declared.step.CellStep.{CellStep}
 use Rattle.wb_words.specs.declared.step.CellStep.TheVariants.{Look, Take, Release, Seal, Finish, Count, SetFailed}
 use Rattle.wb_words.specs.declared.step.CellResult.TheVariants.{Done as Won, Lost as NotWon}
-use Rattle.wb_words.specs.SharedWords.{Words, word_at, flag, taken, with_cell, counted, place_in, dirty_in}
+use Rattle.wb_words.specs.SharedWords.{Words, word_at, flag, taken, with_cell, counted, place_in, dirty_in, fail_word}
 use Rattle.wb_words.specs.Cards.{looked, holding, losing, is_own_seal, finishing, counting}
 use Rattle.wb_words.specs.declared.word.Kind.{Kind}
 use Rattle.wb_words.specs.declared.word.Kind.TheVariants.{ReadHit, ReadMiss, WriteHit, WriteMiss}
 use Rattle.wb_words.specs.Effects.{result_of, words_after, card_after}
-use Rattle.wb_tasks.specs.Tables.{BlockJob, BlockRange, Reading, Writing, Migrating, OnBlock, taking, work, read_step, read_count}
+use Rattle.wb_tasks.specs.Tables.{BlockJob, BlockRange, Reading, Writing, Migrating, OnBlock, taking, work, read_step, read_count, write_step, write_count, dirtying}
 use Rattle.wb_tasks.specs.Plan.{Plan, after, got_of, may_take, exchange, is_worn, gives_back, work_of}
 use Rattle.wb_tasks.specs.declared.step.Answer.{Answer}
-use Rattle.wb_tasks.specs.declared.step.Answer.TheVariants.{Refused as Refuses}
+use Rattle.wb_tasks.specs.declared.step.Answer.TheVariants.{Done as AnswersDone, Refused as Refuses}
 use Rattle.wb_tasks.specs.declared.step.Want.{Want}
 use Rattle.wb_tasks.specs.declared.step.Want.TheVariants.{Cell}
 use Rattle.wb_tasks.specs.declared.step.Got.TheVariants.{Word}
-use Rattle.wb_link.specs.Tables.{Done, Lost, Flag, Seen, Share, Leave, read_each, work as work_there}
-use Rattle.wb_link.specs.World.{Shared, Nothing, Shares, Actor}
+use Rattle.wb_link.specs.Tables.{Done, Lost, Flag, Seen, Share, Own, Leave, Disown, read_each, write_each, work as work_there, dirtying as dirtying_there, Seal as SealThere, Want as AbstractWant, Job as AbstractJob, Flushing as FlushingFor, Finished as AnsweredDone, Busy as AnsweredBusy}
+use Rattle.wb_link.specs.World.{Shared, Nothing, Shares, Owns, Actor}
 use Rattle.wb_refines.specs.Translation.{script_for, job_for, answer_for, wants_of, number_of, offsets}
 use Rattle.wb_refines.specs.Going.{WinsBeside}
 use Rattle.wb_refines.proofs.Tables.{read_work, write_work}
-use Rattle.wb_refines.specs.Models.{SealAgrees, WordsAgree, held_of, held_for, SawSeal, IsAt, HasFailed, SameElse, Follows}
+use Rattle.wb_refines.specs.Models.{SealAgrees, WordsAgree, held_of, held_for, SawSeal, IsAt, HasStopped, SameElse, Follows}
 
 abbrev pub plan_of : BlockJob → List Want → Answer → Plan
 plan_of job steps answer = record { job = OnBlock job; steps = steps; answer = answer }
@@ -84,6 +85,41 @@ reads_plain part place dirty = by_extents part.extents place
     by_extents [] (Some c) = tt
     by_extents (e ∷ es) None = tt
     by_extents (e ∷ es) (Some c) = tt
+
+writes_plain : (part : BlockRange) (place : Option CBlock) (dirty : Bool) → IsPlain (work (Writing part) place dirty)
+writes_plain part place dirty = by_place part.extents place dirty
+  where
+    by_place : (es : List Extent) (place : Option CBlock) (dirty : Bool) → IsPlain (dirtying part.block place dirty ++ map (write_step part place) es ++ Cell (Finish part.block) ∷ write_count place ∷ Cell (Release Owned part.block) ∷ [])
+    by_place [] None dirty = tt
+    by_place (e ∷ es) None dirty = tt
+    by_place es (Some c) false = tt
+    by_place [] (Some c) true = tt
+    by_place (e ∷ es) (Some c) true = tt
+
+-- a seal that agrees with another one has the same block sealed dirty first
+same_dirtying : (b : ℕ) (place : Option CBlock) (dirty : Bool) (seal : SealThere) (rest : Option ℕ → List AbstractWant) → seal.location ≡ number_of place → ((c : CBlock) → place ≡ Some c → seal.dirty ≡ dirty) →
+    dirtying_there b seal.location seal.dirty (rest seal.location) ≡ dirtying_there b (number_of place) dirty (rest (number_of place))
+same_dirtying b None dirty seal rest l d = ap (λ (v : Option ℕ). dirtying_there b v seal.dirty (rest v)) l
+same_dirtying b (Some c) dirty seal rest l d = ap (λ (v : Option ℕ). dirtying_there b v seal.dirty (rest v)) l ∙ ap (λ t. dirtying_there b (Some c.0) t (rest (Some c.0))) (d c refl)
+
+-- the failed bit is there once it was set
+failed_flag : (n failures suspensions : ℕ) → n ≡ fail_word failures suspensions → flag (bit_or n 1) ≡ true
+failed_flag n f z e = ap (λ v. flag (bit_or v 1)) e ∙ by_bits (flag f) (flag z)
+  where
+    by_bits : (p q : Bool) → flag (bit_or (cond p 1 0 + cond q 2 0) 1) ≡ true
+    by_bits true true = refl
+    by_bits true false = refl
+    by_bits false true = refl
+    by_bits false false = refl
+
+refused_undone : (job : AbstractJob) (refusal : Refusal) → answer_for job (Refuses refusal) ≢ AnsweredDone
+refused_undone job Failed e = absurd (cc)
+refused_undone job (Io device) e = absurd (cc)
+refused_undone (FlushingFor order) refusal e = absurd (cc)
+refused_undone job refusal e = absurd (cc)
+
+undone_answer : (job : AbstractJob) (refusal : Refusal) (answer : Answer) → answer ≡ Refuses refusal → answer_for job answer ≢ AnsweredDone
+undone_answer job refusal answer is e = refused_undone job refusal (ap (answer_for job) (sym is) ∙ e)
 
 counted_agree : (words : Words) (kind : Kind) (s : Shared) → WordsAgree words s → WordsAgree (counted words kind) s
 counted_agree words ReadHit s w = record { fail = w.fail; seals = w.seals }
@@ -168,6 +204,61 @@ module _ (size : ℕ) (content : Content) (actors : List Actor) (a : ℕ) (s : S
 
       held_is : Shares part.block.0 ≡ held_for (work_of (OnBlock (Reading part)) seen) (looked (Number part.block) (word_at words.numbers part.block) card)
       held_is = ap held_of (sym h) ∙ sym (held_plain (work_of (OnBlock (Reading part)) seen) _ (reads_plain part (place_in seen) (dirty_in seen)))
+
+  numbers_write : (part : BlockRange) (answer : Answer) (words : Words) (card : Card) (seen : ℕ) → 0 < part.block_sectors → size ≡ part.block_sectors → card.hold ≡ HoldsBlock Owned part.block → word_at words.seals part.block ≡ seen → WordsAgree words s →
+      WinsBeside actors a Nothing (Own part.block.0) Done →
+      Then (plan_of (Writing part) (Cell (Look (Number part.block)) ∷ work_of (OnBlock (Writing part)) seen) answer) card words (after (plan_of (Writing part) (Cell (Look (Number part.block)) ∷ work_of (OnBlock (Writing part)) seen) answer) (Word (word_at words.numbers part.block))) (looked (Number part.block) (word_at words.numbers part.block) card)
+  numbers_write part answer words card seen some e h k w wins = by_test (is_worn (OnBlock (Writing part)) (word_at words.numbers part.block))
+    where
+      agrees : SealAgrees seen (s.seals part.block.0)
+      agrees = subst (λ (n : ℕ). SealAgrees n (s.seals part.block.0)) k (w.seals part.block)
+
+      steps_are : work_there (job_for size content (OnBlock (Writing part))) (s.seals part.block.0) ≡ wants_of size (job_for size content (OnBlock (Writing part))) (work_of (OnBlock (Writing part)) seen)
+      steps_are = same_dirtying part.block.0 (place_in seen) (dirty_in seen) (s.seals part.block.0) (λ (l : Option ℕ). write_each l part.block.0 (offsets size part.extents) (Disown part.block.0 ∷ [])) agrees.location agrees.dirty
+          ∙ subst (λ (n : ℕ). work_there (job_for n content (OnBlock (Writing part))) (record { location = number_of (place_in seen); dirty = dirty_in seen }) ≡ wants_of n (job_for n content (OnBlock (Writing part))) (work_of (OnBlock (Writing part)) seen)) (sym e)
+          (sym (write_work part some content (place_in seen) (dirty_in seen)))
+
+      held_is : Owns part.block.0 ≡ held_for (work_of (OnBlock (Writing part)) seen) (looked (Number part.block) (word_at words.numbers part.block) card)
+      held_is = ap held_of (sym h) ∙ sym (held_plain (work_of (OnBlock (Writing part)) seen) _ (writes_plain part (place_in seen) (dirty_in seen)))
+
+      by_test : (t : Bool) → Then (plan_of (Writing part) (Cell (Look (Number part.block)) ∷ work_of (OnBlock (Writing part)) seen) answer) card words (if t then plan_of (Writing part) (gives_back (OnBlock (Writing part))) (Refuses Worn) else plan_of (Writing part) (work_of (OnBlock (Writing part)) seen) answer) (looked (Number part.block) (word_at words.numbers part.block) card)
+      by_test true = record {
+        results = Lost ∷ [];
+        may = (tt, tt, tt);
+        words_agree = w;
+        same = same s;
+        at = inr (record { over = tt; refused = λ f. absurd (cc); script = record { job = job_for size content (OnBlock (Writing part)); steps = []; answer = AnsweredBusy }; task = refl; nothing = refl; undone = λ f. absurd (cc); free = inl refl });
+      }
+      by_test false = record {
+        results = Done ∷ Seen (s.seals part.block.0) ∷ [];
+        may = (tt, wins, (refl, tt, tt));
+        words_agree = w;
+        same = same s;
+        at = inl (record {
+          buffer = buffer;
+          is = λ i. record { task = Some (record { job = job_for size content (OnBlock (Writing part)); steps = steps_are i; answer = answer_for (job_for size content (OnBlock (Writing part))) answer }); held = held_is i; order = None; leads = false; buffer = buffer };
+          saw = saw_plain (plan_of (Writing part) (work_of (OnBlock (Writing part)) seen) answer) (work_of (OnBlock (Writing part)) seen) _ (writes_plain part (place_in seen) (dirty_in seen));
+        });
+      }
+
+  -- the failed bit is set, and what is owned is kept
+  fails : (job : BlockJob) → IsRequest job → (answer : Answer) (refusal : Refusal) (words : Words) (card : Card) (failures suspensions : ℕ) → answer ≡ Refuses refusal → words.fail ≡ fail_word failures suspensions → WordsAgree words s →
+      Then (plan_of job (Cell SetFailed ∷ []) answer) card (words_after words SetFailed) (after (plan_of job (Cell SetFailed ∷ []) answer) (got_of (result_of words SetFailed))) (card_after words SetFailed card)
+  fails (Reading part) r answer refusal words card f z is e w = record {
+    results = Done ∷ [];
+    may = (tt, tt, tt);
+    words_agree = record { fail = sym (failed_flag words.fail f z e); seals = w.seals };
+    same = record { origin = refl; cache = refl; mapping = refl; blocks = refl; committing = refl; live = refl; mode = refl };
+    at = inr (record { over = tt; refused = λ k. let bad : Refuses refusal ≡ AnswersDone = sym is ∙ k in absurd (cc); script = _; task = refl; nothing = refl; undone = undone_answer (job_for size content (OnBlock (Reading part))) refusal answer is; free = inr (failed_flag words.fail f z e) });
+  }
+  fails (Writing part) r answer refusal words card f z is e w = record {
+    results = Done ∷ [];
+    may = (tt, tt, tt);
+    words_agree = record { fail = sym (failed_flag words.fail f z e); seals = w.seals };
+    same = record { origin = refl; cache = refl; mapping = refl; blocks = refl; committing = refl; live = refl; mode = refl };
+    at = inr (record { over = tt; refused = λ k. let bad : Refuses refusal ≡ AnswersDone = sym is ∙ k in absurd (cc); script = _; task = refl; nothing = refl; undone = undone_answer (job_for size content (OnBlock (Writing part))) refusal answer is; free = inr (failed_flag words.fail f z e) });
+  }
+  fails (Migrating migration part) r answer refusal words card f z is e w = absurd r
 
   -- a block is given back
   releases : (job : BlockJob) (access : Access) (block : OBlock) (answer : Answer) (words : Words) (card : Card) → WordsAgree words s →

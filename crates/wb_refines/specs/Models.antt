@@ -5,7 +5,7 @@ use Rattle.wb_types.specs.declared.number.CBlock.{CBlock}
 use Rattle.wb_disk.specs.Device.{Content}
 use Rattle.wb_words.specs.declared.word.Access.TheVariants.{Shared as Sharing, Owned}
 use Rattle.wb_words.specs.declared.word.Word.TheVariants.{Seal as SealWord, Number}
-use Rattle.wb_words.specs.declared.step.CellStep.TheVariants.{Look}
+use Rattle.wb_words.specs.declared.step.CellStep.TheVariants.{Look, Release}
 use Rattle.wb_words.specs.declared.card.Hold.{Hold}
 use Rattle.wb_words.specs.declared.card.Hold.TheVariants.{Nothing as HoldsNothing, Held as HoldsBlock}
 use Rattle.wb_words.specs.declared.card.Card.{Card}
@@ -13,7 +13,8 @@ use Rattle.wb_words.specs.SharedWords.{Words, word_at, place_in, dirty_in, flag}
 use Rattle.wb_tasks.specs.Plan.{Plan, work_of}
 use Rattle.wb_tasks.specs.declared.step.Want.{Want}
 use Rattle.wb_tasks.specs.declared.step.Want.TheVariants.{Cell}
-use Rattle.wb_link.specs.Tables.{Seal, Script, Got, Finished}
+use Rattle.wb_tasks.specs.declared.step.Answer.TheVariants.{Done as Finished}
+use Rattle.wb_link.specs.Tables.{Seal, Script, Got, Finished as AnsweredDone}
 use Rattle.wb_link.specs.World.{Shared, Held, Nothing, Shares, Owns, Actor}
 use Rattle.wb_refines.specs.Translation.{number_of, script_for}
 use Rattle.wb_refines.specs.Going.{shared_after, gone, MayGo}
@@ -50,14 +51,22 @@ pub record IsAt (size : ℕ) (content : Content) (plan : Plan) (card : Card) (y 
   pub is : y ≡ record { task = Some (script_for size content plan); held = held_for plan.steps card; order = None; leads = false; buffer = buffer }
   pub saw : SawSeal plan plan.steps card
 
--- It has set the failed bit, and has only to answer; it keeps what it owns.
-pub record HasFailed (words : Words) (plan : Plan) (y : Actor) : Type 0 where
-  pub fail : flag words.fail ≡ true
-  pub over : plan.steps ≡ []
+-- nothing is left, but perhaps a block to give back
+abbrev pub OnlyParts : List Want → Type 0
+OnlyParts [] = Unit {0}
+OnlyParts (Cell (Release access block) ∷ []) = Unit {0}
+OnlyParts steps = ⊥
+
+-- Refused, an abstract actor has only to answer: it has set the failed bit and keeps what it owns, or it has nothing, since it did
+-- not take the block whose number was found worn.
+pub record HasStopped (words : Words) (plan : Plan) (y : Actor) : Type 0 where
+  pub over : OnlyParts plan.steps
+  pub refused : plan.answer ≢ Finished
   pub script : Script
   pub task : y.task ≡ Some script
   pub nothing : script.steps ≡ []
-  pub undone : script.answer ≢ Finished
+  pub undone : script.answer ≢ AnsweredDone
+  pub free : (y.held ≡ Nothing) ⊎ (flag words.fail ≡ true)
 
 -- what a step on the words changes nothing of
 pub record SameElse (s t : Shared) : Type 0 where
@@ -75,4 +84,4 @@ pub record Follows (size : ℕ) (content : Content) (actors : List Actor) (a : �
   pub may : MayGo actors a s y y.task results
   pub words_agree : WordsAgree words (shared_after s y y.task results)
   pub same : SameElse s (shared_after s y y.task results)
-  pub at : IsAt size content plan card (gone y y.task results) ⊎ HasFailed words plan (gone y y.task results)
+  pub at : IsAt size content plan card (gone y y.task results) ⊎ HasStopped words plan (gone y y.task results)
