@@ -1,3 +1,4 @@
 pub mod Tables
 pub mod Going
 pub mod Cells
+pub mod Extents
