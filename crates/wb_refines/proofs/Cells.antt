@@ -1,6 +1,10 @@
 -- Each step of a read or a write on the shared words is followed in the abstract world.
-use Rattle.std.proofs.Common.{bit_or, ◌+◌, ◌≡◌, ◌≢◌, ◌<◌, ◌==◌, ◌∙◌, ◌⊎◌, cond, inl, inr, ℕ, zero, suc, Bool, true, false, if◌then◌else◌, List, [], ◌∷◌, ◌++◌, map, Option, Some, None, refl, sym, ap, subst}
-use Rattle.std.proofs.lemmas.Bool.{eqb-true, eq-eqb}
+use Rattle.std.proofs.Common.{bit_or, mul_comm, arith, length, set, ◌%◌, ◌+◌, ◌≡◌, ◌≢◌, ◌<◌, ◌==◌, ◌∙◌, ◌⊎◌, cond, inl, inr, ℕ, zero, suc, Bool, true, false, if◌then◌else◌, List, [], ◌∷◌, ◌++◌, map, Option, Some, None, refl, sym, ap, subst}
+use Rattle.std.proofs.lemmas.Bool.{eqb-true, eq-eqb, cases_eq}
+use Rattle.std.proofs.lemmas.Nat.{mod-mul-add}
+use Rattle.wb_words.proofs.Values.{word_at_set, word_at_else}
+use Rattle.wb_contents.specs.Volume.{changed}
+use Rattle.wb_contents.proofs.Positions.{changed_same, changed_other}
 use Rattle.wb_types.specs.declared.number.OBlock.{OBlock}
 use Rattle.wb_types.specs.declared.number.CBlock.{CBlock}
 use Rattle.wb_types.specs.declared.extent.Extent.{Extent}
@@ -15,8 +19,8 @@ use Rattle.wb_words.specs.declared.card.Card.{Card}
 use Rattle.wb_words.specs.declared.step.CellStep.{CellStep}
 use Rattle.wb_words.specs.declared.step.CellStep.TheVariants.{Look, Take, Release, Seal, Finish, Count, SetFailed}
 use Rattle.wb_words.specs.declared.step.CellResult.TheVariants.{Done as Won, Lost as NotWon}
-use Rattle.wb_words.specs.SharedWords.{Words, word_at, flag, taken, with_cell, counted, place_in, dirty_in, fail_word}
-use Rattle.wb_words.specs.Cards.{looked, holding, losing, is_own_seal, finishing, counting}
+use Rattle.wb_words.specs.SharedWords.{Words, word_at, flag, taken, with_cell, counted, place_in, dirty_in, fail_word, seal_word, place_number}
+use Rattle.wb_words.specs.Cards.{looked, holding, losing, is_own_seal, finishing, counting, sealing}
 use Rattle.wb_words.specs.declared.word.Kind.{Kind}
 use Rattle.wb_words.specs.declared.word.Kind.TheVariants.{ReadHit, ReadMiss, WriteHit, WriteMiss}
 use Rattle.wb_words.specs.Effects.{result_of, words_after, card_after}
@@ -60,20 +64,23 @@ flag_of (suc n) true e = let bad : suc n ≡ zero = eqb-true (suc n) 0 e in absu
 own_seal : (access : Access) (block : OBlock) (seal : ℕ) (card : Card) → card.hold ≡ HoldsBlock access block → (looked (SealWord block) seal card).seal ≡ Some seal
 own_seal access block seal card h = ap (λ v. cond (is_own_seal v (SealWord block)) (Some seal) card.seal) h ∙ ap (λ t. cond t (Some seal) card.seal) (eq-eqb block.0 block.0 refl)
 
--- the next of these steps is no look at a seal or a number
+-- the next of these steps is no look at a seal or a number, nor does it set the failed bit
 abbrev pub IsPlain : List Want → Type 0
 IsPlain (Cell (Look (SealWord block)) ∷ ws) = ⊥
 IsPlain (Cell (Look (Number block)) ∷ ws) = ⊥
+IsPlain (Cell SetFailed ∷ ws) = ⊥
 IsPlain ws = Unit {0}
 
 pub held_plain : (ws : List Want) (card : Card) → IsPlain ws → held_for ws card ≡ held_of card.hold
 held_plain (Cell (Look (SealWord block)) ∷ ws) card p = absurd p
 held_plain (Cell (Look (Number block)) ∷ ws) card p = absurd p
+held_plain (Cell SetFailed ∷ ws) card p = absurd p
 held_plain ws card p = refl
 
 pub saw_plain : (plan : Plan) (ws : List Want) (card : Card) → IsPlain ws → SawSeal plan ws card
 saw_plain plan (Cell (Look (SealWord block)) ∷ ws) card p = absurd p
 saw_plain plan (Cell (Look (Number block)) ∷ ws) card p = absurd p
+saw_plain plan (Cell SetFailed ∷ ws) card p = absurd p
 saw_plain plan ws card p = tt
 
 -- so it is where a read begins its work
@@ -120,6 +127,11 @@ refused_undone job refusal e = absurd (cc)
 
 undone_answer : (job : AbstractJob) (refusal : Refusal) (answer : Answer) → answer ≡ Refuses refusal → answer_for job answer ≢ AnsweredDone
 undone_answer job refusal answer is e = refused_undone job refusal (ap (answer_for job) (sym is) ∙ e)
+
+-- the dirty bit of a seal
+tells_dirty : (place : Option CBlock) (dirty : Bool) → dirty_in (seal_word place dirty) ≡ dirty
+tells_dirty place true = ap flag (ap (λ v. (v + 1) % 2) (mul_comm 2 (place_number place)) ∙ mod-mul-add (place_number place) 2 1 (omega arith))
+tells_dirty place false = ap flag (ap (λ v. (v + 0) % 2) (mul_comm 2 (place_number place)) ∙ mod-mul-add (place_number place) 2 0 (omega arith))
 
 counted_agree : (words : Words) (kind : Kind) (s : Shared) → WordsAgree words s → WordsAgree (counted words kind) s
 counted_agree words ReadHit s w = record { fail = w.fail; seals = w.seals }
@@ -171,11 +183,11 @@ module _ (size : ℕ) (content : Content) (actors : List Actor) (a : ℕ) (s : S
   takes (Migrating migration part) r access block seen answer words card h w = absurd r
 
   -- the seal is looked at; the abstract actor sees it with the number
-  looks_seal : (job : BlockJob) (access : Access) (block : OBlock) (answer : Answer) (words : Words) (card : Card) → IsRequest job → card.hold ≡ HoldsBlock access block → WordsAgree words s →
-      Then (plan_of job (Cell (Look (SealWord block)) ∷ []) answer) card words (after (plan_of job (Cell (Look (SealWord block)) ∷ []) answer) (Word (word_at words.seals block))) (looked (SealWord block) (word_at words.seals block) card)
-  looks_seal (Reading part) access block answer words card r h w = record { results = []; may = tt; words_agree = w; same = same s; at = inl (record { buffer = buffer; is = refl; saw = (word_at words.seals block, own_seal access block (word_at words.seals block) card h, refl) }) }
-  looks_seal (Writing part) access block answer words card r h w = record { results = []; may = tt; words_agree = w; same = same s; at = inl (record { buffer = buffer; is = refl; saw = (word_at words.seals block, own_seal access block (word_at words.seals block) card h, refl) }) }
-  looks_seal (Migrating migration part) access block answer words card r h w = absurd r
+  looks_seal : (job : BlockJob) (ws : List Want) (access : Access) (block : OBlock) (answer : Answer) (words : Words) (card : Card) → IsRequest job → card.hold ≡ HoldsBlock access block → WordsAgree words s →
+      Then (plan_of job (Cell (Look (SealWord block)) ∷ ws) answer) card words (after (plan_of job (Cell (Look (SealWord block)) ∷ ws) answer) (Word (word_at words.seals block))) (looked (SealWord block) (word_at words.seals block) card)
+  looks_seal (Reading part) ws access block answer words card r h w = record { results = []; may = tt; words_agree = w; same = same s; at = inl (record { buffer = buffer; is = refl; saw = (word_at words.seals block, own_seal access block (word_at words.seals block) card h, refl) }) }
+  looks_seal (Writing part) ws access block answer words card r h w = record { results = []; may = tt; words_agree = w; same = same s; at = inl (record { buffer = buffer; is = refl; saw = (word_at words.seals block, own_seal access block (word_at words.seals block) card h, refl) }) }
+  looks_seal (Migrating migration part) ws access block answer words card r h w = absurd r
 
   -- The number is looked at: a worn write gives its block back, which the abstract actor has not taken; else that takes it, and
   -- sees the seal.
@@ -294,3 +306,28 @@ module _ (size : ℕ) (content : Content) (actors : List Actor) (a : ℕ) (s : S
       saw = saw_plain (plan_of job ws answer) ws _ p;
     });
   }
+
+  -- a block is sealed
+  seals : (job : BlockJob) (block : OBlock) (place : Option CBlock) (dirty : Bool) (ws : List Want) (answer : Answer) (words : Words) (card : Card) → IsPlain ws → block.0 < length words.seals → place_in (seal_word place dirty) ≡ place → WordsAgree words s →
+      Then (plan_of job (Cell (Seal block place dirty) ∷ ws) answer) card (words_after words (Seal block place dirty)) (after (plan_of job (Cell (Seal block place dirty) ∷ ws) answer) (got_of (result_of words (Seal block place dirty)))) (card_after words (Seal block place dirty) card)
+  seals job block place dirty ws answer words card p inside tells w = record {
+    results = Done ∷ [];
+    may = (tt, tt, tt);
+    words_agree = record { fail = w.fail; seals = λ other. elim (cases_eq other.0 block.0) [ inl e ↦ here other e | inr n ↦ there other n ] };
+    same = record { origin = refl; cache = refl; mapping = refl; blocks = refl; committing = refl; live = refl; mode = refl };
+    at = inl (record {
+      buffer = buffer;
+      is = λ i. record (at size content (plan_of job ws answer) card buffer) { held = sym (held_plain ws (sealing block (seal_word place dirty) card) p) i };
+      saw = saw_plain (plan_of job ws answer) ws _ p;
+    });
+  }
+    where
+      here : (other : OBlock) → other.0 ≡ block.0 → SealAgrees (word_at (set words.seals block.0 (seal_word place dirty)) other) (changed s.seals block.0 (record { location = number_of place; dirty = dirty }) other.0)
+      here other e = subst (λ (v : OBlock). SealAgrees (word_at (set words.seals block.0 (seal_word place dirty)) v) (changed s.seals block.0 (record { location = number_of place; dirty = dirty }) v.0)) (λ i. record { 0 = sym e i })
+          (subst (λ (v : ℕ). SealAgrees v (changed s.seals block.0 (record { location = number_of place; dirty = dirty }) block.0)) (sym (word_at_set words.seals block (seal_word place dirty) inside))
+          (subst (λ (v : SealThere). SealAgrees (seal_word place dirty) v) (sym (changed_same s.seals block.0 (record { location = number_of place; dirty = dirty })))
+          (record { location = ap number_of (sym tells); dirty = λ c k. sym (tells_dirty place dirty) })))
+
+      there : (other : OBlock) → other.0 ≢ block.0 → SealAgrees (word_at (set words.seals block.0 (seal_word place dirty)) other) (changed s.seals block.0 (record { location = number_of place; dirty = dirty }) other.0)
+      there other n = subst (λ (v : ℕ). SealAgrees v (changed s.seals block.0 (record { location = number_of place; dirty = dirty }) other.0)) (sym (word_at_else words.seals other block (seal_word place dirty) n))
+          (subst (λ (v : SealThere). SealAgrees (word_at words.seals other) v) (sym (changed_other s.seals block.0 other.0 (record { location = number_of place; dirty = dirty }) n)) (w.seals other))

@@ -1,4 +1,5 @@
 pub mod Tables
 pub mod Going
 pub mod Cells
+pub mod Locks
 pub mod Extents

@@ -1,19 +1,22 @@
 -- When what is shared, and an actor with a task that reads or writes a block, is what an abstract world has.
-use Rattle.std.specs.Prelude.{◌≡◌, ◌≢◌, ◌==◌, ◌⊎◌, ℕ, Bool, true, false, List, [], ◌∷◌, Option, Some, None}
+use Rattle.std.specs.Prelude.{◌≡◌, ◌≢◌, ◌==◌, ◌⊎◌, ◌<◌, ℕ, Bool, true, false, List, [], ◌∷◌, Option, Some, None, slice_get}
 use Rattle.wb_types.specs.declared.number.OBlock.{OBlock}
 use Rattle.wb_types.specs.declared.number.CBlock.{CBlock}
+use Rattle.wb_types.specs.declared.refusal.Refusal.{Refusal}
 use Rattle.wb_disk.specs.Device.{Content}
 use Rattle.wb_words.specs.declared.word.Access.TheVariants.{Shared as Sharing, Owned}
 use Rattle.wb_words.specs.declared.word.Word.TheVariants.{Seal as SealWord, Number}
-use Rattle.wb_words.specs.declared.step.CellStep.TheVariants.{Look, Release}
+use Rattle.wb_words.specs.declared.step.CellStep.{CellStep}
+use Rattle.wb_words.specs.declared.step.CellStep.TheVariants.{Look, Seal as SealBlock, Release, SetFailed}
 use Rattle.wb_words.specs.declared.card.Hold.{Hold}
 use Rattle.wb_words.specs.declared.card.Hold.TheVariants.{Nothing as HoldsNothing, Held as HoldsBlock}
 use Rattle.wb_words.specs.declared.card.Card.{Card}
-use Rattle.wb_words.specs.SharedWords.{Words, word_at, place_in, dirty_in, flag}
+use Rattle.wb_words.specs.SharedWords.{Words, word_at, place_in, dirty_in, flag, seal_word}
+use Rattle.wb_words.specs.Cards.{owners, sharers}
 use Rattle.wb_tasks.specs.Plan.{Plan, work_of}
 use Rattle.wb_tasks.specs.declared.step.Want.{Want}
 use Rattle.wb_tasks.specs.declared.step.Want.TheVariants.{Cell}
-use Rattle.wb_tasks.specs.declared.step.Answer.TheVariants.{Done as Finished}
+use Rattle.wb_tasks.specs.declared.step.Answer.TheVariants.{Done as Finished, Refused as Refuses}
 use Rattle.wb_link.specs.Tables.{Seal, Script, Got, Finished as AnsweredDone}
 use Rattle.wb_link.specs.World.{Shared, Held, Nothing, Shares, Owns, Actor}
 use Rattle.wb_refines.specs.Translation.{number_of, script_for}
@@ -40,9 +43,11 @@ held_for (Cell (Look (SealWord block)) ∷ later) card = Nothing
 held_for (Cell (Look (Number block)) ∷ later) card = Nothing
 held_for steps card = held_of card.hold
 
--- Where the number is looked at next, what comes after it is the work on a block with the seal that was seen.
+-- Where the number is looked at next, what comes after it is the work on a block with the seal that was seen; who sets the
+-- failed bit next is to answer a refusal.
 abbrev pub SawSeal : Plan → List Want → Card → Type 0
 SawSeal plan (Cell (Look (Number block)) ∷ later) card = (seal : ℕ) × (card.seal ≡ Some seal) × (later ≡ work_of plan.job seal)
+SawSeal plan (Cell SetFailed ∷ later) card = (refusal : Refusal) × (plan.answer ≡ Refuses refusal)
 SawSeal plan steps card = Unit {0}
 
 -- An abstract actor is at what is left of this task.
@@ -85,3 +90,17 @@ pub record Follows (size : ℕ) (content : Content) (actors : List Actor) (a : �
   pub words_agree : WordsAgree words (shared_after s y y.task results)
   pub same : SameElse s (shared_after s y y.task results)
   pub at : IsAt size content plan card (gone y y.task results) ⊎ HasStopped words plan (gone y y.task results)
+
+-- An abstract actor has no block that the card does not count.
+pub record IsBelow (y : Actor) (card : Card) : Type 0 where
+  pub owned : (block : ℕ) → y.held ≡ Owns block → 0 < owners block card
+  pub shared : (block : ℕ) → y.held ≡ Shares block → 0 < sharers block card
+
+-- each abstract actor has a card, which counts what it has
+abbrev pub AllBelow : List Actor → List Card → Type 0
+AllBelow actors cards = (a : ℕ) (y : Actor) → slice_get actors a ≡ Some y → (card : Card) × (slice_get cards a ≡ Some card) × IsBelow y card
+
+-- a seal that is stored tells the place that it was made of
+abbrev pub TellsPlace : CellStep → Type 0
+TellsPlace (SealBlock block place dirty) = place_in (seal_word place dirty) ≡ place
+TellsPlace step = Unit {0}
