@@ -36,10 +36,7 @@ use Rattle.wb_link.specs.World.{Shared, Nothing, Shares, Owns, Actor}
 use Rattle.wb_refines.specs.Translation.{script_for, job_for, answer_for, wants_of, number_of, offsets}
 use Rattle.wb_refines.specs.Going.{WinsBeside}
 use Rattle.wb_refines.proofs.Tables.{read_work, write_work}
-use Rattle.wb_refines.specs.Models.{SealAgrees, WordsAgree, held_of, held_for, SawSeal, IsAt, HasStopped, SameElse, Follows}
-
-abbrev pub plan_of : BlockJob → List Want → Answer → Plan
-plan_of job steps answer = record { job = OnBlock job; steps = steps; answer = answer }
+use Rattle.wb_refines.specs.Models.{SealAgrees, WordsAgree, held_of, held_for, SawSeal, IsAt, HasStopped, SameElse, Follows, plan_of, IsRequest}
 
 -- nothing is changed
 same : (s : Shared) → SameElse s s
@@ -48,11 +45,6 @@ same s = record { origin = refl; cache = refl; mapping = refl; blocks = refl; co
 -- the actor that is at this
 abbrev pub at : ℕ → Content → Plan → Card → Content → Actor
 at size content plan card buffer = record { task = Some (script_for size content plan); held = held_for plan.steps card; order = None; leads = false; buffer = buffer }
-
--- a read or a write
-abbrev pub IsRequest : BlockJob → Type 0
-IsRequest (Migrating migration part) = ⊥
-IsRequest job = Unit {0}
 
 flag_of : (n : ℕ) (t : Bool) → (n == 0) ≡ t → flag n ≡ cond t false true
 flag_of zero true e = refl
@@ -144,7 +136,7 @@ module _ (size : ℕ) (content : Content) (actors : List Actor) (a : ℕ) (s : S
   Then plan card words plan' card' = Follows size content actors a s (at size content plan card buffer) words plan' card'
 
   -- the fail word is looked at
-  looks_fail : (job : BlockJob) (block : OBlock) (answer : Answer) (words : Words) (card : Card) → WordsAgree words s →
+  pub looks_fail : (job : BlockJob) (block : OBlock) (answer : Answer) (words : Words) (card : Card) → WordsAgree words s →
       Then (plan_of job (Cell (Look Fail) ∷ Cell (Look (LockWord block)) ∷ []) answer) card words (after (plan_of job (Cell (Look Fail) ∷ Cell (Look (LockWord block)) ∷ []) answer) (Word words.fail)) (looked Fail words.fail card)
   looks_fail job block answer words card w = by_test (words.fail == 0) (flag_of words.fail (words.fail == 0) refl)
     where
@@ -153,7 +145,7 @@ module _ (size : ℕ) (content : Content) (actors : List Actor) (a : ℕ) (s : S
       by_test false f = record { results = Flag true ∷ []; may = (sym (w.fail ∙ f), tt, tt); words_agree = w; same = same s; at = inl (record { buffer = buffer; is = refl; saw = tt }) }
 
   -- The lock word rules the exchange out, or it is tried next.
-  looks_lock : (job : BlockJob) → IsRequest job → (block : OBlock) (answer : Answer) (words : Words) (card : Card) → WordsAgree words s →
+  pub looks_lock : (job : BlockJob) → IsRequest job → (block : OBlock) (answer : Answer) (words : Words) (card : Card) → WordsAgree words s →
       Then (plan_of job (Cell (Look (LockWord block)) ∷ []) answer) card words (after (plan_of job (Cell (Look (LockWord block)) ∷ []) answer) (Word (word_at words.cells block))) (looked (LockWord block) (word_at words.cells block) card)
   looks_lock (Reading part) r block answer words card w = by_test (may_take (OnBlock (Reading part)) (word_at words.cells block))
     where
@@ -168,7 +160,7 @@ module _ (size : ℕ) (content : Content) (actors : List Actor) (a : ℕ) (s : S
   looks_lock (Migrating migration part) r block answer words card w = absurd r
 
   -- The exchange is won, and the abstract actor has still to take the block; or it is lost.
-  takes : (job : BlockJob) → IsRequest job → (access : Access) (block : OBlock) (seen : ℕ) (answer : Answer) (words : Words) (card : Card) → card.hold ≡ HoldsNothing → WordsAgree words s →
+  pub takes : (job : BlockJob) → IsRequest job → (access : Access) (block : OBlock) (seen : ℕ) (answer : Answer) (words : Words) (card : Card) → card.hold ≡ HoldsNothing → WordsAgree words s →
       Then (plan_of job (taking access block seen) answer) card (words_after words (Take access block seen)) (after (plan_of job (taking access block seen) answer) (got_of (result_of words (Take access block seen)))) (card_after words (Take access block seen) card)
   takes (Reading part) r access block seen answer words card h w = by_test (word_at words.cells block == seen)
     where
@@ -183,7 +175,7 @@ module _ (size : ℕ) (content : Content) (actors : List Actor) (a : ℕ) (s : S
   takes (Migrating migration part) r access block seen answer words card h w = absurd r
 
   -- the seal is looked at; the abstract actor sees it with the number
-  looks_seal : (job : BlockJob) (ws : List Want) (access : Access) (block : OBlock) (answer : Answer) (words : Words) (card : Card) → IsRequest job → card.hold ≡ HoldsBlock access block → WordsAgree words s →
+  pub looks_seal : (job : BlockJob) (ws : List Want) (access : Access) (block : OBlock) (answer : Answer) (words : Words) (card : Card) → IsRequest job → card.hold ≡ HoldsBlock access block → WordsAgree words s →
       Then (plan_of job (Cell (Look (SealWord block)) ∷ ws) answer) card words (after (plan_of job (Cell (Look (SealWord block)) ∷ ws) answer) (Word (word_at words.seals block))) (looked (SealWord block) (word_at words.seals block) card)
   looks_seal (Reading part) ws access block answer words card r h w = record { results = []; may = tt; words_agree = w; same = same s; at = inl (record { buffer = buffer; is = refl; saw = (word_at words.seals block, own_seal access block (word_at words.seals block) card h, refl) }) }
   looks_seal (Writing part) ws access block answer words card r h w = record { results = []; may = tt; words_agree = w; same = same s; at = inl (record { buffer = buffer; is = refl; saw = (word_at words.seals block, own_seal access block (word_at words.seals block) card h, refl) }) }
@@ -191,7 +183,7 @@ module _ (size : ℕ) (content : Content) (actors : List Actor) (a : ℕ) (s : S
 
   -- The number is looked at: a worn write gives its block back, which the abstract actor has not taken; else that takes it, and
   -- sees the seal.
-  looks_number : (part : BlockRange) (answer : Answer) (words : Words) (card : Card) (seen : ℕ) → 0 < part.block_sectors → size ≡ part.block_sectors → card.hold ≡ HoldsBlock Sharing part.block → word_at words.seals part.block ≡ seen → WordsAgree words s →
+  pub looks_number : (part : BlockRange) (answer : Answer) (words : Words) (card : Card) (seen : ℕ) → 0 < part.block_sectors → size ≡ part.block_sectors → card.hold ≡ HoldsBlock Sharing part.block → word_at words.seals part.block ≡ seen → WordsAgree words s →
       WinsBeside actors a Nothing (Share part.block.0) Done →
       Then (plan_of (Reading part) (Cell (Look (Number part.block)) ∷ work_of (OnBlock (Reading part)) seen) answer) card words (after (plan_of (Reading part) (Cell (Look (Number part.block)) ∷ work_of (OnBlock (Reading part)) seen) answer) (Word (word_at words.numbers part.block))) (looked (Number part.block) (word_at words.numbers part.block) card)
   looks_number part answer words card seen some e h k w wins = record {
@@ -217,7 +209,7 @@ module _ (size : ℕ) (content : Content) (actors : List Actor) (a : ℕ) (s : S
       held_is : Shares part.block.0 ≡ held_for (work_of (OnBlock (Reading part)) seen) (looked (Number part.block) (word_at words.numbers part.block) card)
       held_is = ap held_of (sym h) ∙ sym (held_plain (work_of (OnBlock (Reading part)) seen) _ (reads_plain part (place_in seen) (dirty_in seen)))
 
-  numbers_write : (part : BlockRange) (answer : Answer) (words : Words) (card : Card) (seen : ℕ) → 0 < part.block_sectors → size ≡ part.block_sectors → card.hold ≡ HoldsBlock Owned part.block → word_at words.seals part.block ≡ seen → WordsAgree words s →
+  pub numbers_write : (part : BlockRange) (answer : Answer) (words : Words) (card : Card) (seen : ℕ) → 0 < part.block_sectors → size ≡ part.block_sectors → card.hold ≡ HoldsBlock Owned part.block → word_at words.seals part.block ≡ seen → WordsAgree words s →
       WinsBeside actors a Nothing (Own part.block.0) Done →
       Then (plan_of (Writing part) (Cell (Look (Number part.block)) ∷ work_of (OnBlock (Writing part)) seen) answer) card words (after (plan_of (Writing part) (Cell (Look (Number part.block)) ∷ work_of (OnBlock (Writing part)) seen) answer) (Word (word_at words.numbers part.block))) (looked (Number part.block) (word_at words.numbers part.block) card)
   numbers_write part answer words card seen some e h k w wins = by_test (is_worn (OnBlock (Writing part)) (word_at words.numbers part.block))
@@ -254,7 +246,7 @@ module _ (size : ℕ) (content : Content) (actors : List Actor) (a : ℕ) (s : S
       }
 
   -- the failed bit is set, and what is owned is kept
-  fails : (job : BlockJob) → IsRequest job → (answer : Answer) (refusal : Refusal) (words : Words) (card : Card) (failures suspensions : ℕ) → answer ≡ Refuses refusal → words.fail ≡ fail_word failures suspensions → WordsAgree words s →
+  pub fails : (job : BlockJob) → IsRequest job → (answer : Answer) (refusal : Refusal) (words : Words) (card : Card) (failures suspensions : ℕ) → answer ≡ Refuses refusal → words.fail ≡ fail_word failures suspensions → WordsAgree words s →
       Then (plan_of job (Cell SetFailed ∷ []) answer) card (words_after words SetFailed) (after (plan_of job (Cell SetFailed ∷ []) answer) (got_of (result_of words SetFailed))) (card_after words SetFailed card)
   fails (Reading part) r answer refusal words card f z is e w = record {
     results = Done ∷ [];
@@ -273,13 +265,13 @@ module _ (size : ℕ) (content : Content) (actors : List Actor) (a : ℕ) (s : S
   fails (Migrating migration part) r answer refusal words card f z is e w = absurd r
 
   -- a block is given back
-  releases : (job : BlockJob) (access : Access) (block : OBlock) (answer : Answer) (words : Words) (card : Card) → WordsAgree words s →
+  pub releases : (job : BlockJob) (access : Access) (block : OBlock) (answer : Answer) (words : Words) (card : Card) → WordsAgree words s →
       Then (plan_of job (Cell (Release access block) ∷ []) answer) card (words_after words (Release access block)) (after (plan_of job (Cell (Release access block) ∷ []) answer) (got_of (result_of words (Release access block)))) (card_after words (Release access block) card)
   releases job Sharing block answer words card w = record { results = Done ∷ []; may = (tt, tt, tt); words_agree = record { fail = w.fail; seals = w.seals }; same = same s; at = inl (record { buffer = buffer; is = refl; saw = tt }) }
   releases job Owned block answer words card w = record { results = Done ∷ []; may = (tt, tt, tt); words_agree = record { fail = w.fail; seals = w.seals }; same = same s; at = inl (record { buffer = buffer; is = refl; saw = tt }) }
 
   -- a write is finished, and what was done is counted; nothing of the abstract world is
-  finishes : (job : BlockJob) (block : OBlock) (ws : List Want) (answer : Answer) (words : Words) (card : Card) → IsPlain ws → WordsAgree words s →
+  pub finishes : (job : BlockJob) (block : OBlock) (ws : List Want) (answer : Answer) (words : Words) (card : Card) → IsPlain ws → WordsAgree words s →
       Then (plan_of job (Cell (Finish block) ∷ ws) answer) card (words_after words (Finish block)) (after (plan_of job (Cell (Finish block) ∷ ws) answer) (got_of (result_of words (Finish block)))) (card_after words (Finish block) card)
   finishes job block ws answer words card p w = record {
     results = [];
@@ -293,7 +285,7 @@ module _ (size : ℕ) (content : Content) (actors : List Actor) (a : ℕ) (s : S
     });
   }
 
-  counts : (job : BlockJob) (kind : Kind) (ws : List Want) (answer : Answer) (words : Words) (card : Card) → IsPlain ws → WordsAgree words s →
+  pub counts : (job : BlockJob) (kind : Kind) (ws : List Want) (answer : Answer) (words : Words) (card : Card) → IsPlain ws → WordsAgree words s →
       Then (plan_of job (Cell (Count kind) ∷ ws) answer) card (words_after words (Count kind)) (after (plan_of job (Cell (Count kind) ∷ ws) answer) (got_of (result_of words (Count kind)))) (card_after words (Count kind) card)
   counts job kind ws answer words card p w = record {
     results = [];
@@ -308,7 +300,7 @@ module _ (size : ℕ) (content : Content) (actors : List Actor) (a : ℕ) (s : S
   }
 
   -- a block is sealed
-  seals : (job : BlockJob) (block : OBlock) (place : Option CBlock) (dirty : Bool) (ws : List Want) (answer : Answer) (words : Words) (card : Card) → IsPlain ws → block.0 < length words.seals → place_in (seal_word place dirty) ≡ place → WordsAgree words s →
+  pub seals : (job : BlockJob) (block : OBlock) (place : Option CBlock) (dirty : Bool) (ws : List Want) (answer : Answer) (words : Words) (card : Card) → IsPlain ws → block.0 < length words.seals → place_in (seal_word place dirty) ≡ place → WordsAgree words s →
       Then (plan_of job (Cell (Seal block place dirty) ∷ ws) answer) card (words_after words (Seal block place dirty)) (after (plan_of job (Cell (Seal block place dirty) ∷ ws) answer) (got_of (result_of words (Seal block place dirty)))) (card_after words (Seal block place dirty) card)
   seals job block place dirty ws answer words card p inside tells w = record {
     results = Done ∷ [];

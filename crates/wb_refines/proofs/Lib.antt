@@ -2,4 +2,5 @@ pub mod Tables
 pub mod Going
 pub mod Cells
 pub mod Locks
+pub mod Followed
 pub mod Extents

@@ -13,7 +13,9 @@ use Rattle.wb_words.specs.declared.card.Hold.TheVariants.{Nothing as HoldsNothin
 use Rattle.wb_words.specs.declared.card.Card.{Card}
 use Rattle.wb_words.specs.SharedWords.{Words, word_at, place_in, dirty_in, flag, seal_word}
 use Rattle.wb_words.specs.Cards.{owners, sharers}
+use Rattle.wb_tasks.specs.Tables.{BlockJob, Migrating, OnBlock}
 use Rattle.wb_tasks.specs.Plan.{Plan, work_of}
+use Rattle.wb_tasks.specs.declared.step.Answer.{Answer}
 use Rattle.wb_tasks.specs.declared.step.Want.{Want}
 use Rattle.wb_tasks.specs.declared.step.Want.TheVariants.{Cell}
 use Rattle.wb_tasks.specs.declared.step.Answer.TheVariants.{Done as Finished, Refused as Refuses}
@@ -21,6 +23,15 @@ use Rattle.wb_link.specs.Tables.{Seal, Script, Got, Finished as AnsweredDone}
 use Rattle.wb_link.specs.World.{Shared, Held, Nothing, Shares, Owns, Actor}
 use Rattle.wb_refines.specs.Translation.{number_of, script_for}
 use Rattle.wb_refines.specs.Going.{shared_after, gone, MayGo}
+
+-- a read or a write
+abbrev pub IsRequest : BlockJob → Type 0
+IsRequest (Migrating migration part) = ⊥
+IsRequest job = Unit {0}
+
+-- what is left of a job on a block
+abbrev pub plan_of : BlockJob → List Want → Answer → Plan
+plan_of job steps answer = record { job = OnBlock job; steps = steps; answer = answer }
 
 -- The seal of a block says where it is, and whether a mapped one is dirty, as its word does.
 pub record SealAgrees (word : ℕ) (seal : Seal) : Type 0 where
