@@ -1,0 +1,447 @@
+-- The world is not empty: a run of one actor that writes, promotes, writes again, flushes and demotes.
+use Rattle.std.proofs.Common.{◌≡◌, ◌≢◌, ◌<◌, inl, inr, ℕ, zero, suc, Bool, true, false, [], ◌∷◌, Option, Some, None, refl, sym, subst, ◌∙◌, arith, slice_get, Contains}
+use Rattle.wb_link.specs.Examples.{order, one_actor, replacement, replaced, settles, lives_of, reopening}
+use Rattle.wb_disk.specs.Device.{History, newest, only}
+use Rattle.wb_contents.specs.Volume.{changed, at_location}
+use Rattle.wb_disk.proofs.Leaving.{newest_there}
+use Rattle.wb_link.specs.Openings.{Site, MayStop, Happens}
+use Rattle.wb_link.specs.Tables.{Order}
+use Rattle.wb_link.specs.World.{Shared, Actor, Nothing, Owns, Shares, Apart, IsRun, begins, is_alone}
+
+only_one : (x y : Actor) (a : ℕ) → slice_get (x ∷ []) a ≡ Some y → x ≡ y
+only_one x y zero e = cc
+only_one x y (suc a) e = absurd (cc)
+
+nobody : (x : Actor) → is_alone x.task ≡ false → (b : ℕ) (y : Actor) → slice_get (x ∷ []) b ≡ Some y → is_alone y.task ≡ false
+nobody x n b y e = subst (λ (v : Actor). is_alone v.task ≡ false) (only_one x y b e) n
+
+free : (x : Actor) → x.held ≡ Nothing → (b : ℕ) (y : Actor) → slice_get (x ∷ []) b ≡ Some y → (y.held ≢ Owns 0) × (y.held ≢ Shares 0)
+free x n b y e = subst (λ (v : Actor). (v.held ≢ Owns 0) × (v.held ≢ Shares 0)) (only_one x y b e) (λ f. absurd (cc), λ f. absurd (cc))
+
+ungiven : (x : Actor) → x.order ≡ None → (b : ℕ) (y : Actor) (o : Order) → slice_get (x ∷ []) b ≡ Some y → y.order ≡ Some o → Apart o order
+ungiven x n b y o e = subst (λ (v : Actor). v.order ≡ Some o → Apart o order) (only_one x y b e) (λ f. absurd (cc))
+
+covers : (o : ℕ) → o < 1 → Contains (0 ∷ []) o
+covers o l = (0, omega arith, omega arith)
+
+pub one_actor_runs : IsRun 1 (begins 1 []) one_actor
+one_actor_runs = (
+  (_, record { actor = refl; task = refl; held = refl; order = refl; leads = refl; nobody_alone = nobody _ refl; may = ((omega arith, tt), refl) }),
+  (
+    (_, _, record { actor = refl; task = refl; asked = refl; gives = refl; wins = tt }),
+    (
+      (_, _, record { actor = refl; task = refl; asked = refl; gives = tt; wins = free _ refl }),
+      (
+        (_, _, record { actor = refl; task = refl; asked = refl; gives = refl; wins = tt }),
+        (
+          (_, _, record { actor = refl; task = refl; asked = refl; gives = tt; wins = tt }),
+          (
+            (_, _, record { actor = refl; task = refl; asked = refl; gives = tt; wins = tt }),
+            (
+              (_, _, record { actor = refl; task = refl; asked = refl; gives = tt; wins = tt }),
+              (
+                (_, record { actor = refl; task = refl; held = refl; order = refl; leads = refl; nobody_alone = nobody _ refl; may = ((omega arith, tt), covers, ungiven _ refl, (λ e. absurd (cc)), refl, refl, (λ b e. absurd (cc))) }),
+                (
+                  (_, _, record { actor = refl; task = refl; asked = refl; gives = refl; wins = tt }),
+                  (
+                    (_, _, record { actor = refl; task = refl; asked = refl; gives = tt; wins = free _ refl }),
+                    (
+                      (_, _, record { actor = refl; task = refl; asked = refl; gives = refl; wins = tt }),
+                      (
+                        (_, _, record { actor = refl; task = refl; asked = refl; gives = refl; wins = tt }),
+                        (
+                          (_, _, record { actor = refl; task = refl; asked = refl; gives = tt; wins = tt }),
+                          (
+                            (_, _, record { actor = refl; task = refl; asked = refl; gives = tt; wins = tt }),
+                            (
+                              (_, _, record { actor = refl; task = refl; asked = refl; gives = tt; wins = tt }),
+                              (
+                                (_, _, record { actor = refl; task = refl; asked = refl; gives = tt; wins = tt }),
+                                (
+                                  (_, _, record { actor = refl; task = refl; asked = refl; gives = tt; wins = tt }),
+                                  (
+                                    (_, record { actor = refl; task = refl; held = refl; order = refl; leads = refl; nobody_alone = nobody _ refl; may = ((omega arith, tt), refl) }),
+                                    (
+                                      (_, _, record { actor = refl; task = refl; asked = refl; gives = refl; wins = tt }),
+                                      (
+                                        (_, _, record { actor = refl; task = refl; asked = refl; gives = tt; wins = free _ refl }),
+                                        (
+                                          (_, _, record { actor = refl; task = refl; asked = refl; gives = refl; wins = tt }),
+                                          (
+                                            (_, _, record { actor = refl; task = refl; asked = refl; gives = tt; wins = tt }),
+                                            (
+                                              (_, _, record { actor = refl; task = refl; asked = refl; gives = tt; wins = tt }),
+                                              (
+                                                (_, _, record { actor = refl; task = refl; asked = refl; gives = tt; wins = tt }),
+                                                (
+                                                  (_, _, record { actor = refl; task = refl; asked = refl; gives = tt; wins = tt }),
+                                                  (
+                                                    (_, record { actor = refl; task = refl; held = refl; order = refl; leads = refl; nobody_alone = nobody _ refl; may = refl }),
+                                                    (
+                                                      (_, _, record { actor = refl; task = refl; asked = refl; gives = refl; wins = tt }),
+                                                      (
+                                                        (_, _, record { actor = refl; task = refl; asked = refl; gives = (refl, refl, tt); wins = tt }),
+                                                        (
+                                                          (_, _, record { actor = refl; task = refl; asked = refl; gives = tt; wins = tt }),
+                                                          (
+                                                            (_, _, record { actor = refl; task = refl; asked = refl; gives = tt; wins = tt }),
+                                                            (
+                                                              (_, _, record { actor = refl; task = refl; asked = refl; gives = tt; wins = tt }),
+                                                              (
+                                                                (_, _, record { actor = refl; task = refl; asked = refl; gives = tt; wins = tt }),
+                                                                (
+                                                                  (_, _, record { actor = refl; task = refl; asked = refl; gives = tt; wins = tt }),
+                                                                  (
+                                                                    (_, _, record { actor = refl; task = refl; asked = refl; gives = tt; wins = tt }),
+                                                                    (
+                                                                      (_, record { actor = refl; task = refl; held = refl; order = refl; leads = refl; nobody_alone = nobody _ refl; may = ((omega arith, tt), covers, ungiven _ refl, (λ e. absurd (cc)), refl, refl, (λ b e. absurd (cc))) }),
+                                                                      (
+                                                                        (_, _, record { actor = refl; task = refl; asked = refl; gives = refl; wins = tt }),
+                                                                        (
+                                                                          (_, _, record { actor = refl; task = refl; asked = refl; gives = tt; wins = free _ refl }),
+                                                                          (
+                                                                            (_, _, record { actor = refl; task = refl; asked = refl; gives = refl; wins = tt }),
+                                                                            (
+                                                                              (_, _, record { actor = refl; task = refl; asked = refl; gives = refl; wins = tt }),
+                                                                              (
+                                                                                (_, _, record { actor = refl; task = refl; asked = refl; gives = tt; wins = tt }),
+                                                                                (
+                                                                                  (_, _, record { actor = refl; task = refl; asked = refl; gives = tt; wins = tt }),
+                                                                                  (
+                                                                                    (_, _, record { actor = refl; task = refl; asked = refl; gives = tt; wins = tt }),
+                                                                                    (
+                                                                                      (_, _, record { actor = refl; task = refl; asked = refl; gives = tt; wins = tt }),
+                                                                                      (
+                                                                                        (_, _, record { actor = refl; task = refl; asked = refl; gives = tt; wins = tt }),
+                                                                                        tt,
+                                                                                      ),
+                                                                                    ),
+                                                                                  ),
+                                                                                ),
+                                                                              ),
+                                                                            ),
+                                                                          ),
+                                                                        ),
+                                                                      ),
+                                                                    ),
+                                                                  ),
+                                                                ),
+                                                              ),
+                                                            ),
+                                                          ),
+                                                        ),
+                                                      ),
+                                                    ),
+                                                  ),
+                                                ),
+                                              ),
+                                            ),
+                                          ),
+                                        ),
+                                      ),
+                                    ),
+                                  ),
+                                ),
+                              ),
+                            ),
+                          ),
+                        ),
+                      ),
+                    ),
+                  ),
+                ),
+              ),
+            ),
+          ),
+        ),
+      ),
+    ),
+  ),
+)
+
+-- Three actors.
+
+each : (P : Actor → Type 0) (x y z : Actor) → P x → P y → P z → (a : ℕ) (v : Actor) → slice_get (x ∷ y ∷ z ∷ []) a ≡ Some v → P v
+each P x y z p q r zero v e = let same : x ≡ v = cc in subst P same p
+each P x y z p q r (suc zero) v e = let same : y ≡ v = cc in subst P same q
+each P x y z p q r (suc (suc zero)) v e = let same : z ≡ v = cc in subst P same r
+each P x y z p q r (suc (suc (suc a))) v e = absurd (cc)
+
+abbrev NotHeld : ℕ → Actor → Type 0
+NotHeld c v = (v.held ≢ Owns c) × (v.held ≢ Shares c)
+
+not_held : (c : ℕ) (x : Actor) → x.held ≡ Nothing → NotHeld c x
+not_held c x e = (λ f. let bad : Nothing ≡ Owns c = sym e ∙ f in absurd (cc), λ f. let bad : Nothing ≡ Shares c = sym e ∙ f in absurd (cc))
+
+free_of : (c : ℕ) (x y z : Actor) → x.held ≡ Nothing → y.held ≡ Nothing → z.held ≡ Nothing → (a : ℕ) (v : Actor) → slice_get (x ∷ y ∷ z ∷ []) a ≡ Some v → NotHeld c v
+free_of c x y z p q r = each (λ v. NotHeld c v) x y z (not_held c x p) (not_held c y q) (not_held c z r)
+
+alone_of : (x y z : Actor) → is_alone x.task ≡ false → is_alone y.task ≡ false → is_alone z.task ≡ false → (a : ℕ) (v : Actor) → slice_get (x ∷ y ∷ z ∷ []) a ≡ Some v → is_alone v.task ≡ false
+alone_of x y z p q r = each (λ v. is_alone v.task ≡ false) x y z p q r
+
+no_order : (p : Order) (x : Actor) → x.order ≡ None → (o : Order) → x.order ≡ Some o → Apart o p
+no_order p x e o f = let bad : None ≡ Some o = sym e ∙ f in absurd (cc)
+
+ungiven_of : (p : Order) (x y z : Actor) → x.order ≡ None → y.order ≡ None → z.order ≡ None → (a : ℕ) (v : Actor) (o : Order) → slice_get (x ∷ y ∷ z ∷ []) a ≡ Some v → v.order ≡ Some o → Apart o p
+ungiven_of p x y z e f g a v o h = each (λ v. v.order ≡ Some o → Apart o p) x y z (no_order p x e o) (no_order p y f o) (no_order p z g o) a v h
+
+unmapped : (b : ℕ) → Some 1 ≡ Some b → changed {X = Option ℕ} (λ (c : ℕ). None) 0 (Some 0) b ≡ None
+unmapped b e = let is : 1 ≡ b = cc in subst (λ (v : ℕ). changed {X = Option ℕ} (λ (c : ℕ). None) 0 (Some 0) v ≡ None) is refl
+
+pub three_actors_run : IsRun 1 (begins 3 []) replaced
+three_actors_run = (
+  (_, record { actor = refl; task = refl; held = refl; order = refl; leads = refl; nobody_alone = alone_of _ _ _ refl refl refl; may = ((omega arith, tt), covers, ungiven_of order _ _ _ refl refl refl, (λ e. absurd (cc)), refl, refl, (λ b e. absurd (cc))) }),
+  (
+    (_, _, record { actor = refl; task = refl; asked = refl; gives = refl; wins = tt }),
+    (
+      (_, _, record { actor = refl; task = refl; asked = refl; gives = tt; wins = free_of 0 _ _ _ refl refl refl }),
+      (
+        (_, _, record { actor = refl; task = refl; asked = refl; gives = refl; wins = tt }),
+        (
+          (_, _, record { actor = refl; task = refl; asked = refl; gives = refl; wins = tt }),
+          (
+            (_, _, record { actor = refl; task = refl; asked = refl; gives = tt; wins = tt }),
+            (
+              (_, _, record { actor = refl; task = refl; asked = refl; gives = tt; wins = tt }),
+              (
+                (_, _, record { actor = refl; task = refl; asked = refl; gives = tt; wins = tt }),
+                (
+                  (_, _, record { actor = refl; task = refl; asked = refl; gives = tt; wins = tt }),
+                  (
+                    (_, _, record { actor = refl; task = refl; asked = refl; gives = tt; wins = tt }),
+                    (
+                      (_, record { actor = refl; task = refl; held = refl; order = refl; leads = refl; nobody_alone = alone_of _ _ _ refl refl refl; may = ((omega arith, tt), covers, ungiven_of replacement _ _ _ refl refl refl, (λ e. absurd (cc)), refl, refl, unmapped) }),
+                      (
+                        (_, _, record { actor = refl; task = refl; asked = refl; gives = refl; wins = tt }),
+                        (
+                          (_, _, record { actor = refl; task = refl; asked = refl; gives = tt; wins = free_of 0 _ _ _ refl refl refl }),
+                          (
+                            (_, _, record { actor = refl; task = refl; asked = refl; gives = refl; wins = tt }),
+                            (
+                              (_, _, record { actor = refl; task = refl; asked = refl; gives = tt; wins = tt }),
+                              (
+                                (_, _, record { actor = refl; task = refl; asked = refl; gives = tt; wins = tt }),
+                                (
+                                  (_, _, record { actor = refl; task = refl; asked = refl; gives = tt; wins = tt }),
+                                  (
+                                    (_, _, record { actor = refl; task = refl; asked = refl; gives = tt; wins = tt }),
+                                    (
+                                      (_, record { actor = refl; task = refl; held = refl; order = refl; leads = refl; nobody_alone = alone_of _ _ _ refl refl refl; may = refl }),
+                                      (
+                                        (_, _, record { actor = refl; task = refl; asked = refl; gives = refl; wins = tt }),
+                                        (
+                                          (_, _, record { actor = refl; task = refl; asked = refl; gives = (refl, refl, tt); wins = tt }),
+                                          (
+                                            (_, record { actor = refl; task = refl; held = refl; order = refl; leads = refl; nobody_alone = alone_of _ _ _ refl refl refl; may = (_, refl) }),
+                                            (
+                                              (_, _, record { actor = refl; task = refl; asked = refl; gives = refl; wins = tt }),
+                                              (
+                                                (_, _, record { actor = refl; task = refl; asked = refl; gives = (refl, refl, refl, refl); wins = tt }),
+                                                (
+                                                  (_, record { actor = refl; task = refl; held = refl; order = refl; leads = refl; nobody_alone = alone_of _ _ _ refl refl refl; may = refl }),
+                                                  (
+                                                    (_, _, record { actor = refl; task = refl; asked = refl; gives = refl; wins = tt }),
+                                                    (
+                                                      (_, _, record { actor = refl; task = refl; asked = refl; gives = (refl, refl, refl, refl); wins = tt }),
+                                                      (
+                                                        (_, _, record { actor = refl; task = refl; asked = refl; gives = tt; wins = tt }),
+                                                        (
+                                                          (_, _, record { actor = refl; task = refl; asked = refl; gives = tt; wins = tt }),
+                                                          (
+                                                            (_, _, record { actor = refl; task = refl; asked = refl; gives = tt; wins = tt }),
+                                                            (
+                                                              (_, _, record { actor = refl; task = refl; asked = refl; gives = tt; wins = tt }),
+                                                              (
+                                                                (_, _, record { actor = refl; task = refl; asked = refl; gives = tt; wins = tt }),
+                                                                (
+                                                                  (_, _, record { actor = refl; task = refl; asked = refl; gives = tt; wins = tt }),
+                                                                  (
+                                                                    (_, _, record { actor = refl; task = refl; asked = refl; gives = (refl, refl, omega arith); wins = tt }),
+                                                                    (
+                                                                      (_, _, record { actor = refl; task = refl; asked = refl; gives = tt; wins = tt }),
+                                                                      (
+                                                                        (_, _, record { actor = refl; task = refl; asked = refl; gives = tt; wins = tt }),
+                                                                        (
+                                                                          (_, _, record { actor = refl; task = refl; asked = refl; gives = tt; wins = tt }),
+                                                                          (
+                                                                            (_, _, record { actor = refl; task = refl; asked = refl; gives = tt; wins = tt }),
+                                                                            (
+                                                                              (_, _, record { actor = refl; task = refl; asked = refl; gives = tt; wins = tt }),
+                                                                              (
+                                                                                (_, _, record { actor = refl; task = refl; asked = refl; gives = tt; wins = tt }),
+                                                                                (
+                                                                                  (_, _, record { actor = refl; task = refl; asked = refl; gives = omega arith; wins = tt }),
+                                                                                  (
+                                                                                    (_, _, record { actor = refl; task = refl; asked = refl; gives = tt; wins = tt }),
+                                                                                    (
+                                                                                      (_, record { actor = refl; task = refl; held = refl; order = refl; leads = refl; nobody_alone = alone_of _ _ _ refl refl refl; may = ((omega arith, tt), covers, refl) }),
+                                                                                      (
+                                                                                        (_, _, record { actor = refl; task = refl; asked = refl; gives = refl; wins = tt }),
+                                                                                        (
+                                                                                          (_, _, record { actor = refl; task = refl; asked = refl; gives = tt; wins = free_of 1 _ _ _ refl refl refl }),
+                                                                                          (
+                                                                                            (_, _, record { actor = refl; task = refl; asked = refl; gives = refl; wins = tt }),
+                                                                                            (
+                                                                                              (_, _, record { actor = refl; task = refl; asked = refl; gives = refl; wins = tt }),
+                                                                                              (
+                                                                                                (_, _, record { actor = refl; task = refl; asked = refl; gives = tt; wins = tt }),
+                                                                                                (
+                                                                                                  (_, _, record { actor = refl; task = refl; asked = refl; gives = tt; wins = tt }),
+                                                                                                  (
+                                                                                                    (_, _, record { actor = refl; task = refl; asked = refl; gives = tt; wins = tt }),
+                                                                                                    (
+                                                                                                      (_, _, record { actor = refl; task = refl; asked = refl; gives = tt; wins = tt }),
+                                                                                                      (
+                                                                                                        (_, _, record { actor = refl; task = refl; asked = refl; gives = tt; wins = tt }),
+                                                                                                        tt,
+                                                                                                      ),
+                                                                                                    ),
+                                                                                                  ),
+                                                                                                ),
+                                                                                              ),
+                                                                                            ),
+                                                                                          ),
+                                                                                        ),
+                                                                                      ),
+                                                                                    ),
+                                                                                  ),
+                                                                                ),
+                                                                              ),
+                                                                            ),
+                                                                          ),
+                                                                        ),
+                                                                      ),
+                                                                    ),
+                                                                  ),
+                                                                ),
+                                                              ),
+                                                            ),
+                                                          ),
+                                                        ),
+                                                      ),
+                                                    ),
+                                                  ),
+                                                ),
+                                              ),
+                                            ),
+                                          ),
+                                        ),
+                                      ),
+                                    ),
+                                  ),
+                                ),
+                              ),
+                            ),
+                          ),
+                        ),
+                      ),
+                    ),
+                  ),
+                ),
+              ),
+            ),
+          ),
+        ),
+      ),
+    ),
+  ),
+)
+
+-- Lives.
+
+may_settle : (s : Shared) (n : Bool) → (n ≡ true → s.root_written ≡ true) → MayStop s (settles s n)
+may_settle s n r = record { root = r; origin = λ b o. newest_there (s.origin b o); cache = λ k o. newest_there (s.cache k o) }
+
+place_same : (f g m n : ℕ → ℕ → History) → ((b o : ℕ) → newest (f b o) ≡ newest (m b o)) → ((k o : ℕ) → newest (g k o) ≡ newest (n k o)) → (p : Option ℕ) (b o : ℕ) → newest (at_location f g p b o) ≡ newest (at_location m n p b o)
+place_same f g m n h i None b o = h b o
+place_same f g m n h i (Some k) b o = i k o
+
+pub many_lives : (size : ℕ) (w : Site) → Happens size w (lives_of w.world.shared)
+many_lives size w = (
+  may_settle w.world.shared false (λ e. absurd (cc)),
+  (
+    inl (λ e. absurd (cc)),
+    (
+      (_, _, refl, (λ e. absurd (cc))),
+      (
+        (_, _, refl, tt),
+        (
+          (_, _, refl, tt),
+          (
+            inl (λ e. absurd (cc)),
+            (
+              (_, _, refl, (λ e. absurd (cc))),
+              (
+                (_, _, refl, tt),
+                (
+                  (_, _, refl, tt),
+                  (
+                    (_, _, refl, (refl, refl, tt)),
+                    (
+                      (_, _, refl, tt),
+                      (
+                        record { root = λ e. refl; origin = λ b o. newest_there (only (newest (w.world.shared.origin b o))); cache = λ k o. newest_there (only (newest (w.world.shared.cache k o))) },
+                        (
+                          inl (λ e. absurd (cc)),
+                          (
+                            (_, _, refl, (λ e. absurd (cc))),
+                            (
+                              (_, _, refl, tt),
+                              (
+                                (_, _, refl, tt),
+                                (
+                                  (_, _, refl, (refl, refl, tt)),
+                                  (
+                                    (_, _, refl, tt),
+                                    (
+                                      (_, _, refl, tt),
+                                      (
+                                        (_, _, refl, ((λ k. inl refl), (λ b o. place_same w.world.shared.origin w.world.shared.cache _ _ (λ c i. refl) (λ c i. refl) (w.world.shared.committed b) b o))),
+                                        tt,
+                                      ),
+                                    ),
+                                  ),
+                                ),
+                              ),
+                            ),
+                          ),
+                        ),
+                      ),
+                    ),
+                  ),
+                ),
+              ),
+            ),
+          ),
+        ),
+      ),
+    ),
+  ),
+)
+
+pub without_crash : (size : ℕ) (w : Site) → w.world.shared.fail ≡ true → Happens size w (reopening w.world.shared)
+without_crash size w f = (
+  inr f,
+  (
+    (_, _, refl, (λ e. absurd (cc))),
+    (
+      (_, _, refl, tt),
+      (
+        (_, _, refl, tt),
+        (
+          (_, _, refl, (refl, refl, tt)),
+          (
+            (_, _, refl, tt),
+            (
+              (_, _, refl, tt),
+              (
+                (_, _, refl, ((λ k. inl refl), (λ b o. place_same w.world.shared.origin w.world.shared.cache _ _ (λ c i. refl) (λ c i. refl) (w.world.shared.committed b) b o))),
+                tt,
+              ),
+            ),
+          ),
+        ),
+      ),
+    ),
+  ),
+)

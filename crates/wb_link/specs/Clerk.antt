@@ -1,0 +1,86 @@
+-- What a clerk writes down who sees the records alone: the write history of each sector, what of it is finished, how
+-- far a crash may go back, and of each actor its job, what it has entered, and what was finished when it began. No
+-- device, word, mapping or phase of a task stands in it.
+use Rattle.std.specs.Prelude.{◌≡◌, ◌+◌, ℕ, List, [], ◌∷◌, Option, Some, None, length, max}
+use Rattle.wb_disk.specs.Device.{Content, History, newest, added, only}
+use Rattle.wb_contents.specs.Volume.{changed, changed_at}
+use Rattle.wb_link.specs.Tables.{Job, Reading, Writing, Writing_through, Flushing, Suspending, Finished, Want, Read_at, Write_at, End, Got, Gave}
+use Rattle.wb_link.specs.World.{Record, Start, Again, Step}
+
+-- an entry of a sector's history, by its position
+pub record Entry : Type 0 where
+  pub block : ℕ
+  pub offset : ℕ
+  pub position : ℕ
+
+pub record Notes : Type 0 where
+  pub histories : ℕ → ℕ → History
+  pub finished : ℕ → ℕ → ℕ
+  pub floors : ℕ → ℕ → ℕ
+  pub jobs : ℕ → Option Job
+  pub entered : ℕ → List Entry
+  pub asked : ℕ → ℕ → ℕ → ℕ
+
+-- a write is entered at its first step, failing or not
+abbrev pub histories_after : (ℕ → ℕ → History) → Job → Want → ℕ → ℕ → History
+histories_after histories (Writing block os c) (Write_at location b o) = changed_at histories b o (added (histories b o) c)
+histories_after histories (Writing_through block os c) (Write_at None b o) = changed_at histories b o (added (histories b o) c)
+histories_after histories job w = histories
+
+abbrev pub entry : (ℕ → ℕ → History) → ℕ → ℕ → Entry
+entry histories b o = record { block = b; offset = o; position = length (histories b o).later + 1 }
+
+abbrev pub entered_after : (ℕ → ℕ → History) → Job → Want → List Entry → List Entry
+entered_after histories (Writing block os c) (Write_at location b o) es = entry histories b o ∷ es
+entered_after histories (Writing_through block os c) (Write_at None b o) es = entry histories b o ∷ es
+entered_after histories job w es = es
+
+abbrev pub raised : List Entry → (ℕ → ℕ → ℕ) → ℕ → ℕ → ℕ
+raised [] f = f
+raised (e ∷ es) f = raised es (changed_at f e.block e.offset (max (f e.block e.offset) e.position))
+
+-- what a write has entered is finished when it is answered done
+abbrev pub finished_after : Job → Want → List Entry → (ℕ → ℕ → ℕ) → ℕ → ℕ → ℕ
+finished_after (Writing block os c) (End Finished) es f = raised es f
+finished_after (Writing_through block os c) (End Finished) es f = raised es f
+finished_after job w es f = f
+
+-- a flush or a suspend that is answered done has covered what was finished when it began
+abbrev pub floors_after : Job → Want → (ℕ → ℕ → ℕ) → (ℕ → ℕ → ℕ) → ℕ → ℕ → ℕ
+floors_after (Flushing order) (End Finished) asked floors b o = max (floors b o) (asked b o)
+floors_after Suspending (End Finished) asked floors b o = max (floors b o) (asked b o)
+floors_after job w asked floors b o = floors b o
+
+abbrev pub job_noted : Job → Want → Option Job
+job_noted job (End answer) = None
+job_noted job w = Some job
+
+abbrev pub noted_step : Notes → ℕ → Option Job → Want → Notes
+noted_step n a None w = n
+noted_step n a (Some job) w = record {
+  histories = histories_after n.histories job w;
+  finished = finished_after job w (n.entered a) n.finished;
+  floors = floors_after job w (n.asked a) n.floors;
+  jobs = changed n.jobs a (job_noted job w);
+  entered = changed n.entered a (entered_after n.histories job w (n.entered a));
+  asked = n.asked;
+}
+
+-- a life begins with what its opening shows
+abbrev pub opened : (ℕ → ℕ → Content) → Notes
+opened view = record { histories = λ b o. only (view b o); finished = λ b o. 0; floors = λ b o. 0; jobs = λ a. None; entered = λ a. []; asked = λ a b o. 0 }
+
+abbrev pub note : Notes → Record → Notes
+note n (Start a job) = record n { jobs = changed n.jobs a (Some job); entered = changed n.entered a []; asked = changed n.asked a n.finished }
+note n (Again a job) = record n { jobs = changed n.jobs a (Some job); entered = changed n.entered a []; asked = changed n.asked a n.finished }
+note n (Step a w got) = noted_step n a (n.jobs a) w
+
+-- what a read is given is the last write
+abbrev pub GivesLatest : (ℕ → ℕ → History) → Option Job → Want → Got → Type 0
+GivesLatest histories (Some (Reading block os)) (Read_at location b o) (Gave c) = c ≡ newest (histories b o)
+GivesLatest histories job w got = Unit {0}
+
+abbrev pub IsRight : Notes → Record → Type 0
+IsRight n (Start a job) = Unit {0}
+IsRight n (Again a job) = Unit {0}
+IsRight n (Step a w got) = GivesLatest n.histories (n.jobs a) w got

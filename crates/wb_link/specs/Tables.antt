@@ -1,0 +1,224 @@
+-- The step tables of the abstract world: what each job asks for, step by step, and what is left after each result.
+use Rattle.std.specs.Prelude.{ℕ, Bool, true, false, List, [], ◌∷◌, Option, Some, None}
+use Rattle.wb_disk.specs.Device.{Content}
+
+-- a live order: its block of the origin, its block of the cache
+pub record Order : Type 0 where
+  pub block : ℕ
+  pub cache : ℕ
+  -- a replacement's: the block of the origin that is to follow on the cache block
+  pub next : Option ℕ
+
+pub data Job : Type 0 where
+  Reading : (block : ℕ) → List ℕ → Job
+  Writing : (block : ℕ) → List ℕ → Content → Job
+  Writing_through : (block : ℕ) → List ℕ → Content → Job
+  -- of a replacement, under its order
+  Flushing : (order : Option Order) → Job
+  Suspending : Job
+  Promoting : Order → List ℕ → Job
+  Demoting : Order → List ℕ → Job
+  Cleaning : Order → List ℕ → Job
+  Invalidating : (block : ℕ) → Job
+
+pub record Seal : Type 0 where
+  pub location : Option ℕ
+  pub dirty : Bool
+
+pub data Answer : Type 0 where
+  Finished : Answer
+  Busy : Answer
+  Failed : Answer
+  Io : Answer
+
+pub data Want : Type 0 where
+  Look_fail : Want
+  Share : (block : ℕ) → Want
+  Own : (block : ℕ) → Want
+  Look_seal : (block : ℕ) → Want
+  Set_seal : (block : ℕ) → Seal → Want
+  Leave : (block : ℕ) → Want
+  Disown : (block : ℕ) → Want
+  Set_failed : Want
+  Set_suspended : Want
+  Break_commits : Want
+  Read_at : (location : Option ℕ) (block offset : ℕ) → Want
+  Write_at : (location : Option ℕ) (block offset : ℕ) → Want
+  -- a flush asks to lead a commit, or to be served: on arriving, or with a ticket
+  Begin : (ticket : Option ℕ) → Want
+  Begin_clean : Want
+  Sync_cache_device : Want
+  Sync_origin_device : Want
+  Put_root : Want
+  Sync_metadata : Want
+  End_running : Want
+  Map_to : Order → Want
+  Unmap_from : Order → Want
+  Unmap_plain : (block cache : ℕ) → Want
+  Give_up : Order → Want
+  End : Answer → Want
+
+-- What a fault leaves: whether what was written has landed, and whether it was of one step with the sectors that a write
+-- has still to write, each of which lands or not; of a sync, which sectors are settled.
+pub record Choice : Type 0 where
+  pub landed : Bool
+  pub more : Bool
+  pub settled : ℕ → ℕ → Bool
+
+pub data Got : Type 0 where
+  Done : Got
+  Lost : Got
+  Flag : Bool → Got
+  Seen : Seal → Got
+  Gave : Content → Got
+  Ticket : ℕ → Got
+  Served : Got
+  Broken : Got
+  -- a growth was refused, or no number is left
+  Short : Got
+  Fault : Choice → Got
+
+pub record Script : Type 0 where
+  pub job : Job
+  pub steps : List Want
+  pub answer : Answer
+
+abbrev pub read_each : Option ℕ → ℕ → List ℕ → List Want → List Want
+read_each location b [] rest = rest
+read_each location b (o ∷ os) rest = Read_at location b o ∷ read_each location b os rest
+
+abbrev pub write_each : Option ℕ → ℕ → List ℕ → List Want → List Want
+write_each location b [] rest = rest
+write_each location b (o ∷ os) rest = Write_at location b o ∷ write_each location b os rest
+
+abbrev pub copy_each : (from to : Option ℕ) → ℕ → List ℕ → List Want → List Want
+copy_each from to b [] rest = rest
+copy_each from to b (o ∷ os) rest = Read_at from b o ∷ Write_at to b o ∷ copy_each from to b os rest
+
+-- write-through: each sector on the origin, then on the cache where it is mapped
+abbrev pub write_through_each : Option ℕ → ℕ → List ℕ → List Want → List Want
+write_through_each None b os rest = write_each None b os rest
+write_through_each (Some k) b [] rest = rest
+write_through_each (Some k) b (o ∷ os) rest = Write_at None b o ∷ Write_at (Some k) b o ∷ write_through_each (Some k) b os rest
+
+abbrev pub dirtying : ℕ → Option ℕ → Bool → List Want → List Want
+dirtying b (Some k) false rest = Set_seal b (record { location = Some k; dirty = true }) ∷ rest
+dirtying b location dirty rest = rest
+
+abbrev pub copy_dirty : Bool → Order → List ℕ → List Want → List Want
+copy_dirty true order os rest = copy_each (Some order.cache) None order.block os rest
+copy_dirty false order os rest = rest
+
+abbrev pub unmapping : Order → List Want
+unmapping order = Unmap_from order ∷ Set_seal order.block (record { location = None; dirty = false }) ∷ Disown order.block ∷ []
+
+abbrev pub cleaning : Order → List Want
+cleaning order = Set_seal order.block (record { location = Some order.cache; dirty = false }) ∷ Disown order.block ∷ Give_up order ∷ []
+
+abbrev pub mapping_on : Order → List Want
+mapping_on order = Map_to order ∷ Set_seal order.block (record { location = Some order.cache; dirty = false }) ∷ Disown order.block ∷ []
+
+-- in passthrough, under no order
+abbrev pub dropping : ℕ → Option ℕ → List Want
+dropping b None = Disown b ∷ []
+dropping b (Some k) = Unmap_plain b k ∷ Set_seal b (record { location = None; dirty = false }) ∷ Disown b ∷ []
+
+-- once the seal was seen
+abbrev pub work : Job → Seal → List Want
+work (Reading b os) seal = read_each seal.location b os (Leave b ∷ [])
+work (Writing b os c) seal = dirtying b seal.location seal.dirty (write_each seal.location b os (Disown b ∷ []))
+work (Writing_through b os c) seal = write_through_each seal.location b os (Disown b ∷ [])
+work (Invalidating b) seal = dropping b seal.location
+work (Flushing order) seal = []
+work Suspending seal = []
+work (Promoting order os) seal = copy_each None (Some order.cache) order.block os (mapping_on order)
+work (Cleaning order os) seal = copy_dirty seal.dirty order os (cleaning order)
+work (Demoting order os) seal = copy_dirty seal.dirty order os (unmapping order)
+
+abbrev pub acquire : Job → List Want
+acquire (Reading b os) = Share b ∷ Look_seal b ∷ []
+acquire (Writing b os c) = Own b ∷ Look_seal b ∷ []
+acquire (Writing_through b os c) = Own b ∷ Look_seal b ∷ []
+acquire (Invalidating b) = Own b ∷ Look_seal b ∷ []
+acquire (Flushing order) = Begin None ∷ Sync_cache_device ∷ Sync_origin_device ∷ Put_root ∷ Sync_metadata ∷ End_running ∷ []
+acquire Suspending = Begin_clean ∷ Sync_cache_device ∷ Sync_origin_device ∷ Put_root ∷ Sync_metadata ∷ End_running ∷ Set_suspended ∷ []
+acquire (Promoting order os) = Own order.block ∷ Look_seal order.block ∷ []
+acquire (Cleaning order os) = Own order.block ∷ Look_seal order.block ∷ []
+acquire (Demoting order os) = Own order.block ∷ Look_seal order.block ∷ []
+
+abbrev pub table : Job → Script
+table job = record { job = job; steps = Look_fail ∷ acquire job; answer = Finished }
+
+abbrev pub release : Job → List Want
+release (Reading b os) = Leave b ∷ []
+release (Writing b os c) = Disown b ∷ []
+release (Writing_through b os c) = Disown b ∷ []
+release (Invalidating b) = Disown b ∷ []
+release (Flushing order) = []
+release Suspending = []
+release (Promoting order os) = Disown order.block ∷ Give_up order ∷ []
+release (Cleaning order os) = Disown order.block ∷ Give_up order ∷ []
+release (Demoting order os) = Disown order.block ∷ Give_up order ∷ []
+
+abbrev pub first_of_steps : List Want → Answer → Want
+first_of_steps [] answer = End answer
+first_of_steps (w ∷ ws) answer = w
+
+abbrev pub want : Script → Want
+want s = first_of_steps s.steps s.answer
+
+abbrev pub later_steps : List Want → List Want
+later_steps [] = []
+later_steps (w ∷ ws) = ws
+
+abbrev pub onward : Script → Script
+onward s = record s { steps = later_steps s.steps }
+
+abbrev pub refused : Script → List Want → Answer → Script
+refused s steps answer = record { job = s.job; steps = steps; answer = answer }
+
+-- after a fault of a write or a sync; that of a commit's step breaks the commits
+abbrev pub breaking : Job → List Want
+breaking (Flushing order) = Set_failed ∷ Break_commits ∷ []
+breaking Suspending = Set_failed ∷ Break_commits ∷ []
+breaking job = Set_failed ∷ []
+
+-- the writes that come next, and then the failed bit
+abbrev pub until_failed : List Want → List Want
+until_failed (Write_at location b o ∷ ws) = Write_at location b o ∷ until_failed ws
+until_failed ws = Set_failed ∷ []
+
+-- after a fault of a write
+abbrev pub steps_after_fault : Job → (more : Bool) → List Want → List Want
+steps_after_fault (Writing b os c) true ws = until_failed ws
+steps_after_fault job more ws = breaking job
+
+abbrev pub after_fault : Script → (more : Bool) → Want → Script
+after_fault s more (Read_at location b o) = refused s (release s.job) Io
+after_fault s more (Write_at location b o) = refused s (steps_after_fault s.job more (later_steps s.steps)) Io
+after_fault s more w = refused s (breaking s.job) Io
+
+abbrev pub after_flag : Script → Bool → Script
+after_flag s true = refused s [] Failed
+after_flag s false = onward s
+
+-- a replacement's flush that is refused so gives its order up
+abbrev pub let_go : Option Order → List Want
+let_go None = []
+let_go (Some order) = Give_up order ∷ []
+
+abbrev pub letting : Job → List Want
+letting (Flushing order) = let_go order
+letting job = []
+
+abbrev pub after : Script → Got → Script
+after s Done = onward s
+after s Lost = refused s [] Busy
+after s (Flag f) = after_flag s f
+after s (Seen seal) = record s { steps = work s.job seal }
+after s (Gave c) = onward s
+after s (Ticket k) = record s { steps = Begin (Some k) ∷ later_steps s.steps }
+after s Served = refused s [] Finished
+after s Broken = refused s [] Failed
+after s Short = refused s (letting s.job) Failed
+after s (Fault choice) = after_fault s choice.more (want s)

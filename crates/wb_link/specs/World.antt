@@ -1,0 +1,396 @@
+-- A small world: two devices of data, the seals, the fail word, the desk, the metadata as the images that they may
+-- stand for, and actors, each with what is left of its step table.
+use Rattle.std.specs.Prelude.{◌≡◌, ◌≢◌, ◌<◌, ◌≤◌, ◌+◌, ◌⊎◌, cond, ℕ, Bool, true, false, List, [], ◌∷◌, Option, Some, None, Contains, replicate, slice_get, slice_set}
+use Rattle.wb_disk.specs.Device.{Content, History, newest, added, only}
+use Rattle.wb_contents.specs.Volume.{Locations, changed, changed_at}
+use Rattle.wb_types.specs.declared.mode.Mode.{Mode}
+use Rattle.wb_types.specs.declared.mode.Mode.TheVariants.{Writeback, Writethrough, Passthrough}
+use Rattle.wb_contents.specs.Acts.{all_synced, partly_synced}
+use Rattle.wb_link.specs.Tables.{Begin, Begin_clean, Break_commits, Broken, Demoting, Disown, Done, End, End_running, Fault, Flag, Flushing, Gave, Give_up, Got, Invalidating, Job, Leave, Look_fail, Look_seal, Lost, Map_to, Order, Own, Writing_through, Promoting, Read_at, Reading, Script, Seal, Seen, Served, Set_failed, Set_seal, Set_suspended, Share, Short, Suspending, Sync_origin_device, Sync_cache_device, Sync_metadata, Ticket, Unmap_from, Unmap_plain, Want, Cleaning, Write_at, Put_root, Writing, after, table, want}
+
+pub data Block : Type 0 where
+  Free : Block
+  Mapped : Block
+  Reserved : Block
+  Quarantined : (early : Bool) → Block
+  -- quarantined, and kept for the replacement that unmapped it
+  Retained : (early : Bool) → Block
+
+pub record Shared : Type 0 where
+  pub origin : ℕ → ℕ → History
+  pub cache : ℕ → ℕ → History
+  pub seals : ℕ → Seal
+  pub fail : Bool
+  -- a target stands and no suspend has taken its image; its mode
+  pub live : Bool
+  pub mode : Mode
+  pub mapping : Locations
+  pub blocks : ℕ → Block
+  pub committing : Bool
+  -- commits are numbered from 1: the last that began, the last that ended; and whether one was broken
+  pub began : ℕ
+  pub ended : ℕ
+  pub broken : Bool
+  pub committed : Locations
+  pub running : Locations
+  pub root_written : Bool
+  -- which blocks an opening of each takes as clean
+  pub committed_clean : ℕ → Bool
+  pub running_clean : ℕ → Bool
+
+pub data Held : Type 0 where
+  Nothing : Held
+  Shares : ℕ → Held
+  Owns : ℕ → Held
+
+pub record Actor : Type 0 where
+  pub task : Option Script
+  pub held : Held
+  pub order : Option Order
+  pub leads : Bool
+  pub buffer : Content
+
+pub record World : Type 0 where
+  pub shared : Shared
+  pub actors : List Actor
+
+-- What a step does to what is shared.
+
+abbrev pub begun : Block → Block
+begun (Quarantined early) = Quarantined true
+begun (Retained early) = Retained true
+begun block = block
+
+abbrev pub ended : Block → Block
+ended (Quarantined true) = Free
+ended (Retained true) = Reserved
+ended block = block
+
+abbrev pub removed : Option ℕ → Block
+removed None = Quarantined false
+removed (Some b) = Retained false
+
+abbrev pub given_back : Block → Block
+given_back Reserved = Free
+given_back (Retained early) = Quarantined early
+given_back block = block
+
+-- what an actor writes: a write what it was given, a migration what it has read
+abbrev pub content_for : Job → Content → Content
+content_for (Writing b os c) buffer = c
+content_for (Writing_through b os c) buffer = c
+content_for other buffer = buffer
+
+abbrev pub put_sector : Shared → Option ℕ → ℕ → ℕ → Content → Shared
+put_sector s None b o c = record s { origin = changed_at s.origin b o (added (s.origin b o) c) }
+put_sector s (Some k) b o c = record s { cache = changed_at s.cache k o (added (s.cache k o) c) }
+
+abbrev pub if_landed : Bool → Shared → Shared → Shared
+if_landed true new old = new
+if_landed false new old = old
+
+abbrev pub effect : Shared → Job → Content → Want → Got → Shared
+effect s job buffer (Set_seal b seal) got = record s { seals = changed s.seals b seal }
+effect s job buffer Set_failed got = record s { fail = true }
+effect s job buffer Set_suspended got = record s { fail = true }
+effect s job buffer Break_commits got = record s { broken = true }
+effect s job buffer (Write_at location b o) Done = put_sector s location b o (content_for job buffer)
+effect s job buffer (Write_at location b o) (Fault choice) = if_landed choice.landed (put_sector s location b o (content_for job buffer)) s
+effect s job buffer (Begin ticket) Done = record s { began = s.began + 1; running_clean = λ b. false; committing = true; running = s.mapping; blocks = λ k. begun (s.blocks k) }
+effect s job buffer Begin_clean Done = record s { began = s.began + 1; running_clean = λ b. cond (s.seals b).dirty false true; committing = true; running = s.mapping; blocks = λ k. begun (s.blocks k); live = false }
+effect s job buffer Sync_cache_device Done = record s { cache = all_synced s.cache }
+effect s job buffer Sync_cache_device (Fault choice) = record s { cache = partly_synced choice.settled s.cache }
+effect s job buffer Sync_origin_device Done = record s { origin = all_synced s.origin }
+effect s job buffer Sync_origin_device (Fault choice) = record s { origin = partly_synced choice.settled s.origin }
+effect s job buffer Put_root got = record s { root_written = true }
+effect s job buffer End_running got = record s { ended = s.began; committed_clean = s.running_clean; committing = false; committed = s.running; root_written = false; blocks = λ k. ended (s.blocks k) }
+effect s job buffer (Map_to order) got = record s { mapping = changed s.mapping order.block (Some order.cache); blocks = changed s.blocks order.cache Mapped }
+effect s job buffer (Unmap_from order) got = record s { mapping = changed s.mapping order.block None; blocks = changed s.blocks order.cache (removed order.next) }
+effect s job buffer (Unmap_plain b k) got = record s { mapping = changed s.mapping b None; blocks = changed s.blocks k (Quarantined false) }
+effect s job buffer (Give_up order) got = record s { blocks = changed s.blocks order.cache (given_back (s.blocks order.cache)) }
+effect s job buffer w got = s
+
+-- What it does to the actor.
+
+abbrev pub held_after : Held → Want → Got → Held
+held_after held (Share b) Done = Shares b
+held_after held (Own b) Done = Owns b
+held_after held (Leave b) got = Nothing
+held_after held (Disown b) got = Nothing
+held_after held w got = held
+
+-- a replacement goes on with its next block
+abbrev pub following : ℕ → Option ℕ → Option Order
+following cache None = None
+following cache (Some b) = Some (record { block = b; cache = cache; next = None })
+
+abbrev pub order_after : Option Order → Want → Option Order
+order_after order (Map_to o) = None
+order_after order (Unmap_from o) = following o.cache o.next
+order_after order (Give_up o) = None
+order_after order w = order
+
+abbrev pub leads_after : Bool → Want → Got → Bool
+leads_after leads (Begin ticket) Done = true
+leads_after leads Begin_clean Done = true
+leads_after leads End_running got = false
+leads_after leads w got = leads
+
+abbrev pub buffer_after : Content → Got → Content
+buffer_after buffer (Gave c) = c
+buffer_after buffer got = buffer
+
+abbrev pub task_after : Script → Want → Got → Option Script
+task_after script (End answer) got = None
+task_after script w got = Some (after script got)
+
+abbrev pub actor_after : Actor → Script → Want → Got → Actor
+actor_after x script w got = record {
+  task = task_after script w got;
+  held = held_after x.held w got;
+  order = order_after x.order w;
+  leads = leads_after x.leads w got;
+  buffer = buffer_after x.buffer got;
+}
+
+-- What may come of a step: what the shared state says, and of an exchange what the lock words say of all actors.
+
+abbrev pub newest_at : Shared → Option ℕ → ℕ → ℕ → Content
+newest_at s None b o = newest (s.origin b o)
+newest_at s (Some k) b o = newest (s.cache k o)
+
+-- a commit of the ticket's number or a later one has ended, or none has
+abbrev pub Serves : Shared → Option ℕ → Type 0
+Serves s None = ⊥
+Serves s (Some k) = k ≤ s.ended
+
+abbrev pub Unserved : Shared → Option ℕ → Type 0
+Unserved s None = Unit {0}
+Unserved s (Some k) = s.ended < k
+
+abbrev pub Gives : Shared → Want → Got → Type 0
+Gives s Look_fail (Flag f) = f ≡ s.fail
+Gives s (Share b) Done = Unit {0}
+Gives s (Share b) Lost = Unit {0}
+Gives s (Own b) Done = Unit {0}
+Gives s (Own b) Lost = Unit {0}
+Gives s (Look_seal b) (Seen seal) = seal ≡ s.seals b
+Gives s (Set_seal b seal) Done = Unit {0}
+Gives s (Leave b) Done = Unit {0}
+Gives s (Disown b) Done = Unit {0}
+Gives s Set_failed Done = Unit {0}
+Gives s Set_suspended Done = Unit {0}
+Gives s Break_commits Done = Unit {0}
+Gives s (Read_at location b o) (Gave c) = c ≡ newest_at s location b o
+Gives s (Read_at location b o) (Fault choice) = Unit {0}
+Gives s (Write_at location b o) Done = Unit {0}
+Gives s (Write_at location b o) (Fault choice) = Unit {0}
+Gives s (Begin ticket) Done = (s.committing ≡ false) × (s.broken ≡ false) × Unserved s ticket
+Gives s (Begin ticket) (Ticket k) = (ticket ≡ None) × (s.committing ≡ true) × (s.broken ≡ false) × (k ≡ s.began + 1)
+Gives s (Begin ticket) Served = Serves s ticket
+Gives s (Begin ticket) Broken = (s.broken ≡ true) × Unserved s ticket
+Gives s (Begin ticket) Short = Unserved s ticket
+Gives s Begin_clean Done = s.committing ≡ false
+Gives s Begin_clean Lost = s.committing ≡ true
+Gives s Sync_cache_device Done = Unit {0}
+Gives s Sync_cache_device (Fault choice) = Unit {0}
+Gives s Sync_origin_device Done = Unit {0}
+Gives s Sync_origin_device (Fault choice) = Unit {0}
+Gives s Put_root Done = Unit {0}
+Gives s Put_root (Fault choice) = Unit {0}
+Gives s Sync_metadata Done = Unit {0}
+Gives s Sync_metadata (Fault choice) = Unit {0}
+Gives s End_running Done = Unit {0}
+Gives s (Map_to order) Done = Unit {0}
+Gives s (Unmap_from order) Done = Unit {0}
+Gives s (Unmap_plain b k) Done = Unit {0}
+Gives s (Give_up order) Done = Unit {0}
+Gives s (End answer) Done = Unit {0}
+Gives s w got = ⊥
+
+abbrev pub Someone : List Actor → (Actor → Type 0) → Type 0
+Someone actors Is = (a : ℕ) × (x : Actor) × (slice_get actors a ≡ Some x) × Is x
+
+-- What the lock words tell: an exchange to an own meets nobody who holds the block, one to a share nobody who owns it.
+abbrev pub Wins : List Actor → Want → Got → Type 0
+Wins actors (Share b) Done = (a : ℕ) (x : Actor) → slice_get actors a ≡ Some x → x.held ≢ Owns b
+Wins actors (Own b) Done = (a : ℕ) (x : Actor) → slice_get actors a ≡ Some x → (x.held ≢ Owns b) × (x.held ≢ Shares b)
+Wins actors w got = Unit {0}
+
+-- Starts.
+
+abbrev pub order_of : Job → Option Order
+order_of (Promoting order os) = Some order
+order_of (Cleaning order os) = Some order
+order_of (Demoting order os) = Some order
+order_of (Flushing order) = order
+order_of job = None
+
+abbrev pub reserved : Shared → Job → Shared
+reserved s (Promoting order os) = record s { blocks = changed s.blocks order.cache Reserved }
+reserved s job = s
+
+-- an order may be given: no live order shares a block with it
+abbrev pub Names : Order → ℕ → Type 0
+Names o b = (o.block ≡ b) ⊎ (o.next ≡ Some b)
+
+abbrev pub Apart : Order → Order → Type 0
+Apart o p = ((b : ℕ) → Names o b → Names p b → ⊥) × (o.cache ≢ p.cache)
+
+-- the block that is to follow is unmapped
+abbrev pub Waits : Shared → Order → Type 0
+Waits s o = (b : ℕ) → o.next ≡ Some b → s.mapping b ≡ None
+
+abbrev pub Ungiven : List Actor → Order → Type 0
+Ungiven actors order = (a : ℕ) (x : Actor) (o : Order) → slice_get actors a ≡ Some x → x.order ≡ Some o → Apart o order
+
+-- these offsets are of the block
+abbrev pub Within : ℕ → List ℕ → Type 0
+Within size [] = Unit {0}
+Within size (o ∷ os) = (o < size) × Within size os
+
+-- and they are all of them
+abbrev pub Covers : ℕ → List ℕ → Type 0
+Covers size os = (o : ℕ) → o < size → Contains os o
+
+-- A job may be started: a migration only under an order that may be given.
+abbrev pub MayStart : ℕ → World → Job → Type 0
+MayStart size w (Reading b os) = Within size os
+MayStart size w (Writing b os c) = Within size os × (w.shared.mode ≡ Writeback)
+MayStart size w (Writing_through b os c) = Within size os × (w.shared.mode ≡ Writethrough)
+MayStart size w (Invalidating b) = w.shared.mode ≡ Passthrough
+MayStart size w (Flushing order) = order ≡ None
+MayStart size w Suspending = (a : ℕ) (x : Actor) → slice_get w.actors a ≡ Some x → x.task ≡ None
+MayStart size w (Promoting order os) = Within size os × Covers size os × Ungiven w.actors order × (w.shared.mode ≢ Passthrough) × (w.shared.mapping order.block ≡ None) × (w.shared.blocks order.cache ≡ Free) × Waits w.shared order
+MayStart size w (Cleaning order os) = Within size os × Covers size os × Ungiven w.actors order × (w.shared.mode ≢ Passthrough) × (w.shared.mapping order.block ≡ Some order.cache) × (w.shared.blocks order.cache ≡ Mapped) × Waits w.shared order
+MayStart size w (Demoting order os) = Within size os × Covers size os × Ungiven w.actors order × (w.shared.mode ≢ Passthrough) × (w.shared.mapping order.block ≡ Some order.cache) × (w.shared.blocks order.cache ≡ Mapped) × Waits w.shared order
+
+-- Records.
+
+pub data Record : Type 0 where
+  Start : (actor : ℕ) → Job → Record
+  -- a migration once more, under the order that its actor kept when it was answered busy or failed
+  Again : (actor : ℕ) → Job → Record
+  Step : (actor : ℕ) → Want → Got → Record
+
+-- an actor with nothing to do, that holds nothing
+abbrev pub resting : Actor
+resting = record { task = None; held = Nothing; order = None; leads = false; buffer = [] }
+
+abbrev pub given : Actor → Job → Actor
+given x job = record x { task = Some (table job); order = order_of job }
+
+abbrev pub step_task : World → ℕ → Actor → Option Script → Got → World
+step_task w a x None got = w
+step_task w a x (Some script) got = record {
+  shared = effect w.shared script.job x.buffer (want script) got;
+  actors = slice_set w.actors a (actor_after x script (want script) got);
+}
+
+abbrev pub step_actor : World → ℕ → Option Actor → Got → World
+step_actor w a None got = w
+step_actor w a (Some x) got = step_task w a x x.task got
+
+abbrev pub start_actor : World → ℕ → Option Actor → Job → World
+start_actor w a None job = w
+start_actor w a (Some x) job = record { shared = reserved w.shared job; actors = slice_set w.actors a (given x job) }
+
+abbrev pub again_actor : World → ℕ → Option Actor → Job → World
+again_actor w a None job = w
+again_actor w a (Some x) job = record { shared = w.shared; actors = slice_set w.actors a (given x job) }
+
+abbrev pub after_record : World → Record → World
+after_record w (Start a job) = start_actor w a (slice_get w.actors a) job
+after_record w (Again a job) = again_actor w a (slice_get w.actors a) job
+after_record w (Step a next got) = step_actor w a (slice_get w.actors a) got
+
+-- an actor with this left to do takes its next step
+pub record MayStep (w : World) (a : ℕ) (next : Want) (got : Got) (x : Actor) (script : Script) : Type 0 where
+  pub actor : slice_get w.actors a ≡ Some x
+  pub task : x.task ≡ Some script
+  pub asked : next ≡ want script
+  pub gives : Gives w.shared (want script) got
+  pub wins : Wins w.actors (want script) got
+
+-- a suspend is alone
+abbrev pub job_alone : Job → Bool
+job_alone Suspending = true
+job_alone job = false
+
+abbrev pub is_alone : Option Script → Bool
+is_alone None = false
+is_alone (Some script) = job_alone script.job
+
+-- in passthrough there are no orders, and a block may be unmapped without one
+abbrev pub job_drops : Job → Bool
+job_drops (Invalidating b) = true
+job_drops job = false
+
+abbrev pub drops : Option Script → Bool
+drops None = false
+drops (Some script) = job_drops script.job
+
+-- an actor that has nothing and holds nothing is given a job
+pub record MayBegin (size : ℕ) (w : World) (a : ℕ) (job : Job) (x : Actor) : Type 0 where
+  pub actor : slice_get w.actors a ≡ Some x
+  pub task : x.task ≡ None
+  pub held : x.held ≡ Nothing
+  pub order : x.order ≡ None
+  pub leads : x.leads ≡ false
+  pub nobody_alone : (b : ℕ) (y : Actor) → slice_get w.actors b ≡ Some y → is_alone y.task ≡ false
+  pub may : MayStart size w job
+
+-- what a kept order says still: its block is reserved, or mapped
+abbrev pub MayAgain : ℕ → Shared → Job → Type 0
+MayAgain size s (Promoting order os) = Within size os × Covers size os × (s.blocks order.cache ≡ Reserved)
+MayAgain size s (Demoting order os) = Within size os × Covers size os × (s.blocks order.cache ≡ Mapped)
+MayAgain size s (Cleaning order os) = Within size os × Covers size os × (s.blocks order.cache ≡ Mapped)
+MayAgain size s (Flushing order) = (p : Order) × (order ≡ Some p)
+MayAgain size s job = ⊥
+
+pub record MayRepeat (size : ℕ) (w : World) (a : ℕ) (job : Job) (x : Actor) : Type 0 where
+  pub actor : slice_get w.actors a ≡ Some x
+  pub task : x.task ≡ None
+  pub held : x.held ≡ Nothing
+  pub order : x.order ≡ order_of job
+  pub leads : x.leads ≡ false
+  pub nobody_alone : (b : ℕ) (y : Actor) → slice_get w.actors b ≡ Some y → is_alone y.task ≡ false
+  pub may : MayAgain size w.shared job
+
+abbrev pub May : ℕ → World → Record → Type 0
+May size w (Start a job) = (x : Actor) × MayBegin size w a job x
+May size w (Again a job) = (x : Actor) × MayRepeat size w a job x
+May size w (Step a next got) = (x : Actor) × (script : Script) × MayStep w a next got x script
+
+abbrev pub after_all : World → List Record → World
+after_all w [] = w
+after_all w (r ∷ rs) = after_all (after_record w r) rs
+
+abbrev pub IsRun : ℕ → World → List Record → Type 0
+IsRun size w [] = Unit {0}
+IsRun size w (r ∷ rs) = May size w r × IsRun size (after_record w r) rs
+
+-- devices that have one content, formatted and opened, and so many actors
+abbrev pub begins : ℕ → Content → World
+begins many z = record {
+  shared = record {
+    origin = λ b o. only z;
+    cache = λ k o. only z;
+    seals = λ b. record { location = None; dirty = false };
+    fail = false;
+    live = true;
+    mode = Writeback;
+    mapping = λ b. None;
+    blocks = λ k. Free;
+    committing = false;
+    began = 0;
+    ended = 0;
+    broken = false;
+    committed = λ b. None;
+    running = λ b. None;
+    root_written = false;
+    committed_clean = λ b. false;
+    running_clean = λ b. false;
+  };
+  actors = replicate many resting;
+}

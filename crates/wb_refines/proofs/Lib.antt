@@ -1,0 +1,6 @@
+pub mod Tables
+pub mod Going
+pub mod Cells
+pub mod Locks
+pub mod Followed
+pub mod Extents

@@ -1,0 +1,63 @@
+-- What the rule of the shared words tells of abstract actors: who has a block by its card wins it there.
+use Rattle.std.proofs.Common.{cond, ◌≡◌, ◌≢◌, ◌<◌, ◌≤◌, ◌+◌, ◌∙◌, ℕ, zero, suc, List, [], ◌∷◌, Some, refl, sym, ap, subst, arith, slice_get}
+use mathlib.Core.Option.{some}
+use lib.ListN.{get_elem?}
+use Rattle.wb_types.specs.declared.number.OBlock.{OBlock}
+use Rattle.wb_words.specs.declared.word.Access.TheVariants.{Shared as Sharing, Owned}
+use Rattle.wb_words.specs.declared.card.Hold.{Hold}
+use Rattle.wb_words.specs.declared.card.Hold.TheVariants.{Held as HoldsBlock}
+use Rattle.wb_words.specs.declared.card.Card.{Card}
+use Rattle.wb_words.specs.SharedWords.{Words}
+use Rattle.wb_words.specs.Cards.{total, is_block, owns, shares, owners, sharers}
+use Rattle.wb_words.specs.Rule.{LockRule}
+use Rattle.wb_words.proofs.Totals.{total_at, at_slice}
+use Rattle.std.proofs.lemmas.Bool.{eq-eqb}
+use Rattle.wb_link.specs.Tables.{Share, Own, Done}
+use Rattle.wb_link.specs.World.{Nothing, Shares, Owns, Actor}
+use Rattle.wb_refines.specs.Going.{WinsBeside}
+use Rattle.wb_refines.specs.Models.{AllBelow}
+
+-- two cards are both in a sum
+total_two : {A : Type 0} (f : A → ℕ) (xs : List A) (i j : ℕ) (x y : A) → i ≢ j → slice_get xs i ≡ Some x → slice_get xs j ≡ Some y → f x + f y ≤ total f xs
+total_two f [] i j x y n e g = absurd (cc)
+total_two f (z ∷ xs) zero zero x y n e g = absurd (n refl)
+total_two f (z ∷ xs) zero (suc j) x y n e g = let same : z ≡ x = cc in let is : f z ≡ f x = ap f same in let l = total_at f xs j y (at_slice xs j y g) in omega (arith, is, l)
+total_two f (z ∷ xs) (suc i) zero x y n e g = let same : z ≡ y = cc in let is : f z ≡ f y = ap f same in let l = total_at f xs i x (at_slice xs i x e) in omega (arith, is, l)
+total_two f (z ∷ xs) (suc i) (suc j) x y n e g = let l = total_two f xs i j x y (λ s. n (ap suc s)) e g in omega (arith, l)
+
+is_one : (block : OBlock) → is_block block.0 block ≡ 1
+is_one block = ap (λ t. cond t 1 0) (eq-eqb block.0 block.0 refl)
+
+module _ (blocks : ℕ) (words : Words) (cards : List Card) (actors : List Actor) (a : ℕ) (card : Card) (block : OBlock) (rule : LockRule blocks words cards) (inside : block.0 < blocks) (here : slice_get cards a ≡ Some card) (below : AllBelow actors cards) where
+  pub share_wins : card.hold ≡ HoldsBlock Sharing block → WinsBeside actors a Nothing (Share block.0) Done
+  share_wins h = (
+    refl,
+    λ c x n g k.
+        let other = below c x g in
+        let lock = rule.cells block.0 inside in
+        let mine : sharers block.0 card ≡ 1 = ap (λ (v : Hold). shares block.0 v) h ∙ is_one block in
+        let l = total_at (sharers block.0) cards a card (at_slice cards a card here) in
+        let m = total_at (owners block.0) cards c other.0 (at_slice cards c other.0 other.1) in
+        let o = other.2.owned block.0 k in
+        let none = lock.apart (omega (arith, m, o)) in
+        omega (arith, mine, l, none),
+  )
+
+  pub own_wins : card.hold ≡ HoldsBlock Owned block → WinsBeside actors a Nothing (Own block.0) Done
+  own_wins h = (
+    refl,
+    λ c x n g.
+        let other = below c x g in
+        let lock = rule.cells block.0 inside in
+        let mine : owns block.0 card.hold ≡ 1 = ap (λ (v : Hold). owns block.0 v) h ∙ is_one block in
+        let l = total_at (owners block.0) cards a card (at_slice cards a card here) in (
+          λ k. let two = total_two (owners block.0) cards a c card other.0 (λ s. n (sym s)) here other.1 in
+              let o = other.2.owned block.0 k in
+              let one = lock.one in
+              omega (arith, mine, two, o, one),
+          λ k. let m = total_at (sharers block.0) cards c other.0 (at_slice cards c other.0 other.1) in
+              let o = other.2.shared block.0 k in
+              let none = lock.apart (omega (arith, mine, l)) in
+              omega (arith, m, o, none),
+        ),
+  )

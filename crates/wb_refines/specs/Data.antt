@@ -1,0 +1,41 @@
+-- When the data devices of an abstract world are lists of sectors, seen by block and offset.
+use Rattle.std.specs.Prelude.{◌≡◌, ◌+◌, ◌*◌, ℕ, zero, suc, Bool, false, List, [], ◌∷◌, Option, Some, None}
+use Rattle.wb_disk.specs.Device.{Content, History}
+use Rattle.wb_contents.specs.Devices.{by_block}
+use Rattle.wb_words.specs.SharedWords.{flag}
+use Rattle.wb_link.specs.Tables.{Got, Fault}
+use Rattle.wb_link.specs.World.{Shared}
+
+-- the device on which a location is, and the block that it is of it
+abbrev pub side : Option ℕ → Shared → ℕ → ℕ → History
+side None s = s.origin
+side (Some cache) s = s.cache
+
+abbrev pub row : Option ℕ → ℕ → ℕ
+row None block = block
+row (Some cache) block = cache
+
+-- the other device
+abbrev pub other_side : Option ℕ → Shared → ℕ → ℕ → History
+other_side None s = s.cache
+other_side (Some cache) s = s.origin
+
+-- the device of a location is this list
+abbrev pub IsSide : ℕ → Content → Option ℕ → List History → Shared → Type 0
+IsSide size blank to device s = side to s ≡ by_block size blank device
+
+-- nothing changed but the device of a location
+pub record SameBeside (to : Option ℕ) (s t : Shared) : Type 0 where
+  pub other : other_side to t ≡ other_side to s
+  pub seals : t.seals ≡ s.seals
+  pub fail : t.fail ≡ s.fail
+  pub mapping : t.mapping ≡ s.mapping
+  pub blocks : t.blocks ≡ s.blocks
+  pub committing : t.committing ≡ s.committing
+  pub live : t.live ≡ s.live
+  pub mode : t.mode ≡ s.mode
+
+-- What a failing write of so many sectors from this one on comes to: each has landed or not, and only the last ends the task.
+abbrev pub faults : (ℕ → Bool) → ℕ → ℕ → List Got
+faults lands at zero = []
+faults lands at (suc count) = Fault (record { landed = lands at; more = flag count; settled = λ block offset. false }) ∷ faults lands (suc at) count

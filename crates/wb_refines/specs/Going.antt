@@ -1,0 +1,35 @@
+-- An actor of the abstract world goes on by several results of its own steps, one after the other.
+use Rattle.std.specs.Prelude.{◌≡◌, ◌≢◌, ℕ, List, [], ◌∷◌, Option, Some, None, slice_get}
+use Rattle.wb_link.specs.Tables.{Script, Want, Share, Own, Got, Done, want}
+use Rattle.wb_link.specs.World.{Shared, Held, Nothing, Shares, Owns, Actor, effect, actor_after, task_after, Gives, Record, Step}
+
+-- the steps of an actor with this task that have these results
+abbrev pub records : ℕ → Option Script → List Got → List Record
+records a None gots = []
+records a (Some script) [] = []
+records a (Some script) (got ∷ gots) = Step a (want script) got ∷ records a (task_after script (want script) got) gots
+
+-- what is shared after them
+abbrev pub shared_after : Shared → Actor → Option Script → List Got → Shared
+shared_after s y None gots = s
+shared_after s y (Some script) [] = s
+shared_after s y (Some script) (got ∷ gots) = shared_after (effect s script.job y.buffer (want script) got) (actor_after y script (want script) got) (task_after script (want script) got) gots
+
+-- and the actor
+abbrev pub gone : Actor → Option Script → List Got → Actor
+gone y None gots = y
+gone y (Some script) [] = y
+gone y (Some script) (got ∷ gots) = gone (actor_after y script (want script) got) (task_after script (want script) got) gots
+
+-- what an exchange that is won says: who wins holds nothing, and no other actor has what keeps it from the block
+abbrev pub WinsBeside : List Actor → ℕ → Held → Want → Got → Type 0
+WinsBeside actors a held (Share b) Done = (held ≡ Nothing) × ((c : ℕ) (x : Actor) → c ≢ a → slice_get actors c ≡ Some x → x.held ≢ Owns b)
+WinsBeside actors a held (Own b) Done = (held ≡ Nothing) × ((c : ℕ) (x : Actor) → c ≢ a → slice_get actors c ≡ Some x → (x.held ≢ Owns b) × (x.held ≢ Shares b))
+WinsBeside actors a held next got = Unit {0}
+
+-- each of the results may come where it does
+abbrev pub MayGo : List Actor → ℕ → Shared → Actor → Option Script → List Got → Type 0
+MayGo actors a s y task [] = Unit {0}
+MayGo actors a s y None (got ∷ gots) = ⊥
+MayGo actors a s y (Some script) (got ∷ gots) = Gives s (want script) got × WinsBeside actors a y.held (want script) got
+    × MayGo actors a (effect s script.job y.buffer (want script) got) (actor_after y script (want script) got) (task_after script (want script) got) gots

@@ -1,0 +1,5 @@
+pub mod Translation
+pub mod Going
+pub mod Models
+pub mod Data
+pub mod Laws

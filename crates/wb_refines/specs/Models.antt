@@ -1,0 +1,117 @@
+-- When what is shared, and an actor with a task that reads or writes a block, is what an abstract world has.
+use Rattle.std.specs.Prelude.{◌≡◌, ◌≢◌, ◌==◌, ◌⊎◌, ◌<◌, ℕ, Bool, true, false, List, [], ◌∷◌, Option, Some, None, slice_get}
+use Rattle.wb_types.specs.declared.number.OBlock.{OBlock}
+use Rattle.wb_types.specs.declared.number.CBlock.{CBlock}
+use Rattle.wb_types.specs.declared.refusal.Refusal.{Refusal}
+use Rattle.wb_disk.specs.Device.{Content}
+use Rattle.wb_words.specs.declared.word.Access.TheVariants.{Shared as Sharing, Owned}
+use Rattle.wb_words.specs.declared.word.Word.TheVariants.{Seal as SealWord, Number}
+use Rattle.wb_words.specs.declared.step.CellStep.{CellStep}
+use Rattle.wb_words.specs.declared.step.CellStep.TheVariants.{Look, Seal as SealBlock, Release, SetFailed}
+use Rattle.wb_words.specs.declared.card.Hold.{Hold}
+use Rattle.wb_words.specs.declared.card.Hold.TheVariants.{Nothing as HoldsNothing, Held as HoldsBlock}
+use Rattle.wb_words.specs.declared.card.Card.{Card}
+use Rattle.wb_words.specs.SharedWords.{Words, word_at, place_in, dirty_in, flag, seal_word}
+use Rattle.wb_words.specs.Cards.{owners, sharers}
+use Rattle.wb_tasks.specs.Tables.{BlockJob, Migrating, OnBlock}
+use Rattle.wb_tasks.specs.Plan.{Plan, work_of}
+use Rattle.wb_tasks.specs.declared.step.Answer.{Answer}
+use Rattle.wb_tasks.specs.declared.step.Want.{Want}
+use Rattle.wb_tasks.specs.declared.step.Want.TheVariants.{Cell}
+use Rattle.wb_tasks.specs.declared.step.Answer.TheVariants.{Done as Finished, Refused as Refuses}
+use Rattle.wb_link.specs.Tables.{Seal, Script, Got, Finished as AnsweredDone}
+use Rattle.wb_link.specs.World.{Shared, Held, Nothing, Shares, Owns, Actor}
+use Rattle.wb_refines.specs.Translation.{number_of, script_for}
+use Rattle.wb_refines.specs.Going.{shared_after, gone, MayGo}
+
+-- a read or a write
+abbrev pub IsRequest : BlockJob → Type 0
+IsRequest (Migrating migration part) = ⊥
+IsRequest job = Unit {0}
+
+-- what is left of a job on a block
+abbrev pub plan_of : BlockJob → List Want → Answer → Plan
+plan_of job steps answer = record { job = OnBlock job; steps = steps; answer = answer }
+
+-- The seal of a block says where it is, and whether a mapped one is dirty, as its word does.
+pub record SealAgrees (word : ℕ) (seal : Seal) : Type 0 where
+  pub location : seal.location ≡ number_of (place_in word)
+  pub dirty : (c : CBlock) → place_in word ≡ Some c → seal.dirty ≡ dirty_in word
+
+-- the fail word and the seals
+pub record WordsAgree (words : Words) (s : Shared) : Type 0 where
+  pub fail : s.fail ≡ flag words.fail
+  pub seals : (block : OBlock) → SealAgrees (word_at words.seals block) (s.seals block.0)
+
+abbrev pub held_of : Hold → Held
+held_of HoldsNothing = Nothing
+held_of (HoldsBlock Sharing block) = Shares block.0
+held_of (HoldsBlock Owned block) = Owns block.0
+
+-- An abstract actor has what the card says, but for a block whose number is still to be looked at.
+abbrev pub held_for : List Want → Card → Held
+held_for (Cell (Look (SealWord block)) ∷ later) card = Nothing
+held_for (Cell (Look (Number block)) ∷ later) card = Nothing
+held_for steps card = held_of card.hold
+
+-- Where the number is looked at next, what comes after it is the work on a block with the seal that was seen; who sets the
+-- failed bit next is to answer a refusal.
+abbrev pub SawSeal : Plan → List Want → Card → Type 0
+SawSeal plan (Cell (Look (Number block)) ∷ later) card = (seal : ℕ) × (card.seal ≡ Some seal) × (later ≡ work_of plan.job seal)
+SawSeal plan (Cell SetFailed ∷ later) card = (refusal : Refusal) × (plan.answer ≡ Refuses refusal)
+SawSeal plan steps card = Unit {0}
+
+-- An abstract actor is at what is left of this task.
+pub record IsAt (size : ℕ) (content : Content) (plan : Plan) (card : Card) (y : Actor) : Type 0 where
+  pub buffer : Content
+  pub is : y ≡ record { task = Some (script_for size content plan); held = held_for plan.steps card; order = None; leads = false; buffer = buffer }
+  pub saw : SawSeal plan plan.steps card
+
+-- nothing is left, but perhaps a block to give back
+abbrev pub OnlyParts : List Want → Type 0
+OnlyParts [] = Unit {0}
+OnlyParts (Cell (Release access block) ∷ []) = Unit {0}
+OnlyParts steps = ⊥
+
+-- Refused, an abstract actor has only to answer: it has set the failed bit and keeps what it owns, or it has nothing, since it did
+-- not take the block whose number was found worn.
+pub record HasStopped (words : Words) (plan : Plan) (y : Actor) : Type 0 where
+  pub over : OnlyParts plan.steps
+  pub refused : plan.answer ≢ Finished
+  pub script : Script
+  pub task : y.task ≡ Some script
+  pub nothing : script.steps ≡ []
+  pub undone : script.answer ≢ AnsweredDone
+  pub free : (y.held ≡ Nothing) ⊎ (flag words.fail ≡ true)
+
+-- what a step on the words changes nothing of
+pub record SameElse (s t : Shared) : Type 0 where
+  pub origin : t.origin ≡ s.origin
+  pub cache : t.cache ≡ s.cache
+  pub mapping : t.mapping ≡ s.mapping
+  pub blocks : t.blocks ≡ s.blocks
+  pub committing : t.committing ≡ s.committing
+  pub live : t.live ≡ s.live
+  pub mode : t.mode ≡ s.mode
+
+-- What an actor did on the words, which are these now, the abstract actor can do too, and both are at the same then.
+pub record Follows (size : ℕ) (content : Content) (actors : List Actor) (a : ℕ) (s : Shared) (y : Actor) (words : Words) (plan : Plan) (card : Card) : Type 0 where
+  pub results : List Got
+  pub may : MayGo actors a s y y.task results
+  pub words_agree : WordsAgree words (shared_after s y y.task results)
+  pub same : SameElse s (shared_after s y y.task results)
+  pub at : IsAt size content plan card (gone y y.task results) ⊎ HasStopped words plan (gone y y.task results)
+
+-- An abstract actor has no block that the card does not count.
+pub record IsBelow (y : Actor) (card : Card) : Type 0 where
+  pub owned : (block : ℕ) → y.held ≡ Owns block → 0 < owners block card
+  pub shared : (block : ℕ) → y.held ≡ Shares block → 0 < sharers block card
+
+-- each abstract actor has a card, which counts what it has
+abbrev pub AllBelow : List Actor → List Card → Type 0
+AllBelow actors cards = (a : ℕ) (y : Actor) → slice_get actors a ≡ Some y → (card : Card) × (slice_get cards a ≡ Some card) × IsBelow y card
+
+-- a seal that is stored tells the place that it was made of
+abbrev pub TellsPlace : CellStep → Type 0
+TellsPlace (SealBlock block place dirty) = place_in (seal_word place dirty) ≡ place
+TellsPlace step = Unit {0}

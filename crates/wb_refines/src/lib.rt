@@ -1,0 +1,16 @@
+//! The tasks of the real steps as tasks of the abstract world (wb_link): definitions and laws, no code.
+#![tactic(auto)]
+
+ghost use Rattle.wb_refines.specs.Laws.{TablesAgree, CellStepsFollowed};
+
+/// A read, a write or a flush begins in the abstract world as its table does here.
+pub fn tables_agree()
+    ensures { TablesAgree }
+{}
+
+/// Each step of a read or a write on the shared words, in any state of these that keeps their rule, is some steps of an
+/// abstract actor, each of which may come where it does: where words, card and task agree with the abstract world before it,
+/// they agree after it.
+pub fn cell_steps_are_followed()
+    ensures { CellStepsFollowed }
+{}
