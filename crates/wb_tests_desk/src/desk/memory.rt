@@ -27,17 +27,10 @@ const CALLS: [(Call, bool); 12] = [
 ];
 
 /// Makes calls of an empty cache, and one that is refused for want of memory once more, of what it left. Whether each comes out as
-/// where none is refused.
+/// where none is refused; `Memory` where there is none for the desk.
 fn are_done_at_last(alloc: Global, calls: &[(Call, bool)]) -> Result<bool, Refusal> {
-    let mut desk = opened_at_last(alloc)?;
+    let mut desk = empty::<TinyLfu>(alloc, 4, 10, Mode::Writeback)?;
     go_on(&mut desk, alloc, calls)
-}
-
-fn opened_at_last(alloc: Global) -> Result<Desk<TinyLfu>, Refusal> {
-    match empty::<TinyLfu>(alloc, 4, 10, Mode::Writeback) {
-        Err(Refusal::Memory) => empty::<TinyLfu>(alloc, 4, 10, Mode::Writeback),
-        answer => answer,
-    }
 }
 
 fn go_on<P: Policy>(
@@ -61,6 +54,10 @@ fn go_on<P: Policy>(
 fn a_call_that_is_refused_for_want_of_memory_can_be_made_again(
     rt: HostRuntime,
 ) -> Result<(), Fail> {
-    assert!(rt; are_done_at_last(rt.alloc(), &CALLS)?);
+    let are_done = match are_done_at_last(rt.alloc(), &CALLS) {
+        Err(Refusal::Memory) => are_done_at_last(rt.alloc(), &CALLS)?,
+        answer => answer?,
+    };
+    assert!(rt; are_done);
     Ok(())
 }
