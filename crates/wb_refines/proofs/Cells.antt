@@ -1,5 +1,5 @@
 -- Each step of a read or a write on the shared words is followed in the abstract world.
-use Rattle.std.proofs.Common.{bit_or, mul_comm, arith, length, set, ◌%◌, ◌+◌, ◌≡◌, ◌≢◌, ◌<◌, ◌==◌, ◌∙◌, ◌⊎◌, cond, inl, inr, ℕ, zero, suc, Bool, true, false, if◌then◌else◌, List, [], ◌∷◌, ◌++◌, map, Option, Some, None, refl, sym, ap, subst}
+use Rattle.std.proofs.Common.{bit_or, mul_comm, arith, length, set, ◌%◌, ◌+◌, ◌≡◌, ◌≢◌, ◌<◌, ◌==◌, ◌∙◌, cond, inl, inr, ℕ, zero, suc, Bool, true, false, if◌then◌else◌, List, [], ◌∷◌, ◌++◌, map, Option, Some, None, refl, sym, ap, subst}
 use Rattle.std.proofs.lemmas.Bool.{eqb-true, eq-eqb, cases_eq}
 use Rattle.std.proofs.lemmas.Nat.{mod-mul-add}
 use Rattle.wb_words.proofs.Values.{word_at_set, word_at_else}
@@ -13,10 +13,9 @@ use Rattle.wb_types.specs.declared.refusal.Refusal.TheVariants.{Busy, Failed, Wo
 use Rattle.wb_disk.specs.Device.{Content}
 use Rattle.wb_words.specs.declared.word.Access.{Access}
 use Rattle.wb_words.specs.declared.word.Access.TheVariants.{Shared as Sharing, Owned}
-use Rattle.wb_words.specs.declared.word.Word.TheVariants.{Cell as LockWord, Seal as SealWord, Number, Count as CountWord, Fail}
+use Rattle.wb_words.specs.declared.word.Word.TheVariants.{Cell as LockWord, Seal as SealWord, Number, Fail}
 use Rattle.wb_words.specs.declared.card.Hold.TheVariants.{Nothing as HoldsNothing, Held as HoldsBlock}
 use Rattle.wb_words.specs.declared.card.Card.{Card}
-use Rattle.wb_words.specs.declared.step.CellStep.{CellStep}
 use Rattle.wb_words.specs.declared.step.CellStep.TheVariants.{Look, Take, Release, Seal, Finish, Count, SetFailed}
 use Rattle.wb_words.specs.declared.step.CellResult.TheVariants.{Done as Won, Lost as NotWon}
 use Rattle.wb_words.specs.SharedWords.{Words, word_at, flag, taken, with_cell, counted, place_in, dirty_in, fail_word, seal_word, place_number}
@@ -36,7 +35,7 @@ use Rattle.wb_link.specs.World.{Shared, Nothing, Shares, Owns, Actor}
 use Rattle.wb_refines.specs.Translation.{script_for, job_for, answer_for, wants_of, number_of, offsets}
 use Rattle.wb_refines.specs.Going.{WinsBeside}
 use Rattle.wb_refines.proofs.Tables.{read_work, write_work}
-use Rattle.wb_refines.specs.Models.{SealAgrees, WordsAgree, held_of, held_for, SawSeal, IsAt, HasStopped, SameElse, Follows, plan_of, IsRequest}
+use Rattle.wb_refines.specs.Models.{SealAgrees, WordsAgree, held_of, held_for, SawSeal, SameElse, Follows, plan_of, IsRequest}
 
 -- nothing is changed
 same : (s : Shared) → SameElse s s

@@ -1,13 +1,12 @@
 -- A step on an extent is a step of the abstract world on each of its sectors.
-use Rattle.std.proofs.Common.{◌≡◌, ◌≢◌, ◌<◌, ◌≤◌, ◌+◌, ◌*◌, ◌∙◌, ℕ, zero, suc, Bool, true, false, if◌then◌else◌, List, [], ◌∷◌, Option, Some, None, refl, sym, ap, subst, arith, map, length, replicate, slice_get}
+use Rattle.std.proofs.Common.{◌≡◌, ◌<◌, ◌≤◌, ◌+◌, ◌*◌, ◌∙◌, ℕ, zero, suc, Bool, true, false, if◌then◌else◌, List, [], ◌∷◌, Option, Some, None, refl, sym, ap, subst, arith, map, length, replicate, slice_get}
 use Rattle.std.proofs.lemmas.List.{length-set}
 use Rattle.wb_types.specs.Extents.{rising}
-use Rattle.wb_disk.specs.Device.{Content, History, Gives, newest, added, grown, written}
+use Rattle.wb_disk.specs.Device.{Content, History, newest, added, grown, written}
 use Rattle.wb_disk.specs.Extents.{GivesEach, written_where}
 use Rattle.wb_contents.specs.Volume.{changed_at}
-use Rattle.wb_contents.specs.Devices.{by_block}
 use Rattle.wb_contents.proofs.Devices.{read_is_newest, write_is_act}
-use Rattle.wb_link.specs.Tables.{Job, Writing, Answer, Io, Want, Set_failed, Write_at, Choice, Got, Done, Gave, Fault, Script, read_each, write_each, until_failed}
+use Rattle.wb_link.specs.Tables.{Job, Writing, Answer, Io, Want, Set_failed, Write_at, Got, Done, Gave, read_each, write_each, until_failed}
 use Rattle.wb_link.specs.World.{Shared, Held, Actor, newest_at, put_sector, if_landed}
 use Rattle.wb_refines.specs.Going.{shared_after, gone, MayGo}
 use Rattle.wb_refines.specs.Data.{side, row, IsSide, SameBeside, faults}
@@ -62,7 +61,7 @@ put_beside : (to : Option ℕ) (s : Shared) (b o : ℕ) (c : Content) → SameBe
 put_beside None s b o c = record { other = refl; seals = refl; fail = refl; mapping = refl; blocks = refl; committing = refl; live = refl; mode = refl }
 put_beside (Some k) s b o c = record { other = refl; seals = refl; fail = refl; mapping = refl; blocks = refl; committing = refl; live = refl; mode = refl }
 
-same_beside : (to : Option ℕ) (s : Shared) → SameBeside to s s
+pub same_beside : (to : Option ℕ) (s : Shared) → SameBeside to s s
 same_beside to s = record { other = refl; seals = refl; fail = refl; mapping = refl; blocks = refl; committing = refl; live = refl; mode = refl }
 
 both_beside : (to : Option ℕ) (s t u : Shared) → SameBeside to s t → SameBeside to t u → SameBeside to s u

@@ -1,5 +1,5 @@
 -- Each step of a read or a write on the shared words is followed, by what its actor has where so much is left.
-use Rattle.std.proofs.Common.{◌≡◌, ◌<◌, ◌∙◌, ℕ, Bool, true, false, List, [], ◌∷◌, Some, refl, sym, ap, subst, arith, length, slice_get}
+use Rattle.std.proofs.Common.{◌≡◌, ◌<◌, ◌∙◌, ℕ, Bool, false, List, [], ◌∷◌, Some, refl, sym, ap, subst, arith, slice_get}
 use Rattle.wb_types.specs.declared.number.OBlock.{OBlock}
 use Rattle.wb_disk.specs.Device.{Content}
 use Rattle.wb_words.specs.declared.word.Access.TheVariants.{Shared as Sharing, Owned}
@@ -8,7 +8,7 @@ use Rattle.wb_words.specs.declared.card.Hold.TheVariants.{Held as HoldsBlock}
 use Rattle.wb_words.specs.declared.card.Card.{Card}
 use Rattle.wb_words.specs.declared.step.CellStep.{CellStep}
 use Rattle.wb_words.specs.declared.step.CellStep.TheVariants.{Look, Take, Release, Seal, Finish, Count, SetFailed, SetSuspended}
-use Rattle.wb_words.specs.SharedWords.{Words, word_at}
+use Rattle.wb_words.specs.SharedWords.{Words}
 use Rattle.wb_words.specs.Rule.{LockRule}
 use Rattle.wb_words.specs.Effects.{result_of, words_after, card_after}
 use Rattle.wb_words.proofs.Totals.{at_slice}
@@ -20,12 +20,12 @@ use Rattle.wb_tasks.specs.declared.step.DeskStep.TheVariants.{ReleaseOrder}
 use Rattle.wb_tasks.specs.declared.step.Want.{Want}
 use Rattle.wb_tasks.specs.declared.step.Want.TheVariants.{Cell, Desk}
 use Rattle.wb_link.specs.World.{Shared, Actor}
-use Rattle.wb_refines.specs.Models.{WordsAgree, SawSeal, IsAt, AllBelow, TellsPlace, Follows, IsRequest, plan_of}
+use Rattle.wb_refines.specs.Models.{WordsAgree, SawSeal, AllBelow, TellsPlace, Follows, IsRequest, plan_of}
 use Rattle.wb_refines.specs.Laws.{CellStepsFollowed}
 use Rattle.wb_refines.proofs.Cells.{IsPlain, at, looks_fail, looks_lock, takes, looks_seal, looks_number, numbers_write, fails, releases, finishes, counts, seals}
 use Rattle.wb_refines.proofs.Locks.{share_wins, own_wins}
 
-rest_plain : (job : BlockJob) (next : Bool) (ws : List Want) → IsRest job next ws → IsPlain ws
+pub rest_plain : (job : BlockJob) (next : Bool) (ws : List Want) → IsRest job next ws → IsPlain ws
 rest_plain job next (Cell (Look (SealWord b)) ∷ ws) r = absurd r
 rest_plain job next (Cell (Look (Number b)) ∷ ws) r = absurd r
 rest_plain job next (Cell SetFailed ∷ ws) r = absurd r

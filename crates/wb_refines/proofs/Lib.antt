@@ -4,3 +4,4 @@ pub mod Cells
 pub mod Locks
 pub mod Followed
 pub mod Extents
+pub mod Moving

@@ -1,7 +1,5 @@
 -- What the rule of the shared words tells of abstract actors: who has a block by its card wins it there.
-use Rattle.std.proofs.Common.{cond, ◌≡◌, ◌≢◌, ◌<◌, ◌≤◌, ◌+◌, ◌∙◌, ℕ, zero, suc, List, [], ◌∷◌, Some, refl, sym, ap, subst, arith, slice_get}
-use mathlib.Core.Option.{some}
-use lib.ListN.{get_elem?}
+use Rattle.std.proofs.Common.{cond, ◌≡◌, ◌≢◌, ◌<◌, ◌≤◌, ◌+◌, ◌∙◌, ℕ, zero, suc, List, [], ◌∷◌, Some, refl, sym, ap, arith, slice_get}
 use Rattle.wb_types.specs.declared.number.OBlock.{OBlock}
 use Rattle.wb_words.specs.declared.word.Access.TheVariants.{Shared as Sharing, Owned}
 use Rattle.wb_words.specs.declared.card.Hold.{Hold}
@@ -13,7 +11,7 @@ use Rattle.wb_words.specs.Rule.{LockRule}
 use Rattle.wb_words.proofs.Totals.{total_at, at_slice}
 use Rattle.std.proofs.lemmas.Bool.{eq-eqb}
 use Rattle.wb_link.specs.Tables.{Share, Own, Done}
-use Rattle.wb_link.specs.World.{Nothing, Shares, Owns, Actor}
+use Rattle.wb_link.specs.World.{Nothing, Actor}
 use Rattle.wb_refines.specs.Going.{WinsBeside}
 use Rattle.wb_refines.specs.Models.{AllBelow}
 

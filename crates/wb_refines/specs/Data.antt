@@ -1,10 +1,17 @@
 -- When the data devices of an abstract world are lists of sectors, seen by block and offset.
-use Rattle.std.specs.Prelude.{◌≡◌, ◌+◌, ◌*◌, ℕ, zero, suc, Bool, false, List, [], ◌∷◌, Option, Some, None}
+use Rattle.std.specs.Prelude.{◌≡◌, ◌<◌, ◌≤◌, ◌+◌, ◌*◌, ◌%◌, ℕ, zero, suc, Bool, false, List, [], ◌∷◌, Option, Some, None}
 use Rattle.wb_disk.specs.Device.{Content, History}
 use Rattle.wb_contents.specs.Devices.{by_block}
 use Rattle.wb_words.specs.SharedWords.{flag}
 use Rattle.wb_link.specs.Tables.{Got, Fault}
-use Rattle.wb_link.specs.World.{Shared}
+use Rattle.wb_types.specs.declared.extent.Extent.{Extent}
+use Rattle.wb_types.specs.declared.mode.Dev.{Dev}
+use Rattle.wb_words.specs.declared.card.Card.{Card}
+use Rattle.wb_tasks.specs.Plan.{Plan}
+use Rattle.wb_link.specs.World.{Shared, Actor}
+use Rattle.wb_refines.specs.Translation.{location_at}
+use Rattle.wb_refines.specs.Going.{shared_after, gone, MayGo}
+use Rattle.wb_refines.specs.Models.{IsAt}
 
 -- the device on which a location is, and the block that it is of it
 abbrev pub side : Option ℕ → Shared → ℕ → ℕ → History
@@ -39,3 +46,17 @@ pub record SameBeside (to : Option ℕ) (s t : Shared) : Type 0 where
 abbrev pub faults : (ℕ → Bool) → ℕ → ℕ → List Got
 faults lands at zero = []
 faults lands at (suc count) = Fault (record { landed = lands at; more = flag count; settled = λ block offset. false }) ∷ faults lands (suc at) count
+
+-- An extent of a device is of sectors of this block, or of the cache block in which it stands.
+pub record IsInBlock (size block : ℕ) (device : Dev) (e : Extent) : Type 0 where
+  pub first : e.first ≡ row (location_at size device e) block * size + e.first % size
+  pub room : e.first % size + e.count ≤ size
+  pub some : 0 < e.count
+
+-- What an actor did on a device, which is this list now, the abstract actor can do too, and both are at the same then.
+pub record Moves (size : ℕ) (blank content : Content) (actors : List Actor) (a : ℕ) (s : Shared) (y : Actor) (to : Option ℕ) (device : List History) (plan : Plan) (card : Card) : Type 0 where
+  pub results : List Got
+  pub may : MayGo actors a s y y.task results
+  pub side_is : IsSide size blank to device (shared_after s y y.task results)
+  pub beside : SameBeside to s (shared_after s y y.task results)
+  pub at : IsAt size content plan card (gone y y.task results)

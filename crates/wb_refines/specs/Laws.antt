@@ -1,13 +1,19 @@
 -- How the tables of reads, writes and flushes and those of the abstract world go on together.
-use Rattle.std.specs.Prelude.{◌≡◌, ◌<◌, ℕ, List, ◌∷◌, Some, slice_get}
+use Rattle.std.specs.Prelude.{◌≡◌, ◌<◌, ◌≤◌, ◌+◌, ℕ, Bool, List, ◌∷◌, Some, slice_get, length, replicate}
 use Rattle.wb_types.specs.declared.number.OBlock.{OBlock}
-use Rattle.wb_disk.specs.Device.{Content}
+use Rattle.wb_types.specs.declared.extent.Extent.{Extent}
+use Rattle.wb_types.specs.declared.mode.Dev.{Dev}
+use Rattle.wb_disk.specs.Device.{Content, History}
+use Rattle.wb_disk.specs.Extents.{GivesEach, written_each, written_where}
 use Rattle.wb_tasks.specs.Tables.{BlockJob, BlockRange, range_of, OnBlock, Reading, Writing, Flushing}
-use Rattle.wb_tasks.specs.Plan.{table, after, got_of}
-use Rattle.wb_tasks.specs.Ready.{Suits}
+use Rattle.wb_tasks.specs.Plan.{Plan, table, after, got_of}
+use Rattle.wb_tasks.specs.Ready.{Suits, IsRest}
 use Rattle.wb_tasks.specs.declared.step.Answer.{Answer}
 use Rattle.wb_tasks.specs.declared.step.Want.{Want}
-use Rattle.wb_tasks.specs.declared.step.Want.TheVariants.{Cell}
+use Rattle.wb_tasks.specs.declared.step.Want.TheVariants.{Cell, Device}
+use Rattle.wb_tasks.specs.declared.step.DeviceStep.{DeviceStep}
+use Rattle.wb_tasks.specs.declared.step.DeviceStep.TheVariants.{Read, Write}
+use Rattle.wb_tasks.specs.declared.step.Got.TheVariants.{Done, Fault}
 use Rattle.wb_words.specs.SharedWords.{Words}
 use Rattle.wb_words.specs.Rule.{LockRule}
 use Rattle.wb_words.specs.Effects.{result_of, words_after, card_after}
@@ -16,7 +22,8 @@ use Rattle.wb_words.specs.declared.step.CellStep.{CellStep}
 use Rattle.wb_link.specs.Tables.{table as table_there}
 use Rattle.wb_link.specs.World.{Shared, Actor}
 use Rattle.wb_refines.specs.Models.{WordsAgree, IsAt, AllBelow, TellsPlace, Follows, IsRequest, plan_of}
-use Rattle.wb_refines.specs.Translation.{script_for, job_for}
+use Rattle.wb_refines.specs.Translation.{script_for, job_for, location_at}
+use Rattle.wb_refines.specs.Data.{IsSide, IsInBlock, Moves}
 
 -- before they begin
 abbrev pub TablesAgree : Type 0
@@ -32,3 +39,28 @@ CellStepsFollowed = (size blocks : ℕ) (content : Content) (words : Words) (car
     IsRequest job → 0 < size → size ≡ (range_of job).block_sectors → LockRule blocks words cards → slice_get cards a ≡ Some card → AllBelow actors cards → WordsAgree words s → TellsPlace step →
     Suits blocks (plan_of job (Cell step ∷ later) answer) card → IsAt size content (plan_of job (Cell step ∷ later) answer) card y →
     Follows size content actors a s y (words_after words step) (after (plan_of job (Cell step ∷ later) answer) (got_of (result_of words step))) (card_after words step card)
+
+-- the next step of this job is one on this device and extent
+abbrev pub moving : BlockJob → DeviceStep → List Want → Answer → Plan
+moving job step later answer = plan_of job (Device step ∷ later) answer
+
+-- what is left of it begins with no look at a seal or a number
+abbrev pub IsMoving : BlockJob → List Want → Type 0
+IsMoving job later = (next : Bool) × IsRest job next later
+
+-- A step of a read or a write on an extent of a device, done or failing, is followed in an abstract world whose device is that list.
+pub record ExtentStepsFollowed : Type 0 where
+  pub read_done : (size : ℕ) (blank content : Content) (actors : List Actor) (a : ℕ) (card : Card) (s : Shared) (y : Actor) (part : BlockRange) (device : Dev) (e : Extent) (later : List Want) (answer : Answer) (list : List History) (contents : List Content) →
+      IsInBlock size part.block.0 device e → IsMoving (Reading part) later → IsSide size blank (location_at size device e) list s → length contents ≡ e.count → GivesEach list e.first contents →
+      IsAt size content (moving (Reading part) (Read device e) later answer) card y → Moves size blank content actors a s y (location_at size device e) list (after (moving (Reading part) (Read device e) later answer) Done) card
+  pub read_fails : (size : ℕ) (blank content : Content) (actors : List Actor) (a : ℕ) (card : Card) (s : Shared) (y : Actor) (part : BlockRange) (device : Dev) (e : Extent) (later : List Want) (answer : Answer) (list : List History) →
+      IsInBlock size part.block.0 device e → IsSide size blank (location_at size device e) list s →
+      IsAt size content (moving (Reading part) (Read device e) later answer) card y → Moves size blank content actors a s y (location_at size device e) list (after (moving (Reading part) (Read device e) later answer) Fault) card
+  pub write_done : (size : ℕ) (blank content : Content) (actors : List Actor) (a : ℕ) (card : Card) (s : Shared) (y : Actor) (part : BlockRange) (device : Dev) (e : Extent) (later : List Want) (answer : Answer) (list : List History) →
+      IsInBlock size part.block.0 device e → IsMoving (Writing part) later → IsSide size blank (location_at size device e) list s → e.first + e.count ≤ length list →
+      IsAt size content (moving (Writing part) (Write device e) later answer) card y →
+      Moves size blank content actors a s y (location_at size device e) (written_each list e.first (replicate e.count content)) (after (moving (Writing part) (Write device e) later answer) Done) card
+  pub write_fails : (size : ℕ) (blank content : Content) (actors : List Actor) (a : ℕ) (card : Card) (s : Shared) (y : Actor) (part : BlockRange) (device : Dev) (e : Extent) (later : List Want) (answer : Answer) (list : List History) (lands : ℕ → Bool) →
+      IsInBlock size part.block.0 device e → IsSide size blank (location_at size device e) list s → e.first + e.count ≤ length list →
+      IsAt size content (moving (Writing part) (Write device e) later answer) card y →
+      Moves size blank content actors a s y (location_at size device e) (written_where lands list e.first (replicate e.count content)) (after (moving (Writing part) (Write device e) later answer) Fault) card

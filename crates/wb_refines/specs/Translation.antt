@@ -5,7 +5,7 @@ use Rattle.std.specs.Prelude.{◌%◌, ◌/◌, ◌++◌, ℕ, List, [], ◌∷�
 use Rattle.wb_types.specs.declared.extent.Extent.{Extent}
 use Rattle.wb_types.specs.Extents.{rising}
 use Rattle.wb_types.specs.declared.mode.Dev.{Dev}
-use Rattle.wb_types.specs.declared.mode.Dev.TheVariants.{Metadata, Cache, Origin}
+use Rattle.wb_types.specs.declared.mode.Dev.TheVariants.{Cache, Origin}
 use Rattle.wb_types.specs.declared.number.CBlock.{CBlock}
 use Rattle.wb_types.specs.declared.refusal.Refusal.TheVariants.{Failed, Io}
 use Rattle.wb_disk.specs.Device.{Content}
@@ -13,12 +13,12 @@ use Rattle.wb_words.specs.declared.word.Access.TheVariants.{Shared, Owned}
 use Rattle.wb_words.specs.declared.word.Word.TheVariants.{Cell as LockWord, Seal as SealWord, Number, Count as CountWord, Fail}
 use Rattle.wb_words.specs.declared.step.CellStep.{CellStep}
 use Rattle.wb_words.specs.declared.step.CellStep.TheVariants.{Look, Take, Release, Seal, Finish, Count, SetFailed, SetSuspended}
-use Rattle.wb_tasks.specs.Tables.{TaskJob, OnBlock, Reading, Writing, Flushing}
+use Rattle.wb_tasks.specs.Tables.{TaskJob, OnBlock, Reading, Writing}
 use Rattle.wb_tasks.specs.Plan.{Plan}
 use Rattle.wb_tasks.specs.declared.step.Answer.{Answer}
 use Rattle.wb_tasks.specs.declared.step.Answer.TheVariants.{Done as Finished, Refused as Refuses}
 use Rattle.wb_tasks.specs.declared.step.DeviceStep.{DeviceStep}
-use Rattle.wb_tasks.specs.declared.step.DeviceStep.TheVariants.{Read, Write, Sync, ReadMetadata, WriteNode, WriteRoot}
+use Rattle.wb_tasks.specs.declared.step.DeviceStep.TheVariants.{Read, Write, Sync, WriteRoot}
 use Rattle.wb_tasks.specs.declared.step.DeskStep.{DeskStep}
 use Rattle.wb_tasks.specs.declared.step.DeskStep.TheVariants.{BeginCommit, EndCommit}
 use Rattle.wb_tasks.specs.declared.step.Want.{Want}

@@ -1,7 +1,7 @@
 //! The tasks of the real steps as tasks of the abstract world (wb_link): definitions and laws, no code.
 #![tactic(auto)]
 
-ghost use Rattle.wb_refines.specs.Laws.{TablesAgree, CellStepsFollowed};
+ghost use Rattle.wb_refines.specs.Laws.{TablesAgree, CellStepsFollowed, ExtentStepsFollowed};
 
 /// A read, a write or a flush begins in the abstract world as its table does here.
 pub fn tables_agree()
@@ -13,4 +13,10 @@ pub fn tables_agree()
 /// they agree after it.
 pub fn cell_steps_are_followed()
     ensures { CellStepsFollowed }
+{}
+
+/// And so is each step of theirs on an extent of a device: a sector after the other, where the device is a list of sectors; of
+/// a write that fails each sector has landed or not.
+pub fn extent_steps_are_followed()
+    ensures { ExtentStepsFollowed }
 {}
