@@ -16,7 +16,6 @@ use Rattle.wb_tree.specs.Mapping.{Mapping, IsMapping, IsSound, IsPlaceOf, AreIns
 use Rattle.wb_tree.specs.Images.{ImagePlan, IsImage, levels_of}
 use Rattle.wb_meta.specs.Imaging.{IsPlanned}
 use Rattle.wb_meta.specs.declared.commit_steps.CommitSteps.TheVariants.{NodesWritten}
-use Rattle.wb_meta.proofs.Round.{unused_for_changed}
 use Rattle.wb_types.specs.Limits.{node_count}
 use Rattle.wb_desk.specs.InUse.{AreFlagged}
 use Rattle.wb_desk.specs.Desks.{DeskState}
@@ -92,14 +91,14 @@ module _ (heap : Global) where
       by_top (Some p) h = absurd (no_place g m e sound (levels_of plan) 0 p h)
 
   module _ (P A : Type 0) (g : Geometry) (desk : DeskState P) (device : List History) (known : AtDesk g desk None device) (q : Quiet g desk device) where
-    planned : IsImage desk.tree desk.tree (next_plan desk false) (bare_image (bare_root g (desk.generation + 1)))
-    planned = is_image g desk.tree (next_plan desk false) known.entries q.stores.sound known.geometry refl
+    planned : IsImage desk.tree desk.tree (next_plan desk desk.tree false) (bare_image (bare_root g (desk.generation + 1)))
+    planned = is_image g desk.tree (next_plan desk desk.tree false) known.entries q.stores.sound known.geometry refl
 
     on_unused : IsOnUnused desk desk.tree desk.tree false (bare_image (bare_root g (desk.generation + 1)))
     on_unused = λ used are. record {
       mapping = mapping;
-      free_are = unused_for_changed desk.tree desk.geometry used (next_plan desk false).free mapping.size
-          (unused_places desk.geometry desk.space.places (length q.used) used flags (q.none_running ∙ ap (λ (x : Geometry). unused (place_count x.cache_blocks)) (sym known.geometry)) desk.geometry.within.meta_from are);
+      free_are = unused_places desk.tree desk.geometry desk.space.places (length q.used) used mapping.size flags
+          (q.none_running ∙ ap (λ (x : Geometry). unused (place_count x.cache_blocks)) (sym known.geometry)) desk.geometry.within.meta_from are;
       image_is = planned;
       sound = q.stores.sound;
       inside = λ place at. absurd (no_place g desk.tree known.entries q.stores.sound at.level at.index place at.known);

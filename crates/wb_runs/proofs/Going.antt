@@ -99,7 +99,7 @@ module _ (P A : Type 0) (shape : Shape) (t : Target P) (commit : Option RunningC
 
   begins : (got : Got) (chosen : Chosen P A) → DoesBegin most t.desk got chosen → Then (Rattle.wb_runs.specs.Effects.begun_commit chosen commit) (after (F (flush_left most ToBegin)) got)
   begins (Began nodes) (Commits c tree) s =
-      let empty : c.image.nodes.items ≡ [] = no_changes shape.geometry t.desk.tree tree (Rattle.wb_desk.specs.Commits.next_plan t.desk false) c.image known.entries s.3.image_is in
+      let empty : c.image.nodes.items ≡ [] = no_changes shape.geometry t.desk.tree tree (Rattle.wb_desk.specs.Commits.next_plan t.desk t.desk.tree false) c.image known.entries s.3.image_is in
       let none : nodes ≡ 0 = s.1 ∙ ap (λ (xs : List (Place × Node)). length xs) empty in
       let fits : c.image.root.generation < 2 ^ 64 = omega (arith, s.3.image_is.root_generation, s.3.may.next) in
       record {
