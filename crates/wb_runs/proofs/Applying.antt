@@ -1,5 +1,5 @@
 -- Whether an event applies is decided.
-use Rattle.std.proofs.Common.{◌≡◌, ◌≢◌, ◌∙◌, ◌≤◌, ◌<◌, ◌+◌, ◌⊎◌, inl, inr, ℕ, zero, suc, List, [], ◌∷◌, Option, Some, None, refl, sym, ap, subst, arith, length, slice_get}
+use Rattle.std.proofs.Common.{◌≡◌, ◌≤◌, ◌<◌, ◌+◌, inl, inr, ℕ, zero, suc, List, [], ◌∷◌, Some, refl, sym, subst, arith, length, slice_get}
 use Rattle.std.specs.Prelude.{All}
 use Rattle.std.proofs.lemmas.Bool.{cases_eq, cases_lt}
 use Rattle.std.proofs.lemmas.List.Elements.{All-cons, All-nil, All-from_recursion, recursion_from_All}
@@ -8,10 +8,10 @@ use Rattle.wb_types.specs.declared.mode.Mode.TheVariants.{Writeback, Writethroug
 use Rattle.wb_types.specs.declared.mode.Dev.{Dev}
 use Rattle.wb_types.specs.declared.mode.Dev.TheVariants.{Metadata, Cache, Origin}
 use Rattle.wb_disk.specs.Device.{History, entries}
-use Rattle.wb_disk.specs.Crash.{Choice, NamesOnly, Applies, named_position, chosen_position}
+use Rattle.wb_disk.specs.Crash.{Choice, Applies, named_position, chosen_position}
 use Rattle.wb_disk.specs.Failing.{MayFail}
 use Rattle.wb_disk.specs.declared.crash_choice.NamedContent.{NamedContent}
-use Rattle.wb_tasks.specs.Plan.{Plan, device_of}
+use Rattle.wb_tasks.specs.Plan.{device_of}
 use Rattle.wb_tasks.specs.declared.step.Want.{Want}
 use Rattle.wb_tasks.specs.declared.step.Want.TheVariants.{Cell, Device, Desk, End}
 use Rattle.wb_devices.specs.declared.devices.Devices.{Devices}
@@ -94,9 +94,9 @@ may_stop choice devices = elim (two_of (applies Metadata choice devices.metadata
 may_fail : (device : Dev) (choice : Choice) (sectors : ℕ) → Decided (MayFail device choice sectors)
 may_fail device choice sectors = elim (two_of (of_all (λ (name : NamedContent). name.device ≡ device) (λ name. one_device name.device device) choice.named)
     (two_of (of_all (λ (name : NamedContent). name.sector < sectors) (λ name. below name.sector sectors) choice.named) (of_all (λ (name : NamedContent). named_position device choice.named name.sector 0 ≤ 1) (λ name. at_most (named_position device choice.named name.sector 0) 1) choice.named))) [
-  | inl all ↦ inl (record { here = all.0; inside = all.1.0; two = all.1.1 })
-  | inr none ↦ inr (λ m. none (m.here, (m.inside, m.two)))
-]
+      | inl all ↦ inl (record { here = all.0; inside = all.1.0; two = all.1.1 })
+      | inr none ↦ inr (λ m. none (m.here, (m.inside, m.two)))
+    ]
 
 pub may_fail_at : (devices : Devices (List History)) (choice : Choice) (next : Want) → Decided (MayFailAt devices choice next)
 may_fail_at devices choice (Device step) = may_fail (device_of step) choice (length (device_in (device_of step) devices))

@@ -1,5 +1,5 @@
 -- Where a desk may begin a commit there is an image to begin it with: the tree has no node, and the image none to write.
-use Rattle.std.proofs.Common.{Global, ◌≡◌, ◌∙◌, ◌≤◌, ◌<◌, ◌+◌, ◌^◌, ◌⊎◌, inl, inr, ℕ, zero, suc, Bool, true, false, List, [], ◌∷◌, Option, Some, None, refl, sym, ap, subst, arith, length, slice_get, slice_index_or, replicate, map}
+use Rattle.std.proofs.Common.{Global, ◌≡◌, ◌∙◌, ◌≤◌, ◌+◌, inl, inr, ℕ, zero, suc, false, List, [], Option, Some, None, refl, sym, ap, subst, arith, length, slice_index_or, replicate}
 use Rattle.std.proofs.lemmas.List.{length-replicate}
 use Rattle.std.proofs.lemmas.List.Elements.{All-nil}
 use Rattle.wb_types.specs.declared.entry.Entry.{Entry}
@@ -14,15 +14,13 @@ use Rattle.wb_space.specs.Places.{noted, unused, place_count}
 use Rattle.wb_tree.specs.declared.image.Image.{Image}
 use Rattle.wb_tree.specs.Mapping.{Mapping, IsMapping, IsSound, IsPlaceOf, AreInside, place_of}
 use Rattle.wb_tree.specs.Images.{ImagePlan, IsImage, levels_of}
-use Rattle.wb_meta.specs.Imaging.{IsPlanned}
 use Rattle.wb_meta.specs.declared.commit_steps.CommitSteps.TheVariants.{NodesWritten}
 use Rattle.wb_types.specs.Limits.{node_count}
 use Rattle.wb_desk.specs.InUse.{AreFlagged}
 use Rattle.wb_desk.specs.Desks.{DeskState}
-use Rattle.wb_desk.specs.Commits.{MayBegin, IsOnUnused, next_plan, commit_begun}
+use Rattle.wb_desk.specs.Commits.{MayBegin, IsOnUnused, next_plan}
 use Rattle.wb_desk.proofs.FreePlaces.{unused_places}
 use Rattle.wb_devices.specs.declared.running.RunningCommit.{RunningCommit}
-use Rattle.wb_stage.specs.Asking.{HasBegun}
 use Rattle.wb_tasks.specs.declared.step.Got.TheVariants.{Began}
 use denote.RawPtr.{null_ptr}
 use Rattle.wb_runs.specs.Happenings.{Chosen, Commits, DoesBegin}

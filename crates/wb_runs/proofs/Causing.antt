@@ -5,7 +5,6 @@ use Rattle.wb_disk.specs.Device.{Content as Bytes, History}
 use Rattle.wb_meta.specs.Formats.{IsFormatted}
 use Rattle.wb_tasks.specs.Tables.{Opening}
 use Rattle.wb_tasks.specs.Plan.{Plan, want}
-use Rattle.wb_tasks.specs.declared.step.Answer.{Answer}
 use Rattle.wb_tasks.specs.declared.step.Answer.TheVariants.{Done as Finished, Refused as Refuses}
 use Rattle.wb_tasks.specs.declared.step.Want.{Want}
 use Rattle.wb_tasks.specs.declared.step.Want.TheVariants.{Cell, Device, Desk, End}

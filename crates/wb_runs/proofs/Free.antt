@@ -1,18 +1,15 @@
 -- After every run every event has a happening, and whoever has a task may do its next step.
-use Rattle.std.proofs.Common.{Global, ◌≡◌, ◌≢◌, ◌∙◌, ◌≤◌, ◌⊎◌, inl, inr, ℕ, List, [], ◌∷◌, Option, Some, None, refl, sym, ap, subst, arith, length, slice_get}
-use Rattle.wb_types.specs.declared.extent.Extent.{Extent}
+use Rattle.std.proofs.Common.{Global, ◌≡◌, ◌∙◌, ◌⊎◌, inl, inr, ℕ, List, [], Option, Some, None, refl, sym, subst, arith, length, slice_get}
 use Rattle.wb_types.specs.declared.refusal.Refusal.{Refusal}
 use Rattle.wb_types.proofs.Cutting.{pieces_cut}
 use Rattle.wb_types.specs.Extents.{pieces}
-use Rattle.wb_disk.specs.Device.{Content as Bytes, History}
+use Rattle.wb_disk.specs.Device.{History}
 use Rattle.wb_disk.specs.Crash.{Choice}
 use Rattle.wb_meta.specs.Formats.{IsFormatted}
 use Rattle.wb_meta.specs.Reads.{sectors_read}
 use Rattle.wb_meta.specs.declared.read_steps.ReadSteps.{ReadSteps}
 use Rattle.wb_meta.specs.declared.read_steps.ReadSteps.TheVariants.{Begun, FirstSlotRead, RootFound, Done as AllRead}
 use Rattle.wb_tasks.specs.Plan.{Plan, want}
-use Rattle.wb_tasks.specs.declared.step.Want.{Want}
-use Rattle.wb_tasks.specs.declared.step.Got.{Got}
 use Rattle.wb_tasks.specs.declared.step.Got.TheVariants.{Fault}
 use Rattle.wb_devices.specs.declared.devices.Devices.{Devices}
 use Rattle.wb_devices.specs.declared.running.RunningCommit.{RunningCommit}
@@ -20,21 +17,17 @@ use Rattle.wb_runs.specs.declared.job.Job.{Job}
 use Rattle.wb_runs.specs.declared.job.Job.TheVariants.{Read, Write, Flush, Open}
 use Rattle.wb_runs.specs.declared.event.Event.{Event}
 use Rattle.wb_runs.specs.declared.event.Event.TheVariants.{Start, Step, FaultStep, Stop}
-use Rattle.wb_runs.specs.declared.event.What.{What}
 use Rattle.wb_runs.specs.declared.event.What.TheVariants.{Skipped, Refused, Started, Stepped, Stopped}
 use Rattle.wb_runs.specs.States.{Shape, State, Actor, Phase, Stands, Gone, Opens, start}
-use Rattle.wb_runs.specs.Happenings.{Chosen, Plain, Cut, Happening, OfSome, AtWork, HasTask, MayFailAt, DoesNotApply, Gives, Falters, StartGives, MayBe, extent_refusal}
+use Rattle.wb_runs.specs.Happenings.{Plain, Cut, Happening, OfSome, AtWork, MayFailAt, DoesNotApply, Gives, Falters, extent_refusal}
 use Rattle.wb_runs.specs.Effects.{after_all, IsRun}
-use Rattle.wb_runs.specs.Clerk.{Notes}
 use Rattle.wb_runs.specs.Headline.{GivesSomething}
 use Rattle.wb_runs.specs.Progress.{HasHappening, IsFree}
 use Rattle.wb_runs.proofs.Contents.{Working, Acting, Linked}
 use Rattle.wb_runs.proofs.Metadata.{MetadataKept}
 use Rattle.wb_runs.proofs.MetadataRuns.{Known}
 use Rattle.wb_runs.proofs.Beginning.{desk_begins}
-use Rattle.wb_runs.proofs.Extents.{may_start}
 use Rattle.wb_runs.proofs.Applying.{may_stop, may_fail_at, out_of_place}
-use Rattle.wb_runs.proofs.Spelling.{Decided}
 use Rattle.wb_runs.proofs.Serving.{read_next, write_next}
 use Rattle.wb_runs.proofs.Points.{FlushAt, FlushTask, OpenAt, OpenTask, Going}
 use Rattle.wb_runs.proofs.Giving.{CanGive, CanFalter, read_gives, write_gives, read_falters, write_falters, flush_gives, flush_falters, open_gives, open_falters}
@@ -191,11 +184,11 @@ module _ (P A : Type 0) (shape : Shape) (policy : P) (first : ReadSteps A) (begi
   fault_happens w kept a choice = elim (tasked P A w a) [
     | inl k ↦ elim (may_fail_at w.devices choice (want k.plan)) [
       | inl m ↦ let f = fails_on w kept a k choice m in record {
-          what = Stepped (want k.plan) Fault;
-          read = [];
-          chosen = f.chosen;
-          may = (refl, refl, is_at P A w a k (λ job s. (want k.plan ≡ want s) × MayFailAt w.devices choice (want k.plan) × Falters w choice (want k.plan) f.chosen) (refl, m, f.falters));
-        }
+        what = Stepped (want k.plan) Fault;
+        read = [];
+        chosen = f.chosen;
+        may = (refl, refl, is_at P A w a k (λ job s. (want k.plan ≡ want s) × MayFailAt w.devices choice (want k.plan) × Falters w choice (want k.plan) f.chosen) (refl, m, f.falters));
+      }
       | inr n ↦ skipped w (FaultStep a choice) (λ h. n (was_at P A w a k (λ job s. MayFailAt w.devices choice (want s)) h))
     ]
     | inr none ↦ skipped w (FaultStep a choice) (none (λ job s. MayFailAt w.devices choice (want s)))

@@ -1,11 +1,11 @@
 -- Whoever has a task can do its next step, and every event has a happening.
-use Rattle.std.proofs.Common.{◌≡◌, ◌≢◌, ◌∙◌, ◌≤◌, ◌<◌, ◌+◌, ◌*◌, ◌^◌, ◌&&◌, ◌==◌, ◌⊎◌, inl, inr, ℕ, zero, suc, Bool, true, false, List, [], ◌∷◌, Option, Some, None, refl, sym, ap, subst, arith, length, slice_get, is_none}
-use Rattle.std.proofs.lemmas.Bool.{cases_eq, cases_lt, cases_Bool, eq-eqb}
+use Rattle.std.proofs.Common.{◌≡◌, ◌∙◌, ◌≤◌, ◌<◌, ◌+◌, ◌^◌, ◌&&◌, ◌==◌, inl, inr, ℕ, zero, suc, Bool, true, false, List, [], ◌∷◌, Option, Some, None, refl, sym, ap, subst, arith, length, slice_get, is_none}
+use Rattle.std.proofs.lemmas.Bool.{cases_lt, cases_Bool, eq-eqb}
 use Rattle.std.proofs.lemmas.Option.{slice_get-get_or}
 use Rattle.wb_types.specs.declared.extent.Extent.{Extent}
 use Rattle.wb_types.specs.declared.geometry.Geometry.{Geometry}
 use Rattle.wb_types.specs.declared.mode.Mode.{Mode}
-use Rattle.wb_types.specs.declared.mode.Dev.TheVariants.{Metadata, Cache, Origin}
+use Rattle.wb_types.specs.declared.mode.Dev.TheVariants.{Metadata, Origin}
 use Rattle.wb_types.specs.declared.number.Place.{Place}
 use Rattle.wb_types.specs.declared.refusal.Refusal.TheVariants.{Busy, Memory, GenerationEnd}
 use Rattle.wb_disk.specs.Device.{Content as Bytes, History, newest, written}
@@ -20,7 +20,6 @@ use Rattle.wb_meta.specs.Commits.{HasCome}
 use Rattle.wb_meta.specs.Reads.{IsDone, sectors_read}
 use Rattle.wb_meta.specs.Steps.{DoesStep, coming_step, slot_of}
 use Rattle.wb_meta.specs.declared.read_steps.ReadSteps.{ReadSteps}
-use Rattle.wb_meta.specs.declared.read_steps.ReadSteps.TheVariants.{Begun, FirstSlotRead, RootFound, Done as AllRead}
 use Rattle.wb_meta.specs.declared.commit_steps.CommitSteps.{CommitSteps}
 use Rattle.wb_meta.specs.declared.commit_steps.CommitSteps.TheVariants.{NodesWritten, NodesSynced, RootWritten, Done as Committed}
 use Rattle.wb_desk.specs.Desks.{DeskState}
@@ -28,24 +27,23 @@ use Rattle.wb_words.specs.Effects.{result_of}
 use Rattle.wb_tasks.specs.Tables.{Flushing, Opening}
 use Rattle.wb_tasks.specs.Plan.{Plan, want, got_of}
 use Rattle.wb_tasks.specs.declared.step.Answer.{Answer}
-use Rattle.wb_tasks.specs.declared.step.Answer.TheVariants.{Done as Finished, Refused as Refuses}
 use Rattle.wb_tasks.specs.declared.step.DeviceStep.{DeviceStep}
 use Rattle.wb_tasks.specs.declared.step.DeviceStep.TheVariants.{Read as ReadExtent, Write as WriteExtent, Sync, ReadMetadata, WriteRoot}
 use Rattle.wb_tasks.specs.declared.step.Want.{Want}
-use Rattle.wb_tasks.specs.declared.step.Want.TheVariants.{Cell, Device, Desk, End}
+use Rattle.wb_tasks.specs.declared.step.Want.TheVariants.{Cell, Device, End}
 use Rattle.wb_tasks.specs.declared.step.Got.{Got}
-use Rattle.wb_tasks.specs.declared.step.Got.TheVariants.{Done, Fault, Refused as GotRefused}
+use Rattle.wb_tasks.specs.declared.step.Got.TheVariants.{Done, Refused as GotRefused}
 use Rattle.wb_devices.specs.declared.devices.Devices.{Devices}
 use Rattle.wb_devices.specs.declared.running.RunningCommit.{RunningCommit}
 use Rattle.wb_devices.specs.Committing.{goes_on, is_coming}
 use Rattle.wb_runs.specs.declared.job.Job.{Job}
 use Rattle.wb_runs.specs.declared.job.Job.TheVariants.{Read, Write, Flush, Open}
-use Rattle.wb_runs.specs.States.{Shape, State, Actor, Target, Phase, Stands, Gone, Opens, OfReading, sector_count}
+use Rattle.wb_runs.specs.States.{Shape, State, Actor, Target, Stands, Opens, OfReading, sector_count}
 use Rattle.wb_runs.specs.Happenings.{Chosen, Plain, Begins, Puts, Opened, OfSome, LandedOr, sector_put, DoesBegin, DoesPut, FailsPut, Gives, Falters}
 use Rattle.wb_runs.proofs.Spelling.{spelling, spelled_root}
 use Rattle.wb_runs.proofs.Underway.{Underway}
-use Rattle.wb_runs.proofs.Metadata.{AtDesk, MetadataKept, AtOpening, Rooting}
-use Rattle.wb_runs.proofs.Plans.{plan_of, IsInside}
+use Rattle.wb_runs.proofs.Metadata.{AtDesk, AtOpening}
+use Rattle.wb_runs.proofs.Plans.{plan_of}
 use Rattle.wb_runs.proofs.Serving.{IsReadNext, IsWriteNext}
 use Rattle.wb_runs.proofs.Readings.{generation_fits, can_read}
 use Rattle.wb_runs.proofs.Points.{Runs, FlushPoint, ToLook, ToBegin, ToSyncCache, ToSyncOrigin, ToSyncNodes, ToWriteRoot, ToSyncRoot, ToEnd, ToSetFailed, ToAnswer, flush_left, AtFlush, OpenPoint, AtFirst, AtCache, AtOrigin, AtRead, AtRoot, AtRootSync, AtEnd, AtRefusal, open_left, open_answer, AtOpen}

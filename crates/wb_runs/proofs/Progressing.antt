@@ -1,8 +1,8 @@
 -- Every run keeps where its flushes and openings stand.
-use Rattle.std.proofs.Common.{◌≡◌, ◌≢◌, ◌∙◌, ◌≤◌, ◌+◌, ◌*◌, inl, inr, ℕ, zero, suc, List, [], ◌∷◌, Option, Some, None, refl, sym, ap, subst, arith, length, slice_get, slice_set, map}
+use Rattle.std.proofs.Common.{◌≡◌, ◌≢◌, ◌∙◌, inl, inr, ℕ, List, [], ◌∷◌, Option, Some, None, refl, sym, ap, subst, arith, length, slice_get, slice_set, map}
 use Rattle.std.proofs.lemmas.Bool.{cases_eq}
 use Rattle.wb_types.specs.declared.mode.Mode.{Mode}
-use Rattle.wb_types.specs.declared.mode.Dev.TheVariants.{Metadata, Cache, Origin}
+use Rattle.wb_types.specs.declared.mode.Dev.TheVariants.{Origin}
 use Rattle.wb_types.specs.Limits.{node_count}
 use Rattle.wb_disk.specs.Device.{Content as Bytes, History}
 use Rattle.wb_disk.specs.Crash.{Choice}
@@ -25,10 +25,10 @@ use Rattle.wb_runs.specs.declared.event.Event.TheVariants.{Start, Step, FaultSte
 use Rattle.wb_runs.specs.declared.event.What.{What}
 use Rattle.wb_runs.specs.declared.event.What.TheVariants.{Skipped, Refused, Started, Stepped, Stopped}
 use Rattle.wb_runs.specs.States.{Shape, State, Actor, Target, Phase, Stands, Gone, Opens, OfTarget, resting, start}
-use Rattle.wb_runs.specs.Happenings.{Chosen, Happening, OfSome, Gives, Falters, MayFailAt, DoesNotApply, StartGives, MayBe, task_job}
+use Rattle.wb_runs.specs.Happenings.{Chosen, Happening, OfSome, Gives, Falters, MayFailAt, DoesNotApply, MayBe, task_job}
 use Rattle.wb_runs.specs.Effects.{device_done, device_failed, commit_then, reading_then, task_then, phase_then, phase_opened, actor_then, stepped, with_actor, cleared, given, job_of, cut_of, after_what, after_happening, after_all, IsRun}
-use Rattle.wb_runs.specs.Clerk.{Notes, Doing, formatted}
-use Rattle.wb_runs.specs.Headline.{noted, note_happening}
+use Rattle.wb_runs.specs.Clerk.{Notes, formatted}
+use Rattle.wb_runs.specs.Headline.{note_happening}
 use Rattle.wb_runs.proofs.Sectors.{set_other}
 use Rattle.wb_runs.proofs.Plans.{plan_of}
 use Rattle.wb_runs.proofs.Contents.{IsTask, Working, Acting, Linked, set_there}
@@ -105,8 +105,11 @@ module _ (P A : Type 0) (shape : Shape) where
     Then next got chosen = Going {P = P} {A = A} (phase_then shape (Stands t) next got chosen) (commit_then {P = P} {A = A} (Stands t) commit next got chosen) (slice_set actors a (actor_then {P = P} {A = A} shape (Stands t) x next got))
 
     from_moved : (next : Want) (got : Got) (chosen : Chosen P A) (task : Option (Job × Plan)) → task_then x.task next got ≡ task → Moved commit (commit_then {P = P} {A = A} (Stands t) commit next got chosen) a leader task → Then next got chosen
-    from_moved next got chosen task is m = (m.leader', flushes_set actors a x (actor_then {P = P} {A = A} shape (Stands t) x next got) commit _ leader m.leader' e each
-        (subst (λ (k : Option (Job × Plan)). FlushTask (commit_then {P = P} {A = A} (Stands t) commit next got chosen) (a ≡ m.leader') k) (sym is) m.here) m.others)
+    from_moved next got chosen task is m = (
+      m.leader',
+      flushes_set actors a x (actor_then {P = P} {A = A} shape (Stands t) x next got) commit _ leader m.leader' e each
+          (subst (λ (k : Option (Job × Plan)). FlushTask (commit_then {P = P} {A = A} (Stands t) commit next got chosen) (a ≡ m.leader') k) (sym is) m.here) m.others,
+    )
 
     -- a task that is no flush
     not_flush : (commit' : Option RunningCommit) (task : Option (Job × Plan)) → commit' ≡ commit → FlushTask commit (a ≡ leader) task → Moved commit commit' a leader task
@@ -199,9 +202,9 @@ module _ (P A : Type 0) (shape : Shape) where
 
     task_left : (m' : Mode) (plan : Plan) (next : Want) (got : Got) (chosen : Chosen P A) (k : OpenAt reading commit plan) → next ≡ want plan → (Goes : Want → Type 0) → Goes next →
         ((Goes (want (plan_of (Rattle.wb_tasks.specs.Tables.Opening k.sectors) (Rattle.wb_runs.proofs.Points.open_left k.sectors k.point) (Rattle.wb_runs.proofs.Points.open_answer k.point)))) →
-            OpenTask (reading_then reading (want (plan_of (Rattle.wb_tasks.specs.Tables.Opening k.sectors) (Rattle.wb_runs.proofs.Points.open_left k.sectors k.point) (Rattle.wb_runs.proofs.Points.open_answer k.point))) got chosen)
-            (commit_then {P = P} {A = A} (Opens mode reading) commit (want (plan_of (Rattle.wb_tasks.specs.Tables.Opening k.sectors) (Rattle.wb_runs.proofs.Points.open_left k.sectors k.point) (Rattle.wb_runs.proofs.Points.open_answer k.point))) got chosen)
-            (task_then (Some (Open m', plan_of (Rattle.wb_tasks.specs.Tables.Opening k.sectors) (Rattle.wb_runs.proofs.Points.open_left k.sectors k.point) (Rattle.wb_runs.proofs.Points.open_answer k.point))) (want (plan_of (Rattle.wb_tasks.specs.Tables.Opening k.sectors) (Rattle.wb_runs.proofs.Points.open_left k.sectors k.point) (Rattle.wb_runs.proofs.Points.open_answer k.point))) got)) →
+        OpenTask (reading_then reading (want (plan_of (Rattle.wb_tasks.specs.Tables.Opening k.sectors) (Rattle.wb_runs.proofs.Points.open_left k.sectors k.point) (Rattle.wb_runs.proofs.Points.open_answer k.point))) got chosen)
+        (commit_then {P = P} {A = A} (Opens mode reading) commit (want (plan_of (Rattle.wb_tasks.specs.Tables.Opening k.sectors) (Rattle.wb_runs.proofs.Points.open_left k.sectors k.point) (Rattle.wb_runs.proofs.Points.open_answer k.point))) got chosen)
+        (task_then (Some (Open m', plan_of (Rattle.wb_tasks.specs.Tables.Opening k.sectors) (Rattle.wb_runs.proofs.Points.open_left k.sectors k.point) (Rattle.wb_runs.proofs.Points.open_answer k.point))) (want (plan_of (Rattle.wb_tasks.specs.Tables.Opening k.sectors) (Rattle.wb_runs.proofs.Points.open_left k.sectors k.point) (Rattle.wb_runs.proofs.Points.open_answer k.point))) got)) →
         OpenTask (reading_then reading next got chosen) (commit_then {P = P} {A = A} (Opens mode reading) commit next got chosen) (task_then (Some (Open m', plan)) next got)
     task_left m' plan next got chosen k h Goes g f =
         let O = plan_of (Rattle.wb_tasks.specs.Tables.Opening k.sectors) (Rattle.wb_runs.proofs.Points.open_left k.sectors k.point) (Rattle.wb_runs.proofs.Points.open_answer k.point) in

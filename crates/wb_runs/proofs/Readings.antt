@@ -1,5 +1,5 @@
 -- An opening's reading can always do its next step.
-use Rattle.std.proofs.Common.{◌≡◌, ◌≢◌, ◌∙◌, ◌≤◌, ◌<◌, ◌+◌, ◌*◌, ◌%◌, ◌^◌, ◌⊎◌, inl, inr, ℕ, zero, suc, List, [], ◌∷◌, Option, Some, None, refl, sym, ap, subst, arith, length, slice_get, map, drop, slice_index}
+use Rattle.std.proofs.Common.{◌≡◌, ◌∙◌, ◌≤◌, ◌<◌, ◌+◌, ◌%◌, ◌^◌, ◌⊎◌, inl, inr, ℕ, List, [], Option, Some, None, refl, sym, ap, subst, arith, length, slice_get, map, drop, slice_index}
 use Rattle.std.proofs.lemmas.Bool.{cases_eq}
 use Rattle.std.proofs.lemmas.List.{length-map, get_or-drop}
 use Rattle.std.proofs.lemmas.Option.{slice_get-get_or}
@@ -13,17 +13,14 @@ use Rattle.wb_format.specs.Layout.{SpellsRoot, IsValidIn}
 use Rattle.wb_format.specs.declared.root.Root.{Root}
 use Rattle.wb_format.proofs.Values.{one_root}
 use Rattle.wb_tree.specs.Reading.{IsNewestRoot}
-use Rattle.wb_meta.specs.Representing.{Represents}
 use Rattle.wb_meta.specs.Slots.{HasRoot, IsInSlot}
-use Rattle.wb_meta.specs.States.{HasFittingRoot}
-use Rattle.wb_meta.specs.Reads.{AgreeThere, ReadingGoesOn, StopsBy, known_root, sectors_read}
+use Rattle.wb_meta.specs.Reads.{StopsBy, sectors_read}
 use Rattle.wb_meta.specs.declared.read_steps.ReadSteps.{ReadSteps}
 use Rattle.wb_meta.specs.declared.read_steps.ReadSteps.TheVariants.{Begun, FirstSlotRead, RootFound, Done as AllRead}
 use Rattle.wb_tasks.specs.declared.step.Got.{Got}
 use Rattle.wb_tasks.specs.declared.step.Got.TheVariants.{Refused as GotRefused, More}
 use Rattle.wb_runs.specs.Happenings.{Chosen, Reaches, DoesRead}
 use Rattle.wb_runs.proofs.Spelling.{root_or_none}
-use Rattle.wb_runs.proofs.Underway.{Found}
 use Rattle.wb_runs.proofs.Metadata.{HasReached}
 
 -- ---- a generation that is spelled
@@ -81,16 +78,22 @@ in_slot : (s : List Bytes) (c : Bytes) → slice_get s 0 ≡ Some c → (first :
 in_slot s c e = elim (root_or_none c) [
   | inl found ↦ elim (cases_eq (found.0.generation % 2) 0) [
     | inl even ↦ (Some found.0, record { sector = c; there = e; valid = record { spelled = found.1; parity = even } })
-    | inr odd ↦ (None, λ sector r there v.
+    | inr odd ↦ (
+      None,
+      λ sector r there v.
+          let both : Some sector ≡ Some c = sym there ∙ e in
+          let same : sector ≡ c = cc in
+          let root : r ≡ found.0 = one_root c r found.0 (subst (λ (x : Bytes). SpellsRoot x r) same v.spelled) found.1 in
+          odd (ap (λ (x : Root). x.generation % 2) (sym root) ∙ v.parity),
+    )
+  ]
+  | inr none ↦ (
+    None,
+    λ sector r there v.
         let both : Some sector ≡ Some c = sym there ∙ e in
         let same : sector ≡ c = cc in
-        let root : r ≡ found.0 = one_root c r found.0 (subst (λ (x : Bytes). SpellsRoot x r) same v.spelled) found.1 in
-        odd (ap (λ (x : Root). x.generation % 2) (sym root) ∙ v.parity))
-  ]
-  | inr none ↦ (None, λ sector r there v.
-      let both : Some sector ≡ Some c = sym there ∙ e in
-      let same : sector ≡ c = cc in
-      none r (subst (λ (x : Bytes). SpellsRoot x r) same v.spelled))
+        none r (subst (λ (x : Bytes). SpellsRoot x r) same v.spelled),
+  )
 ]
 
 -- a slot that agrees holds the same

@@ -1,20 +1,18 @@
 -- Why an opening's reading is refused: for want of memory, or since no generation is left. Never for what the metadata hold.
-use Rattle.std.proofs.Common.{◌≡◌, ◌≢◌, ◌∙◌, ◌⊎◌, inl, inr, ℕ, List, Option, Some, None, refl, sym, ap, subst, length, map}
+use Rattle.std.proofs.Common.{◌≡◌, ◌∙◌, ◌⊎◌, inl, inr, ℕ, List, Option, Some, None, refl, sym, ap, map}
 use Rattle.std.proofs.lemmas.List.{length-map}
 use Rattle.wb_types.specs.declared.geometry.Geometry.{Geometry}
 use Rattle.wb_types.specs.declared.refusal.Refusal.{Refusal}
 use Rattle.wb_types.specs.declared.refusal.Refusal.TheVariants.{Memory, NotFormatted, Mismatch, Damaged, GenerationEnd, Io}
-use Rattle.wb_disk.specs.Device.{Content as Bytes, History, newest}
+use Rattle.wb_disk.specs.Device.{History, newest}
 use Rattle.wb_disk.proofs.Leaving.{read-left}
 use Rattle.wb_format.specs.declared.root.Root.{Root}
-use Rattle.wb_tree.specs.Reading.{IsNewestRoot}
 use Rattle.wb_meta.specs.Representing.{Represents}
-use Rattle.wb_meta.specs.Reads.{AgreeThere, HasRead, StopsBy, coming_sector, known_root}
+use Rattle.wb_meta.specs.Reads.{AgreeThere, HasRead, coming_sector, known_root}
 use Rattle.wb_meta.specs.States.{IsOfReading, IsRefusedBy, SpeaksOfSectors}
 use Rattle.wb_meta.specs.declared.read_steps.ReadSteps.{ReadSteps}
 use Rattle.wb_meta.specs.declared.read_steps.ReadSteps.TheVariants.{Begun, FirstSlotRead, RootFound, Done as AllRead}
 use Rattle.wb_meta.proofs.OneReading.{one_newest, not_refused}
-use Rattle.wb_tasks.specs.declared.step.Got.{Got}
 use Rattle.wb_tasks.specs.declared.step.Got.TheVariants.{Refused as GotRefused}
 use Rattle.wb_devices.specs.Opened.{got_of_refusal}
 use Rattle.wb_runs.specs.Happenings.{Chosen, Reaches, DoesRead}

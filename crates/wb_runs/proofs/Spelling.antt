@@ -1,5 +1,5 @@
 -- Every root has a spelling, and a sector spells a root or none.
-use Rattle.std.proofs.Common.{◌≡◌, ◌≢◌, ◌∙◌, ◌≤◌, ◌<◌, ◌+◌, ◌-◌, ◌*◌, ◌%◌, ◌^◌, ◌++◌, ◌⊎◌, inl, inr, ℕ, zero, suc, Bool, true, false, cond, List, [], ◌∷◌, Option, Some, None, refl, sym, ap, subst, arith, length, replicate, drop, slice_index}
+use Rattle.std.proofs.Common.{◌≡◌, ◌∙◌, ◌≤◌, ◌<◌, ◌+◌, ◌-◌, ◌*◌, ◌%◌, ◌^◌, ◌++◌, ◌⊎◌, inl, inr, ℕ, zero, suc, Bool, true, false, cond, List, [], ◌∷◌, Option, Some, None, refl, sym, subst, arith, length, replicate, slice_index}
 use Rattle.std.specs.Prelude.{slice_range, All}
 use Rattle.std.proofs.lemmas.Bool.{cases_eq, cases_lt}
 use Rattle.std.proofs.lemmas.List.{get_or-append_right}
@@ -8,8 +8,8 @@ use Rattle.std.specs.Int.{bytes_low_first}
 use Rattle.wb_types.specs.Limits.{IsWithinLimits, node_count}
 use Rattle.wb_types.specs.declared.geometry.Geometry.{Geometry}
 use Rattle.wb_types.specs.declared.number.Place.{Place}
-use Rattle.wb_format.specs.Bytes.{IsSector, number_at, IsZero}
-use Rattle.wb_format.specs.Sizes.{IsTop, SpellsGeometry, top_number}
+use Rattle.wb_format.specs.Bytes.{IsSector, number_at}
+use Rattle.wb_format.specs.Sizes.{IsTop, top_number}
 use Rattle.wb_format.specs.Layout.{SpellsRoot, root_magic, version_number}
 use Rattle.wb_format.specs.declared.root.Root.{Root}
 use Rattle.wb_format.specs.declared.version.Version.{Version}
@@ -189,12 +189,12 @@ flag_in (suc (suc n)) = inr (λ x. bad x.0 x.1)
 pub root_or_none : (s : List ℕ) → ((r : Root) × SpellsRoot s r) ⊎ ((r : Root) → ¬ SpellsRoot s r)
 root_or_none s = elim (two_of (two_of (is_sector s) (two_of (cases_eq (number_at s 0 8) root_magic) (cases_eq (number_at s 16 4) 1))) (two_of (all_zero (slice_range s 44 512)) (two_of (flag_in (number_at s 20 4))
     (two_of (within_limits (number_at s 24 4) (number_at s 28 4) (number_at s 32 4) (number_at s 36 4)) (top_in (number_at s 36 4) (number_at s 40 4)))))) [
-  | inl d ↦ inl (
-    record { generation = number_at s 8 8; version = One; clean = d.1.1.0.0; geometry = record { block = number_at s 24 4; cache_blocks = number_at s 28 4; origin_blocks = number_at s 32 4; meta_sectors = number_at s 36 4; within = d.1.1.1.0 }; top = d.1.1.1.1.0; top_inside = d.1.1.1.1.1 },
-    record { bytes = d.0.0; magic = d.0.1.0; generation = refl; version = d.0.1.1; flags = d.1.1.0.1; geometry = record { block = refl; cache_blocks = refl; origin_blocks = refl; meta_sectors = refl }; top = d.1.1.1.1.2; rest = d.1.0 },
-  )
-  | inr none ↦ inr (λ r p. none ((p.bytes, (p.magic, p.version ∙ one_version r.version)), (p.rest, ((r.clean, p.flags), (fits r p, (r.top, top_fits r p, p.top))))))
-]
+      | inl d ↦ inl (
+        record { generation = number_at s 8 8; version = One; clean = d.1.1.0.0; geometry = record { block = number_at s 24 4; cache_blocks = number_at s 28 4; origin_blocks = number_at s 32 4; meta_sectors = number_at s 36 4; within = d.1.1.1.0 }; top = d.1.1.1.1.0; top_inside = d.1.1.1.1.1 },
+        record { bytes = d.0.0; magic = d.0.1.0; generation = refl; version = d.0.1.1; flags = d.1.1.0.1; geometry = record { block = refl; cache_blocks = refl; origin_blocks = refl; meta_sectors = refl }; top = d.1.1.1.1.2; rest = d.1.0 },
+      )
+      | inr none ↦ inr (λ r p. none ((p.bytes, (p.magic, p.version ∙ one_version r.version)), (p.rest, ((r.clean, p.flags), (fits r p, (r.top, top_fits r p, p.top))))))
+    ]
   where
     one_version : (v : Version) → version_number v ≡ 1
     one_version One = refl

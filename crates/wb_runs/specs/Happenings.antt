@@ -186,7 +186,7 @@ HasGeneration (Some commit) = commit.image.root.generation < 2 ^ 64
 abbrev pub DoesRead : {P A : Type 0} → Geometry → ℕ → ReadSteps A → List History → Option RunningCommit → Got → Chosen P A → Type 0
 DoesRead {P} {A} geometry left was device commit got (Reaches after commit') = (got ≢ Fault)
     × (((now : ReadSteps A) × ReadingGoesOn was device now × AreStepsOn (length device) now × HasCome geometry left now commit got after commit'
-        × (sectors_read now ≡ sectors_read was + 1) × HasGeneration commit')
+    × (sectors_read now ≡ sectors_read was + 1) × HasGeneration commit')
     ⊎ ((refusal : Refusal) × IsOfReading refusal × StopsBy was device refusal × (got ≡ got_of_refusal refusal) × (after ≡ None) × (commit' ≡ commit)))
 DoesRead geometry left was device commit got chosen = ⊥
 
