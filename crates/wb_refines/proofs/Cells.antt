@@ -45,7 +45,7 @@ same s = record { origin = refl; cache = refl; mapping = refl; blocks = refl; co
 abbrev pub at : ℕ → Content → Plan → Card → Content → Actor
 at size content plan card buffer = record { task = Some (script_for size content plan); held = held_for plan.steps card; order = None; leads = false; buffer = buffer }
 
-flag_of : (n : ℕ) (t : Bool) → (n == 0) ≡ t → flag n ≡ cond t false true
+pub flag_of : (n : ℕ) (t : Bool) → (n == 0) ≡ t → flag n ≡ cond t false true
 flag_of zero true e = refl
 flag_of zero false e = absurd (cc)
 flag_of (suc n) false e = refl

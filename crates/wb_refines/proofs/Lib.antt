@@ -5,3 +5,4 @@ pub mod Locks
 pub mod Followed
 pub mod Extents
 pub mod Moving
+pub mod Flushing

@@ -3,3 +3,4 @@ pub mod Going
 pub mod Models
 pub mod Data
 pub mod Laws
+pub mod Flushes

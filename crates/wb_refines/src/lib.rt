@@ -2,6 +2,7 @@
 #![tactic(auto)]
 
 ghost use Rattle.wb_refines.specs.Laws.{TablesAgree, CellStepsFollowed, ExtentStepsFollowed};
+ghost use Rattle.wb_refines.specs.Flushes.{FlushStepsFollowed};
 
 /// A read, a write or a flush begins in the abstract world as its table does here.
 pub fn tables_agree()
@@ -19,4 +20,9 @@ pub fn cell_steps_are_followed()
 /// a write that fails each sector has landed or not.
 pub fn extent_steps_are_followed()
     ensures { ExtentStepsFollowed }
+{}
+
+/// So is each step of a flush that serves nobody, done, refused or failing.
+pub fn flush_steps_are_followed()
+    ensures { FlushStepsFollowed }
 {}
