@@ -3,6 +3,7 @@
 
 ghost use Rattle.wb_refines.specs.Laws.{TablesAgree, CellStepsFollowed, ExtentStepsFollowed};
 ghost use Rattle.wb_refines.specs.Flushes.{FlushStepsFollowed};
+ghost use Rattle.wb_refines.specs.Tasks.{TasksBegin, TasksEnd};
 
 /// A read, a write or a flush begins in the abstract world as its table does here.
 pub fn tables_agree()
@@ -25,4 +26,11 @@ pub fn extent_steps_are_followed()
 /// So is each step of a flush that serves nobody, done, refused or failing.
 pub fn flush_steps_are_followed()
     ensures { FlushStepsFollowed }
+{}
+
+/// A read, a write or a flush of an actor that has nothing can start there, and a read or write that has only to answer can be
+/// answered.
+pub fn tasks_begin_and_end()
+    ensures begins { TasksBegin }
+    ensures ends { TasksEnd }
 {}
