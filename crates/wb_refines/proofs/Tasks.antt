@@ -1,18 +1,19 @@
 -- How tasks begin and are answered.
-use Rattle.std.proofs.Common.{◌≡◌, ◌<◌, ◌≤◌, ◌+◌, ◌%◌, ◌∙◌, ◌⊎◌, inl, inr, ℕ, zero, suc, Bool, true, false, List, [], ◌∷◌, ◌++◌, Option, Some, None, refl, sym, ap, subst, arith, Contains, slice_get, slice_set}
+use Rattle.std.proofs.Common.{◌≡◌, ◌≤◌, ◌+◌, ◌%◌, ◌∙◌, inl, inr, ℕ, zero, suc, false, List, [], ◌∷◌, ◌++◌, Option, Some, None, refl, sym, ap, subst, arith, Contains}
 use Rattle.wb_types.proofs.Lists.{Contains-first, Contains-behind}
 use Rattle.wb_types.specs.declared.extent.Extent.{Extent}
 use Rattle.wb_types.specs.Extents.{rising}
-use Rattle.wb_words.specs.declared.card.Hold.{Hold}
 use Rattle.wb_tasks.specs.Tables.{Reading, Writing, OnBlock, Flushing}
 use Rattle.wb_tasks.specs.Plan.{table}
-use Rattle.wb_link.specs.Tables.{Flushing as FlushingFor, Script, Want, End, Got, Done as DoneThere, want, first_of_steps}
-use Rattle.wb_link.specs.World.{Shared, Held, Nothing, Actor, World, Gives, Within, start_actor, actor_after, effect, task_after}
+use Rattle.wb_link.specs.Tables.{Flushing as FlushingFor, Script, Want, Done as DoneThere}
+use Rattle.wb_link.specs.World.{Shared, Actor, Within, start_actor}
 use Rattle.wb_refines.specs.Translation.{offsets, job_for, script_for}
-use Rattle.wb_refines.specs.Going.{shared_after, gone, MayGo, WinsBeside}
-use Rattle.wb_refines.specs.Models.{IsAt, HasStopped, held_of}
-use Rattle.wb_refines.specs.Tasks.{IsIdle, AllInBlocks, Starts, TasksBegin, IsAnswered, TasksEnd}
-use Rattle.wb_refines.proofs.Cells.{at}
+use Rattle.wb_refines.specs.Going.{shared_after, gone, MayGo}
+use Rattle.wb_refines.specs.Models.{held_of}
+use Rattle.wb_refines.specs.Tasks.{IsIdle, AllInBlocks, TasksBegin, IsAnswered, TasksEnd, CrashesFollowed}
+use Rattle.wb_disk.specs.Device.{History, newest, entries}
+use Rattle.wb_contents.specs.Devices.{by_block, CrashLeaves}
+use Rattle.wb_contents.proofs.Devices.{crash_is_act}
 
 within_rising : (size first count : ℕ) (rest : List ℕ) → first + count ≤ size → Within size rest → Within size (rising first count ++ rest)
 within_rising size first zero rest l w = w
@@ -61,4 +62,23 @@ tasks_end = record {
       (record { may = (tt, tt, tt); shared = refl; over = refl }, record { task = refl; held = ap held_of h; order = refl; leads = refl });
   stopped = λ actors a s y words plan k. let all = answers_now actors a s y k.script k.nothing k.task in
       (record { may = all.may; shared = all.shared; over = all.over }, elim k.free [ inl f ↦ inl (all.held ∙ f) | inr f ↦ inr f ]);
+  parts = λ words job access block answer y k. record { over = tt; refused = k.refused; script = k.script; task = k.task; nothing = k.nothing; undone = k.undone; free = k.free };
 }
+
+pub crashes_followed : CrashesFollowed
+crashes_followed size blank s origin cache origin' cache' o c co cc' = record {
+  stopping = record { origin = λ b i. newest (by_block size blank origin' b i); cache = λ b i. newest (by_block size blank cache' b i); new_root = false };
+  may = record {
+    root = λ e. absurd (cc);
+    origin = λ b i. subst (λ (f : ℕ → ℕ → History). Contains (entries (f b i)) (newest (by_block size blank origin' b i))) (sym o) (left_origin.pending b i);
+    cache = λ b i. subst (λ (f : ℕ → ℕ → History). Contains (entries (f b i)) (newest (by_block size blank cache' b i))) (sym c) (left_cache.pending b i);
+  };
+  origin_is = sym left_origin.alone;
+  cache_is = sym left_cache.alone;
+}
+  where
+    left_origin : CrashLeaves (by_block size blank origin) (by_block size blank origin')
+    left_origin = crash_is_act size blank origin origin' co
+
+    left_cache : CrashLeaves (by_block size blank cache) (by_block size blank cache')
+    left_cache = crash_is_act size blank cache cache' cc'

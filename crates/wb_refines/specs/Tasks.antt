@@ -1,13 +1,21 @@
 -- How a read, a write or a flush begins and is answered in an abstract world.
-use Rattle.std.specs.Prelude.{◌≡◌, ◌≤◌, ◌+◌, ◌%◌, ◌⊎◌, ℕ, Bool, true, false, List, [], ◌∷◌, Option, Some, None, Contains, slice_get, slice_set}
+use Rattle.std.specs.Prelude.{◌≡◌, ◌≤◌, ◌+◌, ◌%◌, ◌⊎◌, ℕ, true, false, List, [], ◌∷◌, Some, None, Contains, slice_get, slice_set}
 use Rattle.wb_types.specs.declared.extent.Extent.{Extent}
 use Rattle.wb_types.specs.declared.mode.Mode.TheVariants.{Writeback}
-use Rattle.wb_disk.specs.Device.{Content}
+use Rattle.wb_types.specs.declared.number.OBlock.{OBlock}
+use Rattle.wb_disk.specs.Device.{Content, History, Crashed}
+use Rattle.wb_contents.specs.Devices.{by_block}
+use Rattle.wb_words.specs.declared.word.Access.{Access}
+use Rattle.wb_words.specs.declared.step.CellStep.TheVariants.{Release}
+use Rattle.wb_words.specs.Effects.{words_after}
+use Rattle.wb_tasks.specs.declared.step.Want.TheVariants.{Cell}
+use Rattle.wb_tasks.specs.declared.step.Got.TheVariants.{Done}
+use Rattle.wb_link.specs.Openings.{Stopping, MayStop, stopped as crashed}
 use Rattle.wb_words.specs.declared.card.Hold.TheVariants.{Nothing as HoldsNothing}
 use Rattle.wb_words.specs.declared.card.Card.{Card}
 use Rattle.wb_words.specs.SharedWords.{Words, flag}
-use Rattle.wb_tasks.specs.Tables.{BlockJob, BlockRange, Reading, Writing, OnBlock, Flushing}
-use Rattle.wb_tasks.specs.Plan.{Plan, table}
+use Rattle.wb_tasks.specs.Tables.{BlockJob, BlockRange, Reading, Writing, OnBlock, Flushing, TaskJob}
+use Rattle.wb_tasks.specs.Plan.{Plan, table, after}
 use Rattle.wb_tasks.specs.declared.step.Answer.{Answer}
 use Rattle.wb_link.specs.Tables.{Job as AbstractJob, Flushing as FlushingFor, Done as DoneThere}
 use Rattle.wb_link.specs.World.{Shared, Nothing, Actor, World, Start, May, after_record, is_alone}
@@ -59,3 +67,16 @@ pub record TasksEnd : Type 0 where
       IsAnswered actors a s y × IsIdle (gone y y.task (DoneThere ∷ []))
   pub stopped : (actors : List Actor) (a : ℕ) (s : Shared) (y : Actor) (words : Words) (plan : Plan) → HasStopped words plan y →
       IsAnswered actors a s y × (((gone y y.task (DoneThere ∷ [])).held ≡ Nothing) ⊎ (flag words.fail ≡ true))
+  -- a block whose number was worn is given back
+  pub parts : (words : Words) (job : TaskJob) (access : Access) (block : OBlock) (answer : Answer) (y : Actor) → HasStopped words (record { job = job; steps = Cell (Release access block) ∷ []; answer = answer }) y →
+      HasStopped (words_after words (Release access block)) (after (record { job = job; steps = Cell (Release access block) ∷ []; answer = answer }) Done) y
+
+-- Crashed lists are what a crash may leave there.
+pub record Crashes (size : ℕ) (blank : Content) (s : Shared) (origin cache : List History) : Type 0 where
+  pub stopping : Stopping
+  pub may : MayStop s stopping
+  pub origin_is : (crashed s stopping).origin ≡ by_block size blank origin
+  pub cache_is : (crashed s stopping).cache ≡ by_block size blank cache
+
+abbrev pub CrashesFollowed : Type 0
+CrashesFollowed = (size : ℕ) (blank : Content) (s : Shared) (origin cache origin' cache' : List History) → s.origin ≡ by_block size blank origin → s.cache ≡ by_block size blank cache → Crashed origin origin' → Crashed cache cache' → Crashes size blank s origin' cache'

@@ -3,7 +3,7 @@
 
 ghost use Rattle.wb_refines.specs.Laws.{TablesAgree, CellStepsFollowed, ExtentStepsFollowed};
 ghost use Rattle.wb_refines.specs.Flushes.{FlushStepsFollowed};
-ghost use Rattle.wb_refines.specs.Tasks.{TasksBegin, TasksEnd};
+ghost use Rattle.wb_refines.specs.Tasks.{TasksBegin, TasksEnd, CrashesFollowed};
 
 /// A read, a write or a flush begins in the abstract world as its table does here.
 pub fn tables_agree()
@@ -29,8 +29,9 @@ pub fn flush_steps_are_followed()
 {}
 
 /// A read, a write or a flush of an actor that has nothing can start there, and a read or write that has only to answer can be
-/// answered.
+/// answered; and what a crash leaves of two lists of sectors a crash there may leave.
 pub fn tasks_begin_and_end()
     ensures begins { TasksBegin }
     ensures ends { TasksEnd }
+    ensures crashes { CrashesFollowed }
 {}
