@@ -1,7 +1,7 @@
 //! The tasks of the real steps as tasks of the abstract world (wb_link): definitions and laws, no code.
 #![tactic(auto)]
 
-ghost use Rattle.wb_refines.specs.Laws.{TablesAgree, CellStepsFollowed, ExtentStepsFollowed};
+ghost use Rattle.wb_refines.specs.Laws.{TablesAgree, CellStepsFollowed, HasNoMore, ExtentStepsFollowed};
 ghost use Rattle.wb_refines.specs.Flushes.{FlushStepsFollowed};
 ghost use Rattle.wb_refines.specs.Tasks.{TasksBegin, TasksEnd, CrashesFollowed};
 
@@ -12,9 +12,10 @@ pub fn tables_agree()
 
 /// Each step of a read or a write on the shared words, in any state of these that keeps their rule, is some steps of an
 /// abstract actor, each of which may come where it does: where words, card and task agree with the abstract world before it,
-/// they agree after it.
+/// they agree after it; and the abstract actor has no block that the card does not count.
 pub fn cell_steps_are_followed()
-    ensures { CellStepsFollowed }
+    ensures follows { CellStepsFollowed }
+    ensures has_no_more { HasNoMore }
 {}
 
 /// And so is each step of theirs on an extent of a device: a sector after the other, where the device is a list of sectors; of
