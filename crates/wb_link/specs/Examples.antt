@@ -126,7 +126,7 @@ settles s new_root = record { origin = λ b o. newest (s.origin b o); cache = λ
 abbrev pub shown : Shared → Event
 shown s = Advances (Shown (λ k. Mapped) (λ b o. newest (at_location s.origin s.cache (s.committed b) b o)))
 
--- A crash, an opening that fails at its last sync, another that is crashed when its root was written, and a whole one.
+-- A crash, an opening that fails at its last sync, another that a crash ends once its root was written, and a whole one.
 abbrev pub lives_of : Shared → List Event
 lives_of s = Stopped (settles s false) ∷
     Begins Writeback ∷

@@ -6,3 +6,4 @@ pub mod Followed
 pub mod Extents
 pub mod Moving
 pub mod Flushing
+pub mod Tasks

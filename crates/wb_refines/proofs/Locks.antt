@@ -1,9 +1,9 @@
 -- What the rule of the shared words tells of abstract actors: who has a block by its card wins it there.
-use Rattle.std.proofs.Common.{cond, ◌≡◌, ◌≢◌, ◌<◌, ◌≤◌, ◌+◌, ◌∙◌, ℕ, zero, suc, List, [], ◌∷◌, Some, refl, sym, ap, arith, slice_get}
+use Rattle.std.proofs.Common.{cond, subst, ◌≡◌, ◌≢◌, ◌<◌, ◌≤◌, ◌+◌, ◌∙◌, ◌⊎◌, inl, inr, ℕ, zero, suc, List, [], ◌∷◌, Some, refl, sym, ap, arith, slice_get}
 use Rattle.wb_types.specs.declared.number.OBlock.{OBlock}
 use Rattle.wb_words.specs.declared.word.Access.TheVariants.{Shared as Sharing, Owned}
 use Rattle.wb_words.specs.declared.card.Hold.{Hold}
-use Rattle.wb_words.specs.declared.card.Hold.TheVariants.{Held as HoldsBlock}
+use Rattle.wb_words.specs.declared.card.Hold.TheVariants.{Nothing as HoldsNothing, Held as HoldsBlock}
 use Rattle.wb_words.specs.declared.card.Card.{Card}
 use Rattle.wb_words.specs.SharedWords.{Words}
 use Rattle.wb_words.specs.Cards.{total, is_block, owns, shares, owners, sharers}
@@ -11,9 +11,14 @@ use Rattle.wb_words.specs.Rule.{LockRule}
 use Rattle.wb_words.proofs.Totals.{total_at, at_slice}
 use Rattle.std.proofs.lemmas.Bool.{eq-eqb}
 use Rattle.wb_link.specs.Tables.{Share, Own, Done}
-use Rattle.wb_link.specs.World.{Nothing, Actor}
+use Rattle.wb_link.specs.World.{Nothing, Shares, Owns, Actor}
 use Rattle.wb_refines.specs.Going.{WinsBeside}
-use Rattle.wb_refines.specs.Models.{AllBelow}
+use Rattle.wb_refines.specs.Models.{AllBelow, held_of, held_for}
+use Rattle.wb_refines.specs.Laws.{HasNoMore}
+use Rattle.wb_words.specs.declared.word.Word.TheVariants.{Seal as SealWord, Number}
+use Rattle.wb_words.specs.declared.step.CellStep.TheVariants.{Look}
+use Rattle.wb_tasks.specs.declared.step.Want.{Want}
+use Rattle.wb_tasks.specs.declared.step.Want.TheVariants.{Cell}
 
 -- two cards are both in a sum
 total_two : {A : Type 0} (f : A → ℕ) (xs : List A) (i j : ℕ) (x y : A) → i ≢ j → slice_get xs i ≡ Some x → slice_get xs j ≡ Some y → f x + f y ≤ total f xs
@@ -59,3 +64,32 @@ module _ (blocks : ℕ) (words : Words) (cards : List Card) (actors : List Actor
               omega (arith, m, o, none),
         ),
   )
+
+-- ---- what an actor at a task has
+
+held_cases : (ws : List Want) (card : Card) → (held_for ws card ≡ Nothing) ⊎ (held_for ws card ≡ held_of card.hold)
+held_cases (Cell (Look (SealWord block)) ∷ ws) card = inl refl
+held_cases (Cell (Look (Number block)) ∷ ws) card = inl refl
+held_cases ws card = inr refl
+
+owns_there : (hold : Hold) (block : ℕ) → held_of hold ≡ Owns block → owns block hold ≡ 1
+owns_there HoldsNothing block e = absurd (cc)
+owns_there (HoldsBlock Sharing b) block e = absurd (cc)
+owns_there (HoldsBlock Owned b) block e = let same : b.0 ≡ block = cc in subst (λ (v : ℕ). owns v (HoldsBlock Owned b) ≡ 1) same (is_one b)
+
+shares_there : (hold : Hold) (block : ℕ) → held_of hold ≡ Shares block → shares block hold ≡ 1
+shares_there HoldsNothing block e = absurd (cc)
+shares_there (HoldsBlock Owned b) block e = absurd (cc)
+shares_there (HoldsBlock Sharing b) block e = let same : b.0 ≡ block = cc in subst (λ (v : ℕ). shares v (HoldsBlock Sharing b) ≡ 1) same (is_one b)
+
+pub has_no_more : HasNoMore
+has_no_more size content plan card y is = record {
+  owned = λ block k. elim (held_cases plan.steps card) [
+    | inl n ↦ let bad : Nothing ≡ Owns block = sym n ∙ ap (λ (v : Actor). v.held) (sym is.is) ∙ k in absurd (cc)
+    | inr h ↦ let one = owns_there card.hold block (sym h ∙ ap (λ (v : Actor). v.held) (sym is.is) ∙ k) in omega (arith, one)
+  ];
+  shared = λ block k. elim (held_cases plan.steps card) [
+    | inl n ↦ let bad : Nothing ≡ Shares block = sym n ∙ ap (λ (v : Actor). v.held) (sym is.is) ∙ k in absurd (cc)
+    | inr h ↦ let one = shares_there card.hold block (sym h ∙ ap (λ (v : Actor). v.held) (sym is.is) ∙ k) in omega (arith, one)
+  ];
+}

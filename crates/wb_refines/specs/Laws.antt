@@ -21,7 +21,7 @@ use Rattle.wb_words.specs.declared.card.Card.{Card}
 use Rattle.wb_words.specs.declared.step.CellStep.{CellStep}
 use Rattle.wb_link.specs.Tables.{table as table_there}
 use Rattle.wb_link.specs.World.{Shared, Actor}
-use Rattle.wb_refines.specs.Models.{WordsAgree, IsAt, AllBelow, TellsPlace, Follows, IsRequest, plan_of}
+use Rattle.wb_refines.specs.Models.{WordsAgree, IsAt, IsBelow, AllBelow, TellsPlace, Follows, IsRequest, plan_of}
 use Rattle.wb_refines.specs.Translation.{script_for, job_for, location_at}
 use Rattle.wb_refines.specs.Data.{IsSide, IsInBlock, Moves}
 
@@ -39,6 +39,10 @@ CellStepsFollowed = (size blocks : ℕ) (content : Content) (words : Words) (car
     IsRequest job → 0 < size → size ≡ (range_of job).block_sectors → LockRule blocks words cards → slice_get cards a ≡ Some card → AllBelow actors cards → WordsAgree words s → TellsPlace step →
     Suits blocks (plan_of job (Cell step ∷ later) answer) card → IsAt size content (plan_of job (Cell step ∷ later) answer) card y →
     Follows size content actors a s y (words_after words step) (after (plan_of job (Cell step ∷ later) answer) (got_of (result_of words step))) (card_after words step card)
+
+-- An abstract actor that is at a task has no block that the card does not count: so what the others have agrees, too.
+abbrev pub HasNoMore : Type 0
+HasNoMore = (size : ℕ) (content : Content) (plan : Plan) (card : Card) (y : Actor) → IsAt size content plan card y → IsBelow y card
 
 -- the next step of this job is one on this device and extent
 abbrev pub moving : BlockJob → DeviceStep → List Want → Answer → Plan

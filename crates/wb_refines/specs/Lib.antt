@@ -4,3 +4,4 @@ pub mod Models
 pub mod Data
 pub mod Laws
 pub mod Flushes
+pub mod Tasks

@@ -1,8 +1,9 @@
 //! The tasks of the real steps as tasks of the abstract world (wb_link): definitions and laws, no code.
 #![tactic(auto)]
 
-ghost use Rattle.wb_refines.specs.Laws.{TablesAgree, CellStepsFollowed, ExtentStepsFollowed};
+ghost use Rattle.wb_refines.specs.Laws.{TablesAgree, CellStepsFollowed, HasNoMore, ExtentStepsFollowed};
 ghost use Rattle.wb_refines.specs.Flushes.{FlushStepsFollowed};
+ghost use Rattle.wb_refines.specs.Tasks.{TasksBegin, TasksEnd, CrashesFollowed};
 
 /// A read, a write or a flush begins in the abstract world as its table does here.
 pub fn tables_agree()
@@ -11,9 +12,10 @@ pub fn tables_agree()
 
 /// Each step of a read or a write on the shared words, in any state of these that keeps their rule, is some steps of an
 /// abstract actor, each of which may come where it does: where words, card and task agree with the abstract world before it,
-/// they agree after it.
+/// they agree after it; and the abstract actor has no block that the card does not count.
 pub fn cell_steps_are_followed()
-    ensures { CellStepsFollowed }
+    ensures follows { CellStepsFollowed }
+    ensures has_no_more { HasNoMore }
 {}
 
 /// And so is each step of theirs on an extent of a device: a sector after the other, where the device is a list of sectors; of
@@ -25,4 +27,12 @@ pub fn extent_steps_are_followed()
 /// So is each step of a flush that serves nobody, done, refused or failing.
 pub fn flush_steps_are_followed()
     ensures { FlushStepsFollowed }
+{}
+
+/// A read, a write or a flush of an actor that has nothing can start there, and a read or write that has only to answer can be
+/// answered; and what a crash leaves of two lists of sectors a crash there may leave.
+pub fn tasks_begin_and_end()
+    ensures begins { TasksBegin }
+    ensures ends { TasksEnd }
+    ensures crashes { CrashesFollowed }
 {}
