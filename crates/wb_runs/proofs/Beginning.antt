@@ -30,7 +30,7 @@ use Rattle.wb_runs.proofs.Underway.{no_entries}
 use Rattle.wb_runs.proofs.Bare.{nothing_exists, nothing_changed}
 use Rattle.wb_runs.proofs.Metadata.{AtDesk, Quiet}
 
-no_entry : (n block : ℕ) (entry : Entry) → slice_index_or (replicate n None) block None ≡ Some entry → ⊥
+pub no_entry : (n block : ℕ) (entry : Entry) → slice_index_or (replicate n None) block None ≡ Some entry → ⊥
 no_entry zero block entry e = absurd (cc)
 no_entry (suc n) zero entry e = absurd (cc)
 no_entry (suc n) (suc block) entry e = no_entry n block entry e
@@ -43,7 +43,7 @@ no_place g m e sound level index place h = absurd (let there = sound.known_exist
 no_top : (sectors : ℕ) → IsTop sectors None
 no_top sectors p e = absurd (cc)
 
-no_node : (sectors : ℕ) → 2 ≤ sectors → HavePlaces [] sectors
+pub no_node : (sectors : ℕ) → 2 ≤ sectors → HavePlaces [] sectors
 no_node sectors some = record { slots = some; from = λ i node e. absurd (cc); to = λ i node e. absurd (cc); apart = λ i j node other e f h. absurd (cc) }
 
 abbrev bare_root : (g : Geometry) (generation : ℕ) → Root

@@ -27,3 +27,5 @@ mod Readings
 mod Giving
 mod Free
 mod Causing
+mod Completing
+mod FirstOpening
