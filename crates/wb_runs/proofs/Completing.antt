@@ -1,29 +1,27 @@
 -- A reading of formatted metadata can be completed: nothing is cached, and the root names no tree.
-use Rattle.std.proofs.Common.{Global, ◌≡◌, ◌≢◌, ◌∙◌, ◌≤◌, ◌<◌, ◌+◌, ◌^◌, ℕ, zero, suc, List, [], ◌∷◌, Option, Some, None, Ok, refl, sym, ap, subst, arith, length, slice_get, slice_index_or, map, replicate, inl, inr}
+use Rattle.std.proofs.Common.{Global, ◌≡◌, ◌∙◌, ℕ, List, [], Option, Some, None, Ok, refl, sym, ap, subst, arith, length, map, inl}
 use Rattle.std.specs.List.{IsDistinct}
-use Rattle.std.proofs.lemmas.List.{length-replicate, length-map}
+use Rattle.std.proofs.lemmas.List.{length-replicate}
 use Rattle.wb_types.specs.declared.geometry.Geometry.{Geometry}
 use Rattle.wb_types.specs.declared.number.Place.{Place}
 use Rattle.wb_disk.specs.Device.{Content as Bytes, History, newest, synced}
 use Rattle.wb_disk.proofs.Leaving.{read-left, left-synced}
 use Rattle.wb_format.specs.declared.root.Root.{Root}
-use Rattle.wb_tree.specs.declared.image.Image.{Image}
-use Rattle.wb_tree.specs.Mapping.{Mapping, IsMapping, IsSound, empty_mapping}
+use Rattle.wb_tree.specs.Mapping.{IsSound, empty_mapping}
 use Rattle.wb_tree.specs.Reading.{Nodes, IsNewestRoot, nothing_found, tree_read, top_read}
 use Rattle.wb_tree.specs.Loaded.{IsLoaded}
 use Rattle.wb_meta.specs.Formats.{IsFormatted}
-use Rattle.wb_meta.specs.Openings.{IsOpening, reopened}
+use Rattle.wb_meta.specs.Openings.{reopened}
 use Rattle.wb_meta.specs.Representing.{Represents}
 use Rattle.wb_meta.specs.Slots.{IsInSlot}
 use Rattle.wb_meta.specs.States.{RepresentsState}
 use Rattle.wb_meta.specs.Reads.{FitsDevice, ReadingGoesOn}
-use Rattle.wb_meta.specs.declared.read_steps.ReadSteps.{ReadSteps}
-use Rattle.wb_meta.specs.declared.read_steps.ReadSteps.TheVariants.{Begun, FirstSlotRead, RootFound, Done as AllRead}
+use Rattle.wb_meta.specs.declared.read_steps.ReadSteps.TheVariants.{FirstSlotRead, Done as AllRead}
 use Rattle.wb_meta.specs.declared.read_steps.State.{State as Stored}
 use Rattle.wb_meta.specs.declared.commit_steps.CommitSteps.TheVariants.{NodesSynced}
 use Rattle.wb_devices.specs.declared.running.RunningCommit.{RunningCommit}
 use Rattle.wb_tasks.specs.declared.step.Got.TheVariants.{Done}
-use Rattle.wb_runs.specs.Happenings.{Chosen, Reaches, DoesRead}
+use Rattle.wb_runs.specs.Happenings.{Reaches, DoesRead}
 use Rattle.wb_runs.proofs.Bare.{nothing_changed}
 use Rattle.wb_runs.proofs.Beginning.{no_entry, no_node}
 use Rattle.wb_runs.proofs.Readings.{same_newest}

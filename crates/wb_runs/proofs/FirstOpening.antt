@@ -1,5 +1,5 @@
 -- A run in which an opening is answered done, from any formatted metadata.
-use Rattle.std.proofs.Common.{Global, ◌≡◌, ◌∙◌, ◌≤◌, ◌<◌, ◌-◌, ◌^◌, inl, inr, ℕ, zero, suc, List, [], ◌∷◌, Option, Some, None, refl, sym, ap, subst, arith, length, slice_get, replicate, map}
+use Rattle.std.proofs.Common.{Global, ◌≡◌, ◌∙◌, ◌≤◌, ◌-◌, inl, inr, ℕ, zero, suc, List, [], ◌∷◌, Some, None, refl, sym, ap, subst, arith, length, slice_get, replicate, map}
 use Rattle.std.proofs.lemmas.List.{length-map}
 use Rattle.wb_types.specs.declared.geometry.Geometry.{Geometry}
 use Rattle.wb_types.specs.declared.mode.Mode.TheVariants.{Writeback}
@@ -25,7 +25,7 @@ use Rattle.wb_runs.specs.declared.event.Event.TheVariants.{Start, Step}
 use Rattle.wb_runs.specs.declared.event.What.{What}
 use Rattle.wb_runs.specs.declared.event.What.TheVariants.{Started, Stepped}
 use Rattle.wb_runs.specs.States.{Shape, State, Actor, Gone, OfTarget, resting, sector_count, cache_sector_count, start}
-use Rattle.wb_runs.specs.Happenings.{Chosen, Plain, Begins, Reaches, Puts, Opened, Happening, DoesNotApply}
+use Rattle.wb_runs.specs.Happenings.{Chosen, Plain, Begins, Reaches, Puts, Opened, Happening}
 use Rattle.wb_runs.specs.Effects.{after_all, IsRun}
 use Rattle.wb_runs.specs.Possible.{Opens, CanOpen}
 use Rattle.wb_runs.proofs.Standing.{length-grown}
