@@ -32,37 +32,34 @@ use Rattle.wb_runs.proofs.Standing.{length-grown}
 use Rattle.wb_runs.proofs.Readings.{first_read, some_slot}
 use Rattle.wb_runs.proofs.Completing.{synced_formatted, stored, next_commit, all_read}
 use Rattle.wb_runs.proofs.Giving.{Fits, rooted, comes_next, root_does}
-use denote.RawPtr.{null_ptr}
+use Rattle.wb_runs.proofs.FirstFlush.{happened}
 
 module _ (P A : Type 0) (policy : P) (alloc : A) (global : Global) (shape : Shape) (metadata : List History) (formatted : IsFormatted shape.geometry metadata) (size : length metadata ≡ shape.geometry.meta_sectors) (rest : List Actor) where
   -- the metadata once they were synced
   abbrev durable : List History
   durable = synced metadata
 
-  formatted_then : IsFormatted shape.geometry durable
+  pub formatted_then : IsFormatted shape.geometry durable
   formatted_then = synced_formatted shape.geometry metadata formatted
 
-  same_size : length durable ≡ shape.geometry.meta_sectors
+  pub same_size : length durable ≡ shape.geometry.meta_sectors
   same_size = length-map metadata _ ∙ size
 
   abbrev commit : RunningCommit
   commit = next_commit A global shape.geometry durable formatted_then same_size
 
-  slot : (first : _) × Rattle.wb_meta.specs.Slots.IsInSlot (map newest durable) 0 first
+  pub slot : (first : _) × Rattle.wb_meta.specs.Slots.IsInSlot (map newest durable) 0 first
   slot = some_slot P A shape.geometry durable (omega (arith, same_size, shape.geometry.within.meta_from))
 
   abbrev n : ℕ
   n = shape.geometry.meta_sectors
 
-  happened : Event → What → Chosen P A → Happening P A
-  happened event what chosen = record { record_is = record { event = event; what = what; read = record { ptr = null_ptr; len = 0; cap = 0; alloc = global; items = []; ok = (refl, omega arith); small = omega arith } }; chosen = chosen }
-
   abbrev does : Want → Got → Chosen P A → Happening P A
-  does next got chosen = happened (Step 0) (Stepped next got) chosen
+  does next got chosen = happened global (Step 0) (Stepped next got) chosen
 
-  abbrev happenings : List (Happening P A)
+  abbrev pub happenings : List (Happening P A)
   happenings =
-      happened (Start 0 (Open Writeback)) Started Plain
+      happened global (Start 0 (Open Writeback)) Started Plain
       ∷ does (Device (Sync Metadata)) Done (Begins (Begun alloc global))
       ∷ does (Device (Sync Cache)) Done Plain
       ∷ does (Device (Sync Origin)) Done Plain
@@ -73,7 +70,7 @@ module _ (P A : Type 0) (policy : P) (alloc : A) (global : Global) (shape : Shap
       ∷ does (End Finished) Done (Opened policy)
       ∷ []
 
-  abbrev first : State P A
+  abbrev pub first : State P A
   first = record {
     devices = record { metadata = metadata; cache = replicate (cache_sector_count shape) blank; origin = replicate (sector_count shape) blank };
     commit = None;
@@ -87,8 +84,7 @@ module _ (P A : Type 0) (policy : P) (alloc : A) (global : Global) (shape : Shap
   fits_then : length (rooted commit durable) ≡ commit.image.root.geometry.meta_sectors
   fits_then = length-grown (slice_get durable (slot_of commit.image.root).0) durable (slot_of commit.image.root).0 _ ∙ fits
 
-  is_run : IsRun shape first happenings
-  unfolding happened
+  pub is_run : IsRun shape first happenings
   is_run = (
     (refl, (λ d. elim d [ inl gone ↦ absurd (cc) | inr more ↦ elim more [ inl task ↦ task | inr out ↦ elim out [ inl none ↦ none | inr other ↦ other refl ] ] ]), tt),
     (
@@ -119,7 +115,6 @@ module _ (P A : Type 0) (policy : P) (alloc : A) (global : Global) (shape : Shap
   )
 
   stands : OfTarget (after_all shape first happenings).phase (λ target. Unit {0})
-  unfolding happened
   stands = tt
 
 pub can_open : (P A : Type 0) → CanOpen P A

@@ -28,4 +28,5 @@ mod Giving
 mod Free
 mod Causing
 mod Completing
+mod FirstFlush
 mod FirstOpening
