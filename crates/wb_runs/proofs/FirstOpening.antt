@@ -1,5 +1,5 @@
 -- A run in which an opening is answered done, from any formatted metadata.
-use Rattle.std.proofs.Common.{Global, ◌≡◌, ◌∙◌, ◌≤◌, ◌-◌, inl, inr, ℕ, zero, suc, List, [], ◌∷◌, Some, None, refl, sym, ap, subst, arith, length, slice_get, replicate, map}
+use Rattle.std.proofs.Common.{Global, ◌≡◌, ◌∙◌, ◌≤◌, ◌-◌, inl, inr, ℕ, zero, suc, List, [], ◌∷◌, Some, None, refl, sym, ap, subst, arith, length, slice_get, replicate, map, ◌++◌}
 use Rattle.std.proofs.lemmas.List.{length-map}
 use Rattle.wb_types.specs.declared.geometry.Geometry.{Geometry}
 use Rattle.wb_types.specs.declared.mode.Mode.TheVariants.{Writeback}
@@ -27,12 +27,24 @@ use Rattle.wb_runs.specs.declared.event.What.TheVariants.{Started, Stepped}
 use Rattle.wb_runs.specs.States.{Shape, State, Actor, Gone, OfTarget, resting, sector_count, cache_sector_count, start}
 use Rattle.wb_runs.specs.Happenings.{Chosen, Plain, Begins, Reaches, Puts, Opened, Happening}
 use Rattle.wb_runs.specs.Effects.{after_all, IsRun}
-use Rattle.wb_runs.specs.Possible.{Opens, CanOpen}
+use Rattle.wb_runs.specs.Possible.{Opens, CanOpen, Flushes, CanFlush}
 use Rattle.wb_runs.proofs.Standing.{length-grown}
 use Rattle.wb_runs.proofs.Readings.{first_read, some_slot}
 use Rattle.wb_runs.proofs.Completing.{synced_formatted, stored, next_commit, all_read}
 use Rattle.wb_runs.proofs.Giving.{Fits, rooted, comes_next, root_does}
-use Rattle.wb_runs.proofs.FirstFlush.{happened}
+use Rattle.wb_runs.proofs.FirstFlush.{happened, flushing, flush_run, flush_done}
+use Rattle.wb_runs.proofs.Metadata.{AtDesk, Quiet}
+use Rattle.wb_runs.proofs.MetadataRuns.{known_always, known_at_start}
+use Rattle.wb_runs.proofs.Opened.{no_seals}
+use Rattle.wb_words.specs.SharedWords.{fresh_words}
+use Rattle.wb_words.specs.Cards.{blank_card}
+use Rattle.wb_words.specs.declared.step.CellStep.{CellStep}
+use Rattle.wb_desk.specs.Commits.{MayBegin}
+use Rattle.wb_tasks.specs.Plan.{want}
+use Rattle.wb_runs.specs.declared.job.Job.TheVariants.{Flush}
+use Rattle.wb_runs.specs.States.{Target}
+use Rattle.wb_runs.specs.Happenings.{AtWork}
+use Rattle.wb_runs.specs.Effects.{target_over, words_by, card_over, all_resting, after_happening}
 
 module _ (P A : Type 0) (policy : P) (alloc : A) (global : Global) (shape : Shape) (metadata : List History) (formatted : IsFormatted shape.geometry metadata) (size : length metadata ≡ shape.geometry.meta_sectors) (rest : List Actor) where
   -- the metadata once they were synced
@@ -117,6 +129,45 @@ module _ (P A : Type 0) (policy : P) (alloc : A) (global : Global) (shape : Shap
   stands : OfTarget (after_all shape first happenings).phase (λ target. Unit {0})
   stands = tt
 
+  -- ---- and a flush over it
+
+  abbrev opened : State P A
+  opened = after_all shape first happenings
+
+  abbrev target : Target P
+  target = target_over shape Writeback policy (stored A global shape.geometry durable formatted_then same_size)
+
+  known : AtDesk shape.geometry target.desk None opened.devices.metadata
+  known = known_always P A shape first happenings (known_at_start P A shape metadata formatted size) is_run
+
+  calm : target.words.fail ≡ 0
+  calm = ap (λ (steps : List CellStep). (words_by (fresh_words shape.geometry.origin_blocks) steps).fail) (no_seals formatted_then.root.clean 0 formatted_then.root.geometry.cache_blocks)
+
+  quiet : Quiet shape.geometry target.desk opened.devices.metadata
+  quiet = elim known.stands [ inl q ↦ q | inr broken ↦ absurd (let busy = broken.busy in cc) ]
+
+  may : MayBegin target.desk
+  may = record { idle = refl; next = omega (arith, formatted_then.first.generation) }
+
+  abbrev flush_too : List (Happening P A)
+  flush_too = flushing P A global shape target calm opened.devices (card_over {A = A} shape blank_card (Some (AllRead (stored A global shape.geometry durable formatted_then same_size)))) (all_resting rest) known quiet may
+
+  flushes_run : IsRun shape opened flush_too
+  flushes_run = flush_run P A global shape target calm opened.devices (card_over {A = A} shape blank_card (Some (AllRead (stored A global shape.geometry durable formatted_then same_size)))) (all_resting rest) known quiet may
+
+  flushes_done : AtWork (after_all shape opened flush_too) 0 (λ job s. (job ≡ Flush) × (want s ≡ End Finished))
+  flushes_done = flush_done P A global shape target calm opened.devices (card_over {A = A} shape blank_card (Some (AllRead (stored A global shape.geometry durable formatted_then same_size)))) (all_resting rest) known quiet may
+
+-- ---- two runs, one after the other
+
+run_append : {P A : Type 0} (shape : Shape) (w : State P A) (hs ks : List (Happening P A)) → IsRun shape w hs → IsRun shape (after_all shape w hs) ks → IsRun shape w (hs ++ ks)
+run_append shape w [] ks r s = s
+run_append shape w (h ∷ hs) ks r s = (r.0, run_append shape (after_happening shape w h) hs ks r.1 s)
+
+after_append : {P A : Type 0} (shape : Shape) (w : State P A) (hs ks : List (Happening P A)) → after_all shape w (hs ++ ks) ≡ after_all shape (after_all shape w hs) ks
+after_append shape w [] ks = refl
+after_append shape w (h ∷ hs) ks = after_append shape (after_happening shape w h) hs ks
+
 pub can_open : (P A : Type 0) → CanOpen P A
 can_open P A policy reading begins shape metadata some formatted size = by_reading reading begins
   where
@@ -133,6 +184,30 @@ can_open P A policy reading begins shape metadata some formatted size = by_readi
         }
 
     by_reading : (r : ReadSteps A) → sectors_read r ≡ 0 → Opens P A shape metadata
+    by_reading (Begun alloc global) e = by_actors shape.actors refl some alloc global
+    by_reading (FirstSlotRead alloc global found) e = absurd (omega (arith, e))
+    by_reading (RootFound global root loader) e = absurd (omega (arith, e))
+    by_reading (AllRead state) e = absurd (omega (arith, e))
+
+pub can_flush : (P A : Type 0) → CanFlush P A
+can_flush P A policy reading begins shape metadata some formatted size = by_reading reading begins
+  where
+    by_actors : (n : ℕ) → shape.actors ≡ n → 1 ≤ n → A → Global → Flushes P A shape metadata
+    by_actors zero e l alloc global = absurd (omega (arith, l))
+    by_actors (suc k) e l alloc global =
+        let rest = replicate k resting in
+        let same : first P A policy alloc global shape metadata formatted size rest ≡ start shape metadata = ap (λ (xs : List Actor). record (start {P = P} {A = A} shape metadata) { actors = xs }) (sym (ap (λ (i : ℕ). replicate i resting) e)) in
+        let hs = happenings P A policy alloc global shape metadata formatted size rest in
+        let ks = flush_too P A policy alloc global shape metadata formatted size rest in
+        record {
+          happenings = hs ++ ks;
+          is_run = subst (λ (w : State P A). IsRun shape w (hs ++ ks)) same (run_append shape (first P A policy alloc global shape metadata formatted size rest) hs ks (is_run P A policy alloc global shape metadata formatted size rest) (flushes_run P A policy alloc global shape metadata formatted size rest));
+          answers = subst (λ (w : State P A). AtWork (after_all shape w (hs ++ ks)) 0 (λ job s. (job ≡ Flush) × (want s ≡ End Finished))) same
+              (subst (λ (w : State P A). AtWork w 0 (λ job s. (job ≡ Flush) × (want s ≡ End Finished))) (sym (after_append shape (first P A policy alloc global shape metadata formatted size rest) hs ks))
+              (flushes_done P A policy alloc global shape metadata formatted size rest));
+        }
+
+    by_reading : (r : ReadSteps A) → sectors_read r ≡ 0 → Flushes P A shape metadata
     by_reading (Begun alloc global) e = by_actors shape.actors refl some alloc global
     by_reading (FirstSlotRead alloc global found) e = absurd (omega (arith, e))
     by_reading (RootFound global root loader) e = absurd (omega (arith, e))
