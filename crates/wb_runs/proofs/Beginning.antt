@@ -24,7 +24,7 @@ use Rattle.wb_desk.proofs.FreePlaces.{unused_places}
 use Rattle.wb_devices.specs.declared.running.RunningCommit.{RunningCommit}
 use Rattle.wb_tasks.specs.declared.step.Got.TheVariants.{Began}
 use denote.RawPtr.{null_ptr}
-use Rattle.wb_runs.specs.Happenings.{Chosen, Commits, DoesBegin}
+use Rattle.wb_runs.specs.Happenings.{Commits, DoesBegin}
 use Rattle.wb_runs.specs.Progress.{CanBegin}
 use Rattle.wb_runs.proofs.Underway.{no_entries}
 use Rattle.wb_runs.proofs.Bare.{nothing_exists, nothing_changed}

@@ -1,5 +1,5 @@
 -- A run in which a flush is answered done, where a target stands that may begin a commit.
-use Rattle.std.proofs.Common.{Global, ◌≡◌, ◌∙◌, ◌≤◌, ◌<◌, ◌+◌, ◌-◌, ◌^◌, inl, inr, ℕ, zero, suc, false, List, [], ◌∷◌, Option, Some, None, refl, sym, ap, subst, arith, length, slice_get}
+use Rattle.std.proofs.Common.{Global, ◌≡◌, ◌∙◌, ◌+◌, inl, inr, false, List, [], ◌∷◌, None, refl, sym, ap, arith, slice_get}
 use Rattle.std.proofs.lemmas.List.{length-map}
 use Rattle.wb_types.specs.Limits.{node_count}
 use Rattle.wb_types.specs.declared.geometry.Geometry.{Geometry}

@@ -20,9 +20,7 @@ use Rattle.wb_tasks.specs.declared.step.Got.TheVariants.{Done, More}
 use Rattle.wb_tasks.specs.declared.step.Want.{Want}
 use Rattle.wb_devices.specs.declared.running.RunningCommit.{RunningCommit}
 use Rattle.wb_runs.specs.declared.job.Job.TheVariants.{Open}
-use Rattle.wb_runs.specs.declared.event.Event.{Event}
 use Rattle.wb_runs.specs.declared.event.Event.TheVariants.{Start, Step}
-use Rattle.wb_runs.specs.declared.event.What.{What}
 use Rattle.wb_runs.specs.declared.event.What.TheVariants.{Started, Stepped}
 use Rattle.wb_runs.specs.States.{Shape, State, Actor, Gone, OfTarget, resting, sector_count, cache_sector_count, start}
 use Rattle.wb_runs.specs.Happenings.{Chosen, Plain, Begins, Reaches, Puts, Opened, Happening}
