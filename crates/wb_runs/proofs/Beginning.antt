@@ -23,13 +23,13 @@ use Rattle.wb_desk.proofs.FreePlaces.{unused_places}
 use Rattle.wb_devices.specs.declared.running.RunningCommit.{RunningCommit}
 use Rattle.wb_tasks.specs.declared.step.Got.TheVariants.{Began}
 use denote.RawPtr.{null_ptr}
-use Rattle.wb_runs.specs.Happenings.{Chosen, Commits, DoesBegin}
+use Rattle.wb_runs.specs.Happenings.{Commits, DoesBegin}
 use Rattle.wb_runs.specs.Progress.{CanBegin}
 use Rattle.wb_runs.proofs.Underway.{no_entries}
 use Rattle.wb_runs.proofs.Bare.{nothing_exists, nothing_changed}
 use Rattle.wb_runs.proofs.Metadata.{AtDesk, Quiet}
 
-no_entry : (n block : ℕ) (entry : Entry) → slice_index_or (replicate n None) block None ≡ Some entry → ⊥
+pub no_entry : (n block : ℕ) (entry : Entry) → slice_index_or (replicate n None) block None ≡ Some entry → ⊥
 no_entry zero block entry e = absurd (cc)
 no_entry (suc n) zero entry e = absurd (cc)
 no_entry (suc n) (suc block) entry e = no_entry n block entry e
@@ -39,25 +39,25 @@ no_place : (g : Geometry) (m : Mapping) → m.entries ≡ no_entries g → IsSou
 no_place g m e sound level index place h = absurd (let there = sound.known_exist level index place h in
     let none = subst (λ (es : List (Option Entry)). Rattle.wb_tree.specs.Mapping.exists es level index ≡ false) (sym e) (nothing_exists g.cache_blocks level index) in cc)
 
-no_top : (sectors : ℕ) → IsTop sectors None
+pub no_top : (sectors : ℕ) → IsTop sectors None
 no_top sectors p e = absurd (cc)
 
-no_node : (sectors : ℕ) → 2 ≤ sectors → HavePlaces [] sectors
+pub no_node : (sectors : ℕ) → 2 ≤ sectors → HavePlaces [] sectors
 no_node sectors some = record { slots = some; from = λ i node e. absurd (cc); to = λ i node e. absurd (cc); apart = λ i j node other e f h. absurd (cc) }
 
-abbrev bare_root : (g : Geometry) (generation : ℕ) → Root
+abbrev pub bare_root : (g : Geometry) (generation : ℕ) → Root
 bare_root g generation = record { generation = generation; version = One; clean = false; geometry = g; top = None; top_inside = no_top g.meta_sectors }
 
 module _ (heap : Global) where
   -- an image of one root, which writes nothing else
-  abbrev bare_image : Root → Image
+  abbrev pub bare_image : Root → Image
   bare_image root = record {
     root = root;
     nodes = record { ptr = null_ptr; len = 0; cap = 0; alloc = heap; items = []; ok = (refl, omega arith); small = omega arith };
     used = record { ptr = null_ptr; len = 0; cap = 0; alloc = heap; items = []; ok = (refl, omega arith); small = omega arith };
   }
 
-  abbrev bare_commit : Geometry → ℕ → RunningCommit
+  abbrev pub bare_commit : Geometry → ℕ → RunningCommit
   bare_commit g generation = record {
     image = bare_image (bare_root g generation);
     steps = NodesWritten 0;
@@ -121,13 +121,13 @@ module _ (heap : Global) where
         }
 
     -- a commit that may begin can begin
-    pub can_begin : (most : ℕ) → MayBegin desk → (chosen : Chosen P A) × DoesBegin most desk (Began 0) chosen
-    can_begin most may = (Commits (bare_commit g (desk.generation + 1)) desk.tree, (omega arith, refl, refl, record { may = may; state = refl; image_is = planned; unused = on_unused }))
+    pub begins_bare : (most : ℕ) → MayBegin desk → DoesBegin {P = P} {A = A} most desk (Began 0) (Commits (bare_commit g (desk.generation + 1)) desk.tree)
+    begins_bare most may = (omega arith, refl, refl, record { may = may; state = refl; image_is = planned; unused = on_unused })
 
   -- so it is of the desk of every target
   pub desk_begins : (P A : Type 0) (g : Geometry) (desk : DeskState P) (commit : Option RunningCommit) (device : List History) → AtDesk g desk commit device → (most : ℕ) → MayBegin desk → CanBegin P A most desk
   desk_begins P A g desk (Some c) device k most may = absurd (let busy = k.stands.busy in let idle = may.idle in cc)
   desk_begins P A g desk None device k most may = elim k.stands [
-    | inl q ↦ (0, can_begin P A g desk device k q most may)
+    | inl q ↦ (0, (Commits (bare_commit g (desk.generation + 1)) desk.tree, begins_bare P A g desk device k q most may))
     | inr broken ↦ absurd (let busy = broken.busy in let idle = may.idle in cc)
   ]

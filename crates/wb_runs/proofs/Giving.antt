@@ -70,7 +70,7 @@ come_size image before Committed now come = come.safe.grew.size
 same_size : (g : Geometry) (c : RunningCommit) (of : _) (device : List History) → Underway g c of device → length device ≡ c.image.root.geometry.meta_sectors
 same_size g c of device u = come_size of.image of.before c.steps device u.come ∙ u.can.size ∙ ap (λ (x : Geometry). x.meta_sectors) (sym u.can.same_geometry ∙ ap (λ r. r.geometry) u.can.root_is) ∙ ap (λ (i : Image). i.root.geometry.meta_sectors) u.image
 
-abbrev Fits : RunningCommit → List History → Type 0
+abbrev pub Fits : RunningCommit → List History → Type 0
 Fits c device = length device ≡ c.image.root.geometry.meta_sectors
 
 -- so does the commit that runs, if any does
@@ -78,17 +78,17 @@ abbrev AllFit : Option RunningCommit → List History → Type 0
 AllFit None device = Unit {0}
 AllFit (Some c) device = Fits c device
 
-comes_next : (c : RunningCommit) (device : List History) (steps : CommitSteps) (step : DeviceStep) → Fits c device → c.steps ≡ steps → is_coming c.image steps step ≡ true → goes_on (length device) c.image c.steps step ≡ true
+pub comes_next : (c : RunningCommit) (device : List History) (steps : CommitSteps) (step : DeviceStep) → Fits c device → c.steps ≡ steps → is_coming c.image steps step ≡ true → goes_on (length device) c.image c.steps step ≡ true
 comes_next c device steps step fits e coming = ap (λ (s : CommitSteps). goes_on (length device) c.image s step) e ∙ ap (λ (b : Bool). b && (length device == c.image.root.geometry.meta_sectors)) coming ∙ eq-eqb (length device) c.image.root.geometry.meta_sectors fits
 
 none_coming : (image : Image) → image.nodes.items ≡ [] → is_coming image (NodesWritten 0) (Sync Metadata) ≡ true
 none_coming image e = ap (λ (nodes : List (Place × Node)). is_none (slice_get nodes 0)) e
 
 -- the device with the commit's root
-abbrev rooted : RunningCommit → List History → List History
+abbrev pub rooted : RunningCommit → List History → List History
 rooted c device = written device (slot_of c.image.root).0 (spelling c.image.root)
 
-root_does : (c : RunningCommit) (device : List History) → Runs NodesSynced (Some c) → DoesStep c.image c.steps device (rooted c device)
+pub root_does : (c : RunningCommit) (device : List History) → Runs NodesSynced (Some c) → DoesStep c.image c.steps device (rooted c device)
 root_does c device r = subst (λ (s : CommitSteps). DoesStep c.image s device (rooted c device)) (sym r.2) (record { content = spelling c.image.root; spelled = spelled_root c.image.root r.1; wrote = refl })
 
 module _ (P A : Type 0) where

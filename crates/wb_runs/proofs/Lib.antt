@@ -27,3 +27,6 @@ mod Readings
 mod Giving
 mod Free
 mod Causing
+mod Completing
+mod FirstFlush
+mod FirstOpening

@@ -37,7 +37,7 @@ zeros_at (x ∷ xs) zero = refl
 zeros_at (x ∷ xs) (suc i) = zeros_at xs i
 
 -- nothing is cached: no block is sealed, and what is shown is the origin
-no_seals : (clean : Bool) (c k : ℕ) → sealing_steps clean c (replicate k None) ≡ []
+pub no_seals : (clean : Bool) (c k : ℕ) → sealing_steps clean c (replicate k None) ≡ []
 no_seals clean c zero = refl
 no_seals clean c (suc k) = no_seals clean (suc c) k
 

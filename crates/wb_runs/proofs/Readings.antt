@@ -1,5 +1,5 @@
 -- An opening's reading can always do its next step.
-use Rattle.std.proofs.Common.{◌≡◌, ◌∙◌, ◌≤◌, ◌<◌, ◌+◌, ◌%◌, ◌^◌, ◌⊎◌, inl, inr, ℕ, List, [], Option, Some, None, refl, sym, ap, subst, arith, length, slice_get, map, drop, slice_index}
+use Rattle.std.proofs.Common.{Global, ◌≡◌, ◌∙◌, ◌≤◌, ◌<◌, ◌+◌, ◌%◌, ◌^◌, ◌⊎◌, inl, inr, ℕ, List, [], Option, Some, None, refl, sym, ap, subst, arith, length, slice_get, map, drop, slice_index}
 use Rattle.std.proofs.lemmas.Bool.{cases_eq}
 use Rattle.std.proofs.lemmas.List.{length-map, get_or-drop}
 use Rattle.std.proofs.lemmas.Option.{slice_get-get_or}
@@ -62,7 +62,7 @@ moved_root s t first f g same slot r h = elim (two_slots slot h.sector r h.valid
 ]
 
 -- the newest root of sectors with the same slots
-same_newest : (s t : List Bytes) (first : Option Root) → IsInSlot s 0 first → IsInSlot t 0 first → slice_get t 1 ≡ slice_get s 1 → (r : Root) → IsNewestRoot s r → IsNewestRoot t r
+pub same_newest : (s t : List Bytes) (first : Option Root) → IsInSlot s 0 first → IsInSlot t 0 first → slice_get t 1 ≡ slice_get s 1 → (r : Root) → IsNewestRoot s r → IsNewestRoot t r
 same_newest s t first f g same r n =
     let h = moved_root s t first f g same n.slot r (record { sector = n.sector; there = n.there; valid = n.valid }) in
     record {
@@ -125,25 +125,25 @@ module _ (P A : Type 0) (g : Geometry) (device : List History) where
         size = ap (λ (x : Geometry). x.meta_sectors) k.found.read.same_geometry ∙ sym k.found.read.size ∙ sym agree.size;
       }
 
-  begins : (alloc : _) (global : _) (left : ℕ) → 1 ≤ left → 1 ≤ length device → CanRead P A g left (Begun alloc global) device
-  begins alloc global left more some =
-      let there = slice_get-get_or (map newest device) 0 [] (omega (arith, some, length-map device newest)) in
-      let slot = in_slot (map newest device) _ there in
-      record {
-        got = More;
-        chosen = Reaches (Some (FirstSlotRead alloc global slot.0)) None;
-        does = (
-          λ e. absurd (cc),
-          inl (
-            FirstSlotRead alloc global slot.0,
-            (λ sectors agree has. slot_agrees (map newest device) sectors slot.0 (agree.here 0 refl) slot.1),
-            tt,
-            (more, refl, (λ root e. absurd (cc)), refl),
-            refl,
-            tt,
-          ),
-        );
-      }
+  -- the first slot is read
+  pub first_read : (alloc : A) (global : Global) (left : ℕ) (first : Option Root) → IsInSlot (map newest device) 0 first → 1 ≤ left → DoesRead {P = P} {A = A} g left (Begun alloc global) device None More (Reaches (Some (FirstSlotRead alloc global first)) None)
+  first_read alloc global left first slot more = (
+    λ e. absurd (cc),
+    inl (
+      FirstSlotRead alloc global first,
+      (λ sectors agree has. slot_agrees (map newest device) sectors first (agree.here 0 refl) slot),
+      tt,
+      (more, refl, (λ root e. absurd (cc)), refl),
+      refl,
+      tt,
+    ),
+  )
+
+  pub some_slot : 1 ≤ length device → (first : Option Root) × IsInSlot (map newest device) 0 first
+  some_slot some = in_slot (map newest device) _ (slice_get-get_or (map newest device) 0 [] (omega (arith, some, length-map device newest)))
+
+  begins : (alloc : A) (global : Global) (left : ℕ) → 1 ≤ left → 1 ≤ length device → CanRead P A g left (Begun alloc global) device
+  begins alloc global left more some = let slot = some_slot some in record { got = More; chosen = Reaches (Some (FirstSlotRead alloc global slot.0)) None; does = first_read alloc global left slot.0 slot.1 more }
 
   pub can_read : (left : ℕ) (was : ReadSteps A) → HasReached g was device → (sectors_read was ≡ 0 → 1 ≤ left) → 1 ≤ length device → CanRead P A g left was device
   can_read left (Begun alloc global) k more some = begins alloc global left (more refl) some

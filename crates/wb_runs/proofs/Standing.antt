@@ -48,7 +48,7 @@ seals_stay words (Count WriteMiss) n z = z
 seals_stay words SetFailed n z = z
 seals_stay words SetSuspended n z = z
 
-length-grown : (o : Option History) (device : List History) (at : ℕ) (c : Bytes) → length (grown o c device at) ≡ length device
+pub length-grown : (o : Option History) (device : List History) (at : ℕ) (c : Bytes) → length (grown o c device at) ≡ length device
 length-grown None device at c = refl
 length-grown (Some h) device at c = length-set device at _
 

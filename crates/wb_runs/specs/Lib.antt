@@ -4,3 +4,4 @@ pub mod Effects
 pub mod Clerk
 pub mod Headline
 pub mod Progress
+pub mod Possible

@@ -1,6 +1,7 @@
 //! The theorems over all runs.
 
 ghost use Rattle.wb_runs.specs.Headline.{MetadataAreRead, AllCrashConsistent, AllOpeningsShowAllowed, OpeningsRefuseByCause};
+ghost use Rattle.wb_runs.specs.Possible.{CanFlush, CanOpen};
 ghost use Rattle.wb_runs.specs.Progress.{NeverStuck};
 
 /// In every run, over any policy: whatever a crash leaves of the metadata device, it represents a root of this geometry and a
@@ -32,4 +33,14 @@ pub fn never_stuck<P, A>()
 /// generation is left; never for what the metadata hold.
 pub fn openings_refuse_by_cause<P, A>()
     ensures { OpeningsRefuseByCause P A }
+{}
+
+/// From any formatted metadata there is a run, over any policy, in which an opening is answered done and its target stands.
+pub fn a_target_can_be_opened<P, A>()
+    ensures { CanOpen P A }
+{}
+
+/// And one in which a flush over that target is answered done, its image written.
+pub fn a_flush_can_be_done<P, A>()
+    ensures { CanFlush P A }
 {}

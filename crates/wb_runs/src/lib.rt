@@ -9,6 +9,6 @@ mod law;
 pub use event::{Event, Record, What};
 pub use job::Job;
 pub use law::{
-    every_crash_is_consistent, every_opening_shows_allowed, metadata_are_read, never_stuck,
-    openings_refuse_by_cause,
+    a_flush_can_be_done, a_target_can_be_opened, every_crash_is_consistent,
+    every_opening_shows_allowed, metadata_are_read, never_stuck, openings_refuse_by_cause,
 };
