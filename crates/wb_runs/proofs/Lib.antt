@@ -30,3 +30,7 @@ mod Causing
 mod Completing
 mod FirstFlush
 mod FirstOpening
+mod Ruling
+mod Suiting
+mod Using
+mod Latest

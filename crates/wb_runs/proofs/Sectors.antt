@@ -63,7 +63,7 @@ newest_alone h g low top from l f = record {
 
 -- ---- lists
 
-written_same : (device : List History) (at : ℕ) (h : History) (c : Content) → slice_get device at ≡ Some h → slice_get (written device at c) at ≡ Some (added h c)
+pub written_same : (device : List History) (at : ℕ) (h : History) (c : Content) → slice_get device at ≡ Some h → slice_get (written device at c) at ≡ Some (added h c)
 written_same device at h c e = rw e (set_there device at h (added h c) e)
   where
     set_there : (xs : List History) (i : ℕ) (x y : History) → slice_get xs i ≡ Some x → slice_get (slice_set xs i y) i ≡ Some y
@@ -82,10 +82,10 @@ grown_other : (o : Option History) (c : Content) (device : List History) (at oth
 grown_other None c device at other n = refl
 grown_other (Some h) c device at other n = set_other device at other (added h c) n
 
-written_other : (device : List History) (at other : ℕ) (c : Content) → other ≢ at → slice_get (written device at c) other ≡ slice_get device other
+pub written_other : (device : List History) (at other : ℕ) (c : Content) → other ≢ at → slice_get (written device at c) other ≡ slice_get device other
 written_other device at other c n = grown_other (slice_get device at) c device at other n
 
-written_none : (device : List History) (at : ℕ) (c : Content) → slice_get device at ≡ None → written device at c ≡ device
+pub written_none : (device : List History) (at : ℕ) (c : Content) → slice_get device at ≡ None → written device at c ≡ device
 written_none device at c e = ap (λ o. grown o c device at) e
 
 -- the position of the newest entry once one more was entered
@@ -175,7 +175,7 @@ wrote_one device low top false content at e all = record {
   rise = λ k. omega arith;
 }
 
-one_entered : (content : Content) (at count : ℕ) (e : Entering) → enter_each content (rising at (suc count)) e ≡ enter_each content (rising (suc at) count) (enter content at e)
+pub one_entered : (content : Content) (at count : ℕ) (e : Entering) → enter_each content (rising at (suc count)) e ≡ enter_each content (rising (suc at) count) (enter content at e)
 one_entered content at count e = let next : at + 1 ≡ suc at = omega arith in ap (λ k. enter_each content (rising k count) (enter content at e)) next
 
 -- an extent, from this sector on, of so many

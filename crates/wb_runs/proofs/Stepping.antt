@@ -232,61 +232,61 @@ module _ (P A : Type 0) (shape : Shape) where
     write_fact Flush d e g = absurd g
     write_fact (Open mode) d e g = absurd g
 
-    sync_fact : (job : Job) → G job (Device (Sync Metadata)) → (got ≡ Done) × DoesSync w.phase w.commit m chosen
+    pub sync_fact : (job : Job) → G job (Device (Sync Metadata)) → (got ≡ Done) × DoesSync w.phase w.commit m chosen
     sync_fact (Read x) g = (g.1, g.2)
     sync_fact (Write x c) g = (g.1, g.2)
     sync_fact Flush g = (g.1, g.2)
     sync_fact (Open mode) g = (g.1, g.2)
 
-    node_fact : (job : Job) (number : ℕ) → G job (Device (WriteNode number)) → (got ≡ Done) × DoesPut w.commit (WriteNode number) m chosen
+    pub node_fact : (job : Job) (number : ℕ) → G job (Device (WriteNode number)) → (got ≡ Done) × DoesPut w.commit (WriteNode number) m chosen
     node_fact (Read x) number g = (g.1, g.2)
     node_fact (Write x c) number g = (g.1, g.2)
     node_fact Flush number g = (g.1, g.2)
     node_fact (Open mode) number g = (g.1, g.2)
 
-    root_fact : (job : Job) → G job (Device WriteRoot) → (got ≡ Done) × DoesPut w.commit WriteRoot m chosen
+    pub root_fact : (job : Job) → G job (Device WriteRoot) → (got ≡ Done) × DoesPut w.commit WriteRoot m chosen
     root_fact (Read x) g = (g.1, g.2)
     root_fact (Write x c) g = (g.1, g.2)
     root_fact Flush g = (g.1, g.2)
     root_fact (Open mode) g = (g.1, g.2)
 
-    metadata_fact : (job : Job) (left : ℕ) → G job (Device (ReadMetadata left)) → (w.commit ≡ None) × OfReading w.phase (λ mode was. DoesRead shape.geometry left was m w.commit got chosen)
+    pub metadata_fact : (job : Job) (left : ℕ) → G job (Device (ReadMetadata left)) → (w.commit ≡ None) × OfReading w.phase (λ mode was. DoesRead shape.geometry left was m w.commit got chosen)
     metadata_fact (Read x) left g = (g.1, g.2)
     metadata_fact (Write x c) left g = (g.1, g.2)
     metadata_fact Flush left g = (g.1, g.2)
     metadata_fact (Open mode) left g = (g.1, g.2)
 
-    begin_fact : (job : Job) (clean : Bool) (most : ℕ) → G job (Desk (BeginCommit clean most)) → OfTarget w.phase (λ t. DoesBegin most t.desk got chosen)
+    pub begin_fact : (job : Job) (clean : Bool) (most : ℕ) → G job (Desk (BeginCommit clean most)) → OfTarget w.phase (λ t. DoesBegin most t.desk got chosen)
     begin_fact (Read x) clean most g = g.2
     begin_fact (Write x c) clean most g = g.2
     begin_fact Flush clean most g = g.2
     begin_fact (Open mode) clean most g = g.2
 
-    end_fact : (job : Job) → G job (Desk EndCommit) → OfTarget w.phase (λ t. is_all_done w.commit ≡ true)
+    pub end_fact : (job : Job) → G job (Desk EndCommit) → OfTarget w.phase (λ t. is_all_done w.commit ≡ true)
     end_fact (Read x) g = g.2
     end_fact (Write x c) g = g.2
     end_fact Flush g = g.2
     end_fact (Open mode) g = g.2
 
-    no_map : (job : Job) (b c : _) → G job (Desk (Map b c)) → ⊥
+    pub no_map : (job : Job) (b c : _) → G job (Desk (Map b c)) → ⊥
     no_map (Read x) b c g = g
     no_map (Write x y) b c g = g
     no_map Flush b c g = g
     no_map (Open mode) b c g = g
 
-    no_unmap : (job : Job) (b : _) → G job (Desk (Unmap b)) → ⊥
+    pub no_unmap : (job : Job) (b : _) → G job (Desk (Unmap b)) → ⊥
     no_unmap (Read x) b g = g
     no_unmap (Write x y) b g = g
     no_unmap Flush b g = g
     no_unmap (Open mode) b g = g
 
-    no_release : (job : Job) (b : _) → G job (Desk (ReleaseOrder b)) → ⊥
+    pub no_release : (job : Job) (b : _) → G job (Desk (ReleaseOrder b)) → ⊥
     no_release (Read x) b g = g
     no_release (Write x y) b g = g
     no_release Flush b g = g
     no_release (Open mode) b g = g
 
-    answer_fact : (job : Job) (answer : Answer) → G job (End answer) → (chosen ≡ Plain) ⊎ ((answer ≡ Finished) × DoesOpen w.phase w.commit chosen)
+    pub answer_fact : (job : Job) (answer : Answer) → G job (End answer) → (chosen ≡ Plain) ⊎ ((answer ≡ Finished) × DoesOpen w.phase w.commit chosen)
     answer_fact (Read x) answer g = inl g.0.1
     answer_fact (Write x c) answer g = inl g.0.1
     answer_fact Flush answer g = inl g.0.1

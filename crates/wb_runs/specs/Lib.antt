@@ -3,5 +3,6 @@ pub mod Happenings
 pub mod Effects
 pub mod Clerk
 pub mod Headline
+pub mod Holding
 pub mod Progress
 pub mod Possible

@@ -2,6 +2,7 @@
 
 ghost use Rattle.wb_runs.specs.Headline.{MetadataAreRead, AllCrashConsistent, AllOpeningsShowAllowed, OpeningsRefuseByCause};
 ghost use Rattle.wb_runs.specs.Possible.{CanFlush, CanOpen};
+ghost use Rattle.wb_runs.specs.Holding.{WordsAreUsedRightly};
 ghost use Rattle.wb_runs.specs.Progress.{NeverStuck};
 
 /// In every run, over any policy: whatever a crash leaves of the metadata device, it represents a root of this geometry and a
@@ -21,6 +22,12 @@ pub fn every_crash_is_consistent<P, A>()
 /// durable floor or later; the next history begins with it.
 pub fn every_opening_shows_allowed<P, A>()
     ensures { AllOpeningsShowAllowed P A }
+{}
+
+/// After every run each actor that has a task has what is needed for what is left of it, and so is ready for its next step; whoever
+/// has none holds no block; and where a target stands its shared words keep their rule: a lock word counts its sharers and its lone owner.
+pub fn words_are_used_rightly<P, A>()
+    ensures { WordsAreUsedRightly P A }
 {}
 
 /// No run is ever stuck, given some policy to open with and a reading that has read nothing: after every run each event has a
