@@ -15,7 +15,7 @@ use Rattle.wb_runs.specs.Clerk.{Notes, Doing, put, nobody, begun}
 use Rattle.wb_runs.proofs.Sectors.{number_at, set_other, crash_follows}
 use Rattle.wb_types.specs.Extents.{IsCutInto}
 use Rattle.wb_runs.proofs.Plans.{Own}
-use Rattle.wb_runs.proofs.Extents.{cut_own, cut_inside, may_start, cut_within}
+use Rattle.wb_runs.proofs.Extents.{cut_of_block, cut_own, cut_inside, may_start, cut_within}
 use Rattle.wb_runs.proofs.Contents.{ReadKept, WriteKept, FlushKept, JobKept, Acting, Linked, IsTask, IsOpeningJob, moved, set_there}
 
 all_none : (doings : List (Option Doing)) (b : ℕ) (o : Option Doing) → slice_get doings b ≡ Some o → slice_get (nobody doings) b ≡ Some None
@@ -108,7 +108,10 @@ module _ (P A : Type 0) (shape : Shape) where
   })
 
   own_cut : (extent : Extent) (cut : List Extent) → extent_refusal shape extent ≡ None → IsCutInto extent cut → Own shape extent cut
-  own_cut extent cut f i e m = (cut_own shape extent cut (may_start shape extent f) (cut_within extent cut i) e m, cut_inside shape extent cut (may_start shape extent f) (cut_within extent cut i) e m)
+  own_cut extent cut f i e m =
+      let may = may_start shape extent f in
+      let within = cut_within extent cut i in
+      (cut_own shape extent cut may within e m, cut_inside shape extent cut may within e m, cut_of_block shape extent cut may within e m)
 
   pub read_starts : (extent : Extent) (cut : List Extent) → extent_refusal shape extent ≡ None → IsCutInto extent cut → ReadKept shape extent (table (task_job shape (Read extent) cut))
   read_starts extent cut f i = record { cut = cut; own = own_cut extent cut f i; steps = first_steps (task_job shape (Read extent) cut); answer = Finished; is = refl; fine = tt }

@@ -27,7 +27,7 @@ pub record ReadKept (shape : Shape) (extent : Extent) (plan : Plan) : Type 0 whe
   pub steps : List Want
   pub answer : Answer
   pub is : plan ≡ plan_of (reading shape extent cut) steps answer
-  pub fine : ReadsOnly shape steps
+  pub fine : ReadsOnly shape extent steps
 
 -- while it may answer done, all that it entered is on the device, or later entries are
 pub record WriteKept (shape : Shape) (extent : Extent) (plan : Plan) (doing : Doing) (top : ℕ → ℕ) : Type 0 where
@@ -112,7 +112,7 @@ pub record Linked {P A : Type 0} (shape : Shape) (phase : Phase P A) (device : L
 pub read_after : (shape : Shape) (extent : Extent) (plan : Plan) (words : Words) (next : Want) (got : Got) → NoSeal words → ReadKept shape extent plan → next ≡ want plan → Comes words next got → ReadKept shape extent (after plan got)
 read_after shape extent plan words next got z k e c = by_steps k.steps k.is k.fine
   where
-    by_steps : (steps : List Want) → plan ≡ plan_of (reading shape extent k.cut) steps k.answer → ReadsOnly shape steps → ReadKept shape extent (after plan got)
+    by_steps : (steps : List Want) → plan ≡ plan_of (reading shape extent k.cut) steps k.answer → ReadsOnly shape extent steps → ReadKept shape extent (after plan got)
     by_steps [] is f = absurd (subst (λ (v : Want). Comes words v got) (e ∙ ap want is) c)
     by_steps (w ∷ ws) is f =
         let left = read_goes shape extent k.cut words w ws k.answer got z k.own f (subst (λ (v : Want). Comes words v got) (e ∙ ap want is) c) in

@@ -121,3 +121,12 @@ cut_inside shape extent (x ∷ xs) m i e c = elim (Contains-append_cases (x ∷ 
   | inl s ↦ subst (λ (y : Extent). y.first + y.count ≤ sector_count shape) (sym (Contains-one x e s)) (omega (arith, i.0.to, m.inside))
   | inr r ↦ cut_inside shape extent xs m i.1 e r
 ]
+
+-- and of the request's block
+pub cut_of_block : (shape : Shape) (extent : Extent) (cut : List Extent) → MayStart shape extent → AllWithin extent cut → (e : Extent) → Contains cut e →
+    (at : ℕ) → e.first ≤ at → at < e.first + e.count → at / shape.geometry.block ≡ extent.first / shape.geometry.block
+cut_of_block shape extent [] m i e c = absurd (omega (arith, c.1))
+cut_of_block shape extent (x ∷ xs) m i e c = elim (Contains-append_cases (x ∷ []) xs e c) [
+  | inl s ↦ subst (λ (y : Extent). (at : ℕ) → y.first ≤ at → at < y.first + y.count → at / shape.geometry.block ≡ extent.first / shape.geometry.block) (sym (Contains-one x e s)) (λ at low high. in_block shape extent x at m i.0 low high)
+  | inr r ↦ cut_of_block shape extent xs m i.1 e r
+]

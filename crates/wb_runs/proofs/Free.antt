@@ -107,7 +107,7 @@ module _ (P A : Type 0) (shape : Shape) (policy : P) (first : ReadSteps A) (begi
           by_job : (phase : Phase P A) → Known P A shape (record { devices = devices; commit = commit; phase = phase; actors = actors }) → (l : Linked {P = P} {A = A} shape phase devices.origin actors kept.notes) → Going phase commit actors → (job : Job) →
               Working {P = P} {A = A} shape phase devices.origin l.low l.top job k.plan (slice_get kept.notes.doings a) → k.actor.task ≡ Some (job, k.plan) →
               CanFalter {P = P} {A = A} (record { devices = devices; commit = commit; phase = phase; actors = actors }) choice (want k.plan)
-          by_job (Stands t) known l goes (Read extent) u xt = read_falters P A shape devices commit actors t choice (want k.plan) (read_next shape extent k.plan (want k.plan) u.kept refl) m
+          by_job (Stands t) known l goes (Read extent) u xt = read_falters P A shape devices commit actors t extent choice (want k.plan) (read_next shape extent k.plan (want k.plan) u.kept refl) m
           by_job (Stands t) known l goes (Write extent content) u xt = write_falters P A shape devices commit actors t extent choice (want k.plan) (write_next shape extent k.plan u.doing l.top (want k.plan) u.kept refl) m
           by_job (Stands t) known l goes Flush u xt =
               let f : FlushAt commit (a ≡ goes.0) k.plan = subst (λ (q : Option (Job × Plan)). FlushTask commit (a ≡ goes.0) q) xt (goes.1 a k.actor e) in

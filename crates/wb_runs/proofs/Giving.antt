@@ -160,9 +160,9 @@ module _ (P A : Type 0) (shape : Shape) (devices : Devices (List History)) (comm
     cell_gives : (job : Job) (step : _) → CanGive shape w job (Cell step)
     cell_gives job step = record { got = got_of (result_of t.words step); read = []; chosen = Plain; gives = ((refl, refl), refl) }
 
-    pub read_gives : (extent : Extent) (next : Want) → IsReadNext shape next → length devices.origin ≡ sector_count shape → CanGive shape w (Read extent) next
+    pub read_gives : (extent : Extent) (next : Want) → IsReadNext shape extent next → length devices.origin ≡ sector_count shape → CanGive shape w (Read extent) next
     read_gives extent (Cell step) i size = cell_gives (Read extent) step
-    read_gives extent (Device (ReadExtent Origin e)) i size = let r = contents_from devices.origin e.count e.first (omega (arith, i, size)) in
+    read_gives extent (Device (ReadExtent Origin e)) i size = let r = contents_from devices.origin e.count e.first (omega (arith, i.1, size)) in
         record { got = Done; read = r.0; chosen = Plain; gives = (tt, refl, refl, r.1, r.2) }
     read_gives extent (End answer) i size = record { got = Done; read = []; chosen = Plain; gives = ((refl, refl), refl) }
     read_gives extent next i size = absurd i
@@ -173,11 +173,11 @@ module _ (P A : Type 0) (shape : Shape) (devices : Devices (List History)) (comm
     write_gives extent content (End answer) i size = record { got = Done; read = []; chosen = Plain; gives = ((refl, refl), refl) }
     write_gives extent content next i size = absurd i
 
-    pub read_falters : (choice : Choice) (next : Want) → IsReadNext shape next → Rattle.wb_runs.specs.Happenings.MayFailAt devices choice next → CanFalter w choice next
-    read_falters choice (Device (ReadExtent Origin e)) i m = record { chosen = Plain; falters = (refl, tt) }
-    read_falters choice (Cell step) i m = absurd m
-    read_falters choice (End answer) i m = absurd m
-    read_falters choice next i m = absurd i
+    pub read_falters : (extent : Extent) (choice : Choice) (next : Want) → IsReadNext shape extent next → Rattle.wb_runs.specs.Happenings.MayFailAt devices choice next → CanFalter w choice next
+    read_falters extent choice (Device (ReadExtent Origin e)) i m = record { chosen = Plain; falters = (refl, tt) }
+    read_falters extent choice (Cell step) i m = absurd m
+    read_falters extent choice (End answer) i m = absurd m
+    read_falters extent choice next i m = absurd i
 
     pub write_falters : (extent : Extent) (choice : Choice) (next : Want) → IsWriteNext shape extent next → Rattle.wb_runs.specs.Happenings.MayFailAt devices choice next → CanFalter w choice next
     write_falters extent choice (Device (WriteExtent Origin e)) i m = record { chosen = Plain; falters = (refl, tt) }

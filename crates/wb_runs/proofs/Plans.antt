@@ -1,5 +1,5 @@
 -- What may be left of the task of a read, a write, a flush or an opening where nothing is cached, and that each step leaves such.
-use Rattle.std.proofs.Common.{◌≡◌, ◌⊎◌, ◌==◌, ◌+◌, ◌-◌, ◌≤◌, inl, inr, ℕ, zero, suc, Bool, true, false, if◌then◌else◌, List, [], ◌∷◌, ◌++◌, None, refl, sym, subst, map, Contains}
+use Rattle.std.proofs.Common.{◌≡◌, ◌⊎◌, ◌==◌, ◌+◌, ◌-◌, ◌≤◌, ◌<◌, ◌/◌, inl, inr, ℕ, zero, suc, Bool, true, false, if◌then◌else◌, List, [], ◌∷◌, ◌++◌, None, refl, sym, subst, map, Contains}
 use Rattle.wb_types.proofs.Lists.{Contains-first, Contains-behind}
 use Rattle.wb_types.specs.declared.extent.Extent.{Extent}
 use Rattle.wb_types.specs.declared.mode.Dev.TheVariants.{Metadata, Cache, Origin}
@@ -54,25 +54,33 @@ Comes words next got = ⊥
 abbrev pub IsInside : Shape → Extent → Type 0
 IsInside shape e = e.first + e.count ≤ sector_count shape
 
+-- its sectors are all of the block of a request
+abbrev pub IsOfBlock : Shape → Extent → Extent → Type 0
+IsOfBlock shape request e = (at : ℕ) → e.first ≤ at → at < e.first + e.count → at / shape.geometry.block ≡ request.first / shape.geometry.block
+
+-- it is a part of a request
+abbrev pub IsOwn : Shape → Extent → Extent → Type 0
+IsOwn shape request e = (sector_for shape request e ≡ e.first) × IsInside shape e × IsOfBlock shape request e
+
 -- steps of a read: none seals, and each reads sectors of the origin
-abbrev pub ReadsOnly : Shape → List Want → Type 0
-ReadsOnly shape [] = Unit {0}
-ReadsOnly shape (Cell (Seal block place dirty) ∷ ws) = ⊥
-ReadsOnly shape (Cell step ∷ ws) = ReadsOnly shape ws
-ReadsOnly shape (Device (ReadExtent Origin e) ∷ ws) = IsInside shape e × ReadsOnly shape ws
-ReadsOnly shape (w ∷ ws) = ⊥
+abbrev pub ReadsOnly : Shape → Extent → List Want → Type 0
+ReadsOnly shape extent [] = Unit {0}
+ReadsOnly shape extent (Cell (Seal block place dirty) ∷ ws) = ⊥
+ReadsOnly shape extent (Cell step ∷ ws) = ReadsOnly shape extent ws
+ReadsOnly shape extent (Device (ReadExtent Origin e) ∷ ws) = IsOwn shape extent e × ReadsOnly shape extent ws
+ReadsOnly shape extent (w ∷ ws) = ⊥
 
 -- steps of a write: none seals, and each writes sectors of the origin that are those of the request
 abbrev pub WritesOnly : Shape → Extent → List Want → Type 0
 WritesOnly shape extent [] = Unit {0}
 WritesOnly shape extent (Cell (Seal block place dirty) ∷ ws) = ⊥
 WritesOnly shape extent (Cell step ∷ ws) = WritesOnly shape extent ws
-WritesOnly shape extent (Device (WriteExtent Origin e) ∷ ws) = ((sector_for shape extent e ≡ e.first) × IsInside shape e) × WritesOnly shape extent ws
+WritesOnly shape extent (Device (WriteExtent Origin e) ∷ ws) = IsOwn shape extent e × WritesOnly shape extent ws
 WritesOnly shape extent (w ∷ ws) = ⊥
 
 -- all extents of a cut are of the origin's own addresses
 abbrev pub Own : Shape → Extent → List Extent → Type 0
-Own shape extent cut = (e : Extent) → Contains cut e → (sector_for shape extent e ≡ e.first) × IsInside shape e
+Own shape extent cut = (e : Extent) → Contains cut e → IsOwn shape extent e
 
 module _ (shape : Shape) (extent : Extent) (cut : List Extent) where
   abbrev pub reading : TaskJob
@@ -82,7 +90,7 @@ module _ (shape : Shape) (extent : Extent) (cut : List Extent) where
   writing = OnBlock (Writing (block_range shape extent cut))
 
   abbrev R : List Want → Type 0
-  R ws = ReadsOnly shape ws
+  R ws = ReadsOnly shape extent ws
 
   -- onward, or refused with nothing left
   read_or : (t : Bool) (w : Want) (ws : List Want) (answer : Answer) (refusal : Refusal) → R ws → Left reading R answer (if t then plan_of reading ws answer else plan_of reading [] (Refuses refusal))
@@ -91,7 +99,7 @@ module _ (shape : Shape) (extent : Extent) (cut : List Extent) where
 
   reads_all : (es : List Extent) (ws : List Want) → Own shape extent es → R ws → R (map (read_step (block_range shape extent cut) None) es ++ ws)
   reads_all [] ws o f = f
-  reads_all (e ∷ es) ws o f = ((o e (Contains-first e es)).1, reads_all es ws (λ x m. o x (Contains-behind e es x m)) f)
+  reads_all (e ∷ es) ws o f = (o e (Contains-first e es), reads_all es ws (λ x m. o x (Contains-behind e es x m)) f)
 
   read_cell : (words : Words) (step : CellStep) (ws : List Want) (answer : Answer) → NoSeal words → Own shape extent cut → R (Cell step ∷ ws) →
       Left reading R answer (after (plan_of reading (Cell step ∷ ws) answer) (got_of (result_of words step)))

@@ -115,11 +115,11 @@ module _ (P A : Type 0) (shape : Shape) where
     not_flush : (commit' : Option RunningCommit) (task : Option (Job × Plan)) → commit' ≡ commit → FlushTask commit (a ≡ leader) task → Moved commit commit' a leader task
     not_flush commit' task same here = subst (λ (c : Option RunningCommit). Moved commit c a leader task) (sym same) (record { leader' = leader; here = here; others = λ b p o k. k })
 
-    read_commit : (next : Want) (got : Got) (chosen : Chosen P A) → IsReadNext shape next → commit_then {P = P} {A = A} (Stands t) commit next got chosen ≡ commit
-    read_commit (Cell step) got chosen i = refl
-    read_commit (Device (ReadExtent Origin ex)) got chosen i = refl
-    read_commit (End answer) got chosen i = refl
-    read_commit next got chosen i = absurd i
+    read_commit : (extent : _) (next : Want) (got : Got) (chosen : Chosen P A) → IsReadNext shape extent next → commit_then {P = P} {A = A} (Stands t) commit next got chosen ≡ commit
+    read_commit extent (Cell step) got chosen i = refl
+    read_commit extent (Device (ReadExtent Origin ex)) got chosen i = refl
+    read_commit extent (End answer) got chosen i = refl
+    read_commit extent next got chosen i = absurd i
 
     write_commit : (extent : _) (next : Want) (got : Got) (chosen : Chosen P A) → IsWriteNext shape extent next → commit_then {P = P} {A = A} (Stands t) commit next got chosen ≡ commit
     write_commit extent (Cell step) got chosen i = refl
@@ -163,7 +163,7 @@ module _ (P A : Type 0) (shape : Shape) where
 
     stands_done : (job : Job) (plan : Plan) (next : Want) (got : Got) (read : List Bytes) (chosen : Chosen P A) → x.task ≡ Some (job, plan) → next ≡ want plan → Gives shape w job next got read chosen → Then next got chosen
     stands_done (Read extent) plan next got read chosen xt h g = from_moved next got chosen _ (ap (λ k. task_then k next got) xt)
-        (not_flush _ _ (read_commit next got chosen (read_next shape extent plan next (at_work (Read extent) plan xt).kept h)) (read_task extent plan next got))
+        (not_flush _ _ (read_commit extent next got chosen (read_next shape extent plan next (at_work (Read extent) plan xt).kept h)) (read_task extent plan next got))
     stands_done (Write extent content) plan next got read chosen xt h g = from_moved next got chosen _ (ap (λ k. task_then k next got) xt)
         (not_flush _ _ (write_commit extent next got chosen (let k = at_work (Write extent content) plan xt in write_next shape extent plan k.doing l.top next k.kept h)) (write_task extent content plan next got))
     stands_done Flush plan next got read chosen xt h g = from_moved next got chosen _ (ap (λ k. task_then k next got) xt) (flush_done plan next got read chosen (mine Flush plan xt) h g)
@@ -171,7 +171,7 @@ module _ (P A : Type 0) (shape : Shape) where
 
     stands_failed : (job : Job) (plan : Plan) (next : Want) (choice : Choice) (chosen : Chosen P A) → x.task ≡ Some (job, plan) → next ≡ want plan → Falters w choice next chosen → Then next Fault chosen
     stands_failed (Read extent) plan next choice chosen xt h g = from_moved next Fault chosen _ (ap (λ k. task_then k next Fault) xt)
-        (not_flush _ _ (read_commit next Fault chosen (read_next shape extent plan next (at_work (Read extent) plan xt).kept h)) (read_task extent plan next Fault))
+        (not_flush _ _ (read_commit extent next Fault chosen (read_next shape extent plan next (at_work (Read extent) plan xt).kept h)) (read_task extent plan next Fault))
     stands_failed (Write extent content) plan next choice chosen xt h g = from_moved next Fault chosen _ (ap (λ k. task_then k next Fault) xt)
         (not_flush _ _ (write_commit extent next Fault chosen (let k = at_work (Write extent content) plan xt in write_next shape extent plan k.doing l.top next k.kept h)) (write_task extent content plan next Fault))
     stands_failed Flush plan next choice chosen xt h g = from_moved next Fault chosen _ (ap (λ k. task_then k next Fault) xt) (flush_failed plan next choice chosen (mine Flush plan xt) h g)

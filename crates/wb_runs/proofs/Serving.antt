@@ -28,21 +28,21 @@ use Rattle.wb_runs.specs.declared.job.Job.TheVariants.{Read, Write, Flush, Open}
 use Rattle.wb_runs.specs.States.{Shape, Actor, Target, Stands, with_device}
 use Rattle.wb_runs.specs.Clerk.{Notes, Doing, enter_each, entering, put, failing, device_note, finished_note, noted_step, sector_for}
 use Rattle.wb_runs.proofs.Sectors.{AllFollow, AreBelow, number_at, all_raised_below, greater_below}
-use Rattle.wb_runs.proofs.Plans.{NoSeal, plan_of, reading, writing, IsInside, ReadsOnly, WritesOnly, FlushesOnly, IsOriginSync}
+use Rattle.wb_runs.proofs.Plans.{NoSeal, plan_of, reading, writing, IsInside, IsOwn, ReadsOnly, WritesOnly, FlushesOnly, IsOriginSync}
 use Rattle.wb_runs.proofs.Contents.{ReadKept, WriteKept, FlushKept, JobKept, IsOpeningJob, Linked, read_after, write_after, flush_after}
 use Rattle.wb_runs.proofs.Standing.{IsSeal, Noted, put_noted, twice, quiet, resynced, answered, wrote}
 
 -- ---- what a task may do next
 
-abbrev pub IsReadNext : Shape → Want → Type 0
-IsReadNext shape (Cell step) = ¬ IsSeal step
-IsReadNext shape (Device (ReadExtent Origin e)) = IsInside shape e
-IsReadNext shape (End answer) = Unit {0}
-IsReadNext shape w = ⊥
+abbrev pub IsReadNext : Shape → Extent → Want → Type 0
+IsReadNext shape extent (Cell step) = ¬ IsSeal step
+IsReadNext shape extent (Device (ReadExtent Origin e)) = IsOwn shape extent e
+IsReadNext shape extent (End answer) = Unit {0}
+IsReadNext shape extent w = ⊥
 
 abbrev pub IsWriteNext : Shape → Extent → Want → Type 0
 IsWriteNext shape extent (Cell step) = ¬ IsSeal step
-IsWriteNext shape extent (Device (WriteExtent Origin e)) = (sector_for shape extent e ≡ e.first) × IsInside shape e
+IsWriteNext shape extent (Device (WriteExtent Origin e)) = IsOwn shape extent e
 IsWriteNext shape extent (End answer) = Unit {0}
 IsWriteNext shape extent w = ⊥
 
@@ -56,25 +56,25 @@ IsFlushNext (Desk EndCommit) = Unit {0}
 IsFlushNext (End answer) = Unit {0}
 IsFlushNext w = ⊥
 
-read_first : (shape : Shape) (w : Want) (ws : List Want) → ReadsOnly shape (w ∷ ws) → IsReadNext shape w
-read_first shape (Cell (Look word)) ws f = λ s. s
-read_first shape (Cell (Take access b seen)) ws f = λ s. s
-read_first shape (Cell (Release access b)) ws f = λ s. s
-read_first shape (Cell (Seal b place dirty)) ws f = absurd f
-read_first shape (Cell (Finish b)) ws f = λ s. s
-read_first shape (Cell (Count kind)) ws f = λ s. s
-read_first shape (Cell SetFailed) ws f = λ s. s
-read_first shape (Cell SetSuspended) ws f = λ s. s
-read_first shape (Device (ReadExtent Origin e)) ws f = f.0
-read_first shape (Device (ReadExtent Cache e)) ws f = absurd f
-read_first shape (Device (ReadExtent Metadata e)) ws f = absurd f
-read_first shape (Device (WriteExtent d e)) ws f = absurd f
-read_first shape (Device (Sync d)) ws f = absurd f
-read_first shape (Device (ReadMetadata k)) ws f = absurd f
-read_first shape (Device (WriteNode k)) ws f = absurd f
-read_first shape (Device WriteRoot) ws f = absurd f
-read_first shape (Desk step) ws f = absurd f
-read_first shape (End answer) ws f = absurd f
+read_first : (shape : Shape) (extent : Extent) (w : Want) (ws : List Want) → ReadsOnly shape extent (w ∷ ws) → IsReadNext shape extent w
+read_first shape extent (Cell (Look word)) ws f = λ s. s
+read_first shape extent (Cell (Take access b seen)) ws f = λ s. s
+read_first shape extent (Cell (Release access b)) ws f = λ s. s
+read_first shape extent (Cell (Seal b place dirty)) ws f = absurd f
+read_first shape extent (Cell (Finish b)) ws f = λ s. s
+read_first shape extent (Cell (Count kind)) ws f = λ s. s
+read_first shape extent (Cell SetFailed) ws f = λ s. s
+read_first shape extent (Cell SetSuspended) ws f = λ s. s
+read_first shape extent (Device (ReadExtent Origin e)) ws f = f.0
+read_first shape extent (Device (ReadExtent Cache e)) ws f = absurd f
+read_first shape extent (Device (ReadExtent Metadata e)) ws f = absurd f
+read_first shape extent (Device (WriteExtent d e)) ws f = absurd f
+read_first shape extent (Device (Sync d)) ws f = absurd f
+read_first shape extent (Device (ReadMetadata k)) ws f = absurd f
+read_first shape extent (Device (WriteNode k)) ws f = absurd f
+read_first shape extent (Device WriteRoot) ws f = absurd f
+read_first shape extent (Desk step) ws f = absurd f
+read_first shape extent (End answer) ws f = absurd f
 
 write_first : (shape : Shape) (extent : Extent) (w : Want) (ws : List Want) → WritesOnly shape extent (w ∷ ws) → IsWriteNext shape extent w
 write_first shape extent (Cell (Look word)) ws f = λ s. s
@@ -110,12 +110,12 @@ flush_first (Desk (BeginCommit clean most)) ws f = tt
 flush_first (Desk EndCommit) ws f = tt
 flush_first w ws f = absurd f
 
-pub read_next : (shape : Shape) (extent : Extent) (plan : Plan) (next : Want) → ReadKept shape extent plan → next ≡ want plan → IsReadNext shape next
-read_next shape extent plan next k e = subst (λ (v : Want). IsReadNext shape v) (sym (e ∙ ap want k.is)) (by_steps k.steps k.fine)
+pub read_next : (shape : Shape) (extent : Extent) (plan : Plan) (next : Want) → ReadKept shape extent plan → next ≡ want plan → IsReadNext shape extent next
+read_next shape extent plan next k e = subst (λ (v : Want). IsReadNext shape extent v) (sym (e ∙ ap want k.is)) (by_steps k.steps k.fine)
   where
-    by_steps : (steps : List Want) → ReadsOnly shape steps → IsReadNext shape (want (plan_of (reading shape extent k.cut) steps k.answer))
+    by_steps : (steps : List Want) → ReadsOnly shape extent steps → IsReadNext shape extent (want (plan_of (reading shape extent k.cut) steps k.answer))
     by_steps [] f = tt
-    by_steps (w ∷ ws) f = read_first shape w ws f
+    by_steps (w ∷ ws) f = read_first shape extent w ws f
 
 pub write_next : (shape : Shape) (extent : Extent) (plan : Plan) (doing : Doing) (top : ℕ → ℕ) (next : Want) → WriteKept shape extent plan doing top → next ≡ want plan → IsWriteNext shape extent next
 write_next shape extent plan doing top next k e = subst (λ (v : Want). IsWriteNext shape extent v) (sym (e ∙ ap want k.is)) (by_steps k.steps k.fine)
