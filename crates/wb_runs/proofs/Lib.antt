@@ -34,3 +34,4 @@ mod Ruling
 mod Suiting
 mod Using
 mod Latest
+mod Keeping
