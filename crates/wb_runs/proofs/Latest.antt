@@ -1,13 +1,18 @@
 -- What an extent that is written leaves of the agreement of device and histories: the newest content of a sector is its last entry,
 -- unless somebody keeps its block after a failure.
-use Rattle.std.proofs.Common.{◌≡◌, ◌≢◌, ◌≤◌, ◌<◌, ◌+◌, ◌⊎◌, inl, inr, ℕ, zero, suc, Bool, true, false, List, [], ◌∷◌, Option, Some, None, refl, sym, ap, subst, ◌∙◌, arith, slice_get, replicate, if◌then◌else◌}
+use Rattle.std.proofs.Common.{◌≡◌, ◌≢◌, ◌≤◌, ◌<◌, ◌+◌, ◌⊎◌, inl, inr, ℕ, zero, suc, Bool, true, false, List, [], ◌∷◌, Option, Some, None, refl, sym, ap, subst, ◌∙◌, arith, length, map, slice_get, replicate, if◌then◌else◌}
+use Rattle.std.specs.Prelude.{All}
+use Rattle.std.specs.Option.{option_map}
+use Rattle.std.proofs.lemmas.List.Elements.{All-nil, All-cons}
 use Rattle.std.proofs.lemmas.Bool.{cases_eq}
 use Rattle.wb_types.specs.Extents.{rising}
-use Rattle.wb_disk.specs.Device.{Content as Bytes, History, newest, added, written}
-use Rattle.wb_disk.specs.Extents.{written_where}
+use Rattle.wb_disk.specs.Device.{Content as Bytes, History, Gives as HoldsNow, newest, added, only, written, synced}
+use Rattle.wb_disk.specs.Extents.{written_where, GivesEach}
+use Rattle.wb_disk.specs.Failing.{synced_where, sync_landed}
 use Rattle.wb_contents.proofs.Positions.{last_of-append}
-use Rattle.wb_runs.specs.Clerk.{Entering, enter, enter_each}
-use Rattle.wb_runs.proofs.Sectors.{AllFollow, FollowsAt, written_same, written_none, written_other, one_entered}
+use Rattle.wb_runs.specs.Clerk.{Entering, enter, enter_each, latest_of, readings_from}
+use Rattle.wb_runs.specs.Headline.{IsLatest}
+use Rattle.wb_runs.proofs.Sectors.{AllFollow, FollowsAt, written_same, written_none, written_other, one_entered, synced_at, partly_at}
 
 -- so it is of a sector, where so many keep its block
 abbrev pub LatestAt : Option History → Option History → ℕ → Type 0
@@ -109,3 +114,50 @@ extent_latest lands stale content (suc count) at device e i l m =
     let one = one_latest device (lands at) stale content at e i l (m at (omega arith) (omega arith)) in
     let rest = extent_latest lands stale content count (suc at) (if lands at then written device at content else device) (enter content at e) one.1 one.0 (λ k low high. m k (omega (arith, low)) (omega (arith, high))) in
     subst (λ (f : Entering). AllLatest (written_where lands (if lands at then written device at content else device) (suc at) (replicate count content)) f.histories stale) (sym (one_entered content at count e)) rest
+
+-- ---- syncs change nothing of it
+
+synced_latest_at : (h g : Option History) (k : ℕ) → LatestAt h g k → LatestAt (option_map (λ (h : History). only (newest h)) h) g k
+synced_latest_at (Some h) (Some g) k l = l
+synced_latest_at None None k l = tt
+synced_latest_at None (Some g) k l = tt
+synced_latest_at (Some h) None k l = tt
+
+pub synced_latest : (device histories : List History) (stale : ℕ → ℕ) → AllLatest device histories stale → AllLatest (synced device) histories stale
+synced_latest device histories stale l at = rw (synced_at device at) (synced_latest_at (slice_get device at) (slice_get histories at) (stale at) (l at))
+
+pub partly_latest : (lands : ℕ → Bool) (device histories : List History) (stale : ℕ → ℕ) → AllLatest device histories stale → AllLatest (synced_where lands device) histories stale
+partly_latest lands device histories stale l at = rw (partly_at lands 0 device at) (go (slice_get device at) (slice_get histories at) (lands (0 + at)) (l at))
+  where
+    go : (h g : Option History) (t : Bool) → LatestAt h g (stale at) → LatestAt (option_map (λ (h : History). sync_landed t h) h) g (stale at)
+    go (Some h) (Some g) true l = l
+    go (Some h) (Some g) false l = l
+    go None None t l = tt
+    go None (Some g) t l = tt
+    go (Some h) None t l = tt
+
+-- ---- a life begins with it
+
+pub begun_latest : (device : List History) (stale : ℕ → ℕ) → AllLatest device (map only (map newest device)) stale
+begun_latest [] stale at = tt
+begun_latest (h ∷ hs) stale zero = inl refl
+begun_latest (h ∷ hs) stale (suc at) = begun_latest hs (λ k. stale (suc k)) at
+
+-- ---- what is read of sectors that nobody keeps is their last entry
+
+one_read : (device histories : List History) (at : ℕ) (content : Bytes) → HoldsNow device at content → OfBoth (slice_get device at) (slice_get histories at) → LatestAt (slice_get device at) (slice_get histories at) 0 → latest_of (slice_get histories at) ≡ Some content
+one_read device histories at content g i l =
+    go (slice_get histories at) (subst (λ (v : Option History). OfBoth v (slice_get histories at)) g.1 i) (subst (λ (v : Option History). LatestAt v (slice_get histories at) 0) g.1 l)
+    ∙ ap (λ (c : Bytes). Some c) g.2
+  where
+    go : (o : Option History) → OfBoth (Some g.0) o → LatestAt (Some g.0) o 0 → latest_of o ≡ Some (newest g.0)
+    go None i l = absurd i
+    go (Some h) i (inl s) = ap (λ (c : Bytes). Some c) (sym s)
+    go (Some h) i (inr m) = absurd (omega (arith, m))
+
+pub readings_latest : (device histories : List History) (at : ℕ) (read : List Bytes) → GivesEach device at read → AllOfBoth device histories →
+    ((k : ℕ) → at ≤ k → k < at + length read → LatestAt (slice_get device k) (slice_get histories k) 0) → All IsLatest (readings_from histories at read)
+readings_latest device histories at [] g i l = All-nil IsLatest
+readings_latest device histories at (c ∷ cs) g i l = All-cons IsLatest (record { sector = at; content = c; latest = latest_of (slice_get histories at) }) (readings_from histories (suc at) cs)
+    (one_read device histories at c g.0 (i at) (l at (omega arith) (omega arith)))
+    (readings_latest device histories (suc at) cs g.1 i (λ k m b. l k (omega (arith, m)) (omega (arith, b))))

@@ -35,3 +35,4 @@ mod Suiting
 mod Using
 mod Latest
 mod Keeping
+mod Reading

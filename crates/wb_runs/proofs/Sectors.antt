@@ -195,7 +195,7 @@ wrote_extent low lands content (suc count) at device e top all =
 
 -- ---- syncs and crashes
 
-synced_at : (device : List History) (at : ℕ) → slice_get (synced device) at ≡ Rattle.std.specs.Option.option_map (λ (h : History). only (newest h)) (slice_get device at)
+pub synced_at : (device : List History) (at : ℕ) → slice_get (synced device) at ≡ Rattle.std.specs.Option.option_map (λ (h : History). only (newest h)) (slice_get device at)
 synced_at [] at = refl
 synced_at (h ∷ hs) zero = refl
 synced_at (h ∷ hs) (suc at) = synced_at hs at
@@ -209,7 +209,7 @@ all_synced device histories low top all at = rw (synced_at device at) (go (slice
     go (Some h) None f = absurd f
     go None (Some g) f = absurd f
 
-partly_at : (lands : ℕ → Bool) (n : ℕ) (device : List History) (at : ℕ) → slice_get (synced_from lands n device) at ≡ Rattle.std.specs.Option.option_map (λ (h : History). sync_landed (lands (n + at)) h) (slice_get device at)
+pub partly_at : (lands : ℕ → Bool) (n : ℕ) (device : List History) (at : ℕ) → slice_get (synced_from lands n device) at ≡ Rattle.std.specs.Option.option_map (λ (h : History). sync_landed (lands (n + at)) h) (slice_get device at)
 partly_at lands n [] at = refl
 partly_at lands n (h ∷ hs) zero = let same : n ≡ n + 0 = omega arith in ap (λ k. Some (sync_landed (lands k) h)) same
 partly_at lands n (h ∷ hs) (suc at) = let same : suc n + at ≡ n + suc at = omega arith in

@@ -6,3 +6,4 @@ pub mod Headline
 pub mod Holding
 pub mod Progress
 pub mod Possible
+pub mod Latest
