@@ -36,3 +36,4 @@ mod Using
 mod Latest
 mod Keeping
 mod Reading
+mod LatestRuns

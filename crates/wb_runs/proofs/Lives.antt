@@ -95,7 +95,7 @@ module _ (P A : Type 0) (shape : Shape) where
 
   -- ---- whoever it is of
 
-  working : (w : State P A) (n : Notes) (l : LinkedTo w n) (a : ℕ) (x : Actor) (job : Job) (plan : Plan) → slice_get w.actors a ≡ Some x → x.task ≡ Some (job, plan) → Working shape w.phase w.devices.origin l.low l.top job plan (slice_get n.doings a)
+  pub working : (w : State P A) (n : Notes) (l : LinkedTo w n) (a : ℕ) (x : Actor) (job : Job) (plan : Plan) → slice_get w.actors a ≡ Some x → x.task ≡ Some (job, plan) → Working shape w.phase w.devices.origin l.low l.top job plan (slice_get n.doings a)
   working w n l a x job plan e xt = subst (λ (t : Option (Job × Plan)). Acting shape w.phase w.devices.origin l.low l.top t (slice_get n.doings a)) xt (l.acting a x e)
 
   pub step_links : (w : State P A) (n : Notes) (a : ℕ) (next : Want) (got : Got) (read : List Bytes) (chosen : Chosen P A) (o : Option Actor) → slice_get w.actors a ≡ o → Known P A shape w → LinkedTo w n →

@@ -49,11 +49,11 @@ use Rattle.wb_runs.proofs.Ruling.{rule_after, rule_same, AllBlank, fresh_ruled, 
 use Rattle.wb_runs.proofs.Suiting.{gives_fits}
 
 -- an actor that has a task opens
-abbrev OpensOrRests : Option (Job × Plan) → Type 0
+abbrev pub OpensOrRests : Option (Job × Plan) → Type 0
 OpensOrRests None = Unit {0}
 OpensOrRests (Some doing) = (mode : Mode) × (doing.0 ≡ Open mode)
 
-abbrev AllOpen : List Actor → Type 0
+abbrev pub AllOpen : List Actor → Type 0
 AllOpen actors = (a : ℕ) (x : Actor) → slice_get actors a ≡ Some x → OpensOrRests x.task
 
 -- a request starts on a block of the origin
@@ -64,18 +64,18 @@ starts_inside shape extent m = div_below extent.first shape.geometry.block shape
     inside = omega (arith, m.some, m.inside, mul_comm shape.geometry.block shape.geometry.origin_blocks)
 
 module _ (P A : Type 0) (shape : Shape) where
-  abbrev blocks : ℕ
+  abbrev pub blocks : ℕ
   blocks = shape.geometry.origin_blocks
 
   -- Where a target stands its words keep their rule; else nobody knows anything, and beside an opening nobody has a task.
-  abbrev InPhase : Phase P A → List Actor → Type 0
+  abbrev pub InPhase : Phase P A → List Actor → Type 0
   InPhase (Stands t) actors = LockRule blocks t.words (cards_of actors)
   InPhase Gone actors = AllBlank actors
   InPhase (Opens mode reading) actors = AllBlank actors × AllOpen actors
 
-  record Used (phase : Phase P A) (actors : List Actor) : Type 0 where
-    suited : AllSuited blocks actors
-    here : InPhase phase actors
+  pub record Used (phase : Phase P A) (actors : List Actor) : Type 0 where
+    pub suited : AllSuited blocks actors
+    pub here : InPhase phase actors
 
   -- ---- one actor goes on
 
@@ -334,46 +334,49 @@ module _ (P A : Type 0) (shape : Shape) where
   some_actor None Is h = h
   some_actor (Some x) Is h = tt
 
-  by_what : (w : State P A) (event : Event) (what : What) (read : List Bytes) (chosen : Chosen P A) → Known P A shape w → AfterWhat w → MayBe shape w event what read chosen → AfterWhat (after_what shape w event what chosen)
-  by_what w (Start a job) Skipped read chosen k u h = u
-  by_what w (Start a job) (Refused refusal) read chosen k u h = u
-  by_what w (Start a job) Started read chosen k u h = started_to (slice_get (cleared w job).actors a) (starts w a job chosen u h.1 h.2)
+  pub used_what : (w : State P A) (event : Event) (what : What) (read : List Bytes) (chosen : Chosen P A) → Known P A shape w → AfterWhat w → MayBe shape w event what read chosen → AfterWhat (after_what shape w event what chosen)
+  used_what w (Start a job) Skipped read chosen k u h = u
+  used_what w (Start a job) (Refused refusal) read chosen k u h = u
+  used_what w (Start a job) Started read chosen k u h = started_to (slice_get (cleared w job).actors a) (starts w a job chosen u h.1 h.2)
     where
       started_to : (o : Option Actor) → Started_so w a job chosen o → AfterWhat (with_actor (cleared w job) o (λ x. record (cleared w job) { actors = slice_set (cleared w job).actors a (given shape x job chosen) }))
       started_to None u = u
       started_to (Some x) u = u
-  by_what w (Start a job) (Stepped next got) read chosen k u h = u
-  by_what w (Start a job) Stopped read chosen k u h = u
-  by_what w (Step a) Skipped read chosen k u h = u
-  by_what w (Step a) (Refused refusal) read chosen k u h = u
-  by_what w (Step a) Started read chosen k u h = u
-  by_what w (Step a) (Stepped next got) read chosen k u h = stepped_to w a next got chosen (λ job step. device_done job step chosen) (slice_get w.actors a) (some_actor (slice_get w.actors a) _ h) (stepped_used w a next got read chosen (slice_get w.actors a) refl k u h)
-  by_what w (Step a) Stopped read chosen k u h = u
-  by_what w (FaultStep a choice) Skipped read chosen k u h = u
-  by_what w (FaultStep a choice) (Refused refusal) read chosen k u h = u
-  by_what w (FaultStep a choice) Started read chosen k u h = u
-  by_what w (FaultStep a choice) (Stepped next got) read chosen k u h =
+  used_what w (Start a job) (Stepped next got) read chosen k u h = u
+  used_what w (Start a job) Stopped read chosen k u h = u
+  used_what w (Step a) Skipped read chosen k u h = u
+  used_what w (Step a) (Refused refusal) read chosen k u h = u
+  used_what w (Step a) Started read chosen k u h = u
+  used_what w (Step a) (Stepped next got) read chosen k u h = stepped_to w a next got chosen (λ job step. device_done job step chosen) (slice_get w.actors a) (some_actor (slice_get w.actors a) _ h) (stepped_used w a next got read chosen (slice_get w.actors a) refl k u h)
+  used_what w (Step a) Stopped read chosen k u h = u
+  used_what w (FaultStep a choice) Skipped read chosen k u h = u
+  used_what w (FaultStep a choice) (Refused refusal) read chosen k u h = u
+  used_what w (FaultStep a choice) Started read chosen k u h = u
+  used_what w (FaultStep a choice) (Stepped next got) read chosen k u h =
       subst (λ (g : Got). AfterWhat (after_what shape w (FaultStep a choice) (Stepped next g) chosen)) (sym h.1)
       (stepped_to w a next Fault chosen (λ job step. device_failed (lands (device_of step) choice) job step chosen) (slice_get w.actors a) (some_actor (slice_get w.actors a) _ h.2) (faulted_used w a choice next chosen (slice_get w.actors a) refl u h.2))
-  by_what w (FaultStep a choice) Stopped read chosen k u h = u
-  by_what w (Stop choice) Skipped read chosen k u h = u
-  by_what w (Stop choice) (Refused refusal) read chosen k u h = u
-  by_what w (Stop choice) Started read chosen k u h = u
-  by_what w (Stop choice) (Stepped next got) read chosen k u h = u
-  by_what w (Stop choice) Stopped read chosen k u h = record { suited = rest_used w.actors; here = rest_blank w.actors }
+  used_what w (FaultStep a choice) Stopped read chosen k u h = u
+  used_what w (Stop choice) Skipped read chosen k u h = u
+  used_what w (Stop choice) (Refused refusal) read chosen k u h = u
+  used_what w (Stop choice) Started read chosen k u h = u
+  used_what w (Stop choice) (Stepped next got) read chosen k u h = u
+  used_what w (Stop choice) Stopped read chosen k u h = record { suited = rest_used w.actors; here = rest_blank w.actors }
 
   always : (w : State P A) (hs : List (Happening P A)) → Known P A shape w → AfterWhat w → IsRun shape w hs → AfterWhat (after_all shape w hs)
   always w [] k u r = u
-  always w (h ∷ hs) k u r = always (after_happening shape w h) hs (known_after P A shape w h k r.0) (by_what w h.record_is.event h.record_is.what h.record_is.read.items h.chosen k u r.0) r.1
+  always w (h ∷ hs) k u r = always (after_happening shape w h) hs (known_after P A shape w h k r.0) (used_what w h.record_is.event h.record_is.what h.record_is.read.items h.chosen k u r.0) r.1
 
   ruled_there : (phase : Phase P A) (actors : List Actor) → InPhase phase actors → (t : Target P) → phase ≡ Stands t → LockRule blocks t.words (cards_of actors)
   ruled_there phase actors i t e = subst (λ (p : Phase P A). InPhase p actors) e i
 
+  pub used_start : (metadata : List History) → AfterWhat (start shape metadata)
+  used_start metadata = record {
+    suited = λ a x e. subst (λ (v : Actor). TaskSuits blocks v.card v.task) (sym (replicated shape.actors a resting x e)) refl;
+    here = λ a x e. ap (λ (v : Actor). v.card) (replicated shape.actors a resting x e);
+  }
+
   pub run_used : (metadata : List History) (hs : List (Happening P A)) → IsFormatted shape.geometry metadata → Rattle.std.specs.Prelude.length metadata ≡ shape.geometry.meta_sectors → IsRun shape (start shape metadata) hs → AreUsedRightly shape (after_all shape (start shape metadata) hs)
   run_used metadata hs f size run =
       let w = after_all shape (start shape metadata) hs in
-      let u = always (start shape metadata) hs (known_at_start P A shape metadata f size) (record {
-        suited = λ a x e. subst (λ (v : Actor). TaskSuits blocks v.card v.task) (sym (replicated shape.actors a resting x e)) refl;
-        here = λ a x e. ap (λ (v : Actor). v.card) (replicated shape.actors a resting x e);
-      }) run in
+      let u = always (start shape metadata) hs (known_at_start P A shape metadata f size) (used_start metadata) run in
       record { suited = u.suited; ruled = λ t e. ruled_there w.phase w.actors u.here t e }
