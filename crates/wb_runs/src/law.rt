@@ -3,6 +3,7 @@
 ghost use Rattle.wb_runs.specs.Headline.{MetadataAreRead, AllCrashConsistent, AllOpeningsShowAllowed, OpeningsRefuseByCause};
 ghost use Rattle.wb_runs.specs.Possible.{CanFlush, CanOpen};
 ghost use Rattle.wb_runs.specs.Holding.{WordsAreUsedRightly};
+ghost use Rattle.wb_runs.specs.Latest.{ReadsGiveLatest};
 ghost use Rattle.wb_runs.specs.Progress.{NeverStuck};
 
 /// In every run, over any policy: whatever a crash leaves of the metadata device, it represents a root of this geometry and a
@@ -28,6 +29,12 @@ pub fn every_opening_shows_allowed<P, A>()
 /// has none holds no block; and where a target stands its shared words keep their rule: a lock word counts its sharers and its lone owner.
 pub fn words_are_used_rightly<P, A>()
     ensures { WordsAreUsedRightly P A }
+{}
+
+/// In every run each sector that a step of a read is given is the last entry of the sector's write history at that step, whatever
+/// other actors are at, and however steps fail.
+pub fn reads_give_the_latest_write<P, A>()
+    ensures { ReadsGiveLatest P A }
 {}
 
 /// No run is ever stuck, given some policy to open with and a reading that has read nothing: after every run each event has a
