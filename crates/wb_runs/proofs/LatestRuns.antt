@@ -1,6 +1,5 @@
 -- Every run keeps origin and histories in agreement while a target stands, so every read is given what was written last.
 use Rattle.std.proofs.Common.{◌≡◌, ◌≤◌, ◌+◌, ◌/◌, ◌⊎◌, inl, inr, ℕ, Bool, List, [], ◌∷◌, Option, Some, None, refl, sym, ap, subst, ◌∙◌, arith, cond, true, false, length, map, slice_get, slice_set, replicate}
-use Rattle.std.specs.Prelude.{All}
 use Rattle.wb_types.specs.declared.extent.Extent.{Extent}
 use Rattle.wb_types.specs.declared.mode.Mode.{Mode}
 use Rattle.wb_types.specs.declared.mode.Dev.{Dev}
@@ -9,13 +8,11 @@ use Rattle.wb_disk.specs.Device.{Content as Bytes, History, newest, only}
 use Rattle.wb_disk.specs.Crash.{Choice}
 use Rattle.wb_disk.specs.Failing.{lands}
 use Rattle.wb_words.specs.Cards.{total, is_block}
-use Rattle.wb_words.specs.Rule.{LockRule}
 use Rattle.wb_meta.specs.Formats.{IsFormatted}
 use Rattle.wb_meta.specs.declared.read_steps.ReadSteps.{ReadSteps}
 use Rattle.wb_tasks.specs.Plan.{Plan, want, device_of}
 use Rattle.wb_tasks.specs.declared.step.Answer.{Answer}
 use Rattle.wb_tasks.specs.declared.step.Answer.TheVariants.{Done as Finished, Refused as Refuses}
-use Rattle.wb_tasks.specs.declared.step.DeviceStep.{DeviceStep}
 use Rattle.wb_tasks.specs.declared.step.DeviceStep.TheVariants.{Read as ReadExtent}
 use Rattle.wb_tasks.specs.declared.step.Want.{Want}
 use Rattle.wb_tasks.specs.declared.step.Want.TheVariants.{Cell, Device, Desk, End}
@@ -29,10 +26,10 @@ use Rattle.wb_runs.specs.declared.event.Event.{Event}
 use Rattle.wb_runs.specs.declared.event.Event.TheVariants.{Start, Step, FaultStep, Stop}
 use Rattle.wb_runs.specs.declared.event.What.{What}
 use Rattle.wb_runs.specs.declared.event.What.TheVariants.{Skipped, Refused, Started, Stepped, Stopped}
-use Rattle.wb_runs.specs.States.{Shape, State, Actor, Target, Phase, Stands, Gone, Opens, OfTarget, start}
-use Rattle.wb_runs.specs.Happenings.{Chosen, Plain, Happening, OfSome, Gives, Falters, MayFailAt, DoesNotApply, MayBe}
-use Rattle.wb_runs.specs.Effects.{device_done, device_failed, devices_then, commit_then, phase_then, actor_then, stepped, with_actor, cleared, given, job_of, after_what, after_happening, after_all, IsRun}
-use Rattle.wb_runs.specs.Clerk.{Notes, Doing, noted_step, noted_what, finished_note, starting, put, begun, formatted}
+use Rattle.wb_runs.specs.States.{Shape, State, Actor, Phase, Stands, Gone, Opens, OfTarget, start}
+use Rattle.wb_runs.specs.Happenings.{Chosen, Happening, OfSome, Gives, Falters, MayFailAt, DoesNotApply, MayBe}
+use Rattle.wb_runs.specs.Effects.{device_done, device_failed, devices_then, commit_then, phase_then, actor_then, stepped, with_actor, cleared, given, job_of, after_what, after_happening, IsRun}
+use Rattle.wb_runs.specs.Clerk.{Notes, Doing, noted_step, noted_what, finished_note, formatted}
 use Rattle.wb_runs.specs.Headline.{shown, shown_in, note_happening}
 use Rattle.wb_runs.specs.Latest.{GivesLatest, IsGiven, ReadsRightly, AllReadRightly}
 use Rattle.wb_runs.proofs.Metadata.{MetadataKept}

@@ -1,13 +1,11 @@
 -- In every run the newest content of each sector of the origin is the last entry of its history, unless somebody keeps its block
 -- after a failed write; so what a read is given is.
-use Rattle.std.proofs.Common.{◌≡◌, ◌≤◌, ◌<◌, ◌+◌, ◌/◌, ◌⊎◌, inl, inr, ℕ, Bool, true, List, [], ◌∷◌, Option, Some, None, refl, sym, ap, subst, ◌∙◌, arith, length, map, slice_get, slice_set, replicate}
+use Rattle.std.proofs.Common.{◌≡◌, ◌≤◌, ◌<◌, ◌/◌, inl, inr, ℕ, Bool, true, List, [], ◌∷◌, Option, Some, refl, sym, ap, subst, ◌∙◌, arith, length, slice_get, slice_set}
 use Rattle.std.specs.Prelude.{All}
 use Rattle.wb_types.specs.declared.extent.Extent.{Extent}
-use Rattle.wb_types.specs.declared.number.OBlock.{OBlock}
 use Rattle.wb_types.specs.Extents.{rising}
-use Rattle.wb_types.specs.declared.mode.Mode.{Mode}
 use Rattle.wb_types.specs.declared.mode.Dev.TheVariants.{Metadata, Cache, Origin}
-use Rattle.wb_disk.specs.Device.{Content as Bytes, History, newest, only}
+use Rattle.wb_disk.specs.Device.{Content as Bytes, History}
 use Rattle.wb_disk.specs.Extents.{GivesEach}
 use Rattle.wb_disk.specs.Crash.{Choice}
 use Rattle.wb_disk.specs.Failing.{lands}
@@ -15,15 +13,13 @@ use Rattle.wb_words.specs.declared.card.Hold.TheVariants.{Held}
 use Rattle.wb_words.specs.declared.card.Card.{Card}
 use Rattle.wb_words.specs.declared.word.Access.TheVariants.{Shared, Owned}
 use Rattle.wb_words.specs.declared.step.CellStep.{CellStep}
-use Rattle.wb_meta.specs.Formats.{IsFormatted}
 use Rattle.wb_tasks.specs.Tables.{BlockJob, Reading, Writing}
-use Rattle.wb_tasks.specs.Plan.{Plan, want, after, first_step, after_fault, after_fault_of, device_of}
-use Rattle.wb_tasks.specs.Ready.{Suits, Has, HasBlock, block_of}
+use Rattle.wb_tasks.specs.Plan.{Plan, want, first_step, after_fault, after_fault_of, device_of}
+use Rattle.wb_tasks.specs.Ready.{Suits, Has, HasBlock}
 use Rattle.wb_tasks.specs.declared.step.Answer.{Answer}
 use Rattle.wb_tasks.specs.declared.step.Answer.TheVariants.{Done as Finished, Refused as Refuses}
 use Rattle.wb_tasks.specs.declared.step.DeviceStep.{DeviceStep}
 use Rattle.wb_tasks.specs.declared.step.DeviceStep.TheVariants.{Read as ReadExtent, Write as WriteExtent, Sync, ReadMetadata, WriteNode, WriteRoot}
-use Rattle.wb_tasks.specs.declared.step.DeskStep.TheVariants.{Map, Unmap, ReleaseOrder, BeginCommit, EndCommit}
 use Rattle.wb_tasks.specs.declared.step.Want.{Want}
 use Rattle.wb_tasks.specs.declared.step.Want.TheVariants.{Cell, Device, Desk, End}
 use Rattle.wb_tasks.specs.declared.step.Got.{Got}
@@ -32,15 +28,14 @@ use Rattle.wb_devices.specs.declared.devices.Devices.{Devices}
 use Rattle.wb_devices.specs.declared.running.RunningCommit.{RunningCommit}
 use Rattle.wb_runs.specs.declared.job.Job.{Job}
 use Rattle.wb_runs.specs.declared.job.Job.TheVariants.{Read, Write, Flush, Open}
-use Rattle.wb_runs.specs.States.{Shape, State, Actor, Target, Phase, Stands, Gone, Opens}
+use Rattle.wb_runs.specs.States.{Shape, State, Actor, Target, Stands}
 use Rattle.wb_runs.specs.Happenings.{Chosen, Plain, Gives, Falters, block_range}
 use Rattle.wb_runs.specs.Effects.{device_done, device_failed, devices_then, actor_then, task_then}
 use Rattle.wb_runs.specs.Clerk.{Notes, Doing, noted_step, device_note, finished_note, failing, put, enter_each, entering, sector_for, readings_from}
 use Rattle.wb_runs.specs.Headline.{IsLatest}
 use Rattle.wb_runs.specs.Holding.{cards_of, TaskSuits, AllSuited}
 use Rattle.wb_words.specs.Rule.{LockRule}
-use Rattle.wb_runs.proofs.Plans.{plan_of, reading, writing}
-use Rattle.wb_runs.proofs.Contents.{Working, Linked, ReadKept, WriteKept, FlushKept, set_there}
+use Rattle.wb_runs.proofs.Contents.{Working, Linked, ReadKept, WriteKept, set_there}
 use Rattle.wb_runs.proofs.Serving.{read_next, write_next, flush_next}
 use Rattle.wb_runs.proofs.Latest.{AllLatest, AllOfBoth, both_of_follows, latest_more, extent_latest, synced_latest, partly_latest, readings_latest, LatestAt}
 use Rattle.wb_runs.proofs.Keeping.{keeps, kept_of, kept_more, kept_has, none_kept, keeps_on, cell_keeps, failing_keeps, task_fails, is_failing}
@@ -238,7 +233,7 @@ module _ (P A : Type 0) (shape : Shape) (t : Target P) (devices : Devices (List 
           let before = grown y devices.origin n.histories (still (Write extent content) xt k.doing Fault read chosen (WriteExtent Origin ex) h) fresh in
           let job_is = ap (λ (s : Plan). s.job) k.kept.is in
           let fails : task_fails y.task ≡ true = ap (λ (o : Option (Job × Plan)). task_fails (task_then o next Fault)) xt
-              ∙ subst (λ (v : Want). is_failing (after_fault plan v).steps ≡ true) h (subst (λ (j : _). is_failing (after_fault_of j (WriteExtent Origin ex)) ≡ true) (sym job_is) refl) in
+          ∙ subst (λ (v : Want). is_failing (after_fault plan v).steps ≡ true) h (subst (λ (j : _). is_failing (after_fault_of j (WriteExtent Origin ex)) ≡ true) (sym job_is) refl) in
           let keeps_it = failing_keeps y (record { 0 = extent.first / shape.geometry.block }) fails (writer_owns extent content (WriteExtent Origin ex) k.doing l.top k.kept xt h) in
           let counted = kept_has (extent.first / shape.geometry.block) (slice_set actors a y) a y (set_there actors a x y e) in
           subst (λ (q : Job). AllLatest (devices_then (λ step. device_failed (lands (device_of step) choice) (Write extent content) step chosen) devices next).origin (device_note shape m a (failing k.doing (WriteExtent Origin ex) Fault) q (WriteExtent Origin ex) Fault read).histories (kept_of shape (slice_set actors a y))) (sym k.job_is)

@@ -1,5 +1,5 @@
 -- The rule of the shared words, over the cards of actors of whom one changes.
-use Rattle.std.proofs.Common.{◌≡◌, ◌∙◌, inl, inr, ℕ, zero, suc, List, [], ◌∷◌, Option, Some, refl, sym, ap, subst, length, slice_get, slice_set, map, replicate}
+use Rattle.std.proofs.Common.{◌≡◌, ◌∙◌, inl, inr, ℕ, zero, suc, List, [], ◌∷◌, Some, refl, sym, ap, subst, length, slice_get, slice_set, map, replicate}
 use Rattle.std.proofs.lemmas.Bool.{cases_eq}
 use mathlib.Core.Option.{some}
 use lib.ListN.{get_elem?}
@@ -12,7 +12,7 @@ use Rattle.wb_words.specs.Effects.{words_after, card_after}
 use Rattle.wb_words.specs.Ready.{IsReady}
 use Rattle.wb_words.proofs.RuleKept.{step_keeps, fresh_rule}
 use Rattle.wb_runs.specs.States.{Actor, resting}
-use Rattle.wb_runs.specs.Holding.{cards_of, TaskSuits, AllSuited}
+use Rattle.wb_runs.specs.Holding.{cards_of}
 use Rattle.wb_runs.proofs.Sectors.{set_other}
 use Rattle.wb_runs.proofs.Contents.{set_there}
 

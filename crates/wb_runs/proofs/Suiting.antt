@@ -1,14 +1,10 @@
 -- Each result of a step fits it, so its actor has what is needed for what is left; and the rule of the words is kept.
-use Rattle.std.proofs.Common.{◌≡◌, ◌≢◌, ◌∙◌, ◌⊎◌, inl, inr, ℕ, Bool, true, false, eqb, List, [], ◌∷◌, Option, Some, None, refl, sym, ap, subst, slice_get, slice_set, if◌then◌else◌}
+use Rattle.std.proofs.Common.{◌≡◌, ◌≢◌, inl, inr, ℕ, Bool, true, false, eqb, List, Option, Some, None, refl, sym, subst, if◌then◌else◌}
 use Rattle.wb_types.specs.declared.mode.Dev.{Dev}
 use Rattle.wb_types.specs.declared.mode.Dev.TheVariants.{Metadata, Cache, Origin}
-use Rattle.wb_types.specs.declared.mode.Mode.{Mode}
-use Rattle.wb_types.specs.declared.extent.Extent.{Extent}
 use Rattle.wb_types.specs.declared.refusal.Refusal.{Refusal}
 use Rattle.wb_types.specs.declared.refusal.Refusal.TheVariants.{Busy, Memory, GenerationEnd, Mismatch, NotFormatted, Damaged, Io}
 use Rattle.wb_disk.specs.Device.{Content as Bytes, History}
-use Rattle.wb_words.specs.declared.card.Card.{Card}
-use Rattle.wb_words.specs.declared.card.Hold.TheVariants.{Nothing}
 use Rattle.wb_words.specs.declared.step.CellStep.{CellStep}
 use Rattle.wb_words.specs.declared.step.CellStep.TheVariants.{Look, Take, Release, Seal, Finish, Count, SetFailed, SetSuspended}
 use Rattle.wb_words.specs.declared.step.CellResult.TheVariants.{Done as Won, Lost as CellLost}
@@ -18,21 +14,20 @@ use Rattle.wb_meta.specs.States.{IsOfReading}
 use Rattle.wb_meta.specs.declared.read_steps.ReadSteps.{ReadSteps}
 use Rattle.wb_desk.specs.Desks.{DeskState}
 use Rattle.wb_desk.specs.Commits.{IsBeginRefused}
-use Rattle.wb_tasks.specs.Plan.{Plan, want, after, Fits, IsStep, MayBeDone, got_of}
-use Rattle.wb_tasks.specs.declared.step.Answer.{Answer}
+use Rattle.wb_tasks.specs.Plan.{Fits, IsStep, MayBeDone, got_of}
 use Rattle.wb_tasks.specs.declared.step.DeviceStep.TheVariants.{Read as ReadExtent, Write as WriteExtent, Sync, ReadMetadata, WriteNode, WriteRoot}
 use Rattle.wb_tasks.specs.declared.step.DeskStep.TheVariants.{Map, Unmap, ReleaseOrder, BeginCommit, EndCommit}
 use Rattle.wb_tasks.specs.declared.step.Want.{Want}
 use Rattle.wb_tasks.specs.declared.step.Want.TheVariants.{Cell, Device, Desk, End}
 use Rattle.wb_tasks.specs.declared.step.Got.{Got}
-use Rattle.wb_tasks.specs.declared.step.Got.TheVariants.{Done, Fault, Word, Lost, Begin as Began_not, Refused as GotRefused, Began, More}
+use Rattle.wb_tasks.specs.declared.step.Got.TheVariants.{Done, Fault, Refused as GotRefused, Began, More}
 use Rattle.wb_devices.specs.declared.running.RunningCommit.{RunningCommit}
-use Rattle.wb_devices.specs.Opened.{HasCome, IsUnfit, got_of_refusal}
+use Rattle.wb_devices.specs.Opened.{HasCome, got_of_refusal}
 use Rattle.wb_runs.specs.declared.job.Job.{Job}
 use Rattle.wb_runs.specs.declared.job.Job.TheVariants.{Read, Write, Flush, Open}
-use Rattle.wb_runs.specs.States.{Shape, State, Target, Phase, Stands, Gone, Opens, OfTarget, OfReading}
+use Rattle.wb_runs.specs.States.{Shape, State, Phase, Stands, Gone, Opens, OfTarget, OfReading}
 use Rattle.wb_runs.specs.Happenings.{Chosen, Plain, Cut, Begins, Reaches, Puts, Commits, Opened, DoesRead, DoesBegin, Gives}
-use Rattle.wb_runs.proofs.Stepping.{metadata_fact, begin_fact, end_fact, no_map, no_unmap, no_release, sync_fact, node_fact, root_fact}
+use Rattle.wb_runs.proofs.Stepping.{metadata_fact, begin_fact, no_map, no_unmap, no_release, sync_fact, node_fact, root_fact}
 
 -- ---- results
 

@@ -1,5 +1,5 @@
 -- In every run each actor has what its task needs, and the words of the target that stands keep their rule.
-use Rattle.std.proofs.Common.{◌≡◌, ◌≢◌, ◌∙◌, ◌<◌, ◌*◌, ◌/◌, ◌⊎◌, inl, inr, ℕ, Bool, List, [], ◌∷◌, Option, Some, None, refl, sym, ap, subst, slice_get, slice_set, map, replicate, arith, mul_comm}
+use Rattle.std.proofs.Common.{◌≡◌, ◌∙◌, ◌<◌, ◌*◌, ◌/◌, inr, ℕ, List, [], ◌∷◌, Option, Some, None, refl, sym, ap, subst, slice_get, slice_set, replicate, arith, mul_comm}
 use Rattle.wb_types.specs.declared.mode.Mode.{Mode}
 use Rattle.wb_types.specs.declared.extent.Extent.{Extent}
 use Rattle.wb_types.specs.declared.entry.Entry.{Entry}
@@ -13,14 +13,14 @@ use Rattle.wb_words.specs.declared.step.CellStep.{CellStep}
 use Rattle.wb_words.specs.SharedWords.{Words, fresh_words}
 use Rattle.wb_words.specs.Cards.{blank_card}
 use Rattle.wb_words.specs.Rule.{LockRule}
-use Rattle.wb_words.specs.Effects.{result_of, words_after, card_after}
+use Rattle.wb_words.specs.Effects.{result_of, card_after}
 use Rattle.wb_meta.specs.Formats.{IsFormatted}
 use Rattle.wb_meta.specs.declared.read_steps.ReadSteps.{ReadSteps}
 use Rattle.wb_meta.specs.declared.read_steps.ReadSteps.TheVariants.{Begun, FirstSlotRead, RootFound, Done as AllRead}
 use Rattle.wb_meta.specs.declared.read_steps.State.{State as Stored}
 use Rattle.wb_tasks.specs.Plan.{Plan, want, after, Fits, got_of, device_of}
-use Rattle.wb_tasks.specs.Ready.{block_of, MayTake, MayMake, Suits}
-use Rattle.wb_tasks.proofs.Readiness.{keeps_ready, is_ready, begins_ready, flush_begins, opening_begins, ends_holding_nothing}
+use Rattle.wb_tasks.specs.Ready.{MayTake, MayMake, Suits}
+use Rattle.wb_tasks.proofs.Readiness.{keeps_ready, is_ready, flush_begins, opening_begins, ends_holding_nothing}
 use Rattle.wb_tasks.specs.declared.step.Answer.{Answer}
 use Rattle.wb_tasks.specs.declared.step.Answer.TheVariants.{Done as Finished, Refused as Refuses}
 use Rattle.wb_tasks.specs.declared.step.DeviceStep.{DeviceStep}
@@ -29,21 +29,20 @@ use Rattle.wb_tasks.specs.declared.step.Want.{Want}
 use Rattle.wb_tasks.specs.declared.step.Want.TheVariants.{Cell, Device, Desk, End}
 use Rattle.wb_tasks.specs.declared.step.Got.{Got}
 use Rattle.wb_tasks.specs.declared.step.Got.TheVariants.{Fault}
-use Rattle.wb_devices.specs.declared.running.RunningCommit.{RunningCommit}
 use Rattle.wb_runs.specs.declared.job.Job.{Job}
 use Rattle.wb_runs.specs.declared.job.Job.TheVariants.{Read, Write, Flush, Open}
 use Rattle.wb_runs.specs.declared.event.Event.{Event}
 use Rattle.wb_runs.specs.declared.event.Event.TheVariants.{Start, Step, FaultStep, Stop}
 use Rattle.wb_runs.specs.declared.event.What.{What}
 use Rattle.wb_runs.specs.declared.event.What.TheVariants.{Skipped, Refused, Started, Stepped, Stopped}
-use Rattle.wb_runs.specs.States.{Shape, State, Actor, Target, Phase, Stands, Gone, Opens, OfTarget, OfReading, resting, start}
-use Rattle.wb_runs.specs.Happenings.{Chosen, Plain, Cut, Opened, Happening, OfSome, DoesNotApply, DoesOpen, MayFailAt, Falters, StartGives, Gives, MayBe, task_job, extent_refusal}
+use Rattle.wb_runs.specs.States.{Shape, State, Actor, Target, Phase, Stands, Gone, Opens, OfTarget, resting, start}
+use Rattle.wb_runs.specs.Happenings.{Chosen, Plain, Cut, Opened, Happening, OfSome, DoesNotApply, DoesOpen, MayFailAt, Falters, StartGives, Gives, MayBe}
 use Rattle.wb_runs.specs.Effects.{task_then, card_then, actor_then, card_over, card_by, words_by, seals_of, sealing_steps, words_then, desk_then, phase_then, phase_opened, target_over, stepped, with_actor, cleared, given, job_of, device_done, device_failed, all_resting, after_what, after_happening, after_all, IsRun}
 use Rattle.wb_runs.specs.Holding.{cards_of, TaskSuits, AllSuited, AreUsedRightly}
 use Rattle.wb_runs.proofs.Extents.{MayStart, may_start, some_sectors}
 use Rattle.wb_runs.proofs.Opened.{no_seals, replicated}
 use Rattle.wb_runs.proofs.MetadataRuns.{Known, known_after, known_at_start}
-use Rattle.wb_runs.proofs.Stepping.{done_kept, end_fact}
+use Rattle.wb_runs.proofs.Stepping.{done_kept}
 use Rattle.wb_runs.proofs.Runs.{free}
 use Rattle.wb_runs.proofs.Ruling.{rule_after, rule_same, AllBlank, fresh_ruled, each_set, all_rest}
 use Rattle.wb_runs.proofs.Suiting.{gives_fits}
