@@ -37,3 +37,4 @@ mod Latest
 mod Keeping
 mod Reading
 mod LatestRuns
+mod Covering
