@@ -1,10 +1,9 @@
 -- What a request has moved and what it has still to move are its sectors, each once.
-use Rattle.std.proofs.Common.{◌≡◌, ◌∙◌, ℕ, Bool, true, false, eqb, List, [], ◌∷◌, ◌++◌, Option, Some, None, refl, sym, ap, subst, map, if◌then◌else◌}
+use Rattle.std.proofs.Common.{◌≡◌, ℕ, Bool, true, false, eqb, List, [], ◌∷◌, ◌++◌, None, refl, sym, ap, subst, map, if◌then◌else◌}
 use Rattle.std.specs.Prelude.{IsPermutation}
 use Rattle.std.proofs.lemmas.List.{append_assoc}
 use Rattle.wb_types.specs.declared.extent.Extent.{Extent}
 use Rattle.wb_types.specs.Extents.{sectors_in, sectors_of, IsCutInto}
-use Rattle.wb_types.specs.declared.number.OBlock.{OBlock}
 use Rattle.wb_types.specs.declared.refusal.Refusal.TheVariants.{Failed, Busy, Worn}
 use Rattle.wb_words.specs.declared.word.Word.TheVariants.{Cell as LockWord, Seal as SealWord, Number, Count as CountWord, Fail}
 use Rattle.wb_words.specs.declared.step.CellStep.{CellStep}
@@ -13,17 +12,14 @@ use Rattle.wb_words.specs.declared.step.CellResult.TheVariants.{Done as Won, Los
 use Rattle.wb_words.specs.declared.card.Card.{Card}
 use Rattle.wb_words.specs.SharedWords.{Words, word_at}
 use Rattle.wb_words.specs.Effects.{result_of}
-use Rattle.wb_tasks.specs.Tables.{BlockJob, BlockRange, Reading, Writing, OnBlock, range_of, read_step, write_step}
-use Rattle.wb_tasks.specs.Plan.{Plan, after, may_take, is_worn, exchange, gives_back, work_of, got_of, first_step}
+use Rattle.wb_tasks.specs.Tables.{BlockJob, BlockRange, Reading, Writing, OnBlock, read_step, write_step}
+use Rattle.wb_tasks.specs.Plan.{Plan, after, may_take, is_worn, exchange, gives_back, work_of, got_of}
 use Rattle.wb_tasks.specs.Ready.{Has, IsRest, IsParting}
 use Rattle.wb_tasks.specs.declared.step.Answer.{Answer}
 use Rattle.wb_tasks.specs.declared.step.Answer.TheVariants.{Done as Finished, Refused as Refuses}
-use Rattle.wb_tasks.specs.declared.step.DeviceStep.{DeviceStep}
-use Rattle.wb_tasks.specs.declared.step.DeviceStep.TheVariants.{Read as ReadExtent, Write as WriteExtent, Sync, ReadMetadata, WriteNode, WriteRoot}
+use Rattle.wb_tasks.specs.declared.step.DeviceStep.TheVariants.{Read as ReadExtent, Write as WriteExtent}
 use Rattle.wb_tasks.specs.declared.step.Want.{Want}
 use Rattle.wb_tasks.specs.declared.step.Want.TheVariants.{Cell, Device, Desk, End}
-use Rattle.wb_tasks.specs.declared.step.Got.{Got}
-use Rattle.wb_tasks.specs.declared.step.Got.TheVariants.{Done, Fault, Word}
 use Rattle.wb_runs.proofs.Plans.{plan_of, NoSeal}
 
 -- the extents that are still to be moved

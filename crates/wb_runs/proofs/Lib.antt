@@ -38,3 +38,4 @@ mod Keeping
 mod Reading
 mod LatestRuns
 mod Covering
+mod SoFar
