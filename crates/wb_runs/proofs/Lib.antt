@@ -39,3 +39,4 @@ mod Reading
 mod LatestRuns
 mod Covering
 mod SoFar
+mod SoFarSteps
