@@ -1,29 +1,24 @@
 -- Each step of a request where a target stands keeps what is claimed of what it has moved.
-use Rattle.std.proofs.Common.{◌≡◌, ◌≢◌, ◌∙◌, ℕ, Bool, List, [], ◌∷◌, ◌++◌, Option, Some, None, inl, inr, refl, sym, ap, subst, length, map, slice_get, slice_set}
+use Rattle.std.proofs.Common.{◌≡◌, ◌≢◌, ◌∙◌, ℕ, List, ◌++◌, Option, Some, None, inl, inr, sym, ap, subst, length, map, slice_get, slice_set}
 use Rattle.std.specs.Prelude.{All}
 use Rattle.std.proofs.lemmas.Bool.{cases_eq}
 use Rattle.std.proofs.lemmas.List.{map-append}
 use Rattle.std.proofs.lemmas.List.Elements.{All-append}
 use Rattle.wb_types.specs.declared.extent.Extent.{Extent}
 use Rattle.wb_types.specs.Extents.{rising, sectors_in}
-use Rattle.wb_types.specs.declared.mode.Dev.TheVariants.{Metadata, Cache, Origin}
 use Rattle.wb_disk.specs.Device.{Content as Bytes, History}
-use Rattle.wb_words.specs.Rule.{LockRule}
 use Rattle.wb_words.specs.declared.step.CellStep.{CellStep}
 use Rattle.wb_words.specs.Effects.{result_of}
-use Rattle.wb_tasks.specs.Tables.{BlockJob, BlockRange, Reading as ReadingPart, Writing as WritingPart, OnBlock}
+use Rattle.wb_tasks.specs.Tables.{BlockJob, Reading as ReadingPart, Writing as WritingPart, OnBlock}
 use Rattle.wb_tasks.specs.Plan.{Plan, want, after, got_of}
 use Rattle.wb_tasks.specs.Ready.{Has, Suits, SuitsJob}
 use Rattle.wb_tasks.proofs.Readiness.{job_stays}
-use Rattle.wb_tasks.specs.declared.step.Answer.{Answer}
 use Rattle.wb_tasks.specs.declared.step.DeviceStep.{DeviceStep}
 use Rattle.wb_tasks.specs.declared.step.DeviceStep.TheVariants.{Read as ReadExtent, Write as WriteExtent}
-use Rattle.wb_tasks.specs.declared.step.Want.{Want}
-use Rattle.wb_tasks.specs.declared.step.Want.TheVariants.{Cell, Device, Desk, End}
-use Rattle.wb_tasks.specs.declared.step.Got.{Got}
+use Rattle.wb_tasks.specs.declared.step.Want.TheVariants.{Cell, Device}
 use Rattle.wb_tasks.specs.declared.step.Got.TheVariants.{Done, Fault}
 use Rattle.wb_runs.specs.declared.job.Job.{Job}
-use Rattle.wb_runs.specs.declared.job.Job.TheVariants.{Read, Write, Flush, Open}
+use Rattle.wb_runs.specs.declared.job.Job.TheVariants.{Read, Write}
 use Rattle.wb_runs.specs.States.{Shape, Actor}
 use Rattle.wb_runs.specs.Happenings.{block_range}
 use Rattle.wb_runs.specs.Clerk.{Doing, Reading, Position, Entering, enter_each, readings_from}
@@ -32,7 +27,7 @@ use Rattle.wb_runs.proofs.Sectors.{set_other}
 use Rattle.wb_runs.proofs.Contents.{set_there}
 use Rattle.wb_runs.proofs.Plans.{NoSeal}
 use Rattle.wb_runs.proofs.Covering.{read_covers, write_covers, read_moves, write_moves}
-use Rattle.wb_runs.proofs.SoFar.{Moving, words_on, extent_on, fault_on, answered_on, readings_sectors, entered_sectors}
+use Rattle.wb_runs.proofs.SoFar.{Moving, words_on, extent_on, fault_on, readings_sectors, entered_sectors}
 
 abbrev pub sectors_read : Doing → List ℕ
 sectors_read doing = map (λ (r : Reading). r.sector) doing.readings
