@@ -101,6 +101,12 @@ not_failing plan next e n = go plan.steps refl
     go (Cell SetSuspended ∷ ws) s = refl
     go (Cell SetFailed ∷ ws) s = absurd (n (e ∙ rw s refl))
 
+-- who sets a bit of the fail word keeps what was kept
+kept_all : (hold : Hold) (card : Card) (b : ℕ) → total (is_block b) card.kept ≤ total (is_block b) (failing_at hold card).kept
+kept_all Nothing card b = omega arith
+kept_all (Held Shared blk) card b = omega arith
+kept_all (Held Owned blk) card b = omega arith
+
 -- what was kept before stays kept
 kept_stays : (words : Words) (step : CellStep) (card : Card) (b : ℕ) → total (is_block b) card.kept ≤ total (is_block b) (card_after words step card).kept
 kept_stays words (Look word) card b = omega arith
@@ -114,17 +120,7 @@ kept_stays words (Seal blk place dirty) card b = omega arith
 kept_stays words (Finish blk) card b = omega arith
 kept_stays words (Count kind) card b = omega arith
 kept_stays words SetFailed card b = let l = kept_all card.hold card b in omega (arith, l)
-  where
-    kept_all : (hold : Hold) (card : Card) (b : ℕ) → total (is_block b) card.kept ≤ total (is_block b) (failing_at hold card).kept
-    kept_all Nothing card b = omega arith
-    kept_all (Held Shared blk) card b = omega arith
-    kept_all (Held Owned blk) card b = omega arith
 kept_stays words SetSuspended card b = let l = kept_all card.hold card b in omega (arith, l)
-  where
-    kept_all : (hold : Hold) (card : Card) (b : ℕ) → total (is_block b) card.kept ≤ total (is_block b) (failing_at hold card).kept
-    kept_all Nothing card b = omega arith
-    kept_all (Held Shared blk) card b = omega arith
-    kept_all (Held Owned blk) card b = omega arith
 
 -- who sets the failed bit keeps what is owned
 failed_keeps : (words : Words) (card : Card) (b : ℕ) → owned_by b card.hold + total (is_block b) card.kept ≤ total (is_block b) (card_after words SetFailed card).kept

@@ -1,7 +1,7 @@
 -- What each request has read or entered so far, and what it has still to move.
 use Rattle.std.proofs.Common.{◌≡◌, ◌∙◌, ◌==◌, ◌+◌, ℕ, suc, Bool, true, false, List, [], ◌∷◌, ◌++◌, refl, sym, ap, subst, arith, length, map, if◌then◌else◌}
 use Rattle.std.specs.Prelude.{IsPermutation}
-use Rattle.std.proofs.lemmas.List.{append_assoc, map-append}
+use Rattle.std.proofs.lemmas.List.{append_assoc, append-nil, map-append}
 use Rattle.wb_types.specs.declared.extent.Extent.{Extent}
 use Rattle.wb_types.specs.Extents.{rising, sectors_in, IsCutInto}
 use Rattle.wb_types.specs.declared.refusal.Refusal.TheVariants.{Failed, Busy, Worn}
@@ -106,10 +106,6 @@ readings_sectors histories at (c ∷ cs) = let next : suc at ≡ at + 1 = omega 
 
 pub entered_sectors : (content : Bytes) (sectors : List ℕ) (e : Entering) → map (λ (p : Position). p.sector) (enter_each content sectors e).entered ≡ map (λ (p : Position). p.sector) e.entered ++ sectors
 entered_sectors content [] e = sym (append-nil _)
-  where
-    append-nil : (xs : List ℕ) → xs ++ [] ≡ xs
-    append-nil [] = refl
-    append-nil (x ∷ xs) = ap (λ ys. x ∷ ys) (append-nil xs)
 entered_sectors content (s ∷ ss) e =
     entered_sectors content ss (enter content s e)
     ∙ ap (λ xs. xs ++ ss) (map-append (λ (p : Position). p.sector) e.entered _)
@@ -187,10 +183,6 @@ module _ (shape : Shape) (whole : Extent) (part_of : BlockRange → BlockJob) (m
       ((cut : List Extent) → plan.job ≡ OnBlock (part_of (block_range shape whole cut)) → Has (part_of (block_range shape whole cut)) card plan.steps) → IsPermutation (sectors_in whole) moved
   answered_on plan moved card c w has = by_steps plan.steps plan.answer w (has c.cut c.is_job) c.covers
     where
-      append-nil : (xs : List ℕ) → xs ++ [] ≡ xs
-      append-nil [] = refl
-      append-nil (x ∷ xs) = ap (λ ys. x ∷ ys) (append-nil xs)
-
       by_steps : (steps : List Want) (answer : Answer) → End Finished ≡ first_step steps answer → Has (part_of (block_range shape whole c.cut)) card steps → (answer ≡ Finished → Covers whole steps moved) → IsPermutation (sectors_in whole) moved
       by_steps [] answer w h v = let done : answer ≡ Finished = cc in subst (λ (xs : List ℕ). IsPermutation (sectors_in whole) xs) (append-nil moved) (v done)
       by_steps (End other ∷ ws) answer w h v = absurd h.1.1

@@ -54,7 +54,7 @@ pub fn a_target_can_be_opened<P, A>()
     ensures { CanOpen P A }
 {}
 
-/// And one in which a flush over that target is answered done, its image written.
+/// And one in which a flush over that target comes to its answer, which is done, its root written.
 pub fn a_flush_can_be_done<P, A>()
     ensures { CanFlush P A }
 {}
