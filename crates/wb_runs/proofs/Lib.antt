@@ -40,3 +40,5 @@ mod LatestRuns
 mod Covering
 mod SoFar
 mod SoFarSteps
+mod SoFarNoted
+mod SoFarRuns

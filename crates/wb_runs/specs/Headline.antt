@@ -198,3 +198,12 @@ AllOpeningsShowAllowed P A = InEveryRun P A (λ shape metadata hs. AllOpenRightl
 -- no opening is refused for what the metadata hold
 abbrev pub OpeningsRefuseByCause : (P A : Type 0) → Type 0
 OpeningsRefuseByCause P A = InEveryRun P A (λ shape metadata hs. AllRefuseByCause shape (start shape metadata) (formatted shape) hs)
+
+-- The whole promise of a run: each of its answers is right, and whatever a crash leaves after it is consistent.
+pub record Headline {P A : Type 0} (shape : Shape) (metadata : List History) (hs : List (Happening P A)) : Type 0 where
+  pub answers : AllRight shape (start shape metadata) (formatted shape) hs
+  pub crashes : CrashConsistent shape (noted shape (start shape metadata) (formatted shape) hs) (after_all shape (start shape metadata) hs).devices
+
+-- so it is of every run
+abbrev pub AllRunsAreRight : (P A : Type 0) → Type 0
+AllRunsAreRight P A = InEveryRun P A Headline

@@ -1,10 +1,19 @@
 //! The theorems over all runs.
 
-ghost use Rattle.wb_runs.specs.Headline.{MetadataAreRead, AllCrashConsistent, AllOpeningsShowAllowed, OpeningsRefuseByCause};
+ghost use Rattle.wb_runs.specs.Headline.{MetadataAreRead, AllCrashConsistent, AllOpeningsShowAllowed, AllRunsAreRight, OpeningsRefuseByCause};
 ghost use Rattle.wb_runs.specs.Possible.{CanFlush, CanOpen};
 ghost use Rattle.wb_runs.specs.Holding.{WordsAreUsedRightly};
 ghost use Rattle.wb_runs.specs.Latest.{ReadsGiveLatest};
 ghost use Rattle.wb_runs.specs.Progress.{NeverStuck};
+
+/// In every interleaving of reads, writes, flushes and openings, with failing steps and crashes anywhere and over any number of lives:
+/// a read that is answered done was given each of its sectors exactly once, and each is the last entry of the sector's write history at
+/// the step that read it; a write that is answered done has entered each of its sectors exactly once; what an opening shows that is
+/// answered done, and what one would show after any crash, is of each sector an entry of its history at its durable floor or later; and an
+/// opening is refused only by a device of which a step of it failed, for want of memory, or since no generation is left.
+pub fn headline<P, A>()
+    ensures { AllRunsAreRight P A }
+{}
 
 /// In every run, over any policy: whatever a crash leaves of the metadata device, it represents a root of this geometry and a
 /// tree, so an opening finds one. Nothing is cached yet.
