@@ -1,10 +1,11 @@
--- A reading of formatted metadata can be completed: nothing is cached, and the root names no tree.
-use Rattle.std.proofs.Common.{Global, ◌≡◌, ◌∙◌, ℕ, List, [], Option, Some, None, Ok, refl, sym, ap, subst, arith, length, map, inl}
+-- A reading of metadata whose root names no tree, as that of formatted ones does, can be completed: nothing is cached.
+use Rattle.std.proofs.Common.{Global, ◌≡◌, ◌∙◌, ◌<◌, ◌+◌, ◌^◌, ℕ, List, [], Option, Some, None, Ok, refl, sym, ap, subst, arith, length, map, inl, replicate}
 use Rattle.std.specs.List.{IsDistinct}
 use Rattle.std.proofs.lemmas.List.{length-replicate}
 use Rattle.wb_types.specs.declared.geometry.Geometry.{Geometry}
 use Rattle.wb_types.specs.declared.number.Place.{Place}
 use Rattle.wb_disk.specs.Device.{Content as Bytes, History, newest, synced}
+use Rattle.wb_disk.specs.Crashes.{AfterEveryCrash}
 use Rattle.wb_disk.proofs.Leaving.{read-left, left-synced}
 use Rattle.wb_format.specs.declared.root.Root.{Root}
 use Rattle.wb_tree.specs.Mapping.{IsSound, empty_mapping}
@@ -25,14 +26,39 @@ use Rattle.wb_runs.specs.Happenings.{Reaches, DoesRead}
 use Rattle.wb_runs.proofs.Bare.{nothing_changed}
 use Rattle.wb_runs.proofs.Beginning.{no_entry, no_node}
 use Rattle.wb_runs.proofs.Readings.{same_newest}
+use Rattle.wb_runs.proofs.Underway.{Readable}
 use denote.RawPtr.{null_ptr}
 
--- formatted metadata are so once they were synced
-pub synced_formatted : (g : Geometry) (device : List History) → IsFormatted g device → IsFormatted g (synced device)
-synced_formatted g device f = record {
-  root = f.root;
-  first = f.first;
-  represents = λ sectors left. subst (λ (s : List Bytes). Represents s f.root (nothing_found f.root)) (sym (left-synced device sectors left)) (f.represents (map newest device) (read-left device));
+-- whatever a crash leaves of them, metadata represent this root of no tree, behind which there are two generations more
+pub record HasNoTree (g : Geometry) (device : List History) : Type 0 where
+  pub root : Root
+  pub geometry_is : root.geometry ≡ g
+  pub top : root.top ≡ None
+  pub more : root.generation + 2 < 2 ^ 64
+  pub represents : AfterEveryCrash (λ sectors. Represents sectors root (nothing_found root)) device
+
+-- formatted metadata do
+pub formatted_none : (g : Geometry) (device : List History) → IsFormatted g device → HasNoTree g device
+formatted_none g device f = record { root = f.root; geometry_is = f.first.geometry_is; top = f.first.top; more = omega (arith, f.first.generation); represents = f.represents }
+
+-- and so do they once they were synced
+pub synced_none : (g : Geometry) (device : List History) → HasNoTree g device → HasNoTree g (synced device)
+synced_none g device b = record {
+  root = b.root;
+  geometry_is = b.geometry_is;
+  top = b.top;
+  more = b.more;
+  represents = λ sectors left. subst (λ (s : List Bytes). Represents s b.root (nothing_found b.root)) (sym (left-synced device sectors left)) (b.represents (map newest device) (read-left device));
+}
+
+-- what is known of them where no target stands
+pub none_readable : (g : Geometry) (device : List History) → HasNoTree g device → length device ≡ g.meta_sectors → Readable g device
+none_readable g device b size = record {
+  committed = record { root = b.root; found = nothing_found b.root };
+  later = None;
+  read = record { size = size; same_geometry = b.geometry_is; later_geometry = tt; represents = b.represents };
+  bare = ap (λ (g : Geometry). replicate g.cache_blocks None) b.geometry_is;
+  bare_later = tt;
 }
 
 -- a tree with no entry that knows no node
@@ -44,18 +70,18 @@ empty_sound n = record {
   apart = λ level index level' index' place h. absurd (cc);
 }
 
-module _ (A : Type 0) (heap : Global) (g : Geometry) (device : List History) (formatted : IsFormatted g device) (size : length device ≡ g.meta_sectors) where
+module _ (A : Type 0) (heap : Global) (g : Geometry) (device : List History) (bare : HasNoTree g device) (size : length device ≡ g.meta_sectors) where
   abbrev root : Root
-  root = formatted.root
+  root = bare.root
 
   abbrev pub stored : Stored A
   stored = record { root = root; tree = empty_mapping root.geometry.cache_blocks; used = record { ptr = null_ptr; len = 0; cap = 0; alloc = heap; items = []; ok = (refl, omega arith); small = omega arith } }
 
   root_size : root.geometry.meta_sectors ≡ length device
-  root_size = ap (λ (x : Geometry). x.meta_sectors) formatted.first.geometry_is ∙ sym size
+  root_size = ap (λ (x : Geometry). x.meta_sectors) bare.geometry_is ∙ sym size
 
   nothing_read : (nodes : Nodes) → tree_read root nodes ≡ Ok (nothing_found root)
-  nothing_read nodes = ap (λ (top : Option Place). top_read root nodes top) formatted.first.top
+  nothing_read nodes = ap (λ (top : Option Place). top_read root nodes top) bare.top
 
   loaded : IsLoaded root (nothing_found root) (empty_mapping root.geometry.cache_blocks)
   loaded = record {
@@ -68,7 +94,7 @@ module _ (A : Type 0) (heap : Global) (g : Geometry) (device : List History) (fo
   }
 
   newest_root : IsNewestRoot (map newest device) root
-  newest_root = (formatted.represents (map newest device) (read-left device)).newest
+  newest_root = (bare.represents (map newest device) (read-left device)).newest
 
   state_read : (sectors : List Bytes) → IsNewestRoot sectors root → length sectors ≡ length device → RepresentsState sectors root (empty_mapping root.geometry.cache_blocks) []
   state_read sectors n same = record {
@@ -119,8 +145,8 @@ module _ (A : Type 0) (heap : Global) (g : Geometry) (device : List History) (fo
       AllRead stored,
       completes alloc global first slot,
       fits,
-      (refl, (λ r e. let same : root ≡ r = cc in subst (λ (x : Root). x.geometry ≡ g) same formatted.first.geometry_is), record { is_done = tt; root = root; newest = refl; next = next_commit; commit_is = refl; opens = record { root_is = refl; no_nodes = refl }; steps = refl }),
+      (refl, (λ r e. let same : root ≡ r = cc in subst (λ (x : Root). x.geometry ≡ g) same bare.geometry_is), record { is_done = tt; root = root; newest = refl; next = next_commit; commit_is = refl; opens = record { root_is = refl; no_nodes = refl }; steps = refl }),
       refl,
-      omega (arith, formatted.first.generation),
+      omega (arith, bare.more),
     ),
   )

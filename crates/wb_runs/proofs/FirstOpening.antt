@@ -1,4 +1,4 @@
--- A run in which an opening is answered done, from any formatted metadata.
+-- A run in which an opening is answered done, where no target stands and the metadata have no tree.
 use Rattle.std.proofs.Common.{Global, ◌≡◌, ◌∙◌, ◌≤◌, ◌-◌, inl, inr, ℕ, zero, suc, List, [], ◌∷◌, Some, None, refl, sym, ap, subst, arith, length, slice_get, replicate, map, ◌++◌}
 use Rattle.std.proofs.lemmas.List.{length-map}
 use Rattle.wb_types.specs.declared.geometry.Geometry.{Geometry}
@@ -28,11 +28,11 @@ use Rattle.wb_runs.specs.Effects.{after_all, IsRun}
 use Rattle.wb_runs.specs.Possible.{Opens, CanOpen, Flushes, CanFlush}
 use Rattle.wb_runs.proofs.Standing.{length-grown}
 use Rattle.wb_runs.proofs.Readings.{first_read, some_slot}
-use Rattle.wb_runs.proofs.Completing.{synced_formatted, stored, next_commit, all_read}
+use Rattle.wb_runs.proofs.Completing.{HasNoTree, formatted_none, synced_none, none_readable, stored, next_commit, all_read}
 use Rattle.wb_runs.proofs.Giving.{Fits, rooted, comes_next, root_does}
 use Rattle.wb_runs.proofs.FirstFlush.{happened, flushing, flush_run, flush_done}
 use Rattle.wb_runs.proofs.Metadata.{AtDesk, Quiet}
-use Rattle.wb_runs.proofs.MetadataRuns.{known_always, known_at_start}
+use Rattle.wb_runs.proofs.MetadataRuns.{known_always}
 use Rattle.wb_runs.proofs.Opened.{no_seals}
 use Rattle.wb_words.specs.SharedWords.{fresh_words}
 use Rattle.wb_words.specs.Cards.{blank_card}
@@ -44,19 +44,19 @@ use Rattle.wb_runs.specs.States.{Target}
 use Rattle.wb_runs.specs.Happenings.{AtWork}
 use Rattle.wb_runs.specs.Effects.{target_over, words_by, card_over, all_resting, after_happening}
 
-module _ (P A : Type 0) (policy : P) (alloc : A) (global : Global) (shape : Shape) (metadata : List History) (formatted : IsFormatted shape.geometry metadata) (size : length metadata ≡ shape.geometry.meta_sectors) (rest : List Actor) where
+module _ (P A : Type 0) (policy : P) (alloc : A) (global : Global) (shape : Shape) (metadata cache origin : List History) (none : HasNoTree shape.geometry metadata) (size : length metadata ≡ shape.geometry.meta_sectors) (rest : List Actor) where
   -- the metadata once they were synced
   abbrev durable : List History
   durable = synced metadata
 
-  pub formatted_then : IsFormatted shape.geometry durable
-  formatted_then = synced_formatted shape.geometry metadata formatted
+  pub none_then : HasNoTree shape.geometry durable
+  none_then = synced_none shape.geometry metadata none
 
   pub same_size : length durable ≡ shape.geometry.meta_sectors
   same_size = length-map metadata _ ∙ size
 
   abbrev commit : RunningCommit
-  commit = next_commit A global shape.geometry durable formatted_then same_size
+  commit = next_commit A global shape.geometry durable none_then same_size
 
   pub slot : (first : _) × Rattle.wb_meta.specs.Slots.IsInSlot (map newest durable) 0 first
   slot = some_slot P A shape.geometry durable (omega (arith, same_size, shape.geometry.within.meta_from))
@@ -74,7 +74,7 @@ module _ (P A : Type 0) (policy : P) (alloc : A) (global : Global) (shape : Shap
       ∷ does (Device (Sync Cache)) Done Plain
       ∷ does (Device (Sync Origin)) Done Plain
       ∷ does (Device (ReadMetadata n)) More (Reaches (Some (FirstSlotRead alloc global slot.0)) None)
-      ∷ does (Device (ReadMetadata (n - 1))) Done (Reaches (Some (AllRead (stored A global shape.geometry durable formatted_then same_size))) (Some commit))
+      ∷ does (Device (ReadMetadata (n - 1))) Done (Reaches (Some (AllRead (stored A global shape.geometry durable none_then same_size))) (Some commit))
       ∷ does (Device WriteRoot) Done (Puts (rooted commit durable))
       ∷ does (Device (Sync Metadata)) Done Plain
       ∷ does (End Finished) Done (Opened policy)
@@ -82,14 +82,14 @@ module _ (P A : Type 0) (policy : P) (alloc : A) (global : Global) (shape : Shap
 
   abbrev pub first : State P A
   first = record {
-    devices = record { metadata = metadata; cache = replicate (cache_sector_count shape) blank; origin = replicate (sector_count shape) blank };
+    devices = record { metadata = metadata; cache = cache; origin = origin };
     commit = None;
     phase = Gone;
     actors = resting ∷ rest;
   }
 
   fits : Fits commit durable
-  fits = same_size ∙ ap (λ (x : Geometry). x.meta_sectors) (sym formatted_then.first.geometry_is)
+  fits = same_size ∙ ap (λ (x : Geometry). x.meta_sectors) (sym none_then.geometry_is)
 
   fits_then : length (rooted commit durable) ≡ commit.image.root.geometry.meta_sectors
   fits_then = length-grown (slice_get durable (slot_of commit.image.root).0) durable (slot_of commit.image.root).0 _ ∙ fits
@@ -106,9 +106,9 @@ module _ (P A : Type 0) (policy : P) (alloc : A) (global : Global) (shape : Shap
           (
             (refl, (refl, refl, first_read P A shape.geometry durable alloc global n slot.0 slot.1 (omega (arith, shape.geometry.within.meta_from)))),
             (
-              (refl, (refl, refl, all_read A global shape.geometry durable formatted_then same_size P (n - 1) alloc global slot.0 slot.1)),
+              (refl, (refl, refl, all_read A global shape.geometry durable none_then same_size P (n - 1) alloc global slot.0 slot.1)),
               (
-                (refl, (refl, refl, (comes_next commit durable NodesSynced WriteRoot fits refl refl, root_does commit durable (refl, omega (arith, formatted_then.first.generation), refl)))),
+                (refl, (refl, refl, (comes_next commit durable NodesSynced WriteRoot fits refl refl, root_does commit durable (refl, omega (arith, none_then.more), refl)))),
                 (
                   (refl, (refl, refl, (comes_next (record commit { steps = RootWritten }) (rooted commit durable) RootWritten (Sync Metadata) fits_then refl refl, refl))),
                   (
@@ -133,28 +133,28 @@ module _ (P A : Type 0) (policy : P) (alloc : A) (global : Global) (shape : Shap
   opened = after_all shape first happenings
 
   abbrev target : Target P
-  target = target_over shape Writeback policy (stored A global shape.geometry durable formatted_then same_size)
+  target = target_over shape Writeback policy (stored A global shape.geometry durable none_then same_size)
 
   known : AtDesk shape.geometry target.desk None opened.devices.metadata
-  known = known_always P A shape first happenings (known_at_start P A shape metadata formatted size) is_run
+  known = known_always P A shape first happenings (none_readable shape.geometry metadata none size) is_run
 
   calm : target.words.fail ≡ 0
-  calm = ap (λ (steps : List CellStep). (words_by (fresh_words shape.geometry.origin_blocks) steps).fail) (no_seals formatted_then.root.clean 0 formatted_then.root.geometry.cache_blocks)
+  calm = ap (λ (steps : List CellStep). (words_by (fresh_words shape.geometry.origin_blocks) steps).fail) (no_seals none_then.root.clean 0 none_then.root.geometry.cache_blocks)
 
   quiet : Quiet shape.geometry target.desk opened.devices.metadata
   quiet = elim known.stands [ inl q ↦ q | inr broken ↦ absurd (let busy = broken.busy in cc) ]
 
   may : MayBegin target.desk
-  may = record { idle = refl; next = omega (arith, formatted_then.first.generation) }
+  may = record { idle = refl; next = omega (arith, none_then.more) }
 
   abbrev flush_too : List (Happening P A)
-  flush_too = flushing P A global shape target calm opened.devices (card_over {A = A} shape blank_card (Some (AllRead (stored A global shape.geometry durable formatted_then same_size)))) (all_resting rest) known quiet may
+  flush_too = flushing P A global shape target calm opened.devices (card_over {A = A} shape blank_card (Some (AllRead (stored A global shape.geometry durable none_then same_size)))) (all_resting rest) known quiet may
 
   flushes_run : IsRun shape opened flush_too
-  flushes_run = flush_run P A global shape target calm opened.devices (card_over {A = A} shape blank_card (Some (AllRead (stored A global shape.geometry durable formatted_then same_size)))) (all_resting rest) known quiet may
+  flushes_run = flush_run P A global shape target calm opened.devices (card_over {A = A} shape blank_card (Some (AllRead (stored A global shape.geometry durable none_then same_size)))) (all_resting rest) known quiet may
 
   flushes_done : AtWork (after_all shape opened flush_too) 0 (λ job s. (job ≡ Flush) × (want s ≡ End Finished))
-  flushes_done = flush_done P A global shape target calm opened.devices (card_over {A = A} shape blank_card (Some (AllRead (stored A global shape.geometry durable formatted_then same_size)))) (all_resting rest) known quiet may
+  flushes_done = flush_done P A global shape target calm opened.devices (card_over {A = A} shape blank_card (Some (AllRead (stored A global shape.geometry durable none_then same_size)))) (all_resting rest) known quiet may
 
 -- ---- two runs, one after the other
 
@@ -173,12 +173,12 @@ can_open P A policy reading begins shape metadata some formatted size = by_readi
     by_actors zero e l alloc global = absurd (omega (arith, l))
     by_actors (suc k) e l alloc global =
         let rest = replicate k resting in
-        let same : first P A policy alloc global shape metadata formatted size rest ≡ start shape metadata = ap (λ (xs : List Actor). record (start {P = P} {A = A} shape metadata) { actors = xs }) (sym (ap (λ (i : ℕ). replicate i resting) e)) in
-        let hs = happenings P A policy alloc global shape metadata formatted size rest in
+        let same : first P A policy alloc global shape metadata (replicate (cache_sector_count shape) blank) (replicate (sector_count shape) blank) (formatted_none shape.geometry metadata formatted) size rest ≡ start shape metadata = ap (λ (xs : List Actor). record (start {P = P} {A = A} shape metadata) { actors = xs }) (sym (ap (λ (i : ℕ). replicate i resting) e)) in
+        let hs = happenings P A policy alloc global shape metadata (replicate (cache_sector_count shape) blank) (replicate (sector_count shape) blank) (formatted_none shape.geometry metadata formatted) size rest in
         record {
           happenings = hs;
-          is_run = subst (λ (w : State P A). IsRun shape w hs) same (is_run P A policy alloc global shape metadata formatted size rest);
-          stands = subst (λ (w : State P A). OfTarget (after_all shape w hs).phase (λ target. Unit {0})) same (stands P A policy alloc global shape metadata formatted size rest);
+          is_run = subst (λ (w : State P A). IsRun shape w hs) same (is_run P A policy alloc global shape metadata (replicate (cache_sector_count shape) blank) (replicate (sector_count shape) blank) (formatted_none shape.geometry metadata formatted) size rest);
+          stands = subst (λ (w : State P A). OfTarget (after_all shape w hs).phase (λ target. Unit {0})) same (stands P A policy alloc global shape metadata (replicate (cache_sector_count shape) blank) (replicate (sector_count shape) blank) (formatted_none shape.geometry metadata formatted) size rest);
         }
 
     by_reading : (r : ReadSteps A) → sectors_read r ≡ 0 → Opens P A shape metadata
@@ -194,15 +194,15 @@ can_flush P A policy reading begins shape metadata some formatted size = by_read
     by_actors zero e l alloc global = absurd (omega (arith, l))
     by_actors (suc k) e l alloc global =
         let rest = replicate k resting in
-        let same : first P A policy alloc global shape metadata formatted size rest ≡ start shape metadata = ap (λ (xs : List Actor). record (start {P = P} {A = A} shape metadata) { actors = xs }) (sym (ap (λ (i : ℕ). replicate i resting) e)) in
-        let hs = happenings P A policy alloc global shape metadata formatted size rest in
-        let ks = flush_too P A policy alloc global shape metadata formatted size rest in
+        let same : first P A policy alloc global shape metadata (replicate (cache_sector_count shape) blank) (replicate (sector_count shape) blank) (formatted_none shape.geometry metadata formatted) size rest ≡ start shape metadata = ap (λ (xs : List Actor). record (start {P = P} {A = A} shape metadata) { actors = xs }) (sym (ap (λ (i : ℕ). replicate i resting) e)) in
+        let hs = happenings P A policy alloc global shape metadata (replicate (cache_sector_count shape) blank) (replicate (sector_count shape) blank) (formatted_none shape.geometry metadata formatted) size rest in
+        let ks = flush_too P A policy alloc global shape metadata (replicate (cache_sector_count shape) blank) (replicate (sector_count shape) blank) (formatted_none shape.geometry metadata formatted) size rest in
         record {
           happenings = hs ++ ks;
-          is_run = subst (λ (w : State P A). IsRun shape w (hs ++ ks)) same (run_append shape (first P A policy alloc global shape metadata formatted size rest) hs ks (is_run P A policy alloc global shape metadata formatted size rest) (flushes_run P A policy alloc global shape metadata formatted size rest));
+          is_run = subst (λ (w : State P A). IsRun shape w (hs ++ ks)) same (run_append shape (first P A policy alloc global shape metadata (replicate (cache_sector_count shape) blank) (replicate (sector_count shape) blank) (formatted_none shape.geometry metadata formatted) size rest) hs ks (is_run P A policy alloc global shape metadata (replicate (cache_sector_count shape) blank) (replicate (sector_count shape) blank) (formatted_none shape.geometry metadata formatted) size rest) (flushes_run P A policy alloc global shape metadata (replicate (cache_sector_count shape) blank) (replicate (sector_count shape) blank) (formatted_none shape.geometry metadata formatted) size rest));
           answers = subst (λ (w : State P A). AtWork (after_all shape w (hs ++ ks)) 0 (λ job s. (job ≡ Flush) × (want s ≡ End Finished))) same
-              (subst (λ (w : State P A). AtWork w 0 (λ job s. (job ≡ Flush) × (want s ≡ End Finished))) (sym (after_append shape (first P A policy alloc global shape metadata formatted size rest) hs ks))
-              (flushes_done P A policy alloc global shape metadata formatted size rest));
+              (subst (λ (w : State P A). AtWork w 0 (λ job s. (job ≡ Flush) × (want s ≡ End Finished))) (sym (after_append shape (first P A policy alloc global shape metadata (replicate (cache_sector_count shape) blank) (replicate (sector_count shape) blank) (formatted_none shape.geometry metadata formatted) size rest) hs ks))
+              (flushes_done P A policy alloc global shape metadata (replicate (cache_sector_count shape) blank) (replicate (sector_count shape) blank) (formatted_none shape.geometry metadata formatted) size rest));
         }
 
     by_reading : (r : ReadSteps A) → sectors_read r ≡ 0 → Flushes P A shape metadata

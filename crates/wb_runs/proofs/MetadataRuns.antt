@@ -25,6 +25,7 @@ use Rattle.wb_runs.specs.States.{Shape, State, Actor, start}
 use Rattle.wb_runs.specs.Happenings.{Chosen, Happening, OfSome, Gives, Falters, MayFailAt, MayBe}
 use Rattle.wb_runs.specs.Effects.{device_done, device_failed, devices_then, commit_then, phase_then, stepped, with_actor, job_of, cleared, given, after_what, after_happening, after_all, IsRun}
 use Rattle.wb_runs.specs.Headline.{IsEmpty}
+use Rattle.wb_runs.proofs.Completing.{formatted_none, none_readable}
 use Rattle.wb_runs.proofs.Underway.{Readable, IsBareToo, crash_readable}
 use Rattle.wb_runs.proofs.Metadata.{MetadataKept, kept_readable}
 use Rattle.wb_runs.proofs.Stepping.{done_kept}
@@ -99,13 +100,7 @@ module _ (P A : Type 0) (shape : Shape) where
   known_always w (h ∷ hs) k r = known_always (after_happening shape w h) hs (known_after w h k r.0) r.1
 
   pub known_at_start : (metadata : List History) → IsFormatted shape.geometry metadata → length metadata ≡ shape.geometry.meta_sectors → Known (start shape metadata)
-  known_at_start metadata f size = record {
-    committed = record { root = f.root; found = nothing_found f.root };
-    later = None;
-    read = record { size = size; same_geometry = f.first.geometry_is; later_geometry = tt; represents = f.represents };
-    bare = ap (λ (g : Geometry). replicate g.cache_blocks None) f.first.geometry_is;
-    bare_later = tt;
-  }
+  known_at_start metadata f size = none_readable shape.geometry metadata (formatted_none shape.geometry metadata f) size
 
   -- what a crash leaves of readable metadata
   pub empty_then : (device : List History) (sectors : List Bytes) → Readable shape.geometry device → MayLeave device sectors → IsEmpty shape sectors
