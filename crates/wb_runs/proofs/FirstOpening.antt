@@ -40,9 +40,9 @@ use Rattle.wb_words.specs.declared.step.CellStep.{CellStep}
 use Rattle.wb_desk.specs.Commits.{MayBegin}
 use Rattle.wb_tasks.specs.Plan.{want}
 use Rattle.wb_runs.specs.declared.job.Job.TheVariants.{Flush}
-use Rattle.wb_runs.specs.States.{Target}
+use Rattle.wb_runs.specs.States.{Target, Stands}
 use Rattle.wb_runs.specs.Happenings.{AtWork}
-use Rattle.wb_runs.specs.Effects.{target_over, words_by, card_over, all_resting, after_happening}
+use Rattle.wb_runs.specs.Effects.{target_over, words_by, card_by, card_over, all_resting, after_happening}
 
 module _ (P A : Type 0) (policy : P) (alloc : A) (global : Global) (shape : Shape) (metadata cache origin : List History) (none : HasNoTree shape.geometry metadata) (size : length metadata ≡ shape.geometry.meta_sectors) (rest : List Actor) where
   -- the metadata once they were synced
@@ -124,7 +124,7 @@ module _ (P A : Type 0) (policy : P) (alloc : A) (global : Global) (shape : Shap
     ),
   )
 
-  stands : OfTarget (after_all shape first happenings).phase (λ target. Unit {0})
+  pub stands : OfTarget (after_all shape first happenings).phase (λ target. Unit {0})
   stands = tt
 
   -- ---- and a flush over it
@@ -132,19 +132,35 @@ module _ (P A : Type 0) (policy : P) (alloc : A) (global : Global) (shape : Shap
   abbrev opened : State P A
   opened = after_all shape first happenings
 
-  abbrev target : Target P
+  abbrev pub target : Target P
   target = target_over shape Writeback policy (stored A global shape.geometry durable none_then same_size)
 
-  known : AtDesk shape.geometry target.desk None opened.devices.metadata
+  abbrev pub rooted_metadata : List History
+  rooted_metadata = synced (rooted commit durable)
+
+  pub opened_is : opened ≡ record {
+    devices = record { metadata = synced (rooted commit durable); cache = synced cache; origin = synced origin };
+    commit = None;
+    phase = Stands (record { words = fresh_words shape.geometry.origin_blocks; desk = target.desk });
+    actors = record { task = None; card = blank_card } ∷ all_resting rest;
+  }
+  opened_is = ap (λ (steps : List CellStep). record {
+    devices = record { metadata = synced (rooted commit durable); cache = synced cache; origin = synced origin };
+    commit = None;
+    phase = Stands (record { words = words_by (fresh_words shape.geometry.origin_blocks) steps; desk = target.desk });
+    actors = record { task = None; card = card_by (fresh_words shape.geometry.origin_blocks) blank_card steps } ∷ all_resting rest;
+  }) (no_seals none_then.root.clean 0 none_then.root.geometry.cache_blocks)
+
+  pub known : AtDesk shape.geometry target.desk None opened.devices.metadata
   known = known_always P A shape first happenings (none_readable shape.geometry metadata none size) is_run
 
   calm : target.words.fail ≡ 0
   calm = ap (λ (steps : List CellStep). (words_by (fresh_words shape.geometry.origin_blocks) steps).fail) (no_seals none_then.root.clean 0 none_then.root.geometry.cache_blocks)
 
-  quiet : Quiet shape.geometry target.desk opened.devices.metadata
+  pub quiet : Quiet shape.geometry target.desk opened.devices.metadata
   quiet = elim known.stands [ inl q ↦ q | inr broken ↦ absurd (let busy = broken.busy in cc) ]
 
-  may : MayBegin target.desk
+  pub may : MayBegin target.desk
   may = record { idle = refl; next = omega (arith, none_then.more) }
 
   abbrev flush_too : List (Happening P A)
@@ -158,11 +174,11 @@ module _ (P A : Type 0) (policy : P) (alloc : A) (global : Global) (shape : Shap
 
 -- ---- two runs, one after the other
 
-run_append : {P A : Type 0} (shape : Shape) (w : State P A) (hs ks : List (Happening P A)) → IsRun shape w hs → IsRun shape (after_all shape w hs) ks → IsRun shape w (hs ++ ks)
+pub run_append : {P A : Type 0} (shape : Shape) (w : State P A) (hs ks : List (Happening P A)) → IsRun shape w hs → IsRun shape (after_all shape w hs) ks → IsRun shape w (hs ++ ks)
 run_append shape w [] ks r s = s
 run_append shape w (h ∷ hs) ks r s = (r.0, run_append shape (after_happening shape w h) hs ks r.1 s)
 
-after_append : {P A : Type 0} (shape : Shape) (w : State P A) (hs ks : List (Happening P A)) → after_all shape w (hs ++ ks) ≡ after_all shape (after_all shape w hs) ks
+pub after_append : {P A : Type 0} (shape : Shape) (w : State P A) (hs ks : List (Happening P A)) → after_all shape w (hs ++ ks) ≡ after_all shape (after_all shape w hs) ks
 after_append shape w [] ks = refl
 after_append shape w (h ∷ hs) ks = after_append shape (after_happening shape w h) hs ks
 

@@ -29,7 +29,9 @@ mod Free
 mod Causing
 mod Completing
 mod FirstFlush
+mod FirstLife
 mod FirstOpening
+mod Surviving
 mod Ruling
 mod Suiting
 mod Using

@@ -1,16 +1,23 @@
 -- That the promises are not empty: runs that pass through what they speak of.
-use Rattle.std.specs.Prelude.{◌≡◌, ◌≤◌, List, length}
-use Rattle.wb_disk.specs.Device.{History}
+use Rattle.std.specs.Prelude.{◌≡◌, ◌≤◌, ◌∷◌, ℕ, suc, List, [], Option, Some, length, slice_get}
+use Rattle.wb_types.specs.Limits.{IsWithinLimits}
+use Rattle.wb_types.specs.declared.extent.Extent.{Extent}
+use Rattle.wb_types.specs.declared.geometry.Geometry.{Geometry}
+use Rattle.wb_types.specs.declared.mode.Dev.TheVariants.{Origin}
+use Rattle.wb_disk.specs.Device.{Content as Bytes, History}
 use Rattle.wb_meta.specs.Formats.{IsFormatted}
 use Rattle.wb_meta.specs.Reads.{sectors_read}
 use Rattle.wb_meta.specs.declared.read_steps.ReadSteps.{ReadSteps}
 use Rattle.wb_tasks.specs.Plan.{want}
 use Rattle.wb_tasks.specs.declared.step.Answer.TheVariants.{Done as Finished}
 use Rattle.wb_tasks.specs.declared.step.Want.TheVariants.{End}
-use Rattle.wb_runs.specs.declared.job.Job.TheVariants.{Flush}
-use Rattle.wb_runs.specs.States.{Shape, OfTarget, start}
-use Rattle.wb_runs.specs.Happenings.{Happening, AtWork}
+use Rattle.wb_runs.specs.declared.job.Job.{Job}
+use Rattle.wb_runs.specs.declared.job.Job.TheVariants.{Read, Write, Flush}
+use Rattle.wb_runs.specs.States.{Shape, State, OfTarget, start}
+use Rattle.wb_runs.specs.Happenings.{Happening, AtWork, OfSome}
 use Rattle.wb_runs.specs.Effects.{after_all, IsRun}
+use Rattle.wb_runs.specs.Clerk.{Notes, Doing, formatted}
+use Rattle.wb_runs.specs.Headline.{shown, noted}
 
 -- a run after which a target stands, as an opening was answered done
 pub record Opens (P A : Type 0) (shape : Shape) (metadata : List History) : Type 0 where
@@ -30,3 +37,49 @@ pub record Flushes (P A : Type 0) (shape : Shape) (metadata : List History) : Ty
 
 abbrev pub CanFlush : (P A : Type 0) → Type 0
 CanFlush P A = (policy : P) (reading : ReadSteps A) → sectors_read reading ≡ 0 → (shape : Shape) (metadata : List History) → 1 ≤ shape.actors → IsFormatted shape.geometry metadata → length metadata ≡ shape.geometry.meta_sectors → Flushes P A shape metadata
+
+-- the fewest sectors that an origin may have: one block of 64
+abbrev pub one_block : (cache_blocks meta_sectors : ℕ) → IsWithinLimits 64 cache_blocks 1 meta_sectors → Geometry
+one_block cache_blocks meta_sectors within = record { block = 64; cache_blocks = cache_blocks; origin_blocks = 1; meta_sectors = meta_sectors; within = within }
+
+-- its first sector
+abbrev pub first_sector : Extent
+first_sector = record { first = 0; count = 1 }
+
+-- Stretches of a run, each with what is so once it is over.
+abbrev pub PassesThrough : {P A : Type 0} → Shape → State P A → Notes → List (List (Happening P A) × (State P A → Notes → Type 0)) → Type 0
+PassesThrough shape w n [] = Unit {0}
+PassesThrough shape w n (stretch ∷ stretches) = IsRun shape w stretch.0 × stretch.1 (after_all shape w stretch.0) (noted shape w n stretch.0)
+    × PassesThrough shape (after_all shape w stretch.0) (noted shape w n stretch.0) stretches
+
+-- the first actor's next step is to answer its job done
+abbrev pub AboutToAnswer : {P A : Type 0} → Job → State P A → Type 0
+AboutToAnswer job w = AtWork w 0 (λ at s. (at ≡ job) × (want s ≡ End Finished))
+
+-- the first actor is noted to be at something of which this holds
+abbrev pub FirstDoes : Notes → (Doing → Type 0) → Type 0
+FirstDoes n on = OfSome (slice_get n.doings 0) (λ noted. OfSome noted on)
+
+-- A run over such a geometry that passes through an opening and a write that is answered done, a read that is given what was written,
+-- a flush by which it is durable, a write of something else that fails, a crash, and a second opening, which shows the first write.
+pub record Survives (P A : Type 0) (shape : Shape) (metadata : List History) (content other : Bytes) : Type 0 where
+  pub writing : List (Happening P A)
+  pub reading : List (Happening P A)
+  pub flushing : List (Happening P A)
+  pub failing : List (Happening P A)
+  pub crashing : List (Happening P A)
+  pub opening : List (Happening P A)
+  pub passes : PassesThrough shape (start shape metadata) (formatted shape) (
+    (writing, λ w n. AboutToAnswer (Write first_sector content) w)
+    ∷ (reading, λ w n. AboutToAnswer (Read first_sector) w × FirstDoes n (λ doing. doing.readings ≡ record { sector = 0; content = content; latest = Some content } ∷ []))
+    ∷ (flushing, λ w n. AboutToAnswer Flush w × (slice_get n.finished 0 ≡ Some 1) × (slice_get n.floors 0 ≡ Some 0))
+    ∷ (failing, λ w n. FirstDoes n (λ doing. (doing.job ≡ Write first_sector other) × (doing.failed ≡ Origin ∷ [])) × (slice_get n.floors 0 ≡ Some 1))
+    ∷ (crashing, λ w n. ¬ OfTarget w.phase (λ target. Unit {0}))
+    ∷ (opening, λ w n. OfTarget w.phase (λ target. Unit {0}) × (slice_get (shown shape w) 0 ≡ Some content))
+    ∷ [])
+
+-- There is one for any formatted metadata, a policy and a reading that has read nothing, and any two contents.
+abbrev pub CanSurvive : (P A : Type 0) → Type 0
+CanSurvive P A = (policy : P) (reading : ReadSteps A) → sectors_read reading ≡ 0 → (cache_blocks meta_sectors : ℕ) (within : IsWithinLimits 64 cache_blocks 1 meta_sectors) (threshold others : ℕ) (metadata : List History) (content other : Bytes)
+    → IsFormatted (one_block cache_blocks meta_sectors within) metadata → length metadata ≡ meta_sectors
+    → Survives P A (record { geometry = one_block cache_blocks meta_sectors within; threshold = threshold; actors = suc others }) metadata content other

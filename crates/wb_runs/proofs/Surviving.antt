@@ -1,0 +1,143 @@
+-- A run through an opening, a write, a read of it, a flush, a write that fails, a crash and a second opening that shows the first write.
+use Rattle.std.proofs.Common.{Global, ◌≡◌, ◌∙◌, ◌<◌, ◌+◌, ◌%◌, ◌^◌, inl, inr, ℕ, suc, List, [], ◌∷◌, ◌++◌, Option, Some, None, refl, sym, ap, subst, arith, length, map, slice_get, replicate}
+use Rattle.std.proofs.lemmas.Option.{slice_get-get_or, slice_get-map}
+use Rattle.std.proofs.lemmas.List.{length-map}
+use lib.ListN.{get_or}
+use Rattle.std.proofs.Math.Nat.{mod-lt}
+use Rattle.wb_disk.specs.Device.{Content as Bytes, History, newest, synced, written, added}
+use Rattle.wb_disk.specs.Memory.{blank}
+use Rattle.wb_disk.proofs.Leaving.{newest-synced}
+use Rattle.wb_meta.proofs.Histories.{newest-added}
+use Rattle.wb_format.specs.declared.root.Root.{Root}
+use Rattle.wb_format.specs.Layout.{SpellsRoot}
+use Rattle.wb_format.proofs.Values.{one_root}
+use Rattle.wb_tree.specs.Reading.{IsNewestRoot}
+use Rattle.wb_runs.proofs.Sectors.{written_same}
+use Rattle.wb_runs.proofs.Spelling.{spelling, spelled_root}
+use Rattle.std.specs.Prelude.{option_map}
+use Rattle.wb_types.specs.declared.geometry.Geometry.{Geometry}
+use Rattle.wb_types.specs.Limits.{IsWithinLimits}
+use Rattle.wb_disk.specs.Device.{Crashed, only}
+use Rattle.wb_disk.proofs.Leaving.{read-left, crash-left, left-crashed}
+use Rattle.wb_disk.proofs.Crashes.{Crashed-crashed_from}
+use Rattle.wb_tree.specs.Reading.{Nodes, nothing_found, tree_read, top_read}
+use Rattle.wb_meta.specs.Representing.{Represents}
+use Rattle.wb_meta.specs.Formats.{IsFormatted}
+use Rattle.wb_desk.specs.Desks.{DeskState}
+use Rattle.wb_runs.specs.States.{Shape, State, Actor, resting, cache_sector_count, start}
+use Rattle.wb_runs.specs.Happenings.{Happening}
+use Rattle.wb_runs.specs.Effects.{after_happening, after_all, all_resting, IsRun}
+use Rattle.wb_runs.specs.Clerk.{Notes, begins, nobody}
+use Rattle.wb_runs.specs.Headline.{shown, noted, note_happening}
+use Rattle.wb_runs.specs.Possible.{one_block, PassesThrough}
+use Rattle.wb_runs.proofs.Metadata.{Quiet}
+use Rattle.wb_runs.proofs.Completing.{HasNoTree, formatted_none}
+use Rattle.wb_runs.specs.Clerk.{formatted as formatted_notes}
+use Rattle.wb_runs.proofs.Opened.{origin_shown}
+use Rattle.wb_runs.proofs.FirstOpening.{happenings as first_opening, is_run as opens_run, target as opened_target, rooted_metadata as opened_metadata, opened_is, known as opened_known, run_append, after_append}
+use Rattle.wb_runs.proofs.FirstLife.{Leads, does, rested, before, started, writes, reads, idle_is}
+use Rattle.wb_tasks.specs.declared.step.Answer.TheVariants.{Done as Finished}
+use Rattle.wb_tasks.specs.declared.step.Want.TheVariants.{End}
+use Rattle.wb_tasks.specs.declared.step.Got.TheVariants.{Done}
+
+-- the root that was written last, if the newest root has its generation
+root_there : (m : List History) (r q : Root) → 2 < length m → r.generation < 2 ^ 64 → q.generation ≡ r.generation → IsNewestRoot (map newest (synced (written (synced m) (r.generation % 2) (spelling r)))) q → q ≡ r
+root_there m r q some fits same n =
+    let at = r.generation % 2 in
+    let low : at < 2 = mod-lt r.generation (omega arith) in
+    let size = length-map m (λ (h : History). only (newest h)) in
+    let here = slice_get-get_or (synced m) at blank (omega (arith, low, some, size)) in
+    let put = written_same (synced m) at _ (spelling r) here in
+    let reads = slice_get-map newest (written (synced m) at (spelling r)) at in
+    let slot : n.slot ≡ at = sym n.valid.parity ∙ ap (λ (k : ℕ). k % 2) same in
+    let seen : Some n.sector ≡ Some (spelling r) = sym n.there ∙ ap (λ (k : ℕ). slice_get (map newest (synced (written (synced m) at (spelling r)))) k) slot ∙ ap (λ (ss : List Bytes). slice_get ss at) (newest-synced (written (synced m) at (spelling r))) ∙ reads ∙ ap (λ (o : Option History). option_map newest o) put ∙ ap (λ (c : Bytes). Some c) (newest-added (get_or (synced m) at blank) (spelling r)) in
+    let is : n.sector ≡ spelling r = cc in
+    one_root (spelling r) q r (subst (λ (s : Bytes). SpellsRoot s q) is n.valid.spelled) (spelled_root r fits)
+
+-- metadata that stand quietly by a root without a tree, once a crash has left of them what it will
+none_after : (P : Type 0) (g : Geometry) (desk : DeskState P) (m m' : List History) (q : Quiet g desk m) → q.stored.root.top ≡ None → q.stored.root.generation + 2 < 2 ^ 64 → Crashed m m' → HasNoTree g m'
+none_after P g desk m m' q top more crash = record {
+  root = q.stored.root;
+  geometry_is = q.same;
+  top = top;
+  more = more;
+  represents = λ sectors left. subst (λ (ss : List Bytes). Represents ss q.stored.root (nothing_found q.stored.root)) (sym (left-crashed m m' sectors crash left)) (nothing (map newest m') (q.stores.represents (map newest m') (crash-left m m' crash)).newest);
+}
+  where
+    nothing : (sectors : List Bytes) → IsNewestRoot sectors q.stored.root → Represents sectors q.stored.root (nothing_found q.stored.root)
+    nothing sectors n = record { newest = n; nodes = λ place. None; reached = λ place e. absurd (cc); reads = ap (λ t. top_read q.stored.root (λ place. None) t) top }
+
+noted_append : {P A : Type 0} (shape : Shape) (w : State P A) (n : Notes) (hs ks : List (Happening P A)) → noted shape w n (hs ++ ks) ≡ noted shape (after_all shape w hs) (noted shape w n hs) ks
+noted_append shape w n [] ks = refl
+noted_append shape w n (h ∷ hs) ks = noted_append shape (after_happening shape w h) (note_happening shape w n h) hs ks
+
+-- what a stretch and those behind it come to, from a state and notes on
+abbrev Onward : {P A : Type 0} → Shape → List (Happening P A) → (State P A → Notes → Type 0) → List (List (Happening P A) × (State P A → Notes → Type 0)) → State P A → Notes → Type 0
+Onward shape ks Is more v k = IsRun shape v ks × Is (after_all shape v ks) (noted shape v k ks) × PassesThrough shape (after_all shape v ks) (noted shape v k ks) more
+
+-- a stretch whose first part leads to a state and notes that are known
+along : {P A : Type 0} (shape : Shape) (w w' : State P A) (n n' : Notes) (hs ks : List (Happening P A)) (Is : State P A → Notes → Type 0) (more : List (List (Happening P A) × (State P A → Notes → Type 0))) → after_all shape w hs ≡ w' → noted shape w n hs ≡ n' → IsRun shape w hs → IsRun shape w' ks →
+    Is (after_all shape w' ks) (noted shape w' n' ks) → PassesThrough shape (after_all shape w' ks) (noted shape w' n' ks) more → PassesThrough shape w n ((hs ++ ks, Is) ∷ more)
+along {P} {A} shape w w' n n' hs ks Is more e f run goes is rest =
+    let first = subst (λ (v : State P A). Onward shape ks Is more v (noted shape w n hs)) (sym e) (subst (λ (k : Notes). Onward shape ks Is more w' k) (sym f) (goes, is, rest)) in (
+      run_append shape w hs ks run first.0,
+      subst (λ (v : State P A). Is v (noted shape w n (hs ++ ks))) (sym (after_append shape w hs ks)) (subst (λ (k : Notes). Is (after_all shape (after_all shape w hs) ks) k) (sym (noted_append shape w n hs ks)) first.1),
+      subst (λ (v : State P A). PassesThrough shape v (noted shape w n (hs ++ ks)) more) (sym (after_append shape w hs ks)) (subst (λ (k : Notes). PassesThrough shape (after_all shape (after_all shape w hs) ks) k more) (sym (noted_append shape w n hs ks)) first.2),
+    )
+
+module _ (P A : Type 0) (policy : P) (alloc : A) (global : Global) (cache_blocks meta_sectors : ℕ) (within : IsWithinLimits 64 cache_blocks 1 meta_sectors) (threshold others : ℕ) (metadata : List History) (content other : Bytes)
+    (formatted : IsFormatted (one_block cache_blocks meta_sectors within) metadata) (size : length metadata ≡ meta_sectors) where
+  abbrev shape : Shape
+  shape = record { geometry = one_block cache_blocks meta_sectors within; threshold = threshold; actors = suc others }
+
+  abbrev rest : List Actor
+  rest = replicate others resting
+
+  abbrev zeros : List History
+  zeros = replicate (cache_sector_count shape) blank
+
+  abbrev none : HasNoTree shape.geometry metadata
+  none = formatted_none shape.geometry metadata formatted
+
+  abbrev opening : List (Happening P A)
+  opening = first_opening P A policy alloc global shape metadata zeros (replicate 64 blank) none size rest
+
+  opening_run : IsRun shape (start shape metadata) opening
+  opening_run = opens_run P A policy alloc global shape metadata zeros (replicate 64 blank) none size rest
+
+  abbrev desk : DeskState P
+  desk = (opened_target P A policy alloc global shape metadata zeros (replicate 64 blank) none size rest).desk
+
+  abbrev m1 : List History
+  m1 = opened_metadata P A policy alloc global shape metadata zeros (replicate 64 blank) none size rest
+
+  abbrev first : Bytes
+  first = replicate 512 0
+
+  abbrev sectors : List History
+  sectors = replicate 63 blank
+
+  abbrev from : State P A
+  from = before P A global cache_blocks meta_sectors within threshold others desk m1 (synced zeros) (all_resting rest) content first sectors sectors (replicate 63 0) (replicate 63 0) (replicate (length (nobody (replicate others None))) None)
+
+  opened_from : after_all shape (start shape metadata) opening ≡ from
+  opened_from = opened_is P A policy alloc global shape metadata zeros (replicate 64 blank) none size rest
+
+  shows : shown shape (after_all shape (start shape metadata) opening) ≡ map newest (synced (replicate 64 blank))
+  shows = ap (λ (w : State P A). shown shape w) opened_from
+      ∙ origin_shown shape desk.tree.entries (map newest (synced zeros)) (map newest (synced (replicate 64 blank))) cache_blocks (opened_known P A policy alloc global shape metadata zeros (replicate 64 blank) none size rest).entries refl
+
+  abbrev n1 : Notes
+  n1 = started P A global cache_blocks meta_sectors within threshold others desk m1 (synced zeros) (all_resting rest) content first sectors sectors (replicate 63 0) (replicate 63 0) (replicate (length (nobody (replicate others None))) None)
+
+  opened_notes : noted shape (start shape metadata) (formatted_notes shape) opening ≡ n1
+  opened_notes = ap (λ (s : List Bytes). begins (suc (length (nobody (replicate others None)))) s) shows
+
+  abbrev wrote : List (Happening P A)
+  wrote = writes P A global cache_blocks meta_sectors within threshold others desk m1 (synced zeros) (all_resting rest) content first sectors sectors (replicate 63 0) (replicate 63 0) (replicate (length (nobody (replicate others None))) None)
+
+  abbrev read : List (Happening P A)
+  read = reads P A global cache_blocks meta_sectors within threshold others desk m1 (synced zeros) (all_resting rest) content first sectors sectors (replicate 63 0) (replicate 63 0) (replicate (length (nobody (replicate others None))) None)
+
+  leads : Leads P A global cache_blocks meta_sectors within threshold others from (wrote ++ read ++ does P A global cache_blocks meta_sectors within threshold others (End Finished) Done ∷ []) (λ card. rested P A m1 (synced zeros) (record { first = first; later = content ∷ [] } ∷ sectors) desk card (all_resting rest))
+  leads = idle_is P A global cache_blocks meta_sectors within threshold others desk m1 (synced zeros) (all_resting rest) content first sectors sectors (replicate 63 0) (replicate 63 0) (replicate (length (nobody (replicate others None))) None)
