@@ -38,11 +38,11 @@ pub record HasNoTree (g : Geometry) (device : List History) : Type 0 where
   pub represents : AfterEveryCrash (λ sectors. Represents sectors root (nothing_found root)) device
 
 -- formatted metadata do
-pub formatted_none : (g : Geometry) (device : List History) → IsFormatted g device → HasNoTree g device
+abbrev pub formatted_none : (g : Geometry) (device : List History) → IsFormatted g device → HasNoTree g device
 formatted_none g device f = record { root = f.root; geometry_is = f.first.geometry_is; top = f.first.top; more = omega (arith, f.first.generation); represents = f.represents }
 
 -- and so do they once they were synced
-pub synced_none : (g : Geometry) (device : List History) → HasNoTree g device → HasNoTree g (synced device)
+abbrev pub synced_none : (g : Geometry) (device : List History) → HasNoTree g device → HasNoTree g (synced device)
 synced_none g device b = record {
   root = b.root;
   geometry_is = b.geometry_is;

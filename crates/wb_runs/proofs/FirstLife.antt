@@ -67,7 +67,7 @@ may_fail : (sectors : ℕ) → MayFail Origin nothing_lands sectors
 may_fail sectors = record { here = All-nil _; inside = All-nil _; two = All-nil _ }
 
 -- the target that stands, and what the first actor knows
-abbrev target_in : {P A : Type 0} → Phase P A → DeskState P → Target P
+abbrev pub target_in : {P A : Type 0} → Phase P A → DeskState P → Target P
 target_in (Stands t) desk = t
 target_in phase desk = record { words = fresh_words 0; desk = desk }
 

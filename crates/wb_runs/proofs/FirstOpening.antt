@@ -49,7 +49,7 @@ module _ (P A : Type 0) (policy : P) (alloc : A) (global : Global) (shape : Shap
   abbrev durable : List History
   durable = synced metadata
 
-  pub none_then : HasNoTree shape.geometry durable
+  abbrev pub none_then : HasNoTree shape.geometry durable
   none_then = synced_none shape.geometry metadata none
 
   pub same_size : length durable ≡ shape.geometry.meta_sectors

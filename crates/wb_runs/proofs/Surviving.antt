@@ -1,5 +1,5 @@
 -- A run through an opening, a write, a read of it, a flush, a write that fails, a crash and a second opening that shows the first write.
-use Rattle.std.proofs.Common.{Global, ◌≡◌, ◌∙◌, ◌<◌, ◌+◌, ◌%◌, ◌^◌, inl, inr, ℕ, suc, List, [], ◌∷◌, ◌++◌, Option, Some, None, refl, sym, ap, subst, arith, length, map, slice_get, replicate}
+use Rattle.std.proofs.Common.{Global, ◌≡◌, ◌∙◌, ◌<◌, ◌≤◌, ◌+◌, ◌%◌, ◌^◌, inl, inr, ℕ, suc, List, [], ◌∷◌, ◌++◌, Option, Some, None, refl, sym, ap, subst, arith, length, map, slice_get, replicate}
 use Rattle.std.proofs.lemmas.Option.{slice_get-get_or, slice_get-map}
 use Rattle.std.proofs.lemmas.List.{length-map}
 use lib.ListN.{get_or}
@@ -24,24 +24,29 @@ use Rattle.wb_tree.specs.Reading.{Nodes, nothing_found, tree_read, top_read}
 use Rattle.wb_meta.specs.Representing.{Represents}
 use Rattle.wb_meta.specs.Formats.{IsFormatted}
 use Rattle.wb_desk.specs.Desks.{DeskState}
-use Rattle.wb_runs.specs.States.{Shape, State, Actor, resting, cache_sector_count, start}
+use Rattle.wb_words.specs.declared.card.Card.{Card}
+use Rattle.wb_desk.specs.Commits.{MayBegin}
+use Rattle.wb_types.specs.declared.mode.Dev.TheVariants.{Metadata, Cache, Origin}
+use Rattle.wb_disk.specs.Crash.{crashed, crashed_from}
+use Rattle.wb_runs.proofs.Beginning.{bare_root}
+use Rattle.wb_runs.specs.States.{Shape, State, Actor, Gone, resting, cache_sector_count, start}
 use Rattle.wb_runs.specs.Happenings.{Happening}
 use Rattle.wb_runs.specs.Effects.{after_happening, after_all, all_resting, IsRun}
-use Rattle.wb_runs.specs.Clerk.{Notes, begins, nobody}
+use Rattle.wb_runs.specs.Clerk.{Notes, Doing, begins, nobody}
 use Rattle.wb_runs.specs.Headline.{shown, noted, note_happening}
 use Rattle.wb_runs.specs.Possible.{one_block, PassesThrough}
-use Rattle.wb_runs.proofs.Metadata.{Quiet}
+use Rattle.wb_runs.proofs.Metadata.{AtDesk, Quiet}
 use Rattle.wb_runs.proofs.Completing.{HasNoTree, formatted_none}
 use Rattle.wb_runs.specs.Clerk.{formatted as formatted_notes}
 use Rattle.wb_runs.proofs.Opened.{origin_shown}
-use Rattle.wb_runs.proofs.FirstOpening.{happenings as first_opening, is_run as opens_run, target as opened_target, rooted_metadata as opened_metadata, opened_is, known as opened_known, run_append, after_append}
-use Rattle.wb_runs.proofs.FirstLife.{Leads, does, rested, before, started, writes, reads, idle_is}
+use Rattle.wb_runs.proofs.FirstOpening.{happenings as first_opening, is_run as opens_run, target as opened_target, rooted_metadata as opened_metadata, opened_is, known as opened_known, quiet as opened_quiet, may as opened_may, run_append, after_append}
+use Rattle.wb_runs.proofs.FirstLife.{Leads, does, rested, nothing_lands, target_in, flushes, durable, durable_is, durable_quiet, before, started, writes, reads, idle_is}
 use Rattle.wb_tasks.specs.declared.step.Answer.TheVariants.{Done as Finished}
 use Rattle.wb_tasks.specs.declared.step.Want.TheVariants.{End}
 use Rattle.wb_tasks.specs.declared.step.Got.TheVariants.{Done}
 
 -- the root that was written last, if the newest root has its generation
-root_there : (m : List History) (r q : Root) → 2 < length m → r.generation < 2 ^ 64 → q.generation ≡ r.generation → IsNewestRoot (map newest (synced (written (synced m) (r.generation % 2) (spelling r)))) q → q ≡ r
+root_there : (m : List History) (r q : Root) → 2 ≤ length m → r.generation < 2 ^ 64 → q.generation ≡ r.generation → IsNewestRoot (map newest (synced (written (synced m) (r.generation % 2) (spelling r)))) q → q ≡ r
 root_there m r q some fits same n =
     let at = r.generation % 2 in
     let low : at < 2 = mod-lt r.generation (omega arith) in
@@ -141,3 +146,79 @@ module _ (P A : Type 0) (policy : P) (alloc : A) (global : Global) (cache_blocks
 
   leads : Leads P A global cache_blocks meta_sectors within threshold others from (wrote ++ read ++ does P A global cache_blocks meta_sectors within threshold others (End Finished) Done ∷ []) (λ card. rested P A m1 (synced zeros) (record { first = first; later = content ∷ [] } ∷ sectors) desk card (all_resting rest))
   leads = idle_is P A global cache_blocks meta_sectors within threshold others desk m1 (synced zeros) (all_resting rest) content first sectors sectors (replicate 63 0) (replicate 63 0) (replicate (length (nobody (replicate others None))) None)
+
+  -- ---- what is known of the metadata
+
+  abbrev history : History
+  history = record { first = first; later = content ∷ [] }
+
+  abbrev doings : List (Option Doing)
+  doings = replicate (length (nobody (replicate others None))) None
+
+  known : AtDesk shape.geometry desk None m1
+  known = opened_known P A policy alloc global shape metadata zeros (replicate 64 blank) none size rest
+
+  quiet : Quiet shape.geometry desk m1
+  quiet = opened_quiet P A policy alloc global shape metadata zeros (replicate 64 blank) none size rest
+
+  may : MayBegin desk
+  may = opened_may P A policy alloc global shape metadata zeros (replicate 64 blank) none size rest
+
+  abbrev flushed : List (Happening P A)
+  flushed = flushes P A global cache_blocks meta_sectors within threshold others desk m1 (synced zeros) (all_resting rest) leads.card history sectors sectors (replicate 63 0) (replicate 63 0) doings known quiet may
+
+  abbrev settled : State P A
+  settled = durable P A global cache_blocks meta_sectors within threshold others desk m1 (synced zeros) (all_resting rest) leads.card history sectors sectors (replicate 63 0) (replicate 63 0) doings known quiet may
+
+  abbrev desk2 : DeskState P
+  desk2 = (target_in settled.phase desk).desk
+
+  settled_quiet : Quiet shape.geometry desk2 settled.devices.metadata
+  settled_quiet = durable_quiet P A global cache_blocks meta_sectors within threshold others desk m1 (synced zeros) (all_resting rest) leads.card history sectors sectors (replicate 63 0) (replicate 63 0) doings known quiet may
+
+  settled_is : (card : Card) × (settled ≡ rested P A settled.devices.metadata settled.devices.cache (only content ∷ synced sectors) desk2 card (all_resting rest))
+  settled_is = durable_is P A global cache_blocks meta_sectors within threshold others desk m1 (synced zeros) (all_resting rest) leads.card history sectors sectors (replicate 63 0) (replicate 63 0) doings known quiet may
+
+  generation : desk.generation ≡ formatted.root.generation + 1
+  generation = refl
+
+  settled_root : settled_quiet.stored.root ≡ bare_root shape.geometry (desk.generation + 1)
+  settled_root = root_there m1 (bare_root shape.geometry (desk.generation + 1)) settled_quiet.stored.root
+      (omega (arith, quiet.stores.size, ap (λ (g : Geometry). g.meta_sectors) quiet.same, within.meta_from)) (omega (arith, generation, formatted.first.generation)) (sym settled_quiet.generation)
+      ((settled_quiet.stores.represents (map newest settled.devices.metadata) (read-left settled.devices.metadata)).newest)
+
+  -- ---- the second opening
+
+  abbrev m3 : List History
+  m3 = crashed Metadata nothing_lands settled.devices.metadata
+
+  crash_of : Crashed settled.devices.metadata m3
+  crash_of = Crashed-crashed_from Metadata nothing_lands 0 settled.devices.metadata
+
+  none3 : HasNoTree shape.geometry m3
+  none3 = none_after P shape.geometry desk2 settled.devices.metadata m3 settled_quiet (ap (λ (r : Root). r.top) settled_root) (omega (arith, ap (λ (r : Root). r.generation) settled_root, generation, formatted.first.generation)) crash_of
+
+  size3 : length m3 ≡ meta_sectors
+  size3 = crash_of.size ∙ settled_quiet.stores.size ∙ ap (λ (g : Geometry). g.meta_sectors) settled_quiet.same
+
+  abbrev cache3 : List History
+  cache3 = crashed Cache nothing_lands settled.devices.cache
+
+  abbrev origin3 : List History
+  origin3 = only content ∷ crashed_from Origin nothing_lands 1 (synced sectors)
+
+  abbrev again : List (Happening P A)
+  again = first_opening P A policy alloc global shape m3 cache3 origin3 none3 size3 (all_resting (all_resting rest))
+
+  abbrev at_last : State P A
+  at_last = after_all shape (record { devices = record { metadata = m3; cache = cache3; origin = origin3 }; commit = None; phase = Gone; actors = resting ∷ all_resting (all_resting rest) }) again
+
+  abbrev desk3 : DeskState P
+  desk3 = (opened_target P A policy alloc global shape m3 cache3 origin3 none3 size3 (all_resting (all_resting rest))).desk
+
+  shows_last : shown shape at_last ≡ map newest (synced origin3)
+  shows_last = ap (λ (w : State P A). shown shape w) (opened_is P A policy alloc global shape m3 cache3 origin3 none3 size3 (all_resting (all_resting rest)))
+      ∙ origin_shown shape desk3.tree.entries (map newest (synced cache3)) (map newest (synced origin3)) cache_blocks (opened_known P A policy alloc global shape m3 cache3 origin3 none3 size3 (all_resting (all_resting rest))).entries refl
+
+  last_shown : slice_get (shown shape at_last) 0 ≡ Some content
+  last_shown = ap (λ (ss : List Bytes). slice_get ss 0) shows_last
