@@ -1,5 +1,5 @@
 -- A write, a read of what it wrote, a flush and a write that fails, where an opening was just answered done over an origin of one block.
-use Rattle.std.proofs.Common.{Global, ◌≡◌, ◌≤◌, ◌+◌, ◌*◌, inl, inr, ℕ, zero, suc, List, [], ◌∷◌, ◌++◌, Option, Some, None, refl, sym, ap, arith, slice_get, replicate}
+use Rattle.std.proofs.Common.{Global, ◌≡◌, ◌≤◌, inl, inr, ℕ, suc, List, [], ◌∷◌, ◌++◌, Option, Some, None, refl, arith, slice_get}
 use Rattle.std.proofs.lemmas.List.Elements.{All-nil, All-cons}
 use Rattle.std.proofs.lemmas.List.Sorted.{IsPermutation-refl}
 use Rattle.wb_types.specs.Limits.{IsWithinLimits}
@@ -9,7 +9,6 @@ use Rattle.wb_types.specs.declared.mode.Dev.TheVariants.{Metadata, Cache, Origin
 use Rattle.wb_types.specs.declared.mode.Dev.{Dev}
 use Rattle.wb_types.specs.declared.number.OBlock.{OBlock}
 use Rattle.wb_disk.specs.Device.{Content as Bytes, History, only, newest, synced}
-use Rattle.wb_disk.specs.Memory.{blank}
 use Rattle.wb_disk.specs.Crash.{Choice, Applies, crashed, crashed_from}
 use Rattle.wb_disk.specs.Failing.{MayFail}
 use Rattle.wb_disk.specs.declared.crash_choice.Base.TheVariants.{Durable}

@@ -6,7 +6,6 @@ use Rattle.wb_types.specs.declared.mode.Mode.TheVariants.{Writeback}
 use Rattle.wb_types.specs.declared.mode.Dev.TheVariants.{Metadata, Cache, Origin}
 use Rattle.wb_disk.specs.Device.{History, newest, synced}
 use Rattle.wb_disk.specs.Memory.{blank}
-use Rattle.wb_meta.specs.Formats.{IsFormatted}
 use Rattle.wb_meta.specs.Reads.{sectors_read}
 use Rattle.wb_meta.specs.Steps.{slot_of}
 use Rattle.wb_meta.specs.declared.read_steps.ReadSteps.{ReadSteps}

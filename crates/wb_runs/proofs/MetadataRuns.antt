@@ -1,6 +1,5 @@
 -- Every run keeps what is known of the metadata.
-use Rattle.std.proofs.Common.{◌≡◌, inl, inr, ℕ, List, [], ◌∷◌, Option, Some, None, sym, ap, subst, length, slice_get, replicate}
-use Rattle.wb_types.specs.declared.geometry.Geometry.{Geometry}
+use Rattle.std.proofs.Common.{◌≡◌, inl, inr, ℕ, List, [], ◌∷◌, Option, Some, None, sym, subst, length, slice_get}
 use Rattle.wb_types.specs.declared.mode.Dev.TheVariants.{Metadata}
 use Rattle.wb_disk.specs.Device.{Content as Bytes, History}
 use Rattle.wb_disk.specs.Failing.{lands}
@@ -9,7 +8,6 @@ use Rattle.wb_disk.specs.Crashes.{MayLeave}
 use Rattle.wb_disk.proofs.Crashes.{Crashed-crashed_from}
 use Rattle.wb_meta.specs.Formats.{IsFormatted}
 use Rattle.wb_meta.specs.Representing.{Represents, Stored}
-use Rattle.wb_tree.specs.Reading.{nothing_found}
 use Rattle.wb_tasks.specs.Plan.{Plan, want, device_of}
 use Rattle.wb_tasks.specs.declared.step.Want.{Want}
 use Rattle.wb_tasks.specs.declared.step.Got.{Got}

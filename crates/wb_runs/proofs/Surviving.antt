@@ -1,10 +1,10 @@
 -- A run through an opening, a write, a read of it, a flush, a write that fails, a crash and a second opening that shows the first write.
-use Rattle.std.proofs.Common.{Global, ◌≡◌, ◌∙◌, ◌<◌, ◌≤◌, ◌+◌, ◌%◌, ◌^◌, inl, inr, ℕ, suc, List, [], ◌∷◌, ◌++◌, Option, Some, None, refl, sym, ap, subst, arith, length, map, slice_get, replicate}
+use Rattle.std.proofs.Common.{Global, ◌≡◌, ◌∙◌, ◌<◌, ◌≤◌, ◌+◌, ◌%◌, ◌^◌, ℕ, suc, List, [], ◌∷◌, ◌++◌, Option, Some, None, refl, sym, ap, subst, arith, length, map, slice_get, replicate}
 use Rattle.std.proofs.lemmas.Option.{slice_get-get_or, slice_get-map}
 use Rattle.std.proofs.lemmas.List.{length-map}
 use lib.ListN.{get_or}
 use Rattle.std.proofs.Math.Nat.{mod-lt}
-use Rattle.wb_disk.specs.Device.{Content as Bytes, History, newest, synced, written, added}
+use Rattle.wb_disk.specs.Device.{Content as Bytes, History, newest, synced, written}
 use Rattle.wb_disk.specs.Memory.{blank}
 use Rattle.wb_disk.proofs.Leaving.{newest-synced}
 use Rattle.wb_meta.proofs.Histories.{newest-added}
@@ -20,7 +20,7 @@ use Rattle.wb_types.specs.Limits.{IsWithinLimits}
 use Rattle.wb_disk.specs.Device.{Crashed, only}
 use Rattle.wb_disk.proofs.Leaving.{read-left, crash-left, left-crashed}
 use Rattle.wb_disk.proofs.Crashes.{Crashed-crashed_from}
-use Rattle.wb_tree.specs.Reading.{Nodes, nothing_found, tree_read, top_read}
+use Rattle.wb_tree.specs.Reading.{nothing_found, top_read}
 use Rattle.wb_meta.specs.Representing.{Represents}
 use Rattle.wb_meta.specs.Formats.{IsFormatted}
 use Rattle.wb_desk.specs.Desks.{DeskState}
@@ -34,13 +34,19 @@ use Rattle.wb_runs.specs.Happenings.{Happening}
 use Rattle.wb_runs.specs.Effects.{after_happening, after_all, all_resting, IsRun}
 use Rattle.wb_runs.specs.Clerk.{Notes, Doing, begins, nobody}
 use Rattle.wb_runs.specs.Headline.{shown, noted, note_happening}
-use Rattle.wb_runs.specs.Possible.{one_block, PassesThrough}
+use Rattle.wb_runs.specs.Possible.{one_block, first_sector, PassesThrough, AboutToAnswer, FirstDoes, Survives, CanSurvive}
+use Rattle.wb_runs.specs.declared.job.Job.TheVariants.{Read, Write, Flush}
+use Rattle.wb_runs.specs.States.{OfTarget}
+use Rattle.wb_runs.specs.Clerk.{greater_of}
+use Rattle.wb_meta.specs.Reads.{sectors_read}
+use Rattle.wb_meta.specs.declared.read_steps.ReadSteps.{ReadSteps}
+use Rattle.wb_meta.specs.declared.read_steps.ReadSteps.TheVariants.{Begun, FirstSlotRead, RootFound, Done as AllRead}
 use Rattle.wb_runs.proofs.Metadata.{AtDesk, Quiet}
 use Rattle.wb_runs.proofs.Completing.{HasNoTree, formatted_none}
 use Rattle.wb_runs.specs.Clerk.{formatted as formatted_notes}
 use Rattle.wb_runs.proofs.Opened.{origin_shown}
-use Rattle.wb_runs.proofs.FirstOpening.{happenings as first_opening, is_run as opens_run, target as opened_target, rooted_metadata as opened_metadata, opened_is, known as opened_known, quiet as opened_quiet, may as opened_may, run_append, after_append}
-use Rattle.wb_runs.proofs.FirstLife.{Leads, does, rested, nothing_lands, target_in, flushes, durable, durable_is, durable_quiet, before, started, writes, reads, idle_is}
+use Rattle.wb_runs.proofs.FirstOpening.{happenings as first_opening, is_run as opens_run, target as opened_target, rooted_metadata as opened_metadata, opened_is, known as opened_known, quiet as opened_quiet, may as opened_may, stands as opens_stands, run_append, after_append}
+use Rattle.wb_runs.proofs.FirstLife.{Leads, does, rested, nothing_lands, idle_state, idle_notes, durable_state, durable_notes, target_in, flushes, flushes_run, flushes_answer, flushes_then, flush_answer, durable, durable_is, durable_quiet, durable_noted, fails, fails_run, fails_then, crash, crash_run, crashed_is, writes_run, writes_then, reads_run, reads_then, read_answer, idle_noted, before, started, writes, reads, idle_is}
 use Rattle.wb_tasks.specs.declared.step.Answer.TheVariants.{Done as Finished}
 use Rattle.wb_tasks.specs.declared.step.Want.TheVariants.{End}
 use Rattle.wb_tasks.specs.declared.step.Got.TheVariants.{Done}
@@ -222,3 +228,85 @@ module _ (P A : Type 0) (policy : P) (alloc : A) (global : Global) (cache_blocks
 
   last_shown : slice_get (shown shape at_last) 0 ≡ Some content
   last_shown = ap (λ (ss : List Bytes). slice_get ss 0) shows_last
+
+  -- ---- the whole run
+
+  abbrev ends : Happening P A
+  ends = does P A global cache_blocks meta_sectors within threshold others (End Finished) Done
+
+  abbrev failing : List (Happening P A)
+  failing = fails P A global cache_blocks meta_sectors within threshold others desk2 settled.devices.metadata settled.devices.cache (all_resting rest) settled_is.0 other (only content) (synced sectors) sectors history (replicate 63 0) (greater_of (replicate 63 0) (replicate 63 0)) doings
+
+  abbrev crashes : Happening P A
+  crashes = crash P A global cache_blocks meta_sectors within threshold others desk2 settled.devices.metadata settled.devices.cache (all_resting rest) settled_is.0 other (only content) (synced sectors) sectors history (replicate 63 0) (greater_of (replicate 63 0) (replicate 63 0)) doings
+
+  idle_is_then : after_all shape (after_all shape (after_all shape from wrote) read) (ends ∷ []) ≡ rested P A m1 (synced zeros) (history ∷ sectors) desk leads.card (all_resting rest)
+  idle_is_then = sym (after_append shape (after_all shape from wrote) read (ends ∷ [])) ∙ sym (after_append shape from wrote (read ++ ends ∷ [])) ∙ leads.is
+
+  -- what is so after each stretch
+  abbrev WasOpened : State P A → Notes → Type 0
+  WasOpened w n = OfTarget w.phase (λ target. Unit {0}) × (slice_get (shown shape w) 0 ≡ Some content)
+
+  abbrev HasFailed : State P A → Notes → Type 0
+  HasFailed w n = FirstDoes n (λ doing. (doing.job ≡ Write first_sector other) × (doing.failed ≡ Origin ∷ [])) × (slice_get n.floors 0 ≡ Some 1)
+
+  abbrev IsDurable : State P A → Notes → Type 0
+  IsDurable w n = AboutToAnswer Flush w × (slice_get n.finished 0 ≡ Some 1) × (slice_get n.floors 0 ≡ Some 0)
+
+  abbrev IsGone : State P A → Notes → Type 0
+  IsGone w n = ¬ OfTarget w.phase (λ target. Unit {0})
+
+  -- ---- from the last stretch to the first
+
+  abbrev idle : State P A
+  idle = idle_state P A global cache_blocks meta_sectors within threshold others desk m1 (synced zeros) (all_resting rest) leads.card history sectors sectors (replicate 63 0) (replicate 63 0) doings known quiet may
+
+  abbrev idle_n : Notes
+  idle_n = idle_notes P A global cache_blocks meta_sectors within threshold others desk m1 (synced zeros) (all_resting rest) leads.card history sectors sectors (replicate 63 0) (replicate 63 0) doings known quiet may
+
+  abbrev calm : State P A
+  calm = durable_state P A global cache_blocks meta_sectors within threshold others desk2 settled.devices.metadata settled.devices.cache (all_resting rest) settled_is.0 other (only content) (synced sectors) sectors history (replicate 63 0) (greater_of (replicate 63 0) (replicate 63 0)) doings
+
+  abbrev calm_n : Notes
+  calm_n = durable_notes P A global cache_blocks meta_sectors within threshold others desk2 settled.devices.metadata settled.devices.cache (all_resting rest) settled_is.0 other (only content) (synced sectors) sectors history (replicate 63 0) (greater_of (replicate 63 0) (replicate 63 0)) doings
+
+  abbrev down : State P A
+  down = record { devices = record { metadata = m3; cache = cache3; origin = origin3 }; commit = None; phase = Gone; actors = resting ∷ all_resting (all_resting rest) }
+
+  last_stretch : (n : Notes) → PassesThrough shape (after_all shape (after_all shape calm failing) (crashes ∷ [])) n ((again, WasOpened) ∷ [])
+  last_stretch n = along shape (after_all shape (after_all shape calm failing) (crashes ∷ [])) down n n [] again WasOpened [] (crashed_is P A global cache_blocks meta_sectors within threshold others desk2 settled.devices.metadata settled.devices.cache (all_resting rest) settled_is.0 other (only content) (synced sectors) sectors history (replicate 63 0) (greater_of (replicate 63 0) (replicate 63 0)) doings) refl tt (opens_run P A policy alloc global shape m3 cache3 origin3 none3 size3 (all_resting (all_resting rest)))
+      (opens_stands P A policy alloc global shape m3 cache3 origin3 none3 size3 (all_resting (all_resting rest)), last_shown) tt
+
+  crash_stretch : PassesThrough shape (after_all shape calm failing) (noted shape calm calm_n failing) ((crashes ∷ [], IsGone) ∷ (again, WasOpened) ∷ [])
+  crash_stretch = (crash_run P A global cache_blocks meta_sectors within threshold others desk2 settled.devices.metadata settled.devices.cache (all_resting rest) settled_is.0 other (only content) (synced sectors) sectors history (replicate 63 0) (greater_of (replicate 63 0) (replicate 63 0)) doings, (λ stands. stands), last_stretch (noted shape (after_all shape calm failing) (noted shape calm calm_n failing) (crashes ∷ [])))
+
+  fail_stretch : PassesThrough shape (after_all shape idle flushed) (noted shape idle idle_n flushed) ((ends ∷ failing, HasFailed) ∷ (crashes ∷ [], IsGone) ∷ (again, WasOpened) ∷ [])
+  fail_stretch = along shape (after_all shape idle flushed) calm (noted shape idle idle_n flushed) calm_n (ends ∷ []) failing HasFailed ((crashes ∷ [], IsGone) ∷ (again, WasOpened) ∷ []) settled_is.1 (durable_noted P A global cache_blocks meta_sectors within threshold others desk m1 (synced zeros) (all_resting rest) leads.card history sectors sectors (replicate 63 0) (replicate 63 0) doings known quiet may) (flush_answer P A global cache_blocks meta_sectors within threshold others desk m1 (synced zeros) (all_resting rest) leads.card history sectors sectors (replicate 63 0) (replicate 63 0) doings known quiet may, tt)
+      (fails_run P A global cache_blocks meta_sectors within threshold others desk2 settled.devices.metadata settled.devices.cache (all_resting rest) settled_is.0 other (only content) (synced sectors) sectors history (replicate 63 0) (greater_of (replicate 63 0) (replicate 63 0)) doings) (fails_then P A global cache_blocks meta_sectors within threshold others desk2 settled.devices.metadata settled.devices.cache (all_resting rest) settled_is.0 other (only content) (synced sectors) sectors history (replicate 63 0) (greater_of (replicate 63 0) (replicate 63 0)) doings) crash_stretch
+
+  flush_stretch : PassesThrough shape (after_all shape (after_all shape from wrote) read) (noted shape (after_all shape from wrote) (noted shape from n1 wrote) read)
+      ((ends ∷ flushed, IsDurable) ∷ (ends ∷ failing, HasFailed) ∷ (crashes ∷ [], IsGone) ∷ (again, WasOpened) ∷ [])
+  flush_stretch = along shape (after_all shape (after_all shape from wrote) read) idle (noted shape (after_all shape from wrote) (noted shape from n1 wrote) read) idle_n (ends ∷ []) flushed IsDurable ((ends ∷ failing, HasFailed) ∷ (crashes ∷ [], IsGone) ∷ (again, WasOpened) ∷ [])
+      idle_is_then (idle_noted P A global cache_blocks meta_sectors within threshold others desk m1 (synced zeros) (all_resting rest) content first sectors sectors (replicate 63 0) (replicate 63 0) doings) (read_answer P A global cache_blocks meta_sectors within threshold others desk m1 (synced zeros) (all_resting rest) content first sectors sectors (replicate 63 0) (replicate 63 0) doings, tt) (flushes_run P A global cache_blocks meta_sectors within threshold others desk m1 (synced zeros) (all_resting rest) leads.card history sectors sectors (replicate 63 0) (replicate 63 0) doings known quiet may) (flushes_answer P A global cache_blocks meta_sectors within threshold others desk m1 (synced zeros) (all_resting rest) leads.card history sectors sectors (replicate 63 0) (replicate 63 0) doings known quiet may, (flushes_then P A global cache_blocks meta_sectors within threshold others desk m1 (synced zeros) (all_resting rest) leads.card history sectors sectors (replicate 63 0) (replicate 63 0) doings known quiet may).0, (flushes_then P A global cache_blocks meta_sectors within threshold others desk m1 (synced zeros) (all_resting rest) leads.card history sectors sectors (replicate 63 0) (replicate 63 0) doings known quiet may).1) fail_stretch
+
+  pub survives : Survives P A shape metadata content other
+  survives = record {
+    writing = opening ++ wrote;
+    reading = read;
+    flushing = ends ∷ flushed;
+    failing = ends ∷ failing;
+    crashing = crashes ∷ [];
+    opening = again;
+    passes = along shape (start shape metadata) from (formatted_notes shape) n1 opening wrote (λ w n. AboutToAnswer (Write first_sector content) w)
+        ((read, λ w n. AboutToAnswer (Read first_sector) w × FirstDoes n (λ doing. doing.readings ≡ record { sector = 0; content = content; latest = Some content } ∷ [])) ∷ (ends ∷ flushed, IsDurable) ∷ (ends ∷ failing, HasFailed) ∷ (crashes ∷ [], IsGone) ∷ (again, WasOpened) ∷ [])
+        opened_from opened_notes opening_run (writes_run P A global cache_blocks meta_sectors within threshold others desk m1 (synced zeros) (all_resting rest) content first sectors sectors (replicate 63 0) (replicate 63 0) doings) (writes_then P A global cache_blocks meta_sectors within threshold others desk m1 (synced zeros) (all_resting rest) content first sectors sectors (replicate 63 0) (replicate 63 0) doings) (reads_run P A global cache_blocks meta_sectors within threshold others desk m1 (synced zeros) (all_resting rest) content first sectors sectors (replicate 63 0) (replicate 63 0) doings, reads_then P A global cache_blocks meta_sectors within threshold others desk m1 (synced zeros) (all_resting rest) content first sectors sectors (replicate 63 0) (replicate 63 0) doings, flush_stretch);
+  }
+
+pub can_survive : (P A : Type 0) → CanSurvive P A
+can_survive P A policy reading begun cache_blocks meta_sectors within threshold others metadata content other formatted size = by_reading reading begun
+  where
+    by_reading : (r : ReadSteps A) → sectors_read r ≡ 0 → Survives P A (record { geometry = one_block cache_blocks meta_sectors within; threshold = threshold; actors = suc others }) metadata content other
+    by_reading (Begun alloc global) e = survives P A policy alloc global cache_blocks meta_sectors within threshold others metadata content other formatted size
+    by_reading (FirstSlotRead alloc global found) e = absurd (omega (arith, e))
+    by_reading (RootFound global root loader) e = absurd (omega (arith, e))
+    by_reading (AllRead state) e = absurd (omega (arith, e))

@@ -1,5 +1,5 @@
 -- That the promises are not empty: runs that pass through what they speak of.
-use Rattle.std.specs.Prelude.{◌≡◌, ◌≤◌, ◌∷◌, ℕ, suc, List, [], Option, Some, length, slice_get}
+use Rattle.std.specs.Prelude.{◌≡◌, ◌≤◌, ◌∷◌, ℕ, suc, List, [], Some, length, slice_get}
 use Rattle.wb_types.specs.Limits.{IsWithinLimits}
 use Rattle.wb_types.specs.declared.extent.Extent.{Extent}
 use Rattle.wb_types.specs.declared.geometry.Geometry.{Geometry}
@@ -70,13 +70,13 @@ pub record Survives (P A : Type 0) (shape : Shape) (metadata : List History) (co
   pub crashing : List (Happening P A)
   pub opening : List (Happening P A)
   pub passes : PassesThrough shape (start shape metadata) (formatted shape) (
-    (writing, λ w n. AboutToAnswer (Write first_sector content) w)
-    ∷ (reading, λ w n. AboutToAnswer (Read first_sector) w × FirstDoes n (λ doing. doing.readings ≡ record { sector = 0; content = content; latest = Some content } ∷ []))
-    ∷ (flushing, λ w n. AboutToAnswer Flush w × (slice_get n.finished 0 ≡ Some 1) × (slice_get n.floors 0 ≡ Some 0))
-    ∷ (failing, λ w n. FirstDoes n (λ doing. (doing.job ≡ Write first_sector other) × (doing.failed ≡ Origin ∷ [])) × (slice_get n.floors 0 ≡ Some 1))
-    ∷ (crashing, λ w n. ¬ OfTarget w.phase (λ target. Unit {0}))
-    ∷ (opening, λ w n. OfTarget w.phase (λ target. Unit {0}) × (slice_get (shown shape w) 0 ≡ Some content))
-    ∷ [])
+      (writing, λ w n. AboutToAnswer (Write first_sector content) w)
+      ∷ (reading, λ w n. AboutToAnswer (Read first_sector) w × FirstDoes n (λ doing. doing.readings ≡ record { sector = 0; content = content; latest = Some content } ∷ []))
+      ∷ (flushing, λ w n. AboutToAnswer Flush w × (slice_get n.finished 0 ≡ Some 1) × (slice_get n.floors 0 ≡ Some 0))
+      ∷ (failing, λ w n. FirstDoes n (λ doing. (doing.job ≡ Write first_sector other) × (doing.failed ≡ Origin ∷ [])) × (slice_get n.floors 0 ≡ Some 1))
+      ∷ (crashing, λ w n. ¬ OfTarget w.phase (λ target. Unit {0}))
+      ∷ (opening, λ w n. OfTarget w.phase (λ target. Unit {0}) × (slice_get (shown shape w) 0 ≡ Some content))
+      ∷ [])
 
 -- There is one for any formatted metadata, a policy and a reading that has read nothing, and any two contents.
 abbrev pub CanSurvive : (P A : Type 0) → Type 0

@@ -1,7 +1,7 @@
 //! The theorems over all runs.
 
 ghost use Rattle.wb_runs.specs.Headline.{MetadataAreRead, AllCrashConsistent, AllOpeningsShowAllowed, AllRunsAreRight, OpeningsRefuseByCause};
-ghost use Rattle.wb_runs.specs.Possible.{CanFlush, CanOpen};
+ghost use Rattle.wb_runs.specs.Possible.{CanFlush, CanOpen, CanSurvive};
 ghost use Rattle.wb_runs.specs.Holding.{WordsAreUsedRightly};
 ghost use Rattle.wb_runs.specs.Latest.{ReadsGiveLatest};
 ghost use Rattle.wb_runs.specs.Progress.{NeverStuck};
@@ -66,4 +66,10 @@ pub fn a_target_can_be_opened<P, A>()
 /// And one in which a flush over that target comes to its answer, which is done, its root written.
 pub fn a_flush_can_be_done<P, A>()
     ensures { CanFlush P A }
+{}
+
+/// And over the smallest origin one that passes through a write that is answered done, a read that is given it, a flush that makes it
+/// durable, a write of something else that fails, a crash, and a second opening that is answered done and shows the first write.
+pub fn a_write_can_survive<P, A>()
+    ensures { CanSurvive P A }
 {}
