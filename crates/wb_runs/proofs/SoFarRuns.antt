@@ -27,7 +27,7 @@ use Rattle.wb_runs.specs.States.{Shape, State, Actor, Target, Phase, Stands, Gon
 use Rattle.wb_runs.specs.Happenings.{Chosen, Cut, Happening, OfSome, Gives, MayFailAt, Falters, DoesNotApply, StartGives, MayBe, task_job}
 use Rattle.wb_runs.specs.Effects.{task_then, actor_then, stepped, with_actor, cleared, given, job_of, device_done, device_failed, all_resting, after_what, after_happening, IsRun}
 use Rattle.wb_runs.specs.Clerk.{Notes, Doing, noted_step, noted_what, finished_note, begun, nobody, formatted}
-use Rattle.wb_runs.specs.Headline.{AnswersRightly, AllRight, OpensRightly, AllOpenRightly, ShowsRightly, ShownBy, RefusesByCause, RefusedRightly, RefusedBy, AllRefuseByCause, IsRightAnswer, DoingRightly, note_happening}
+use Rattle.wb_runs.specs.Headline.{SkipsRightly, AllSkipRightly, AnswersRightly, AllRight, OpensRightly, AllOpenRightly, ShowsRightly, ShownBy, RefusesByCause, RefusedRightly, RefusedBy, AllRefuseByCause, IsRightAnswer, DoingRightly, note_happening}
 use Rattle.wb_runs.specs.Holding.{TaskSuits}
 use Rattle.wb_runs.specs.Latest.{GivesLatest, IsGiven, ReadsRightly, AllReadRightly}
 use Rattle.wb_runs.proofs.Sectors.{set_other}
@@ -360,3 +360,16 @@ module _ (P A : Type 0) (shape : Shape) where
   pub run_right : (metadata : List History) (hs : List (Happening P A)) → IsFormatted shape.geometry metadata → length metadata ≡ shape.geometry.meta_sectors → IsRun shape (start shape metadata) hs → AllRight shape (start shape metadata) (formatted shape) hs
   run_right metadata hs f size run = all_right (start shape metadata) (formatted shape) hs (known_at_start P A shape metadata f size) (at_start P A shape metadata) (used_start P A shape metadata) (nobody_claims shape (start {P = P} {A = A} shape metadata).actors shape.actors) run
       (run_reads P A shape metadata hs f size run) (run_opens P A shape metadata hs f size run) (run_refuses P A shape metadata hs f size run)
+
+  -- ---- what is skipped
+
+  skips_rightly : (w : State P A) (event : Event) (what : What) (read : List Bytes) (chosen : Chosen P A) → MayBe shape w event what read chosen → SkipsRightly w event what
+  skips_rightly w event Skipped read chosen h = h.1
+  skips_rightly w event (Refused refusal) read chosen h = tt
+  skips_rightly w event Started read chosen h = tt
+  skips_rightly w event (Stepped next got) read chosen h = tt
+  skips_rightly w event Stopped read chosen h = tt
+
+  pub all_skip : (w : State P A) (hs : List (Happening P A)) → IsRun shape w hs → AllSkipRightly shape w hs
+  all_skip w [] run = tt
+  all_skip w (h ∷ hs) run = (skips_rightly w h.record_is.event h.record_is.what h.record_is.read.items h.chosen run.0, all_skip (after_happening shape w h) hs run.1)

@@ -19,9 +19,9 @@ use Rattle.wb_runs.specs.declared.job.Job.TheVariants.{Read, Write, Open}
 use Rattle.wb_runs.specs.declared.event.Event.{Event}
 use Rattle.wb_runs.specs.declared.event.Event.TheVariants.{Step}
 use Rattle.wb_runs.specs.declared.event.What.{What}
-use Rattle.wb_runs.specs.declared.event.What.TheVariants.{Stepped}
+use Rattle.wb_runs.specs.declared.event.What.TheVariants.{Skipped, Stepped}
 use Rattle.wb_runs.specs.States.{Shape, State, Phase, Stands, block_size, sector_count, start}
-use Rattle.wb_runs.specs.Happenings.{Happening, Chosen, MayBe}
+use Rattle.wb_runs.specs.Happenings.{Happening, Chosen, DoesNotApply, MayBe}
 use Rattle.wb_runs.specs.Effects.{after_happening, after_all, IsRun}
 use Rattle.wb_runs.specs.Clerk.{Notes, Doing, Reading, Position, note, formatted}
 
@@ -199,8 +199,20 @@ AllOpeningsShowAllowed P A = InEveryRun P A (λ shape metadata hs. AllOpenRightl
 abbrev pub OpeningsRefuseByCause : (P A : Type 0) → Type 0
 OpeningsRefuseByCause P A = InEveryRun P A (λ shape metadata hs. AllRefuseByCause shape (start shape metadata) (formatted shape) hs)
 
--- The whole promise of a run: each of its answers is right, and whatever a crash leaves after it is consistent.
+-- an event is skipped only where it does not apply
+abbrev pub SkipsRightly : {P A : Type 0} → State P A → Event → What → Type 0
+SkipsRightly w event Skipped = DoesNotApply w event
+SkipsRightly w event what = Unit {0}
+
+-- so every event of a run is
+abbrev pub AllSkipRightly : {P A : Type 0} → Shape → State P A → List (Happening P A) → Type 0
+AllSkipRightly shape w [] = Unit {0}
+AllSkipRightly shape w (h ∷ hs) = SkipsRightly w h.record_is.event h.record_is.what × AllSkipRightly shape (after_happening shape w h) hs
+
+-- The whole promise of a run: no event is skipped that applies, each answer is right, and whatever a crash leaves after it is
+-- consistent.
 pub record Headline {P A : Type 0} (shape : Shape) (metadata : List History) (hs : List (Happening P A)) : Type 0 where
+  pub skips : AllSkipRightly shape (start shape metadata) hs
   pub answers : AllRight shape (start shape metadata) (formatted shape) hs
   pub crashes : CrashConsistent shape (noted shape (start shape metadata) (formatted shape) hs) (after_all shape (start shape metadata) hs).devices
 
