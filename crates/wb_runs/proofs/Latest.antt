@@ -19,22 +19,22 @@ abbrev pub LatestAt : Option History → Option History → ℕ → Type 0
 LatestAt (Some h) (Some g) stale = (newest h ≡ newest g) ⊎ (1 ≤ stale)
 LatestAt h g stale = Unit {0}
 
--- a sector is of both
-abbrev pub OfBoth : Option History → Option History → Type 0
-OfBoth (Some h) (Some g) = Unit {0}
-OfBoth None None = Unit {0}
-OfBoth h g = ⊥
+-- a sector stands in both, or in neither
+abbrev pub BothOrNeither : Option History → Option History → Type 0
+BothOrNeither (Some h) (Some g) = Unit {0}
+BothOrNeither None None = Unit {0}
+BothOrNeither h g = ⊥
 
 abbrev pub AllLatest : List History → List History → (ℕ → ℕ) → Type 0
 AllLatest device histories stale = (at : ℕ) → LatestAt (slice_get device at) (slice_get histories at) (stale at)
 
-abbrev pub AllOfBoth : List History → List History → Type 0
-AllOfBoth device histories = (at : ℕ) → OfBoth (slice_get device at) (slice_get histories at)
+abbrev pub AllBothOrNeither : List History → List History → Type 0
+AllBothOrNeither device histories = (at : ℕ) → BothOrNeither (slice_get device at) (slice_get histories at)
 
-pub both_of_follows : (device histories : List History) (low top : ℕ → ℕ) → AllFollow device histories low top → AllOfBoth device histories
+pub both_of_follows : (device histories : List History) (low top : ℕ → ℕ) → AllFollow device histories low top → AllBothOrNeither device histories
 both_of_follows device histories low top f at = go (slice_get device at) (slice_get histories at) (f at)
   where
-    go : (h g : Option History) → FollowsAt h g (low at) (top at) → OfBoth h g
+    go : (h g : Option History) → FollowsAt h g (low at) (top at) → BothOrNeither h g
     go (Some h) (Some g) f = tt
     go None None f = tt
     go (Some h) None f = absurd f
@@ -53,20 +53,20 @@ newest-added h c = last_of-append h.first c h.later
 
 -- ---- device and history get a content
 
-both_here : (h g : Option History) (device histories : List History) (at k : ℕ) (c : Bytes) → slice_get device at ≡ h → slice_get histories at ≡ g → OfBoth h g →
-    LatestAt (slice_get (written device at c) at) (slice_get (written histories at c) at) k × OfBoth (slice_get (written device at c) at) (slice_get (written histories at c) at)
+both_here : (h g : Option History) (device histories : List History) (at k : ℕ) (c : Bytes) → slice_get device at ≡ h → slice_get histories at ≡ g → BothOrNeither h g →
+    LatestAt (slice_get (written device at c) at) (slice_get (written histories at c) at) k × BothOrNeither (slice_get (written device at c) at) (slice_get (written histories at c) at)
 both_here (Some h) (Some g) device histories at k c e f i = rw (written_same device at h c e, written_same histories at g c f) (inl (newest-added h c ∙ sym (newest-added g c)), tt)
 both_here None None device histories at k c e f i = rw (written_none device at c e, written_none histories at c f, e, f) (tt, tt)
 both_here None (Some g) device histories at k c e f i = absurd i
 both_here (Some h) None device histories at k c e f i = absurd i
 
-both_latest : (device histories : List History) (stale : ℕ → ℕ) (at : ℕ) (c : Bytes) → AllOfBoth device histories → AllLatest device histories stale → AllLatest (written device at c) (written histories at c) stale
+both_latest : (device histories : List History) (stale : ℕ → ℕ) (at : ℕ) (c : Bytes) → AllBothOrNeither device histories → AllLatest device histories stale → AllLatest (written device at c) (written histories at c) stale
 both_latest device histories stale at c i l other = elim (cases_eq other at) [
   | inl e ↦ rw e (both_here (slice_get device at) (slice_get histories at) device histories at (stale at) c refl refl (i at)).0
   | inr n ↦ rw (written_other device at other c n, written_other histories at other c n) (l other)
 ]
 
-both_of_both : (device histories : List History) (at : ℕ) (c : Bytes) → AllOfBoth device histories → AllOfBoth (written device at c) (written histories at c)
+both_of_both : (device histories : List History) (at : ℕ) (c : Bytes) → AllBothOrNeither device histories → AllBothOrNeither (written device at c) (written histories at c)
 both_of_both device histories at c i other = elim (cases_eq other at) [
   | inl e ↦ rw e (both_here (slice_get device at) (slice_get histories at) device histories at 0 c refl refl (i at)).1
   | inr n ↦ rw (written_other device at other c n, written_other histories at other c n) (i other)
@@ -86,13 +86,13 @@ alone_latest device histories stale at c m l other = elim (cases_eq other at) [
   | inr n ↦ rw (written_other histories at other c n) (l other)
 ]
 
-alone_here : (h g : Option History) (device histories : List History) (at : ℕ) (c : Bytes) → slice_get device at ≡ h → slice_get histories at ≡ g → OfBoth h g → OfBoth (slice_get device at) (slice_get (written histories at c) at)
+alone_here : (h g : Option History) (device histories : List History) (at : ℕ) (c : Bytes) → slice_get device at ≡ h → slice_get histories at ≡ g → BothOrNeither h g → BothOrNeither (slice_get device at) (slice_get (written histories at c) at)
 alone_here (Some h) (Some g) device histories at c e f i = rw (e, written_same histories at g c f) tt
 alone_here None None device histories at c e f i = rw (written_none histories at c f, e, f) tt
 alone_here None (Some g) device histories at c e f i = absurd i
 alone_here (Some h) None device histories at c e f i = absurd i
 
-alone_of_both : (device histories : List History) (at : ℕ) (c : Bytes) → AllOfBoth device histories → AllOfBoth device (written histories at c)
+alone_of_both : (device histories : List History) (at : ℕ) (c : Bytes) → AllBothOrNeither device histories → AllBothOrNeither device (written histories at c)
 alone_of_both device histories at c i other = elim (cases_eq other at) [
   | inl e ↦ rw e (alone_here (slice_get device at) (slice_get histories at) device histories at c refl refl (i at))
   | inr n ↦ rw (written_other histories at other c n) (i other)
@@ -100,13 +100,13 @@ alone_of_both device histories at c i other = elim (cases_eq other at) [
 
 -- ---- a whole extent, each of whose sectors lands or is of a block that is kept
 
-one_latest : (device : List History) (landed : Bool) (stale : ℕ → ℕ) (content : Bytes) (at : ℕ) (e : Entering) → AllOfBoth device e.histories → AllLatest device e.histories stale → (landed ≡ true) ⊎ (1 ≤ stale at) →
-    AllLatest (if landed then written device at content else device) (enter content at e).histories stale × AllOfBoth (if landed then written device at content else device) (enter content at e).histories
+one_latest : (device : List History) (landed : Bool) (stale : ℕ → ℕ) (content : Bytes) (at : ℕ) (e : Entering) → AllBothOrNeither device e.histories → AllLatest device e.histories stale → (landed ≡ true) ⊎ (1 ≤ stale at) →
+    AllLatest (if landed then written device at content else device) (enter content at e).histories stale × AllBothOrNeither (if landed then written device at content else device) (enter content at e).histories
 one_latest device true stale content at e i l m = (both_latest device e.histories stale at content i l, both_of_both device e.histories at content i)
 one_latest device false stale content at e i l (inl m) = absurd (cc)
 one_latest device false stale content at e i l (inr m) = (alone_latest device e.histories stale at content m l, alone_of_both device e.histories at content i)
 
-pub extent_latest : (lands : ℕ → Bool) (stale : ℕ → ℕ) (content : Bytes) (count at : ℕ) (device : List History) (e : Entering) → AllOfBoth device e.histories → AllLatest device e.histories stale →
+pub extent_latest : (lands : ℕ → Bool) (stale : ℕ → ℕ) (content : Bytes) (count at : ℕ) (device : List History) (e : Entering) → AllBothOrNeither device e.histories → AllLatest device e.histories stale →
     ((k : ℕ) → at ≤ k → k < at + count → (lands k ≡ true) ⊎ (1 ≤ stale k)) →
     AllLatest (written_where lands device at (replicate count content)) (enter_each content (rising at count) e).histories stale
 extent_latest lands stale content zero at device e i l m = l
@@ -145,17 +145,17 @@ begun_latest (h ∷ hs) stale (suc at) = begun_latest hs (λ k. stale (suc k)) a
 
 -- ---- what is read of sectors that nobody keeps is their last entry
 
-one_read : (device histories : List History) (at : ℕ) (content : Bytes) → HoldsNow device at content → OfBoth (slice_get device at) (slice_get histories at) → LatestAt (slice_get device at) (slice_get histories at) 0 → latest_of (slice_get histories at) ≡ Some content
+one_read : (device histories : List History) (at : ℕ) (content : Bytes) → HoldsNow device at content → BothOrNeither (slice_get device at) (slice_get histories at) → LatestAt (slice_get device at) (slice_get histories at) 0 → latest_of (slice_get histories at) ≡ Some content
 one_read device histories at content g i l =
-    go (slice_get histories at) (subst (λ (v : Option History). OfBoth v (slice_get histories at)) g.1 i) (subst (λ (v : Option History). LatestAt v (slice_get histories at) 0) g.1 l)
+    go (slice_get histories at) (subst (λ (v : Option History). BothOrNeither v (slice_get histories at)) g.1 i) (subst (λ (v : Option History). LatestAt v (slice_get histories at) 0) g.1 l)
     ∙ ap (λ (c : Bytes). Some c) g.2
   where
-    go : (o : Option History) → OfBoth (Some g.0) o → LatestAt (Some g.0) o 0 → latest_of o ≡ Some (newest g.0)
+    go : (o : Option History) → BothOrNeither (Some g.0) o → LatestAt (Some g.0) o 0 → latest_of o ≡ Some (newest g.0)
     go None i l = absurd i
     go (Some h) i (inl s) = ap (λ (c : Bytes). Some c) (sym s)
     go (Some h) i (inr m) = absurd (omega (arith, m))
 
-pub readings_latest : (device histories : List History) (at : ℕ) (read : List Bytes) → GivesEach device at read → AllOfBoth device histories →
+pub readings_latest : (device histories : List History) (at : ℕ) (read : List Bytes) → GivesEach device at read → AllBothOrNeither device histories →
     ((k : ℕ) → at ≤ k → k < at + length read → LatestAt (slice_get device k) (slice_get histories k) 0) → All IsLatest (readings_from histories at read)
 readings_latest device histories at [] g i l = All-nil IsLatest
 readings_latest device histories at (c ∷ cs) g i l = All-cons IsLatest (record { sector = at; content = c; latest = latest_of (slice_get histories at) }) (readings_from histories (suc at) cs)

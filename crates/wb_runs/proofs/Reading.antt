@@ -37,7 +37,7 @@ use Rattle.wb_runs.specs.Holding.{cards_of, TaskSuits, AllSuited}
 use Rattle.wb_words.specs.Rule.{LockRule}
 use Rattle.wb_runs.proofs.Contents.{Working, Linked, ReadKept, WriteKept, set_there}
 use Rattle.wb_runs.proofs.Serving.{read_next, write_next, flush_next}
-use Rattle.wb_runs.proofs.Latest.{AllLatest, AllOfBoth, both_of_follows, latest_more, extent_latest, synced_latest, partly_latest, readings_latest, LatestAt}
+use Rattle.wb_runs.proofs.Latest.{AllLatest, AllBothOrNeither, both_of_follows, latest_more, extent_latest, synced_latest, partly_latest, readings_latest, LatestAt}
 use Rattle.wb_runs.proofs.Keeping.{keeps, kept_of, kept_more, kept_has, none_kept, keeps_on, cell_keeps, failing_keeps, task_fails, is_failing}
 
 -- who is to move sectors has the block
@@ -53,7 +53,7 @@ module _ (P A : Type 0) (shape : Shape) (t : Target P) (devices : Devices (List 
   abbrev w : State P A
   w = record { devices = devices; commit = commit; phase = Stands t; actors = actors }
 
-  both : AllOfBoth devices.origin n.histories
+  both : AllBothOrNeither devices.origin n.histories
   both = both_of_follows devices.origin n.histories l.low l.top l.follow
 
   -- one actor keeps as much or more

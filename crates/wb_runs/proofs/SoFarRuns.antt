@@ -41,7 +41,7 @@ use Rattle.wb_runs.proofs.Runs.{free, by_what, at_start, run_opens}
 use Rattle.wb_runs.proofs.Causing.{run_refuses}
 use Rattle.wb_runs.proofs.LatestRuns.{run_reads}
 use Rattle.wb_runs.proofs.Ruling.{all_rest}
-use Rattle.wb_runs.proofs.Using.{Used, used_what, used_start}
+use Rattle.wb_runs.proofs.Using.{UsedRightly, used_what, used_start}
 use Rattle.wb_runs.proofs.SoFarSteps.{JobClaim, NotedClaim, TaskClaim, AllClaim, claim_set}
 use Rattle.wb_runs.proofs.SoFarNoted.{ClaimedThen, others_stay, no_claim, cell_read, cell_write, extent_read, extent_write, read_faults, write_faults, read_ends, write_ends}
 
@@ -69,7 +69,7 @@ module _ (P A : Type 0) (shape : Shape) where
   target_there Gone job n top actors i o k = absurd i
   target_there (Opens mode reading) job n top actors i o k = absurd (o i)
 
-  module _ (w : State P A) (n : Notes) (l : LinkedTo P A shape w n) (u : Used P A shape w.phase w.actors) (claims : AllClaim shape w.actors n.doings) (a : ℕ) (x : Actor) (e : slice_get w.actors a ≡ Some x) (shown : List Bytes) (got : Got) (read : List Bytes) where
+  module _ (w : State P A) (n : Notes) (l : LinkedTo P A shape w n) (u : UsedRightly P A shape w.phase w.actors) (claims : AllClaim shape w.actors n.doings) (a : ℕ) (x : Actor) (e : slice_get w.actors a ≡ Some x) (shown : List Bytes) (got : Got) (read : List Bytes) where
     abbrev Then : Want → Doing → Type 0
     Then next doing = AllClaim shape (slice_set w.actors a (actor_then shape w.phase x next got)) (noted_step shape shown n a (Some (Some doing)) next got read).doings
 
@@ -225,7 +225,7 @@ module _ (P A : Type 0) (shape : Shape) where
 
   -- ---- whoever takes a step
 
-  step_claims : (w : State P A) (n : Notes) (a : ℕ) (next : Want) (got : Got) (read : List Bytes) (chosen : Chosen P A) (o : Option Actor) → slice_get w.actors a ≡ o → LinkedTo P A shape w n → Used P A shape w.phase w.actors → AllClaim shape w.actors n.doings → (s : List Bytes) →
+  step_claims : (w : State P A) (n : Notes) (a : ℕ) (next : Want) (got : Got) (read : List Bytes) (chosen : Chosen P A) (o : Option Actor) → slice_get w.actors a ≡ o → LinkedTo P A shape w n → UsedRightly P A shape w.phase w.actors → AllClaim shape w.actors n.doings → (s : List Bytes) →
       OfSome o (λ x. OfSome x.task (λ doing. (next ≡ want doing.1) × Gives shape w doing.0 next got read chosen)) → ReadsRightly shape n (Step a) (Stepped next got) read →
       AllClaim shape (with_actor w o (λ x. stepped shape w a x next got chosen (λ step. device_done (job_of x.task) step chosen))).actors (noted_step shape s n a (slice_get n.doings a) next got read).doings
   step_claims w n a next got read chosen None e l u c s h right = absurd h
@@ -239,7 +239,7 @@ module _ (P A : Type 0) (shape : Shape) where
           subst (λ (d : Option (Option Doing)). AllClaim shape (slice_set w.actors a (actor_then shape w.phase x next got)) (noted_step shape s n a d next got read).doings) (sym k.is)
           (claims_done w n l u c a x e s got read chosen doing.0 doing.1 next xt k h.0 h.1 right)
 
-  fault_claims : (w : State P A) (n : Notes) (a : ℕ) (choice : Choice) (next : Want) (read : List Bytes) (chosen : Chosen P A) (o : Option Actor) → slice_get w.actors a ≡ o → LinkedTo P A shape w n → Used P A shape w.phase w.actors → AllClaim shape w.actors n.doings → (s : List Bytes) →
+  fault_claims : (w : State P A) (n : Notes) (a : ℕ) (choice : Choice) (next : Want) (read : List Bytes) (chosen : Chosen P A) (o : Option Actor) → slice_get w.actors a ≡ o → LinkedTo P A shape w n → UsedRightly P A shape w.phase w.actors → AllClaim shape w.actors n.doings → (s : List Bytes) →
       OfSome o (λ x. OfSome x.task (λ doing. (next ≡ want doing.1) × MayFailAt w.devices choice next × Falters w choice next chosen)) →
       AllClaim shape (with_actor w o (λ x. stepped shape w a x next Fault chosen (λ step. device_failed (lands (device_of step) choice) (job_of x.task) step chosen))).actors (noted_step shape s n a (slice_get n.doings a) next Fault read).doings
   fault_claims w n a choice next read chosen None e l u c s h = absurd h
@@ -299,7 +299,7 @@ module _ (P A : Type 0) (shape : Shape) where
 
   -- ---- every event
 
-  claims_what : (w : State P A) (n : Notes) (event : Event) (what : What) (read : List Bytes) (chosen : Chosen P A) (s : List Bytes) → LinkedTo P A shape w n → Used P A shape w.phase w.actors → AllClaim shape w.actors n.doings → MayBe shape w event what read chosen →
+  claims_what : (w : State P A) (n : Notes) (event : Event) (what : What) (read : List Bytes) (chosen : Chosen P A) (s : List Bytes) → LinkedTo P A shape w n → UsedRightly P A shape w.phase w.actors → AllClaim shape w.actors n.doings → MayBe shape w event what read chosen →
       ReadsRightly shape n event what read → AllClaim shape (after_what shape w event what chosen).actors (noted_what shape s n event what read).doings
   claims_what w n (Start a job) Started read chosen s l u c h right = starts w n a job chosen s l c h.1 h.2
   claims_what w n (Start a job) Skipped read chosen s l u c h right = c
@@ -326,7 +326,7 @@ module _ (P A : Type 0) (shape : Shape) where
 
   -- ---- every answer
 
-  one_answers : (w : State P A) (n : Notes) (a : ℕ) (answer : Answer) (got : Got) (read : List Bytes) (chosen : Chosen P A) (s : List Bytes) (o : Option Actor) → slice_get w.actors a ≡ o → LinkedTo P A shape w n → Used P A shape w.phase w.actors → AllClaim shape w.actors n.doings →
+  one_answers : (w : State P A) (n : Notes) (a : ℕ) (answer : Answer) (got : Got) (read : List Bytes) (chosen : Chosen P A) (s : List Bytes) (o : Option Actor) → slice_get w.actors a ≡ o → LinkedTo P A shape w n → UsedRightly P A shape w.phase w.actors → AllClaim shape w.actors n.doings →
       OfSome o (λ x. OfSome x.task (λ doing. (End answer ≡ want doing.1) × Gives shape w doing.0 (End answer) got read chosen)) → OpensRightly s n (Step a) (Stepped (End answer) got) → RefusesByCause n (Step a) (Stepped (End answer) got) → DoingRightly n s (slice_get n.doings a) answer
   one_answers w n a answer got read chosen s None e l u c h opens refuses = absurd h
   one_answers w n a answer got read chosen s (Some x) e l u c h opens refuses = by_task x.task refl h
@@ -341,12 +341,12 @@ module _ (P A : Type 0) (shape : Shape) where
           (λ f. subst (λ (j : Job). ShownBy n s j) k.job_is (subst (λ (d : Option (Option Doing)). ShowsRightly n s d) k.is (subst (λ (v : Answer). OpensRightly s n (Step a) (Stepped (End v) got)) f opens)))
           (λ r f. subst (λ (j : Job). RefusedBy k.doing j r) k.job_is (subst (λ (d : Option (Option Doing)). RefusedRightly d r) k.is (subst (λ (v : Answer). RefusesByCause n (Step a) (Stepped (End v) got)) f refuses)))))
 
-  answers_rightly : (w : State P A) (n : Notes) (event : Event) (what : What) (read : List Bytes) (chosen : Chosen P A) (s : List Bytes) → LinkedTo P A shape w n → Used P A shape w.phase w.actors → AllClaim shape w.actors n.doings → MayBe shape w event what read chosen →
+  answers_rightly : (w : State P A) (n : Notes) (event : Event) (what : What) (read : List Bytes) (chosen : Chosen P A) (s : List Bytes) → LinkedTo P A shape w n → UsedRightly P A shape w.phase w.actors → AllClaim shape w.actors n.doings → MayBe shape w event what read chosen →
       OpensRightly s n event what → RefusesByCause n event what → AnswersRightly s n event what
   answers_rightly w n (Step a) (Stepped (End answer) got) read chosen s l u c h opens refuses = one_answers w n a answer got read chosen s (slice_get w.actors a) refl l u c h opens refuses
   answers_rightly w n event what read chosen s l u c h opens refuses = tt
 
-  all_right : (w : State P A) (n : Notes) (hs : List (Happening P A)) → Known P A shape w → LinkedTo P A shape w n → Used P A shape w.phase w.actors → AllClaim shape w.actors n.doings → IsRun shape w hs →
+  all_right : (w : State P A) (n : Notes) (hs : List (Happening P A)) → Known P A shape w → LinkedTo P A shape w n → UsedRightly P A shape w.phase w.actors → AllClaim shape w.actors n.doings → IsRun shape w hs →
       AllReadRightly shape w n hs → AllOpenRightly shape w n hs → AllRefuseByCause shape w n hs → AllRight shape w n hs
   all_right w n [] known l u c r reads opens refuses = tt
   all_right w n (h ∷ hs) known l u c r reads opens refuses = (

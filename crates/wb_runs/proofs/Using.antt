@@ -72,7 +72,7 @@ module _ (P A : Type 0) (shape : Shape) where
   InPhase Gone actors = AllBlank actors
   InPhase (Opens mode reading) actors = AllBlank actors × AllOpen actors
 
-  pub record Used (phase : Phase P A) (actors : List Actor) : Type 0 where
+  pub record UsedRightly (phase : Phase P A) (actors : List Actor) : Type 0 where
     pub suited : AllSuited blocks actors
     pub here : InPhase phase actors
 
@@ -108,7 +108,7 @@ module _ (P A : Type 0) (shape : Shape) where
 
     -- on a device, done or failed
     on_device : (phase : Phase P A) (step : DeviceStep) (got : Got) (chosen : Chosen P A) → InPhase phase actors → Device step ≡ want plan → Fits (Device step) got →
-        Used (phase_then shape phase (Device step) got chosen) (slice_set actors a (actor_then {P = P} {A = A} shape phase x (Device step) got))
+        UsedRightly (phase_then shape phase (Device step) got chosen) (slice_set actors a (actor_then {P = P} {A = A} shape phase x (Device step) got))
     on_device (Stands t) step got chosen i h f = record {
       suited = set_suited _ (subst (λ (o : Option (Job × Plan)). TaskSuits blocks x.card (task_then o (Device step) got)) (sym xt) (goes_on (Device step) got x.card h f refl));
       here = rule_same blocks t.words actors a x _ i e refl;
@@ -124,7 +124,7 @@ module _ (P A : Type 0) (shape : Shape) where
 
     -- of the desk
     on_desk : (phase : Phase P A) (step : DeskStep) (got : Got) (chosen : Chosen P A) → InPhase phase actors → Desk step ≡ want plan → Fits (Desk step) got →
-        Used (phase_then shape phase (Desk step) got chosen) (slice_set actors a (actor_then {P = P} {A = A} shape phase x (Desk step) got))
+        UsedRightly (phase_then shape phase (Desk step) got chosen) (slice_set actors a (actor_then {P = P} {A = A} shape phase x (Desk step) got))
     on_desk (Stands t) step got chosen i h f = record {
       suited = set_suited _ (subst (λ (o : Option (Job × Plan)). TaskSuits blocks x.card (task_then o (Desk step) got)) (sym xt) (goes_on (Desk step) got x.card h f refl));
       here = rule_same blocks t.words actors a x _ i e refl;
@@ -140,7 +140,7 @@ module _ (P A : Type 0) (shape : Shape) where
 
     -- on the words
     on_words : (phase : Phase P A) (step : CellStep) (got : Got) (chosen : Chosen P A) → InPhase phase actors → Cell step ≡ want plan → Fits (Cell step) got → OfTarget phase (λ t. got ≡ got_of (result_of t.words step)) →
-        Used (phase_then shape phase (Cell step) got chosen) (slice_set actors a (actor_then {P = P} {A = A} shape phase x (Cell step) got))
+        UsedRightly (phase_then shape phase (Cell step) got chosen) (slice_set actors a (actor_then {P = P} {A = A} shape phase x (Cell step) got))
     on_words (Stands t) step got chosen i h f g = record {
       suited = set_suited _ (subst (λ (o : Option (Job × Plan)). TaskSuits blocks (card_after t.words step x.card) (task_then o (Cell step) got)) (sym xt) (goes_on (Cell step) got (card_after t.words step x.card) h f (t.words, g, refl)));
       here = rule_after blocks t.words actors a x _ step i e (subst (λ (v : Want). MayTake blocks x.card v) (sym h) (is_ready blocks plan x.card suits)) refl;
@@ -150,14 +150,14 @@ module _ (P A : Type 0) (shape : Shape) where
 
     -- an answer where a target stands, or none
     on_answer : (t : Target P) (answer : Answer) (got : Got) (chosen : Chosen P A) → InPhase (Stands t) actors → End answer ≡ want plan →
-        Used (phase_then shape (Stands t) (End answer) got chosen) (slice_set actors a (actor_then {P = P} {A = A} shape (Stands t) x (End answer) got))
+        UsedRightly (phase_then shape (Stands t) (End answer) got chosen) (slice_set actors a (actor_then {P = P} {A = A} shape (Stands t) x (End answer) got))
     on_answer t answer got chosen i h = record {
       suited = set_suited _ (subst (λ (o : Option (Job × Plan)). TaskSuits blocks x.card (task_then o (End answer) got)) (sym xt) (ends answer h));
       here = rule_same blocks t.words actors a x _ i e refl;
     }
 
     gone_answer : (answer : Answer) (got : Got) (chosen : Chosen P A) → InPhase Gone actors → End answer ≡ want plan →
-        Used (phase_then {P = P} {A = A} shape Gone (End answer) got chosen) (slice_set actors a (actor_then {P = P} {A = A} shape Gone x (End answer) got))
+        UsedRightly (phase_then {P = P} {A = A} shape Gone (End answer) got chosen) (slice_set actors a (actor_then {P = P} {A = A} shape Gone x (End answer) got))
     gone_answer answer got chosen i h = record {
       suited = set_suited _ (subst (λ (o : Option (Job × Plan)). TaskSuits blocks x.card (task_then o (End answer) got)) (sym xt) (ends answer h));
       here = blank_set _ (i a x e) i;
@@ -165,7 +165,7 @@ module _ (P A : Type 0) (shape : Shape) where
 
     -- an opening that is refused
     refused_answer : (mode : Mode) (reading : Option (ReadSteps A)) (refusal : _) (got : Got) → AllBlank actors → End (Refuses refusal) ≡ want plan →
-        Used Gone (slice_set actors a (actor_then {P = P} {A = A} shape (Opens mode reading) x (End (Refuses refusal)) got))
+        UsedRightly Gone (slice_set actors a (actor_then {P = P} {A = A} shape (Opens mode reading) x (End (Refuses refusal)) got))
     refused_answer mode reading refusal got b h = record {
       suited = set_suited _ (subst (λ (o : Option (Job × Plan)). TaskSuits blocks x.card (task_then o (End (Refuses refusal)) got)) (sym xt) (ends (Refuses refusal) h));
       here = blank_set _ (b a x e) b;
@@ -173,7 +173,7 @@ module _ (P A : Type 0) (shape : Shape) where
 
     -- and one that is done, over metadata without entries
     opened_answer : (mode : Mode) (stored : Stored A) (policy : P) (got : Got) → AllBlank actors → stored.tree.entries ≡ replicate shape.geometry.cache_blocks None →
-        Used (Stands (target_over shape mode policy stored)) (slice_set actors a (actor_then {P = P} {A = A} shape (Opens mode (Some (AllRead stored))) x (End Finished) got))
+        UsedRightly (Stands (target_over shape mode policy stored)) (slice_set actors a (actor_then {P = P} {A = A} shape (Opens mode (Some (AllRead stored))) x (End Finished) got))
     opened_answer mode stored policy got b n = record {
       suited = set_suited _ (subst (λ (o : Option (Job × Plan)). TaskSuits blocks (card_over shape x.card (Some (AllRead stored))) (task_then o (End Finished) got)) (sym xt) (ap (λ (c : Card). c.hold) blank));
       here = subst (λ (ws : Words). LockRule blocks ws (cards_of (slice_set actors a (actor_then {P = P} {A = A} shape (Opens mode (Some (AllRead stored))) x (End Finished) got)))) (sym fresh) (fresh_ruled blocks _ (blank_set _ blank b));
@@ -192,12 +192,12 @@ module _ (P A : Type 0) (shape : Shape) where
 
   module _ (w : State P A) (got : Got) (read : List Bytes) (chosen : Chosen P A) (a : ℕ) (x : Actor) (job : Job) (plan : Plan) (known : Known P A shape w) (e : slice_get w.actors a ≡ Some x) (xt : x.task ≡ Some (job, plan)) where
     abbrev Then : Phase P A → Want → Type 0
-    Then phase next = Used (phase_then shape phase next got chosen) (slice_set w.actors a (actor_then {P = P} {A = A} shape phase x next got))
+    Then phase next = UsedRightly (phase_then shape phase next got chosen) (slice_set w.actors a (actor_then {P = P} {A = A} shape phase x next got))
 
     -- an opening's answer
     opens : (mode : Mode) (reading : Option (ReadSteps A)) (answer : Answer) → w.phase ≡ Opens mode reading → AllSuited blocks w.actors → InPhase (Opens mode reading) w.actors → End answer ≡ want plan → Gives shape w job (End answer) got read chosen → Then (Opens mode reading) (End answer)
     opens mode reading (Refuses refusal) p all i h g =
-        subst (λ (c : Chosen P A). Used (phase_then shape (Opens mode reading) (End (Refuses refusal)) got c) (slice_set w.actors a (actor_then {P = P} {A = A} shape (Opens mode reading) x (End (Refuses refusal)) got))) (sym (plain job g))
+        subst (λ (c : Chosen P A). UsedRightly (phase_then shape (Opens mode reading) (End (Refuses refusal)) got c) (slice_set w.actors a (actor_then {P = P} {A = A} shape (Opens mode reading) x (End (Refuses refusal)) got))) (sym (plain job g))
         (refused_answer w.actors a x e job plan xt all mode reading refusal got i.0 h)
       where
         plain : (j : Job) → Gives shape w j (End (Refuses refusal)) got read chosen → chosen ≡ Plain
@@ -214,7 +214,7 @@ module _ (P A : Type 0) (shape : Shape) where
       where
         by_reading : (r : Option (ReadSteps A)) (c : Chosen P A) → DoesOpen (Opens mode r) w.commit c →
             Rattle.wb_runs.proofs.Metadata.MetadataKept shape.geometry (phase_then shape (Opens mode r) (End Finished) got c) (Rattle.wb_runs.specs.Effects.commit_then (Opens mode r) w.commit (End Finished) got c) w.devices.metadata →
-            Used (phase_then shape (Opens mode r) (End Finished) got c) (slice_set w.actors a (actor_then {P = P} {A = A} shape (Opens mode r) x (End Finished) got))
+            UsedRightly (phase_then shape (Opens mode r) (End Finished) got c) (slice_set w.actors a (actor_then {P = P} {A = A} shape (Opens mode r) x (End Finished) got))
         by_reading (Some (AllRead stored)) (Opened policy) d k = opened_answer w.actors a x e job plan xt all mode stored policy got i.0 k.entries
         by_reading (Some (Begun alloc global)) (Opened policy) d k = absurd d.0
         by_reading (Some (FirstSlotRead alloc global first)) (Opened policy) d k = absurd d.0
@@ -233,38 +233,38 @@ module _ (P A : Type 0) (shape : Shape) where
     given_word Flush step g = g.1
     given_word (Open mode) step g = g.1
 
-    steps : (next : Want) → Used w.phase w.actors → next ≡ want plan → Gives shape w job next got read chosen → Then w.phase next
+    steps : (next : Want) → UsedRightly w.phase w.actors → next ≡ want plan → Gives shape w job next got read chosen → Then w.phase next
     steps (Cell step) u h g = on_words w.actors a x e job plan xt u.suited w.phase step got chosen u.here h (gives_fits P A shape w got read chosen job (Cell step) tt g) (given_word job step g)
     steps (Device step) u h g = on_device w.actors a x e job plan xt u.suited w.phase step got chosen u.here h (gives_fits P A shape w got read chosen job (Device step) tt g)
     steps (Desk step) u h g = on_desk w.actors a x e job plan xt u.suited w.phase step got chosen u.here h (gives_fits P A shape w got read chosen job (Desk step) tt g)
     steps (End answer) u h g = answers w.phase answer refl u.suited u.here h g
 
   -- whoever takes it
-  stepped_used : (w : State P A) (a : ℕ) (next : Want) (got : Got) (read : List Bytes) (chosen : Chosen P A) (o : Option Actor) → slice_get w.actors a ≡ o → Known P A shape w → Used w.phase w.actors →
+  stepped_used : (w : State P A) (a : ℕ) (next : Want) (got : Got) (read : List Bytes) (chosen : Chosen P A) (o : Option Actor) → slice_get w.actors a ≡ o → Known P A shape w → UsedRightly w.phase w.actors →
       OfSome o (λ x. OfSome x.task (λ doing. (next ≡ want doing.1) × Gives shape w doing.0 next got read chosen)) →
-      Used (phase_then shape w.phase next got chosen) (with_actor w o (λ x. stepped shape w a x next got chosen (λ step. device_done (job_of x.task) step chosen))).actors
+      UsedRightly (phase_then shape w.phase next got chosen) (with_actor w o (λ x. stepped shape w a x next got chosen (λ step. device_done (job_of x.task) step chosen))).actors
   stepped_used w a next got read chosen None e k u h = absurd h
   stepped_used w a next got read chosen (Some x) e k u h = by_task x.task refl h
     where
       by_task : (t : Option (Job × Plan)) → x.task ≡ t → OfSome t (λ doing. (next ≡ want doing.1) × Gives shape w doing.0 next got read chosen) →
-          Used (phase_then shape w.phase next got chosen) (slice_set w.actors a (actor_then {P = P} {A = A} shape w.phase x next got))
+          UsedRightly (phase_then shape w.phase next got chosen) (slice_set w.actors a (actor_then {P = P} {A = A} shape w.phase x next got))
       by_task None xt h = absurd h
       by_task (Some doing) xt h = steps w got read chosen a x doing.0 doing.1 k e xt next u h.0 h.1
 
-  faulted_used : (w : State P A) (a : ℕ) (choice : Choice) (next : Want) (chosen : Chosen P A) (o : Option Actor) → slice_get w.actors a ≡ o → Used w.phase w.actors →
+  faulted_used : (w : State P A) (a : ℕ) (choice : Choice) (next : Want) (chosen : Chosen P A) (o : Option Actor) → slice_get w.actors a ≡ o → UsedRightly w.phase w.actors →
       OfSome o (λ x. OfSome x.task (λ doing. (next ≡ want doing.1) × MayFailAt w.devices choice next × Falters w choice next chosen)) →
-      Used (phase_then shape w.phase next Fault chosen) (with_actor w o (λ x. stepped shape w a x next Fault chosen (λ step. device_failed (lands (device_of step) choice) (job_of x.task) step chosen))).actors
+      UsedRightly (phase_then shape w.phase next Fault chosen) (with_actor w o (λ x. stepped shape w a x next Fault chosen (λ step. device_failed (lands (device_of step) choice) (job_of x.task) step chosen))).actors
   faulted_used w a choice next chosen None e u h = absurd h
   faulted_used w a choice next chosen (Some x) e u h = by_task x.task refl h
     where
-      by_next : (job : Job) (plan : Plan) (next : Want) → x.task ≡ Some (job, plan) → next ≡ want plan → MayFailAt w.devices choice next → Used (phase_then shape w.phase next Fault chosen) (slice_set w.actors a (actor_then {P = P} {A = A} shape w.phase x next Fault))
+      by_next : (job : Job) (plan : Plan) (next : Want) → x.task ≡ Some (job, plan) → next ≡ want plan → MayFailAt w.devices choice next → UsedRightly (phase_then shape w.phase next Fault chosen) (slice_set w.actors a (actor_then {P = P} {A = A} shape w.phase x next Fault))
       by_next job plan (Device step) xt h m = on_device w.actors a x e job plan xt u.suited w.phase step Fault chosen u.here h tt
       by_next job plan (Cell step) xt h m = absurd m
       by_next job plan (Desk step) xt h m = absurd m
       by_next job plan (End answer) xt h m = absurd m
 
       by_task : (t : Option (Job × Plan)) → x.task ≡ t → OfSome t (λ doing. (next ≡ want doing.1) × MayFailAt w.devices choice next × Falters w choice next chosen) →
-          Used (phase_then shape w.phase next Fault chosen) (slice_set w.actors a (actor_then {P = P} {A = A} shape w.phase x next Fault))
+          UsedRightly (phase_then shape w.phase next Fault chosen) (slice_set w.actors a (actor_then {P = P} {A = A} shape w.phase x next Fault))
       by_task None xt h = absurd h
       by_task (Some doing) xt h = by_next doing.0 doing.1 next xt h.0 h.1
 
@@ -280,18 +280,18 @@ module _ (P A : Type 0) (shape : Shape) where
   rest_open actors a x e = subst (λ (v : Actor). OpensOrRests v.task) (sym (all_rest actors a x e)) tt
 
   -- a request or a flush of an actor that has no task
-  starts_task : (phase : Phase P A) (actors : List Actor) (a : ℕ) (x y : Actor) → slice_get actors a ≡ Some x → y.card ≡ x.card → TaskSuits blocks y.card y.task → (¬ ¬ OfTarget phase (λ t. Unit {0})) → Used phase actors → Used phase (slice_set actors a y)
+  starts_task : (phase : Phase P A) (actors : List Actor) (a : ℕ) (x y : Actor) → slice_get actors a ≡ Some x → y.card ≡ x.card → TaskSuits blocks y.card y.task → (¬ ¬ OfTarget phase (λ t. Unit {0})) → UsedRightly phase actors → UsedRightly phase (slice_set actors a y)
   starts_task (Stands t) actors a x y e c s n u = record { suited = each_set actors a x y (λ (z : Actor). TaskSuits blocks z.card z.task) e s u.suited; here = rule_same blocks t.words actors a x y u.here e c }
   starts_task Gone actors a x y e c s n u = absurd (n (λ z. z))
   starts_task (Opens mode reading) actors a x y e c s n u = absurd (n (λ z. z))
 
-  holds_nothing : (w : State P A) (x : Actor) (a : ℕ) → Used w.phase w.actors → slice_get w.actors a ≡ Some x → x.task ≡ None → x.card.hold ≡ Nothing
+  holds_nothing : (w : State P A) (x : Actor) (a : ℕ) → UsedRightly w.phase w.actors → slice_get w.actors a ≡ Some x → x.task ≡ None → x.card.hold ≡ Nothing
   holds_nothing w x a u e f = subst (λ (t : Option (Job × Plan)). TaskSuits blocks x.card t) f (u.suited a x e)
 
   abbrev Started_so : State P A → ℕ → Job → Chosen P A → Option Actor → Type 0
-  Started_so w a job chosen o = Used (cleared w job).phase (with_actor (cleared w job) o (λ x. record (cleared w job) { actors = slice_set (cleared w job).actors a (given shape x job chosen) })).actors
+  Started_so w a job chosen o = UsedRightly (cleared w job).phase (with_actor (cleared w job) o (λ x. record (cleared w job) { actors = slice_set (cleared w job).actors a (given shape x job chosen) })).actors
 
-  starts : (w : State P A) (a : ℕ) (job : Job) (chosen : Chosen P A) → Used w.phase w.actors → (¬ DoesNotApply w (Start a job)) → StartGives shape job Started chosen → Started_so w a job chosen (slice_get (cleared w job).actors a)
+  starts : (w : State P A) (a : ℕ) (job : Job) (chosen : Chosen P A) → UsedRightly w.phase w.actors → (¬ DoesNotApply w (Start a job)) → StartGives shape job Started chosen → Started_so w a job chosen (slice_get (cleared w job).actors a)
   starts w a (Open mode) chosen u applies gives = by_actor (slice_get (all_resting w.actors) a) refl
     where
       by_actor : (o : Option Actor) → slice_get (all_resting w.actors) a ≡ o → Started_so w a (Open mode) chosen o
@@ -321,11 +321,11 @@ module _ (P A : Type 0) (shape : Shape) where
   -- ---- every event
 
   abbrev AfterWhat : State P A → Type 0
-  AfterWhat w = Used w.phase w.actors
+  AfterWhat w = UsedRightly w.phase w.actors
 
   -- where an actor is there, so are phase and actors after its step
   stepped_to : (w : State P A) (a : ℕ) (next : Want) (got : Got) (chosen : Chosen P A) (change : Job → DeviceStep → List History → List History) (o : Option Actor) → OfSome o (λ x. Unit {0}) →
-      Used (phase_then shape w.phase next got chosen) (with_actor w o (λ x. stepped shape w a x next got chosen (change (job_of x.task)))).actors → AfterWhat (with_actor w o (λ x. stepped shape w a x next got chosen (change (job_of x.task))))
+      UsedRightly (phase_then shape w.phase next got chosen) (with_actor w o (λ x. stepped shape w a x next got chosen (change (job_of x.task)))).actors → AfterWhat (with_actor w o (λ x. stepped shape w a x next got chosen (change (job_of x.task))))
   stepped_to w a next got chosen change None h u = absurd h
   stepped_to w a next got chosen change (Some x) h u = u
 
