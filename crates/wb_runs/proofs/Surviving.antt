@@ -254,7 +254,7 @@ module _ (P A : Type 0) (policy : P) (alloc : A) (global : Global) (cache_blocks
   IsDurable w n = AboutToAnswer Flush w × (slice_get n.finished 0 ≡ Some 1) × (slice_get n.floors 0 ≡ Some 0)
 
   abbrev IsGone : State P A → Notes → Type 0
-  IsGone w n = ¬ OfTarget w.phase (λ target. Unit {0})
+  IsGone w n = w.phase ≡ Gone
 
   -- ---- from the last stretch to the first
 
@@ -278,7 +278,7 @@ module _ (P A : Type 0) (policy : P) (alloc : A) (global : Global) (cache_blocks
       (opens_stands P A policy alloc global shape m3 cache3 origin3 none3 size3 (all_resting (all_resting rest)), last_shown) tt
 
   crash_stretch : PassesThrough shape (after_all shape calm failing) (noted shape calm calm_n failing) ((crashes ∷ [], IsGone) ∷ (again, WasOpened) ∷ [])
-  crash_stretch = (crash_run P A global cache_blocks meta_sectors within threshold others desk2 settled.devices.metadata settled.devices.cache (all_resting rest) settled_is.0 other (only content) (synced sectors) sectors history (replicate 63 0) (greater_of (replicate 63 0) (replicate 63 0)) doings, (λ stands. stands), last_stretch (noted shape (after_all shape calm failing) (noted shape calm calm_n failing) (crashes ∷ [])))
+  crash_stretch = (crash_run P A global cache_blocks meta_sectors within threshold others desk2 settled.devices.metadata settled.devices.cache (all_resting rest) settled_is.0 other (only content) (synced sectors) sectors history (replicate 63 0) (greater_of (replicate 63 0) (replicate 63 0)) doings, ap (λ (w : State P A). w.phase) (crashed_is P A global cache_blocks meta_sectors within threshold others desk2 settled.devices.metadata settled.devices.cache (all_resting rest) settled_is.0 other (only content) (synced sectors) sectors history (replicate 63 0) (greater_of (replicate 63 0) (replicate 63 0)) doings), last_stretch (noted shape (after_all shape calm failing) (noted shape calm calm_n failing) (crashes ∷ [])))
 
   fail_stretch : PassesThrough shape (after_all shape idle flushed) (noted shape idle idle_n flushed) ((ends ∷ failing, HasFailed) ∷ (crashes ∷ [], IsGone) ∷ (again, WasOpened) ∷ [])
   fail_stretch = along shape (after_all shape idle flushed) calm (noted shape idle idle_n flushed) calm_n (ends ∷ []) failing HasFailed ((crashes ∷ [], IsGone) ∷ (again, WasOpened) ∷ []) settled_is.1 (durable_noted P A global cache_blocks meta_sectors within threshold others desk m1 (synced zeros) (all_resting rest) leads.card history sectors sectors (replicate 63 0) (replicate 63 0) doings known quiet may) (flush_answer P A global cache_blocks meta_sectors within threshold others desk m1 (synced zeros) (all_resting rest) leads.card history sectors sectors (replicate 63 0) (replicate 63 0) doings known quiet may, tt)

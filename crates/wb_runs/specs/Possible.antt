@@ -13,7 +13,7 @@ use Rattle.wb_tasks.specs.declared.step.Answer.TheVariants.{Done as Finished}
 use Rattle.wb_tasks.specs.declared.step.Want.TheVariants.{End}
 use Rattle.wb_runs.specs.declared.job.Job.{Job}
 use Rattle.wb_runs.specs.declared.job.Job.TheVariants.{Read, Write, Flush}
-use Rattle.wb_runs.specs.States.{Shape, State, OfTarget, start}
+use Rattle.wb_runs.specs.States.{Shape, State, Gone, OfTarget, start}
 use Rattle.wb_runs.specs.Happenings.{Happening, AtWork, OfSome}
 use Rattle.wb_runs.specs.Effects.{after_all, IsRun}
 use Rattle.wb_runs.specs.Clerk.{Notes, Doing, formatted}
@@ -74,7 +74,7 @@ pub record Survives (P A : Type 0) (shape : Shape) (metadata : List History) (co
       ∷ (reading, λ w n. AboutToAnswer (Read first_sector) w × FirstDoes n (λ doing. doing.readings ≡ record { sector = 0; content = content; latest = Some content } ∷ []))
       ∷ (flushing, λ w n. AboutToAnswer Flush w × (slice_get n.finished 0 ≡ Some 1) × (slice_get n.floors 0 ≡ Some 0))
       ∷ (failing, λ w n. FirstDoes n (λ doing. (doing.job ≡ Write first_sector other) × (doing.failed ≡ Origin ∷ [])) × (slice_get n.floors 0 ≡ Some 1))
-      ∷ (crashing, λ w n. ¬ OfTarget w.phase (λ target. Unit {0}))
+      ∷ (crashing, λ w n. w.phase ≡ Gone)
       ∷ (opening, λ w n. OfTarget w.phase (λ target. Unit {0}) × (slice_get (shown shape w) 0 ≡ Some content))
       ∷ [])
 

@@ -7,10 +7,11 @@ ghost use Rattle.wb_runs.specs.Latest.{ReadsGiveLatest};
 ghost use Rattle.wb_runs.specs.Progress.{NeverStuck};
 
 /// In every interleaving of reads, writes, flushes and openings, with failing steps and crashes anywhere and over any number of lives:
-/// an event is skipped only where it does not apply; a read that is answered done was given each of its sectors exactly once, and each is the last entry of the sector's write history at
-/// the step that read it; a write that is answered done has entered each of its sectors exactly once; what an opening shows that is
-/// answered done, and what one would show after any crash, is of each sector an entry of its history at its durable floor or later; and an
-/// opening is refused only by a device of which a step of it failed, for want of memory, or since no generation is left.
+/// an event is skipped only where it does not apply; a read that is answered done was given each of its sectors exactly once, and each
+/// is the last entry of the sector's write history at the step that read it; a write that is answered done has entered each of its
+/// sectors exactly once; what an opening shows that is answered done, and what one would show after any crash, is of each sector an
+/// entry of its history at its durable floor or later; and an opening is refused only by a device of which a step of it failed, for
+/// want of memory, or since no generation is left.
 pub fn headline<P, A>()
     ensures { AllRunsAreRight P A }
 {}
