@@ -231,11 +231,11 @@ module _ (P A : Type 0) (global : Global) (cache_blocks meta_sectors : ℕ) (wit
     abbrev words_of : (cell number misses : ℕ) → (written : ℕ) → Words
     words_of cell number misses written = record { cells = cell ∷ []; seals = 0 ∷ []; numbers = number ∷ []; read_hits = 0; read_misses = misses; write_hits = 0; write_misses = written; fail = 0 }
 
-    abbrev W : Job
-    W = Write first_sector content
+    abbrev the_write : Job
+    the_write = Write first_sector content
 
-    abbrev R : Job
-    R = Read first_sector
+    abbrev the_read : Job
+    the_read = Read first_sector
 
     abbrev wrote : List History
     wrote = record { first = first; later = content ∷ [] } ∷ sectors
@@ -256,46 +256,46 @@ module _ (P A : Type 0) (global : Global) (cache_blocks meta_sectors : ℕ) (wit
       on_answer words plan card hs k = record { card = k.card; is = k.is }
 
     module _ (origin : List History) (To : Card → State P A) where
-      on_write : (words : Words) (card : Card) (hs : List (Happening P A)) → ((card' : Card) → Leads (working words origin (Some (W, table (task_job shape W (first_sector ∷ [])))) card') hs To) → Leads (working words origin None card) (happened global (Start 0 W) Started (Cut (first_sector ∷ [])) ∷ hs) To
+      on_write : (words : Words) (card : Card) (hs : List (Happening P A)) → ((card' : Card) → Leads (working words origin (Some (the_write, table (task_job shape the_write (first_sector ∷ [])))) card') hs To) → Leads (working words origin None card) (happened global (Start 0 the_write) Started (Cut (first_sector ∷ [])) ∷ hs) To
       on_write words card hs k = let r = k card in record { card = r.card; is = r.is }
 
-      on_read : (words : Words) (card : Card) (hs : List (Happening P A)) → ((card' : Card) → Leads (working words origin (Some (R, table (task_job shape R (first_sector ∷ [])))) card') hs To) → Leads (working words origin None card) (happened global (Start 0 R) Started (Cut (first_sector ∷ [])) ∷ hs) To
+      on_read : (words : Words) (card : Card) (hs : List (Happening P A)) → ((card' : Card) → Leads (working words origin (Some (the_read, table (task_job shape the_read (first_sector ∷ [])))) card') hs To) → Leads (working words origin None card) (happened global (Start 0 the_read) Started (Cut (first_sector ∷ [])) ∷ hs) To
       on_read words card hs k = let r = k card in record { card = r.card; is = r.is }
 
-      on_given : (words : Words) (plan : Plan) (card : Card) (hs : List (Happening P A)) → Leads (working words origin (Some (R, after plan Done)) card) hs To → Leads (working words origin (Some (R, plan)) card) (was_given global content (Step 0) (Stepped (Device (ReadExtent Origin first_sector)) Done) ∷ hs) To
+      on_given : (words : Words) (plan : Plan) (card : Card) (hs : List (Happening P A)) → Leads (working words origin (Some (the_read, after plan Done)) card) hs To → Leads (working words origin (Some (the_read, plan)) card) (was_given global content (Step 0) (Stepped (Device (ReadExtent Origin first_sector)) Done) ∷ hs) To
       on_given words plan card hs k = record { card = k.card; is = k.is }
 
-    on_extent : (To : Card → State P A) (words : Words) (plan : Plan) (card : Card) (hs : List (Happening P A)) → Leads (working words wrote (Some (W, after plan Done)) card) hs To → Leads (working words (only first ∷ sectors) (Some (W, plan)) card) (does (Device (WriteExtent Origin first_sector)) Done ∷ hs) To
+    on_extent : (To : Card → State P A) (words : Words) (plan : Plan) (card : Card) (hs : List (Happening P A)) → Leads (working words wrote (Some (the_write, after plan Done)) card) hs To → Leads (working words (only first ∷ sectors) (Some (the_write, plan)) card) (does (Device (WriteExtent Origin first_sector)) Done ∷ hs) To
     on_extent To words plan card hs k = record { card = k.card; is = k.is }
 
     -- a write, and a read
     write_leads : (hs : List (Happening P A)) (To : Card → State P A) → ((card : Card) → Leads (working (words_of 0 1 0 1) wrote None card) hs To) → Leads before (writes ++ does (End Finished) Done ∷ hs) To
     write_leads hs To k =
         on_write (only first ∷ sectors) To (words_of 0 0 0 0) blank_card _ (λ c0.
-        on_words W (only first ∷ sectors) To (words_of 0 0 0 0) _ c0 (Look Fail) (Word 0) _ (λ c1.
-        on_words W (only first ∷ sectors) To (words_of 0 0 0 0) _ c1 (Look (LockWord block)) (Word 0) _ (λ c2.
-        on_words W (only first ∷ sectors) To (words_of 0 0 0 0) _ c2 (Take Owned block 0) Done _ (λ c3.
-        on_words W (only first ∷ sectors) To (words_of 1 0 0 0) _ c3 (Look (SealWord block)) (Word 0) _ (λ c4.
-        on_words W (only first ∷ sectors) To (words_of 1 0 0 0) _ c4 (Look (Number block)) (Word 0) _ (λ c5.
+        on_words the_write (only first ∷ sectors) To (words_of 0 0 0 0) _ c0 (Look Fail) (Word 0) _ (λ c1.
+        on_words the_write (only first ∷ sectors) To (words_of 0 0 0 0) _ c1 (Look (LockWord block)) (Word 0) _ (λ c2.
+        on_words the_write (only first ∷ sectors) To (words_of 0 0 0 0) _ c2 (Take Owned block 0) Done _ (λ c3.
+        on_words the_write (only first ∷ sectors) To (words_of 1 0 0 0) _ c3 (Look (SealWord block)) (Word 0) _ (λ c4.
+        on_words the_write (only first ∷ sectors) To (words_of 1 0 0 0) _ c4 (Look (Number block)) (Word 0) _ (λ c5.
         on_extent To (words_of 1 0 0 0) _ c5 _ (
-        on_words W wrote To (words_of 1 0 0 0) _ c5 (Finish block) Done _ (λ c6.
-        on_words W wrote To (words_of 1 1 0 0) _ c6 (Count WriteMiss) Done _ (λ c7.
-        on_words W wrote To (words_of 1 1 0 1) _ c7 (Release Owned block) Done _ (λ c8.
-        on_answer W wrote To (words_of 0 1 0 1) _ c8 hs (k c8)))))))))))
+        on_words the_write wrote To (words_of 1 0 0 0) _ c5 (Finish block) Done _ (λ c6.
+        on_words the_write wrote To (words_of 1 1 0 0) _ c6 (Count WriteMiss) Done _ (λ c7.
+        on_words the_write wrote To (words_of 1 1 0 1) _ c7 (Release Owned block) Done _ (λ c8.
+        on_answer the_write wrote To (words_of 0 1 0 1) _ c8 hs (k c8)))))))))))
 
     read_leads : (card : Card) → Leads (working (words_of 0 1 0 1) wrote None card) (later ++ does (End Finished) Done ∷ []) (λ card'. rested P A metadata cache wrote desk card' rest)
     read_leads card =
         let To : Card → State P A = λ card'. rested P A metadata cache wrote desk card' rest in
         on_read wrote To (words_of 0 1 0 1) card _ (λ c0.
-        on_words R wrote To (words_of 0 1 0 1) _ c0 (Look Fail) (Word 0) _ (λ c1.
-        on_words R wrote To (words_of 0 1 0 1) _ c1 (Look (LockWord block)) (Word 0) _ (λ c2.
-        on_words R wrote To (words_of 0 1 0 1) _ c2 (Take Shared block 0) Done _ (λ c3.
-        on_words R wrote To (words_of 2 1 0 1) _ c3 (Look (SealWord block)) (Word 0) _ (λ c4.
-        on_words R wrote To (words_of 2 1 0 1) _ c4 (Look (Number block)) (Word 1) _ (λ c5.
+        on_words the_read wrote To (words_of 0 1 0 1) _ c0 (Look Fail) (Word 0) _ (λ c1.
+        on_words the_read wrote To (words_of 0 1 0 1) _ c1 (Look (LockWord block)) (Word 0) _ (λ c2.
+        on_words the_read wrote To (words_of 0 1 0 1) _ c2 (Take Shared block 0) Done _ (λ c3.
+        on_words the_read wrote To (words_of 2 1 0 1) _ c3 (Look (SealWord block)) (Word 0) _ (λ c4.
+        on_words the_read wrote To (words_of 2 1 0 1) _ c4 (Look (Number block)) (Word 1) _ (λ c5.
         on_given wrote To (words_of 2 1 0 1) _ c5 _ (
-        on_words R wrote To (words_of 2 1 0 1) _ c5 (Count ReadMiss) Done _ (λ c6.
-        on_words R wrote To (words_of 2 1 1 1) _ c6 (Release Shared block) Done _ (λ c7.
-        on_answer R wrote To (words_of 0 1 1 1) _ c7 [] (record { card = c7; is = refl }))))))))))
+        on_words the_read wrote To (words_of 2 1 0 1) _ c5 (Count ReadMiss) Done _ (λ c6.
+        on_words the_read wrote To (words_of 2 1 1 1) _ c6 (Release Shared block) Done _ (λ c7.
+        on_answer the_read wrote To (words_of 0 1 1 1) _ c7 [] (record { card = c7; is = refl }))))))))))
 
     pub idle_is : Leads before (writes ++ reads ++ does (End Finished) Done ∷ []) (λ card. rested P A metadata cache wrote desk card rest)
     idle_is = write_leads (later ++ does (End Finished) Done ∷ []) (λ card. rested P A metadata cache wrote desk card rest) read_leads
