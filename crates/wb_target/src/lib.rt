@@ -1,9 +1,15 @@
 //! The target so far: one client, who owns all words and reads and writes the origin.
 #![tactic(auto)]
 
+mod hand;
+mod moving;
 mod owner;
 mod perform;
+mod reading;
 mod stage;
+mod writing;
 
+pub use hand::Hand;
+pub use moving::{ReadStage, WriteStage};
 pub use owner::Owner;
 pub use stage::{LONGEST, OwnerStage, TakesContent};
