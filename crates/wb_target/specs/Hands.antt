@@ -67,13 +67,12 @@ ReadsInto tells size contents faults old out moved want got new out' moved' = (n
 abbrev pub IsReadyToRead : {D : Type 0} → ReadStage D → Want → Type 0
 IsReadyToRead stage want = IsReadyOn stage.cells.now stage.hand.now.pass want × IsReads want
 
-abbrev pub ReadLed : {D : Type 0} → Type 0 → (D → ℕ) → (D → List History) → (D → ℕ) → ReadStage D → Want → Got → ReadStage D → Type 0
-ReadLed tells size contents faults old want got new =
-    (new.cells ≡ old.cells)
-    × (new.hand.ghost_name ≡ old.hand.ghost_name)
-    × (new.out.ghost_name ≡ old.out.ghost_name)
-    × DoneByPass old.cells.now.blocks old.hand.now.pass want got new.hand.now.pass
-    × ReadsInto tells size contents faults old.hand.now.devices old.out.now old.moved want got new.hand.now.devices new.out.now new.moved
+pub record ReadLed {D : Type 0} (tells : Type 0) (size : D → ℕ) (contents : D → List History) (faults : D → ℕ) (old : ReadStage D) (want : Want) (got : Got) (new : ReadStage D) : Type 0 where
+  pub cells : new.cells ≡ old.cells
+  pub same_hand : new.hand.ghost_name ≡ old.hand.ghost_name
+  pub same_slice : new.out.ghost_name ≡ old.out.ghost_name
+  pub by_pass : DoneByPass old.cells.now.blocks old.hand.now.pass want got new.hand.now.pass
+  pub into : ReadsInto tells size contents faults old.hand.now.devices old.out.now old.moved want got new.hand.now.devices new.out.now new.moved
 
 -- ---- a write's steps
 
@@ -90,10 +89,9 @@ WritesFrom tells size contents faults from old moved want got new moved' = (new 
 abbrev pub IsReadyToWrite : {D : Type 0} → WriteStage D → Want → Type 0
 IsReadyToWrite stage want = IsReadyOn stage.cells.now stage.hand.now.pass want × IsWrites want
 
-abbrev pub WriteLed : {D : Type 0} → Type 0 → (D → ℕ) → (D → List History) → (D → ℕ) → WriteStage D → Want → Got → WriteStage D → Type 0
-WriteLed tells size contents faults old want got new =
-    (new.cells ≡ old.cells)
-    × (new.hand.ghost_name ≡ old.hand.ghost_name)
-    × (new.from ≡ old.from)
-    × DoneByPass old.cells.now.blocks old.hand.now.pass want got new.hand.now.pass
-    × WritesFrom tells size contents faults old.from.now old.hand.now.devices old.moved want got new.hand.now.devices new.moved
+pub record WriteLed {D : Type 0} (tells : Type 0) (size : D → ℕ) (contents : D → List History) (faults : D → ℕ) (old : WriteStage D) (want : Want) (got : Got) (new : WriteStage D) : Type 0 where
+  pub cells : new.cells ≡ old.cells
+  pub same_hand : new.hand.ghost_name ≡ old.hand.ghost_name
+  pub same_slice : new.from ≡ old.from
+  pub by_pass : DoneByPass old.cells.now.blocks old.hand.now.pass want got new.hand.now.pass
+  pub from : WritesFrom tells size contents faults old.from.now old.hand.now.devices old.moved want got new.hand.now.devices new.moved

@@ -1,3 +1,4 @@
 pub mod Hands
 pub mod Steps
 pub mod Performed
+pub mod Requests
