@@ -6,3 +6,5 @@ pub mod Routes
 pub mod Passing
 pub mod Moved
 pub mod Served
+pub mod Readying
+pub mod Serves

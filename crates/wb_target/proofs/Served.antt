@@ -1,5 +1,5 @@
 -- What a request that was answered done has done to a client's hand.
-use Rattle.std.proofs.Common.{◌≡◌, ◌≤◌, ◌<◌, ◌+◌, ◌%◌, ℕ, Bool, true, false, List, [], ◌∷◌, ◌++◌, Option, Some, None, length, map, take, refl, sym, ap, ◌∙◌, subst, arith}
+use Rattle.std.proofs.Common.{◌≡◌, ◌≤◌, ◌<◌, ◌+◌, ◌%◌, ℕ, Bool, true, false, List, [], ◌∷◌, ◌++◌, Option, Some, None, length, map, take, refl, sym, ap, ◌∙◌, subst, arith, append_assoc}
 use Rattle.std.proofs.lemmas.List.{take_all}
 use Rattle.wb_types.specs.declared.extent.Extent.{Extent}
 use Rattle.wb_types.specs.Extents.{pieces}
@@ -122,4 +122,100 @@ module _ {D : Type 0} (tells : Type 0) (size : D → ℕ) (contents : D → List
         given = λ told. subst (GivesEach (contents (device_in (device_at place) old.hand.now.devices)) (first_at block_sectors place sectors.first)) (take_all sectors.count all.mid.out.now (omega (arith, known.many)) ∙ sym os) (known.given told);
         same = λ told. ap (λ (x : Devices D). contents (device_in (device_at place) x)) ds ∙ known.same told;
         no_fault = λ told. ap (λ (x : Devices D). faults (device_in (device_at place) x)) ds ∙ known.no_fault told;
+      }
+
+  -- A mapped block is sealed dirty where its copy was clean; then the sectors are to be written.
+  record Dirtied (place : Option CBlock) (dirty : Bool) (ws : List Want) (old new : WriteStage D) : Type 0 where
+    mid : WriteStage D
+    rest : List (Want × Got)
+    pass_is : mid.hand.now.pass ≡ with_card old.hand.now.pass (dirtied block place dirty old.hand.now.pass.card)
+    devices : mid.hand.now.devices ≡ old.hand.now.devices
+    moved : mid.moved ≡ old.moved
+    slice : mid.from ≡ old.from
+    run : IsRunOf (going (Writing part) ws) rest Finished
+    leads : Leads writes mid rest new
+
+  undirtied : (place : Option CBlock) (dirty : Bool) (ws : List Want) (steps : List (Want × Got)) (old new : WriteStage D) → dirtied block place dirty old.hand.now.pass.card ≡ old.hand.now.pass.card → IsRunOf (going (Writing part) ws) steps Finished → Leads writes old steps new → Dirtied place dirty ws old new
+  undirtied place dirty ws steps old new same r l = record {
+    mid = old;
+    rest = steps;
+    pass_is = ap (λ (c : Card). with_card old.hand.now.pass c) (sym same);
+    devices = refl;
+    moved = refl;
+    slice = refl;
+    run = r;
+    leads = l;
+  }
+
+  dirties : (place : Option CBlock) (dirty : Bool) (ws : List Want) (steps : List (Want × Got)) (old new : WriteStage D) → IsRunOf (going (Writing part) (dirtying block place dirty ++ ws)) steps Finished → Leads writes old steps new → Dirtied place dirty ws old new
+  dirties None dirty ws steps old new r l = undirtied None dirty ws steps old new refl r l
+  dirties (Some c) true ws steps old new r l = undirtied (Some c) true ws steps old new refl r l
+  dirties (Some c) false ws steps old new r l =
+      let d = done writes (Writing part) (Cell (Seal block (Some c) true)) ws steps old new tt (only_seal (Writing part) block (Some c) true ws) r l in record {
+        mid = d.mid;
+        rest = d.rest;
+        pass_is = by_step old.cells.now.blocks old.hand.now.pass d.mid.hand.now.pass (Seal block (Some c) true) (sealing block (seal_word (Some c) true)) (λ words. refl) refl d.did.by_pass;
+        devices = d.did.from.0;
+        moved = d.did.from.1;
+        slice = d.did.same_slice;
+        run = d.run;
+        leads = d.leads;
+      }
+
+  -- a write that is answered done
+  pub write_whole : (steps : List (Want × Got)) (old new : WriteStage D) → old.moved ≡ 0 → length old.from.now ≡ sectors.count → sectors.first % block_sectors + sectors.count ≤ block_sectors
+      → IsRunOf (table (OnBlock (Writing part))) steps Finished → Leads writes old steps new → WasWritten tells size contents faults block_sectors block sectors old.from.now old.hand.now new.hand.now
+  write_whole steps old new unmoved fits inside r l =
+      let job : BlockJob = Writing part in
+      let a = acquired writes job steps old new r l in
+      let place : Option CBlock = place_in a.seal in
+      let dirty : Bool = dirty_in a.seal in
+      let from : List Content = old.from.now in
+      let p = old.hand.now.pass in
+      let devices = acquired_keeps writes job old new (λ s. s.hand.now.devices) (λ s step got t h. h.from.0) a in
+      let moved = acquired_keeps writes job old new (λ s. s.moved) (λ s step got t h. h.from.1) a in
+      let slice = acquired_keeps writes job old new (λ s. s.from) (λ s step got t h. h.same_slice) a in
+      let took = by_taking old.cells.now.blocks a.s1.cells.now.blocks a.s2.cells.now.blocks a.s3.cells.now.blocks a.s4.cells.now.blocks Owned block a.lock a.seal a.number p a.s1.hand.now.pass a.s2.hand.now.pass a.s3.hand.now.pass a.s4.hand.now.pass a.s5.hand.now.pass
+          a.not_failed.by_pass a.free.by_pass a.took.by_pass a.sealed.by_pass a.numbered.by_pass in
+      let release : List Want = Cell (Release Owned block) ∷ [] in
+      let tail : List Want = Cell (Finish block) ∷ write_count place ∷ release in
+      let d = dirties place dirty (map (write_step part place) part.extents ++ tail) a.rest a.s5 new (subst (λ (ws : List Want). IsRunOf (going job ws) a.rest Finished) (append_assoc (dirtying block place dirty) (map (write_step part place) part.extents) tail) a.run) a.leads in
+      let ds = d.devices ∙ devices in
+      let start : WrittenSoFar tells size contents faults part place sectors.first d.mid.hand.now.pass old.hand.now.devices from 0 d.mid = record {
+        pass_is = refl;
+        moved = d.moved ∙ (moved ∙ unmoved);
+        slice = ap (λ f. f.now) (d.slice ∙ slice);
+        others = subst (OthersStay (device_at place) old.hand.now.devices) (sym ds) (others-stay (device_at place) old.hand.now.devices);
+        sized = ap (λ (x : Devices D). size (device_in (device_at place) x)) ds;
+        written = λ told. ap (λ (x : Devices D). contents (device_in (device_at place) x)) ds;
+        no_fault = λ told. ap (λ (x : Devices D). faults (device_in (device_at place) x)) ds;
+      } in
+      let all = all_moved writes job (write_step part place) (writes_step part place) (writes_only part place) LONGEST sectors.first sectors.count (omega arith) (WrittenSoFar tells size contents faults part place sectors.first d.mid.hand.now.pass old.hand.now.devices from)
+          (write_more tells size contents faults part place sectors.first d.mid.hand.now.pass old.hand.now.devices from sectors.count (omega (arith, fits)) inside)
+          sectors.count sectors.count 0 tail d.rest d.mid new (omega arith) (omega arith) start
+          (subst (λ (ws : List Want). IsRunOf (going job ws) d.rest Finished) (from_first (write_step part place) sectors tail) d.run) d.leads in
+      let known = all.known in
+      let b = done writes job (Cell (Finish block)) (write_count place ∷ release) all.rest all.mid new tt (only_finish job block (write_count place ∷ release)) all.run all.leads in
+      let c = done writes job (Cell (Count (write_kind place))) release b.rest b.mid new tt (only_count job (write_kind place) release) (subst (λ (w : Want). IsRunOf (going job (w ∷ release)) b.rest Finished) (count_written place) b.run) b.leads in
+      let e = done writes job (Cell (Release Owned block)) [] c.rest c.mid new tt (only_release job Owned block []) c.run c.leads in
+      let z : e.mid ≡ new = at_end writes job e.rest e.mid new e.run e.leads in
+      let last : WriteLed tells size contents faults c.mid (Cell (Release Owned block)) Done new = subst (writes c.mid (Cell (Release Owned block)) Done) z e.did in
+      let finished = by_step all.mid.cells.now.blocks all.mid.hand.now.pass b.mid.hand.now.pass (Finish block) (finishing block) (λ words. refl) refl b.did.by_pass in
+      let counted = by_step b.mid.cells.now.blocks b.mid.hand.now.pass c.mid.hand.now.pass (Count (write_kind place)) (counting (write_kind place)) (λ words. refl) refl c.did.by_pass in
+      let released = by_step c.mid.cells.now.blocks c.mid.hand.now.pass new.hand.now.pass (Release Owned block) (holding Nothing) (λ words. refl) refl last.by_pass in
+      let after : new.hand.now.devices ≡ all.mid.hand.now.devices = last.from.0 ∙ (c.did.from.0 ∙ b.did.from.0) in
+      let sealed : all.mid.hand.now.pass ≡ with_card p (dirtied block place dirty (taking_card Owned block a.lock a.seal a.number p.card)) =
+          known.pass_is ∙ (d.pass_is ∙ ap (λ (q : PassState). with_card q (dirtied block place dirty q.card)) took.0) in record {
+        lock = a.lock;
+        seal = a.seal;
+        number = a.number;
+        pass_is = released ∙ (ap (λ (q : PassState). with_card q (holding Nothing q.card)) counted
+            ∙ (ap (λ (q : PassState). with_card q (holding Nothing (counting (write_kind place) q.card))) finished
+            ∙ ap (λ (q : PassState). with_card q (holding Nothing (counting (write_kind place) (finishing block q.card)))) sealed));
+        least = took.1;
+        others = subst (OthersStay (device_at place) old.hand.now.devices) (sym after) known.others;
+        sized = ap (λ (x : Devices D). size (device_in (device_at place) x)) after ∙ known.sized;
+        written = λ told. ap (λ (x : Devices D). contents (device_in (device_at place) x)) after
+            ∙ (known.written told ∙ ap (λ (cs : List Content). written_each (contents (device_in (device_at place) old.hand.now.devices)) (first_at block_sectors place sectors.first) cs) (take_all sectors.count from (omega (arith, fits))));
+        no_fault = λ told. ap (λ (x : Devices D). faults (device_in (device_at place) x)) after ∙ known.no_fault told;
       }

@@ -6,6 +6,7 @@ mod moving;
 mod owner;
 mod perform;
 mod reading;
+mod serving;
 mod stage;
 mod writing;
 
