@@ -12,13 +12,13 @@ use Rattle.wb_tasks.specs.Plan.{Plan, table, want}
 use Rattle.wb_tasks.specs.Run.{IsRunOf, Leads}
 use Rattle.wb_tasks.specs.declared.step.Answer.{Answer}
 use Rattle.wb_tasks.specs.declared.step.Answer.TheVariants.{Done as Finished, Refused as Refuses}
-use Rattle.wb_tasks.specs.declared.step.DeviceStep.TheVariants.{Read, Write}
+use Rattle.wb_tasks.specs.declared.step.DeviceStep.TheVariants.{Read, Write, Sync, ReadMetadata, WriteNode, WriteRoot}
 use Rattle.wb_tasks.specs.declared.step.Want.{Want}
 use Rattle.wb_tasks.specs.declared.step.Want.TheVariants.{Cell, Device, Desk, End}
 use Rattle.wb_tasks.specs.declared.step.Got.{Got}
 use Rattle.wb_tasks.proofs.Causing.{refuses_for_cause}
-use Rattle.wb_target.specs.Hands.{IsReads, IsWrites, IsReadyToRead, IsReadyToWrite, ReadLed, WriteLed}
-use Rattle.wb_target.specs.Requests.{part_of, WasRead, WasWritten, WasRefused}
+use Rattle.wb_target.specs.Hands.{IsReads, IsWrites, IsReadyToRead, IsReadyToWrite, ReadsInto, ReadState, WriteState, ReadStep, WriteStep, ReadLed, WriteLed}
+use Rattle.wb_target.specs.Requests.{part_of, WasRead, WasWritten, WasRefused, ReadRefused, WriteRefused}
 use Rattle.wb_target.specs.declared.moving.ReadStage.{ReadStage}
 use Rattle.wb_target.specs.declared.moving.WriteStage.{WriteStage}
 use Rattle.wb_target.proofs.Passing.{made_by_pass, same_table}
@@ -40,12 +40,19 @@ own_writes part (Device step) o = o
 own_writes part (Desk step) o = o
 
 -- a run that refuses has a cause
-pub was_refused : {S : Type 0} {A : Type 0} (led : S → Want → Got → S → Type 0) (job : BlockJob) (s : Plan) (steps : List (Want × Got)) (answer : Answer) (r : Result A Refusal) (old new : S) → s ≡ table (OnBlock job) → IsRunOf s steps answer → Leads led old steps new
+was_refused : {S : Type 0} {A : Type 0} (led : S → Want → Got → S → Type 0) (job : BlockJob) (s : Plan) (steps : List (Want × Got)) (answer : Answer) (r : Result A Refusal) (old new : S) → s ≡ table (OnBlock job) → IsRunOf s steps answer → Leads led old steps new
     → IfErr r (λ refusal. answer ≡ Refuses refusal) → IfErr r (λ refusal. WasRefused led job old refusal new)
 was_refused led job s steps answer (Ok x) old new begun run leads is = tt
 was_refused led job s steps answer (Err x) old new begun run leads is =
     let whole : IsRunOf (table (OnBlock job)) steps (Refuses x) = subst (λ (a : Answer). IsRunOf (table (OnBlock job)) steps a) is (subst (λ (t : Plan). IsRunOf t steps answer) begun run) in
     record { steps = steps; run = whole; leads = leads; cause = refuses_for_cause (OnBlock job) steps x whole }
+
+-- what a stage is at
+abbrev pub reading_at : {D : Type 0} → ReadStage D → ReadState D
+reading_at x = record { hand = x.hand.now; out = x.out.now; moved = x.moved }
+
+abbrev pub writing_at : {D : Type 0} → WriteStage D → WriteState D
+writing_at x = record { hand = x.hand.now; moved = x.moved }
 
 module _ {D : Type 0} (tells : Type 0) (size : D → ℕ) (contents : D → List History) (faults : D → ℕ) (block_sectors : ℕ) (block : OBlock) (sectors : Extent) (s : Plan) (steps : List (Want × Got)) where
   module _ (old new : ReadStage D) (begun : s ≡ table (OnBlock (Reading (part_of block_sectors block sectors)))) (leads : Leads (ReadLed tells size contents faults) old steps new) where
@@ -61,6 +68,20 @@ module _ {D : Type 0} (tells : Type 0) (size : D → ℕ) (contents : D → List
     pub read_at : new.hand.now.pass.table ≡ old.hand.now.pass.table
     read_at = kept_by (ReadLed tells size contents faults) (λ x. x.hand.now.pass.table) (λ x w g y h. same_table x.cells.now.blocks x.hand.now.pass y.hand.now.pass w g h.by_pass) old steps new leads
 
+    pub read_many : length new.out.now ≡ length old.out.now
+    read_many = kept_by (ReadLed tells size contents faults) (λ x. length x.out.now) (λ x w g y h. many_read x y w g h.into) old steps new leads
+      where
+        many_read : (x y : ReadStage D) (w : Want) (g : Got) → ReadsInto tells size contents faults x.hand.now.devices x.out.now x.moved w g y.hand.now.devices y.out.now y.moved → length y.out.now ≡ length x.out.now
+        many_read x y (Device (Read d e)) g h = h.many
+        many_read x y (Device (Write d e)) g h = ap length h.1
+        many_read x y (Device (Sync d)) g h = ap length h.1
+        many_read x y (Device (ReadMetadata left)) g h = ap length h.1
+        many_read x y (Device (WriteNode number)) g h = ap length h.1
+        many_read x y (Device WriteRoot) g h = ap length h.1
+        many_read x y (Cell step) g h = ap length h.1
+        many_read x y (Desk step) g h = ap length h.1
+        many_read x y (End answer) g h = ap length h.1
+
     pub read_ready : block.0 < old.cells.now.blocks → old.hand.now.pass.table ≡ old.cells.now.table → old.hand.now.pass.card.hold ≡ Nothing → AreFirst s steps → IsReadyToRead new (want (left_by s steps))
     read_ready there at idle f =
         let both = ready_there (ReadLed tells size contents faults) (λ x. x.hand.now.pass.card) (λ x w g y h. made_by_pass x.cells.now.blocks x.hand.now.pass y.hand.now.pass w g h.by_pass) old.cells.now.blocks s (Reading (part_of block_sectors block sectors)) old begun there idle steps new f leads in
@@ -68,6 +89,19 @@ module _ {D : Type 0} (tells : Type 0) (size : D → ℕ) (contents : D → List
 
     pub read_idle : (answer : Answer) → block.0 < old.cells.now.blocks → old.hand.now.pass.card.hold ≡ Nothing → IsRunOf s steps answer → new.hand.now.pass.card.hold ≡ Nothing
     read_idle answer there idle run = idle_again (ReadLed tells size contents faults) (λ x. x.hand.now.pass.card) (λ x w g y h. made_by_pass x.cells.now.blocks x.hand.now.pass y.hand.now.pass w g h.by_pass) old.cells.now.blocks s (Reading (part_of block_sectors block sectors)) old begun there idle steps answer new run leads
+
+    read_stopped : {A : Type 0} (answer : Answer) (r : Result A Refusal) → IsRunOf s steps answer → IfErr r (λ refusal. answer ≡ Refuses refusal)
+        → IfErr r (λ refusal. WasRefused (ReadStep tells size contents faults old.cells.now.blocks) (Reading (part_of block_sectors block sectors)) (reading_at old) refusal (reading_at new))
+    read_stopped answer r run is = was_refused (ReadStep tells size contents faults old.cells.now.blocks) (Reading (part_of block_sectors block sectors)) s steps answer r (reading_at old) (reading_at new) begun run (plainly old steps leads) is
+      where
+        plainly : (x : ReadStage D) (done : List (Want × Got)) → Leads (ReadLed tells size contents faults) x done new → Leads (ReadStep tells size contents faults x.cells.now.blocks) (reading_at x) done (reading_at new)
+        plainly x [] e = ap (λ (y : ReadStage D). reading_at y) e
+        plainly x (step ∷ done) l = (reading_at l.0, (l.1.by_pass, l.1.into), subst (λ c. Leads (ReadStep tells size contents faults c.now.blocks) (reading_at l.0) done (reading_at new)) l.1.cells (plainly l.0 done l.2))
+
+    pub read_err : {A : Type 0} (answer : Answer) (r : Result A Refusal) → IsRunOf s steps answer → IfErr r (λ refusal. answer ≡ Refuses refusal)
+        → old.moved ≡ 0 → IfErr r (λ refusal. ReadRefused tells size contents faults old.cells.now.blocks block_sectors block sectors old.hand.now old.out.now refusal new.hand.now new.out.now)
+    read_err {A} answer (Ok x) run is unmoved = tt
+    read_err {A} answer (Err x) run is unmoved = record { moved = new.moved; was = subst (λ (n : ℕ). WasRefused (ReadStep tells size contents faults old.cells.now.blocks) (Reading (part_of block_sectors block sectors)) (record { hand = old.hand.now; out = old.out.now; moved = n }) x (reading_at new)) unmoved (read_stopped {A = A} answer (Err x) run is) }
 
     pub read_ok : {A : Type 0} (answer : Answer) (r : Result A Refusal) → old.moved ≡ 0 → length old.out.now ≡ sectors.count → sectors.first % block_sectors + sectors.count ≤ block_sectors → IsRunOf s steps answer → OnOk r (answer ≡ Finished)
         → OnOk r (WasRead tells size contents faults block_sectors block sectors new.out.now old.hand.now new.hand.now)
@@ -93,6 +127,21 @@ module _ {D : Type 0} (tells : Type 0) (size : D → ℕ) (contents : D → List
 
     pub write_idle : (answer : Answer) → block.0 < old.cells.now.blocks → old.hand.now.pass.card.hold ≡ Nothing → IsRunOf s steps answer → new.hand.now.pass.card.hold ≡ Nothing
     write_idle answer there idle run = idle_again (WriteLed tells size contents faults) (λ x. x.hand.now.pass.card) (λ x w g y h. made_by_pass x.cells.now.blocks x.hand.now.pass y.hand.now.pass w g h.by_pass) old.cells.now.blocks s (Writing (part_of block_sectors block sectors)) old begun there idle steps answer new run leads
+
+    write_stopped : {A : Type 0} (answer : Answer) (r : Result A Refusal) → IsRunOf s steps answer → IfErr r (λ refusal. answer ≡ Refuses refusal)
+        → IfErr r (λ refusal. WasRefused (WriteStep tells size contents faults old.cells.now.blocks old.from.now) (Writing (part_of block_sectors block sectors)) (writing_at old) refusal (writing_at new))
+    write_stopped answer r run is = was_refused (WriteStep tells size contents faults old.cells.now.blocks old.from.now) (Writing (part_of block_sectors block sectors)) s steps answer r (writing_at old) (writing_at new) begun run (plainly old steps leads) is
+      where
+        plainly : (x : WriteStage D) (done : List (Want × Got)) → Leads (WriteLed tells size contents faults) x done new → Leads (WriteStep tells size contents faults x.cells.now.blocks x.from.now) (writing_at x) done (writing_at new)
+        plainly x [] e = ap (λ (y : WriteStage D). writing_at y) e
+        plainly x (step ∷ done) l = (writing_at l.0, (l.1.by_pass, l.1.from),
+            subst (λ f. Leads (WriteStep tells size contents faults x.cells.now.blocks f.now) (writing_at l.0) done (writing_at new)) l.1.same_slice
+            (subst (λ c. Leads (WriteStep tells size contents faults c.now.blocks l.0.from.now) (writing_at l.0) done (writing_at new)) l.1.cells (plainly l.0 done l.2)))
+
+    pub write_err : {A : Type 0} (answer : Answer) (r : Result A Refusal) → IsRunOf s steps answer → IfErr r (λ refusal. answer ≡ Refuses refusal)
+        → old.moved ≡ 0 → IfErr r (λ refusal. WriteRefused tells size contents faults old.cells.now.blocks block_sectors block sectors old.from.now old.hand.now refusal new.hand.now)
+    write_err {A} answer (Ok x) run is unmoved = tt
+    write_err {A} answer (Err x) run is unmoved = record { moved = new.moved; was = subst (λ (n : ℕ). WasRefused (WriteStep tells size contents faults old.cells.now.blocks old.from.now) (Writing (part_of block_sectors block sectors)) (record { hand = old.hand.now; moved = n }) x (writing_at new)) unmoved (write_stopped {A = A} answer (Err x) run is) }
 
     pub write_ok : {A : Type 0} (answer : Answer) (r : Result A Refusal) → old.moved ≡ 0 → length old.from.now ≡ sectors.count → sectors.first % block_sectors + sectors.count ≤ block_sectors → IsRunOf s steps answer → OnOk r (answer ≡ Finished)
         → OnOk r (WasWritten tells size contents faults block_sectors block sectors old.from.now old.hand.now new.hand.now)

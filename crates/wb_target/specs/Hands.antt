@@ -14,6 +14,7 @@ use Rattle.wb_tasks.specs.declared.step.Got.{Got}
 use Rattle.wb_tasks.specs.declared.step.Got.TheVariants.{Done}
 use Rattle.wb_devices.specs.Moving.{DidRead, DidWrite, OthersStay, device_in}
 use Rattle.wb_devices.specs.declared.devices.Devices.{Devices}
+use Rattle.wb_target.specs.declared.hand.Hand.{Hand}
 use Rattle.wb_target.specs.declared.moving.ReadStage.{ReadStage}
 use Rattle.wb_target.specs.declared.moving.WriteStage.{WriteStage}
 
@@ -51,6 +52,17 @@ pub record DidWriteFrom {D : Type 0} (tells : Type 0) (size : D → ℕ) (conten
   pub further_on : moved' ≡ further (length from) moved e got
   pub did : tells → DidWrite e got (size (device_in device old)) (drop moved from) (contents (device_in device old)) (faults (device_in device old)) (contents (device_in device new)) (faults (device_in device new))
 
+-- What a read is at: a hand, the caller's slice, and how many of its sectors were read.
+pub record ReadState (D : Type 0) : Type 0 where
+  pub hand : Hand D
+  pub out : List Bytes
+  pub moved : ℕ
+
+-- what a write is at
+pub record WriteState (D : Type 0) : Type 0 where
+  pub hand : Hand D
+  pub moved : ℕ
+
 -- ---- a read's steps
 
 -- a read moves nothing but what it reads
@@ -63,6 +75,12 @@ IsReads want = Unit {0}
 abbrev pub ReadsInto : {D : Type 0} → Type 0 → (D → ℕ) → (D → List History) → (D → ℕ) → Devices D → List Bytes → ℕ → Want → Got → Devices D → List Bytes → ℕ → Type 0
 ReadsInto tells size contents faults old out moved (Device (Read device e)) got new out' moved' = DidReadInto tells size contents faults device e got old out moved new out' moved'
 ReadsInto tells size contents faults old out moved want got new out' moved' = (new ≡ old) × (out' ≡ out) × (moved' ≡ moved)
+
+-- what a step of a read does, on words of so many blocks
+abbrev pub ReadStep : {D : Type 0} → Type 0 → (D → ℕ) → (D → List History) → (D → ℕ) → ℕ → ReadState D → Want → Got → ReadState D → Type 0
+ReadStep tells size contents faults blocks s want got t =
+    DoneByPass blocks s.hand.pass want got t.hand.pass
+    × ReadsInto tells size contents faults s.hand.devices s.out s.moved want got t.hand.devices t.out t.moved
 
 abbrev pub IsReadyToRead : {D : Type 0} → ReadStage D → Want → Type 0
 IsReadyToRead stage want = IsReadyOn stage.cells.now stage.hand.now.pass want × IsReads want
@@ -85,6 +103,12 @@ IsWrites want = Unit {0}
 abbrev pub WritesFrom : {D : Type 0} → Type 0 → (D → ℕ) → (D → List History) → (D → ℕ) → List Bytes → Devices D → ℕ → Want → Got → Devices D → ℕ → Type 0
 WritesFrom tells size contents faults from old moved (Device (Write device e)) got new moved' = DidWriteFrom tells size contents faults device e got from old moved new moved'
 WritesFrom tells size contents faults from old moved want got new moved' = (new ≡ old) × (moved' ≡ moved)
+
+-- what a step of a write of this slice does
+abbrev pub WriteStep : {D : Type 0} → Type 0 → (D → ℕ) → (D → List History) → (D → ℕ) → ℕ → List Bytes → WriteState D → Want → Got → WriteState D → Type 0
+WriteStep tells size contents faults blocks from s want got t =
+    DoneByPass blocks s.hand.pass want got t.hand.pass
+    × WritesFrom tells size contents faults from s.hand.devices s.moved want got t.hand.devices t.moved
 
 abbrev pub IsReadyToWrite : {D : Type 0} → WriteStage D → Want → Type 0
 IsReadyToWrite stage want = IsReadyOn stage.cells.now stage.hand.now.pass want × IsWrites want

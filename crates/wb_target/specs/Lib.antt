@@ -2,3 +2,4 @@ pub mod Hands
 pub mod Steps
 pub mod Performed
 pub mod Requests
+pub mod Ports

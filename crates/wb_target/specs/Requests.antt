@@ -1,11 +1,12 @@
 -- What a read or write of sectors of one block did to a client's hand.
-use Rattle.std.specs.Prelude.{◌≡◌, ◌+◌, ◌*◌, ◌%◌, ℕ, Bool, true, false, List, Option, Some, None, min}
+use Rattle.std.specs.Prelude.{◌≡◌, ◌<◌, ◌+◌, ◌*◌, ◌%◌, ◌⊎◌, ℕ, Bool, true, false, List, Option, Some, None, min}
 use Rattle.wb_types.specs.declared.extent.Extent.{Extent}
 use Rattle.wb_types.specs.declared.mode.Dev.{Dev}
 use Rattle.wb_types.specs.declared.number.OBlock.{OBlock}
 use Rattle.wb_types.specs.declared.number.CBlock.{CBlock}
 use Rattle.wb_types.specs.declared.refusal.Refusal.{Refusal}
 use Rattle.wb_types.specs.Extents.{pieces}
+use Rattle.wb_types.specs.declared.geometry.Geometry.{Geometry}
 use Rattle.wb_disk.specs.Device.{History, Content as Bytes}
 use Rattle.wb_disk.specs.Extents.{GivesEach, written_each}
 use Rattle.wb_words.specs.declared.word.Access.{Access}
@@ -19,7 +20,7 @@ use Rattle.wb_words.specs.SharedWords.{place_in, dirty_in, seal_word}
 use Rattle.wb_words.specs.Cards.{looked, holding, sealing, finishing, counting}
 use Rattle.wb_words.specs.Looks.{SawAtMost}
 use Rattle.wb_cells.specs.Passes.{PassState}
-use Rattle.wb_tasks.specs.Tables.{BlockRange, BlockJob, OnBlock, device_at}
+use Rattle.wb_tasks.specs.Tables.{BlockRange, BlockJob, Reading, Writing, OnBlock, device_at}
 use Rattle.wb_tasks.specs.Plan.{table}
 use Rattle.wb_tasks.specs.Run.{IsRunOf, Leads}
 use Rattle.wb_tasks.specs.Causes.{GaveCause}
@@ -30,6 +31,7 @@ use Rattle.wb_devices.specs.Moving.{OthersStay, device_in}
 use Rattle.wb_devices.specs.declared.devices.Devices.{Devices}
 use Rattle.wb_target.specs.declared.stage.TheConstants.{LONGEST}
 use Rattle.wb_target.specs.declared.hand.Hand.{Hand}
+use Rattle.wb_target.specs.Hands.{ReadStep, WriteStep}
 
 -- sectors of one block, cut into extents of at most the longest that a step takes
 abbrev pub part_of : ℕ → OBlock → Extent → BlockRange
@@ -105,3 +107,23 @@ pub record WasRefused {S : Type 0} (led : S → Want → Got → S → Type 0) (
   pub run : IsRunOf (table (OnBlock job)) steps (Refuses refusal)
   pub leads : Leads led old steps new
   pub cause : GaveCause (OnBlock job) refusal steps
+
+-- A read of sectors of one block was refused, by words of so many blocks.
+pub record ReadRefused {D : Type 0} (tells : Type 0) (size : D → ℕ) (contents : D → List History) (faults : D → ℕ) (blocks block_sectors : ℕ) (block : OBlock) (sectors : Extent) (old : Hand D) (out : List Bytes) (refusal : Refusal) (new : Hand D) (out' : List Bytes) : Type 0 where
+  pub moved : ℕ
+  pub was : WasRefused (ReadStep tells size contents faults blocks) (Reading (part_of block_sectors block sectors)) (record { hand = old; out = out; moved = 0 }) refusal (record { hand = new; out = out'; moved = moved })
+
+-- And a write of this slice.
+pub record WriteRefused {D : Type 0} (tells : Type 0) (size : D → ℕ) (contents : D → List History) (faults : D → ℕ) (blocks block_sectors : ℕ) (block : OBlock) (sectors : Extent) (from : List Bytes) (old : Hand D) (refusal : Refusal) (new : Hand D) : Type 0 where
+  pub moved : ℕ
+  pub was : WasRefused (WriteStep tells size contents faults blocks from) (Writing (part_of block_sectors block sectors)) (record { hand = old; moved = 0 }) refusal (record { hand = new; moved = moved })
+
+-- ---- requests that are refused before any step
+
+-- no sector, or one outside the origin
+abbrev pub IsOutside : Geometry → ℕ → ℕ → Type 0
+IsOutside geometry first count = (count ≡ 0) ⊎ (geometry.block * geometry.origin_blocks < first + count)
+
+-- sectors of more than one block
+abbrev pub Crosses : Geometry → ℕ → ℕ → Type 0
+Crosses geometry first count = geometry.block < first % geometry.block + count

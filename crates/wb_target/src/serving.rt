@@ -2,9 +2,7 @@
 
 ghost use Rattle.std.specs.Prelude.{◌≡◌, ◌≤◌, ◌<◌, ◌+◌, ◌%◌, ◌^◌, OnOk, IfErr, length};
 ghost use Rattle.wb_words.specs.declared.card.Hold.TheVariants.{Nothing};
-ghost use Rattle.wb_tasks.specs.Tables.{Reading, Writing};
-ghost use Rattle.wb_target.specs.Hands.{ReadLed, WriteLed};
-ghost use Rattle.wb_target.specs.Requests.{part_of, WasRead, WasWritten, WasRefused};
+ghost use Rattle.wb_target.specs.Requests.{WasRead, WasWritten, ReadRefused, WriteRefused};
 
 use crate::moving::{ReadStage, WriteStage};
 use crate::owner::answered;
@@ -31,8 +29,9 @@ impl<'a, D: Disk> ReadStage<'a, D> {
         requires fits { length self.old.out.now ≡ sectors.count }
         ensures same_hand { self.new.hand.ghost_name ≡ self.old.hand.ghost_name }
         ensures same_slice { self.new.out.ghost_name ≡ self.old.out.ghost_name }
+        ensures many { length self.new.out.now ≡ length self.old.out.now }
         ensures read { OnOk result (WasRead D.tells D.size D.contents D.faults block_sectors block sectors self.new.out.now self.old.hand.now self.new.hand.now) }
-        ensures refused { IfErr result (λ refusal. WasRefused (ReadLed D.tells D.size D.contents D.faults) (Reading (part_of block_sectors block sectors)) self.old refusal self.new) }
+        ensures refused { IfErr result (λ refusal. ReadRefused D.tells D.size D.contents D.faults self.old.cells.now.blocks block_sectors block sectors self.old.hand.now self.old.out.now refusal self.new.hand.now self.new.out.now) }
         ensures at { self.new.hand.now.pass.table ≡ self.old.hand.now.pass.table }
         ensures idle { self.new.hand.now.pass.card.hold ≡ Nothing }
     {
@@ -59,7 +58,7 @@ impl<'a, D: Disk> WriteStage<'a, D> {
         requires fits { length self.old.from.now ≡ sectors.count }
         ensures same_hand { self.new.hand.ghost_name ≡ self.old.hand.ghost_name }
         ensures written { OnOk result (WasWritten D.tells D.size D.contents D.faults block_sectors block sectors self.old.from.now self.old.hand.now self.new.hand.now) }
-        ensures refused { IfErr result (λ refusal. WasRefused (WriteLed D.tells D.size D.contents D.faults) (Writing (part_of block_sectors block sectors)) self.old refusal self.new) }
+        ensures refused { IfErr result (λ refusal. WriteRefused D.tells D.size D.contents D.faults self.old.cells.now.blocks block_sectors block sectors self.old.from.now self.old.hand.now refusal self.new.hand.now) }
         ensures at { self.new.hand.now.pass.table ≡ self.old.hand.now.pass.table }
         ensures idle { self.new.hand.now.pass.card.hold ≡ Nothing }
     {

@@ -1,4 +1,4 @@
-use Rattle.wb_target.proofs.Serves.{read_same_hand, read_same_slice, read_at, read_ready, read_idle, read_ok, was_refused}
+use Rattle.wb_target.proofs.Serves.{read_same_hand, read_same_slice, read_at, read_ready, read_many, read_idle, read_ok, read_err}
 use Rattle.wb_target.proofs.moving.ReadStage.serve.Goals as goal
 
 pub drive-requires : goal.drive-requires
@@ -14,10 +14,13 @@ pub returns-clause-read : goal.returns-clause-read
 returns-clause-read g c = let run = c.drive.ensures.run in read_ok g.D.Disk.tells g.D.Disk.size g.D.Disk.contents g.D.Disk.faults _ _ _ c.new-task.result run.0 c.args.self.now c.drive.new.stage c.new-task.ensures run.3 c.drive.result c.answered.result c.requires.unmoved c.requires.fits c.requires.inside run.2 c.answered.ensures.done
 
 pub returns-clause-refused : goal.returns-clause-refused
-returns-clause-refused g c = let run = c.drive.ensures.run in was_refused _ _ c.new-task.result run.0 c.drive.result c.answered.result c.args.self.now c.drive.new.stage c.new-task.ensures run.2 run.3 c.answered.ensures.refused
+returns-clause-refused g c = let run = c.drive.ensures.run in read_err g.D.Disk.tells g.D.Disk.size g.D.Disk.contents g.D.Disk.faults _ _ _ c.new-task.result run.0 c.args.self.now c.drive.new.stage c.new-task.ensures run.3 c.drive.result c.answered.result run.2 c.answered.ensures.refused c.requires.unmoved
 
 pub returns-clause-at : goal.returns-clause-at
 returns-clause-at g c = let run = c.drive.ensures.run in read_at g.D.Disk.tells g.D.Disk.size g.D.Disk.contents g.D.Disk.faults _ _ _ c.new-task.result run.0 c.args.self.now c.drive.new.stage c.new-task.ensures run.3
 
 pub returns-clause-idle : goal.returns-clause-idle
 returns-clause-idle g c = let run = c.drive.ensures.run in read_idle g.D.Disk.tells g.D.Disk.size g.D.Disk.contents g.D.Disk.faults _ _ _ c.new-task.result run.0 c.args.self.now c.drive.new.stage c.new-task.ensures run.3 c.drive.result c.requires.block c.requires.idle run.2
+
+pub returns-clause-many : goal.returns-clause-many
+returns-clause-many g c = let run = c.drive.ensures.run in read_many g.D.Disk.tells g.D.Disk.size g.D.Disk.contents g.D.Disk.faults _ _ _ c.new-task.result run.0 c.args.self.now c.drive.new.stage c.new-task.ensures run.3
