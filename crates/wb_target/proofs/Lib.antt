@@ -8,3 +8,4 @@ pub mod Moved
 pub mod Served
 pub mod Readying
 pub mod Serves
+pub mod Tasks

@@ -3,3 +3,4 @@ pub mod Steps
 pub mod Performed
 pub mod Requests
 pub mod Ports
+pub mod Works

@@ -5,9 +5,12 @@ ghost use Rattle.wb_words.specs.declared.card.Hold.TheVariants.{Nothing};
 ghost use Rattle.wb_target.specs.declared.port.TheConstants.{UNSETTLED as MostUnsettled};
 
 use crate::hand::Hand;
+use crate::seat::Seat;
 use std::alloc::Global;
 use std::sync::Arc;
-use wb_cells::Cells;
+use wb_cells::{Cells, Word};
+use wb_devices::Devices;
+use wb_disk::Disk;
 use wb_types::{Geometry, OBlock};
 
 /// How many accesses a client has unsettled at most.
@@ -26,4 +29,59 @@ pub struct Port<D> {
     ghost idle: { hand.pass.card.hold ≡ Nothing },
     ghost few: { length accesses.items ≤ MostUnsettled },
     ghost room: { MostUnsettled ≤ vec_capacity accesses },
+}
+
+impl<D: Disk + Drop> Port<D> {
+    /// A port with a seat and devices of its own; both are handed back where there is no memory.
+    pub(crate) fn new(
+        alloc: Global,
+        seat: Seat,
+        devices: Devices<D>,
+    ) -> Result<Port<D>, (Seat, Devices<D>)>
+        ensures hand { IfOk result (λ port. port.hand ≡ record { pass = seat.pass; devices = devices }) }
+        ensures geometry { IfOk result (λ port. port.geometry ≡ seat.geometry) }
+        ensures unsettled { IfOk result (λ port. port.accesses.items ≡ []) }
+        ensures back { IfErr result (λ back. (back.0 ≡ seat) × (back.1 ≡ devices)) }
+    {
+        let Ok(accesses) = Vec::with_capacity(alloc, UNSETTLED) else {
+            return Err((seat, devices));
+        };
+        let Seat {
+            geometry,
+            cells,
+            pass,
+        } = seat;
+        Ok(Port {
+            geometry,
+            cells,
+            hand: Hand { pass, devices },
+            accesses,
+        })
+    }
+
+    /// The seat and the devices.
+    pub(crate) fn leave(self) -> (Seat, Devices<D>)
+        ensures { result.1 ≡ self.hand.devices }
+    {
+        let Port {
+            geometry,
+            cells,
+            hand,
+            accesses: _,
+        } = self;
+        let Hand { pass, devices } = hand;
+        (
+            Seat {
+                geometry,
+                cells,
+                pass,
+            },
+            devices,
+        )
+    }
+
+    /// Whether the fail word is set.
+    pub(crate) fn has_failed(&mut self) -> bool {
+        self.cells.look(&mut self.hand.pass, Word::Fail) != 0
+    }
 }
