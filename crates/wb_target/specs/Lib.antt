@@ -4,3 +4,4 @@ pub mod Performed
 pub mod Requests
 pub mod Ports
 pub mod Works
+pub mod Carried

@@ -2,10 +2,12 @@
 #![tactic(auto)]
 
 mod blocking;
+mod carrying;
 mod client;
 mod hand;
 mod moving;
 mod office;
+mod opening;
 mod orders;
 mod owner;
 mod parts;
@@ -22,6 +24,7 @@ mod working;
 mod writing;
 
 pub use blocking::Stopped;
+pub use carrying::Flushed;
 pub use client::Client;
 pub use hand::Hand;
 pub use moving::{ReadStage, WriteStage};

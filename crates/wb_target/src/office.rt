@@ -9,6 +9,8 @@ use wb_policy::Policy;
 pub(crate) struct Office<P: Policy> {
     pub(crate) desk: Desk<P>,
     pub(crate) seats: Vec<Seat>,
+    /// Whether a client met a failed write or sync: the commit that runs then never ends.
+    pub(crate) failed: bool,
 }
 
 impl<P: Policy> Office<P> {

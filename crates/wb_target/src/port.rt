@@ -9,9 +9,9 @@ use crate::seat::Seat;
 use std::alloc::Global;
 use std::sync::Arc;
 use wb_cells::{Cells, Word};
-use wb_devices::Devices;
+use wb_devices::{Devices, RunningCommit};
 use wb_disk::Disk;
-use wb_types::{Geometry, OBlock};
+use wb_types::{Content, Geometry, OBlock};
 
 /// How many accesses a client has unsettled at most.
 pub const UNSETTLED: usize = 32;
@@ -24,6 +24,10 @@ pub struct Port<D> {
     pub(crate) cells: Arc<Cells, Global>,
     pub(crate) hand: Hand<D>,
     pub(crate) accesses: Vec<OBlock>,
+    /// What the steps of its migrations move, once it has carried out an order.
+    pub(crate) buffer: Vec<Content>,
+    /// The commit that it runs, if any.
+    pub(crate) commit: Option<RunningCommit>,
     ghost at: { hand.pass.table ≡ cells.value.table },
     ghost sized: { cells.value.blocks ≡ geometry.origin_blocks },
     ghost idle: { hand.pass.card.hold ≡ Nothing },
@@ -56,6 +60,8 @@ impl<D: Disk + Drop> Port<D> {
             cells,
             hand: Hand { pass, devices },
             accesses,
+            buffer: Vec::new(alloc),
+            commit: None,
         })
     }
 
@@ -68,6 +74,8 @@ impl<D: Disk + Drop> Port<D> {
             cells,
             hand,
             accesses: _,
+            buffer: _,
+            commit: _,
         } = self;
         let Hand { pass, devices } = hand;
         (

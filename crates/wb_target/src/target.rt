@@ -7,7 +7,7 @@ use std::alloc::Global;
 use std::sync::{Condvar, Mutex, Wait};
 use wb_devices::Devices;
 use wb_disk::Disk;
-use wb_policy::Policy;
+use wb_policy::{Order, Policy};
 use wb_types::{Geometry, OBlock, Refusal};
 
 /// How many clients a target has at most.
@@ -63,6 +63,28 @@ impl<P: Policy> Target<P> {
     /// Tells the policy of accesses, in order; whoever waits for an order is woken.
     pub(crate) fn settle<R: Wait>(&self, rt: &R, accesses: &[OBlock]) {
         self.office.lock(rt).desk.settle(accesses);
+        self.bell.notify_all();
+    }
+
+    /// The order that waits longest, if any.
+    pub(crate) fn take_order<R: Wait>(&self, rt: &R) -> Option<Order> {
+        self.office.lock(rt).desk.next_order()
+    }
+
+    /// Waits while another client's commit runs; not for one that has failed.
+    pub(crate) fn await_commit<R: Wait>(&self, rt: &R) {
+        let mut office = self.office.lock(rt);
+        for _ in rt.forever() {
+            if office.failed || !office.desk.is_committing() {
+                return;
+            }
+            office = self.bell.wait(rt, office);
+        }
+    }
+
+    /// A client met a failed write or sync: whoever waits is woken.
+    pub(crate) fn note_failure<R: Wait>(&self, rt: &R) {
+        self.office.lock(rt).failed = true;
         self.bell.notify_all();
     }
 
