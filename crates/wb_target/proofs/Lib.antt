@@ -9,3 +9,6 @@ pub mod Served
 pub mod Readying
 pub mod Serves
 pub mod Tasks
+pub mod Carried
+pub mod Knowing
+pub mod Opened

@@ -5,6 +5,7 @@ use crate::office::Office;
 use crate::port::Port;
 use std::alloc::Global;
 use std::sync::{Condvar, Mutex, Wait};
+use wb_desk::Counts;
 use wb_devices::Devices;
 use wb_disk::Disk;
 use wb_policy::{Order, Policy};
@@ -58,6 +59,11 @@ impl<P: Policy> Target<P> {
         client.settle(rt);
         let Client { target, port, .. } = client;
         target.take_back(rt, port)
+    }
+
+    /// What the desk counts.
+    pub fn counts<R: Wait>(&self, rt: &R) -> Counts {
+        self.office.lock(rt).desk.counts()
     }
 
     /// Tells the policy of accesses, in order; whoever waits for an order is woken.
