@@ -73,12 +73,12 @@ module _ {D : Type 0} (tells : Type 0) (size : D → ℕ) (contents : D → List
         others = others-again (device_at place) old s.hand.now.devices t.hand.now.devices known.others did.others;
         sized = did.sized ∙ known.sized;
         given = λ told.
-          let d = did.did told in
-          let old_is : contents (device s.hand.now.devices) ≡ contents (device old) = known.same told in
-          let front : GivesEach (contents (device old)) base (take m t.out.now) = subst (GivesEach (contents (device old)) base) (sym before) (known.given told) in
-          let raw : GivesEach (contents (device s.hand.now.devices)) by.0 (take j (drop s.moved t.out.now)) = d.1 in
-          let behind : GivesEach (contents (device old)) (base + m) (take j (drop m t.out.now)) = subst (λ (h : List History). GivesEach h (base + m) (take j (drop m t.out.now))) old_is (subst (λ (n : ℕ). GivesEach (contents (device s.hand.now.devices)) n (take j (drop m t.out.now))) here (subst (λ (n : ℕ). GivesEach (contents (device s.hand.now.devices)) by.0 (take j (drop n t.out.now))) known.moved raw)) in
-          gives_more (contents (device old)) base m j t.out.now (omega (arith, now, fits, more)) front behind;
+            let d = did.did told in
+            let old_is : contents (device s.hand.now.devices) ≡ contents (device old) = known.same told in
+            let front : GivesEach (contents (device old)) base (take m t.out.now) = subst (GivesEach (contents (device old)) base) (sym before) (known.given told) in
+            let raw : GivesEach (contents (device s.hand.now.devices)) by.0 (take j (drop s.moved t.out.now)) = d.1 in
+            let behind : GivesEach (contents (device old)) (base + m) (take j (drop m t.out.now)) = subst (λ (h : List History). GivesEach h (base + m) (take j (drop m t.out.now))) old_is (subst (λ (n : ℕ). GivesEach (contents (device s.hand.now.devices)) n (take j (drop m t.out.now))) here (subst (λ (n : ℕ). GivesEach (contents (device s.hand.now.devices)) by.0 (take j (drop n t.out.now))) known.moved raw)) in
+            gives_more (contents (device old)) base m j t.out.now (omega (arith, now, fits, more)) front behind;
         same = λ told. (did.did told).2 ∙ known.same told;
         no_fault = λ told. (did.did told).3 ∙ known.no_fault told;
       }
@@ -120,11 +120,11 @@ module _ {D : Type 0} (tells : Type 0) (size : D → ℕ) (contents : D → List
         others = others-again (device_at place) old s.hand.now.devices t.hand.now.devices known.others did.others;
         sized = did.sized ∙ known.sized;
         written = λ told.
-          let d = did.did told in
-          let raw : contents (device t.hand.now.devices) ≡ written_each (contents (device s.hand.now.devices)) by.0 (take j (drop s.moved s.from.now)) = d.1 in
-          let there : written_each (contents (device s.hand.now.devices)) by.0 (take j (drop s.moved s.from.now)) ≡ written_each (written_each (contents (device old)) base (take m from)) (base + m) (take j (drop m from)) =
-              rw (known.written told, here, known.moved, known.slice) refl in
-          raw ∙ (there ∙ written_more (contents (device old)) base m j from (omega (arith, fits, more)));
+            let d = did.did told in
+            let raw : contents (device t.hand.now.devices) ≡ written_each (contents (device s.hand.now.devices)) by.0 (take j (drop s.moved s.from.now)) = d.1 in
+            let there : written_each (contents (device s.hand.now.devices)) by.0 (take j (drop s.moved s.from.now)) ≡ written_each (written_each (contents (device old)) base (take m from)) (base + m) (take j (drop m from)) =
+            rw (known.written told, here, known.moved, known.slice) refl in
+            raw ∙ (there ∙ written_more (contents (device old)) base m j from (omega (arith, fits, more)));
         no_fault = λ told. (did.did told).2 ∙ known.no_fault told;
       }
     where

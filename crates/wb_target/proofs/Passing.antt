@@ -54,6 +54,7 @@ module _ (blocks : ℕ) (pass pass' : PassState) where
       word_in : Got → ℕ
       word_in (Word y) = y
       word_in got = 0
+
       same_word : {y z : ℕ} → Word y ≡ Word z → y ≡ z
       same_word e = ap word_in e
 

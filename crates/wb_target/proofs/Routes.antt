@@ -20,6 +20,7 @@ first_at-more size (Some c) first m h =
   where
     swapped : (a b n m : ℕ) → a + b ≡ n → n + m ≡ b + (a + m)
     swapped a b n m e = omega (arith, e)
+
     added : (a b m : ℕ) → (a + b) + m ≡ a + (b + m)
     added a b m = omega arith
 

@@ -84,7 +84,7 @@ module _ {D : Type 0} (tells : Type 0) (size : D → ℕ) (contents : D → List
       let out = acquired_keeps reads job old new (λ s. s.out.now) (λ s step got t h. h.into.1) a in
       let moved = acquired_keeps reads job old new (λ s. s.moved) (λ s step got t h. h.into.2) a in
       let took = by_taking old.cells.now.blocks a.s1.cells.now.blocks a.s2.cells.now.blocks a.s3.cells.now.blocks a.s4.cells.now.blocks Shared block a.lock a.seal a.number old.hand.now.pass a.s1.hand.now.pass a.s2.hand.now.pass a.s3.hand.now.pass a.s4.hand.now.pass a.s5.hand.now.pass
-          a.not_failed.by_pass a.free.by_pass a.took.by_pass a.sealed.by_pass a.numbered.by_pass in
+      a.not_failed.by_pass a.free.by_pass a.took.by_pass a.sealed.by_pass a.numbered.by_pass in
       let tail : List Want = read_count place ∷ Cell (Release Shared block) ∷ [] in
       let many : length a.s5.out.now ≡ sectors.count = ap length out ∙ fits in
       let start : ReadSoFar tells size contents faults part place sectors.first a.s5.hand.now.pass old.hand.now.devices sectors.count 0 a.s5 = record {
@@ -98,9 +98,9 @@ module _ {D : Type 0} (tells : Type 0) (size : D → ℕ) (contents : D → List
         no_fault = λ told. ap (λ (ds : Devices D). faults (device_in (device_at place) ds)) devices;
       } in
       let all = all_moved reads job (read_step part place) (reads_step part place) (reads_only part place) LONGEST sectors.first sectors.count (omega arith) (ReadSoFar tells size contents faults part place sectors.first a.s5.hand.now.pass old.hand.now.devices sectors.count)
-          (read_more tells size contents faults part place sectors.first a.s5.hand.now.pass old.hand.now.devices sectors.count sectors.count (omega arith) inside)
-          sectors.count sectors.count 0 tail a.rest a.s5 new (omega arith) (omega arith) start
-          (subst (λ (ws : List Want). IsRunOf (going job ws) a.rest Finished) (from_first (read_step part place) sectors tail) a.run) a.leads in
+      (read_more tells size contents faults part place sectors.first a.s5.hand.now.pass old.hand.now.devices sectors.count sectors.count (omega arith) inside)
+      sectors.count sectors.count 0 tail a.rest a.s5 new (omega arith) (omega arith) start
+      (subst (λ (ws : List Want). IsRunOf (going job ws) a.rest Finished) (from_first (read_step part place) sectors tail) a.run) a.leads in
       let known = all.known in
       let release : List Want = Cell (Release Shared block) ∷ [] in
       let c = done reads job (Cell (Count (read_kind place))) release all.rest all.mid new tt (only_count job (read_kind place) release) (subst (λ (w : Want). IsRunOf (going job (w ∷ release)) all.rest Finished) (count_read place) all.run) all.leads in
@@ -176,7 +176,7 @@ module _ {D : Type 0} (tells : Type 0) (size : D → ℕ) (contents : D → List
       let moved = acquired_keeps writes job old new (λ s. s.moved) (λ s step got t h. h.from.1) a in
       let slice = acquired_keeps writes job old new (λ s. s.from) (λ s step got t h. h.same_slice) a in
       let took = by_taking old.cells.now.blocks a.s1.cells.now.blocks a.s2.cells.now.blocks a.s3.cells.now.blocks a.s4.cells.now.blocks Owned block a.lock a.seal a.number p a.s1.hand.now.pass a.s2.hand.now.pass a.s3.hand.now.pass a.s4.hand.now.pass a.s5.hand.now.pass
-          a.not_failed.by_pass a.free.by_pass a.took.by_pass a.sealed.by_pass a.numbered.by_pass in
+      a.not_failed.by_pass a.free.by_pass a.took.by_pass a.sealed.by_pass a.numbered.by_pass in
       let release : List Want = Cell (Release Owned block) ∷ [] in
       let tail : List Want = Cell (Finish block) ∷ write_count place ∷ release in
       let d = dirties place dirty (map (write_step part place) part.extents ++ tail) a.rest a.s5 new (subst (λ (ws : List Want). IsRunOf (going job ws) a.rest Finished) (append_assoc (dirtying block place dirty) (map (write_step part place) part.extents) tail) a.run) a.leads in
@@ -191,9 +191,9 @@ module _ {D : Type 0} (tells : Type 0) (size : D → ℕ) (contents : D → List
         no_fault = λ told. ap (λ (x : Devices D). faults (device_in (device_at place) x)) ds;
       } in
       let all = all_moved writes job (write_step part place) (writes_step part place) (writes_only part place) LONGEST sectors.first sectors.count (omega arith) (WrittenSoFar tells size contents faults part place sectors.first d.mid.hand.now.pass old.hand.now.devices from)
-          (write_more tells size contents faults part place sectors.first d.mid.hand.now.pass old.hand.now.devices from sectors.count (omega (arith, fits)) inside)
-          sectors.count sectors.count 0 tail d.rest d.mid new (omega arith) (omega arith) start
-          (subst (λ (ws : List Want). IsRunOf (going job ws) d.rest Finished) (from_first (write_step part place) sectors tail) d.run) d.leads in
+      (write_more tells size contents faults part place sectors.first d.mid.hand.now.pass old.hand.now.devices from sectors.count (omega (arith, fits)) inside)
+      sectors.count sectors.count 0 tail d.rest d.mid new (omega arith) (omega arith) start
+      (subst (λ (ws : List Want). IsRunOf (going job ws) d.rest Finished) (from_first (write_step part place) sectors tail) d.run) d.leads in
       let known = all.known in
       let b = done writes job (Cell (Finish block)) (write_count place ∷ release) all.rest all.mid new tt (only_finish job block (write_count place ∷ release)) all.run all.leads in
       let c = done writes job (Cell (Count (write_kind place))) release b.rest b.mid new tt (only_count job (write_kind place) release) (subst (λ (w : Want). IsRunOf (going job (w ∷ release)) b.rest Finished) (count_written place) b.run) b.leads in
@@ -205,7 +205,7 @@ module _ {D : Type 0} (tells : Type 0) (size : D → ℕ) (contents : D → List
       let released = by_step c.mid.cells.now.blocks c.mid.hand.now.pass new.hand.now.pass (Release Owned block) (holding Nothing) (λ words. refl) refl last.by_pass in
       let after : new.hand.now.devices ≡ all.mid.hand.now.devices = last.from.0 ∙ (c.did.from.0 ∙ b.did.from.0) in
       let sealed : all.mid.hand.now.pass ≡ with_card p (dirtied block place dirty (taking_card Owned block a.lock a.seal a.number p.card)) =
-          known.pass_is ∙ (d.pass_is ∙ ap (λ (q : PassState). with_card q (dirtied block place dirty q.card)) took.0) in record {
+      known.pass_is ∙ (d.pass_is ∙ ap (λ (q : PassState). with_card q (dirtied block place dirty q.card)) took.0) in record {
         lock = a.lock;
         seal = a.seal;
         number = a.number;

@@ -134,9 +134,12 @@ module _ {D : Type 0} (tells : Type 0) (size : D → ℕ) (contents : D → List
       where
         plainly : (x : WriteStage D) (done : List (Want × Got)) → Leads (WriteLed tells size contents faults) x done new → Leads (WriteStep tells size contents faults x.cells.now.blocks x.from.now) (writing_at x) done (writing_at new)
         plainly x [] e = ap (λ (y : WriteStage D). writing_at y) e
-        plainly x (step ∷ done) l = (writing_at l.0, (l.1.by_pass, l.1.from),
-            subst (λ f. Leads (WriteStep tells size contents faults x.cells.now.blocks f.now) (writing_at l.0) done (writing_at new)) l.1.same_slice
-            (subst (λ c. Leads (WriteStep tells size contents faults c.now.blocks l.0.from.now) (writing_at l.0) done (writing_at new)) l.1.cells (plainly l.0 done l.2)))
+        plainly x (step ∷ done) l = (
+          writing_at l.0,
+          (l.1.by_pass, l.1.from),
+          subst (λ f. Leads (WriteStep tells size contents faults x.cells.now.blocks f.now) (writing_at l.0) done (writing_at new)) l.1.same_slice
+              (subst (λ c. Leads (WriteStep tells size contents faults c.now.blocks l.0.from.now) (writing_at l.0) done (writing_at new)) l.1.cells (plainly l.0 done l.2)),
+        )
 
     pub write_err : {A : Type 0} (answer : Answer) (r : Result A Refusal) → IsRunOf s steps answer → IfErr r (λ refusal. answer ≡ Refuses refusal)
         → old.moved ≡ 0 → IfErr r (λ refusal. WriteRefused tells size contents faults old.cells.now.blocks block_sectors block sectors old.from.now old.hand.now refusal new.hand.now)

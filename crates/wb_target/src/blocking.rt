@@ -20,12 +20,7 @@ impl<'t, D: Disk + Drop, P: Policy> Client<'t, D, P> {
     /// Reads the sectors from `at` on, block by block, rising; a block that is busy is tried again.
     ///
     /// `Range` for no sector, or one outside the origin, before any block; `Failed`, `Io` and `Memory` where a block met them.
-    pub fn read<R: Wait>(
-        &mut self,
-        rt: &R,
-        at: Sector,
-        out: &mut [Content],
-    ) -> Result<(), Stopped>
+    pub fn read<R: Wait>(&mut self, rt: &R, at: Sector, out: &mut [Content]) -> Result<(), Stopped>
         ensures target { self.new.target ≡ self.old.target }
         ensures many { length out.new ≡ length out.old }
     {
@@ -111,12 +106,7 @@ impl<'t, D: Disk + Drop, P: Policy> Client<'t, D, P> {
     }
 
     /// Writes sectors of one block, as `read_block` reads them.
-    fn write_block<R: Wait>(
-        &mut self,
-        rt: &R,
-        at: Sector,
-        from: &[Content],
-    ) -> Result<(), Refusal>
+    fn write_block<R: Wait>(&mut self, rt: &R, at: Sector, from: &[Content]) -> Result<(), Refusal>
         ensures target { self.new.target ≡ self.old.target }
         ensures geometry { self.new.port.geometry ≡ self.old.port.geometry }
     {

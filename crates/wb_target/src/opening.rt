@@ -61,7 +61,12 @@ fn measure<D: Disk>(devices: &Devices<D>, block: u64) -> Result<Geometry, Refusa
     if block == 0 || cache % block != 0 || origin % block != 0 {
         return Err(Refusal::Geometry);
     }
-    Geometry::new(block, cache / block, origin / block, devices.metadata.sectors())
+    Geometry::new(
+        block,
+        cache / block,
+        origin / block,
+        devices.metadata.sectors(),
+    )
 }
 
 /// Whether the root that was read has the clean flag.

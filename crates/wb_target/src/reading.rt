@@ -23,13 +23,7 @@ impl<'a, D: Disk> ReadStage<'a, D> {
         ensures pass { self.new.hand.now.pass ≡ self.old.hand.now.pass }
         ensures did { DidReadInto D.tells D.size D.contents D.faults device extent result self.old.hand.now.devices self.old.out.now self.old.moved self.new.hand.now.devices self.new.out.now self.new.moved }
     {
-        let got = read_behind(
-            &mut self.hand.devices,
-            device,
-            extent,
-            self.out,
-            self.moved,
-        );
+        let got = read_behind(&mut self.hand.devices, device, extent, self.out, self.moved);
         if let Got::Done = got {
             self.moved += (extent.count as usize).min(self.out.len() - self.moved);
         }

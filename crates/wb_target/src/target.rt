@@ -50,11 +50,7 @@ impl<P: Policy> Target<P> {
     }
 
     /// Takes a client back, its accesses settled: its devices.
-    pub fn retire<R: Wait, D: Disk + Drop>(
-        &self,
-        rt: &R,
-        client: Client<'_, D, P>,
-    ) -> Devices<D> {
+    pub fn retire<R: Wait, D: Disk + Drop>(&self, rt: &R, client: Client<'_, D, P>) -> Devices<D> {
         let mut client = client;
         client.settle(rt);
         let Client { target, port, .. } = client;

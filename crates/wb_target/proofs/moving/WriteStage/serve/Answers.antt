@@ -7,7 +7,6 @@ drive-requires g c steps mid first leads step = write_ready g.D.Disk.tells g.D.D
 pub returns-clause-same_hand : goal.returns-clause-same_hand
 returns-clause-same_hand g c = let run = c.drive.ensures.run in write_same_hand g.D.Disk.tells g.D.Disk.size g.D.Disk.contents g.D.Disk.faults _ _ _ c.new-task.result run.0 c.args.self.now c.drive.new.stage c.new-task.ensures run.3
 
-
 pub returns-clause-written : goal.returns-clause-written
 returns-clause-written g c = let run = c.drive.ensures.run in write_ok g.D.Disk.tells g.D.Disk.size g.D.Disk.contents g.D.Disk.faults _ _ _ c.new-task.result run.0 c.args.self.now c.drive.new.stage c.new-task.ensures run.3 c.drive.result c.answered.result c.requires.unmoved c.requires.fits c.requires.inside run.2 c.answered.ensures.done
 
