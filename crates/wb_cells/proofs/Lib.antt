@@ -8,3 +8,4 @@ pub mod Pairs
 pub mod Gripping
 pub mod Alone
 pub mod Stepping
+pub mod Meeting

@@ -9,6 +9,7 @@ mod cells;
 mod crew;
 mod grip;
 mod pass;
+mod step;
 mod table;
 mod view;
 

@@ -58,18 +58,18 @@ in_flush serves most (Desk EndCommit) o = tt
 in_flush serves most (Desk (BeginCommit false nodes)) o = tt
 in_flush serves most (Desk (BeginCommit true nodes)) o = absurd cc
 
-served : (blocks : ℕ) (job : TaskJob) (w : Want) → MayRun blocks job → IsOwnStep job w → IsServed w
+pub served : (blocks : ℕ) (job : TaskJob) (w : Want) → MayRun blocks job → IsOwnStep job w → IsServed w
 served blocks (OnBlock job) w r o = on_block job w o
 served blocks (Flushing serves most) w r o = in_flush serves most w o
 served blocks (Opening left) w r o = absurd r
 
-begins : (blocks : ℕ) (job : TaskJob) (card : Card) → MayRun blocks job → card.hold ≡ Nothing → Suits blocks (table job) card
+pub begins : (blocks : ℕ) (job : TaskJob) (card : Card) → MayRun blocks job → card.hold ≡ Nothing → Suits blocks (table job) card
 begins blocks (OnBlock job) card r idle = begins_ready blocks job card r idle
 begins blocks (Flushing serves most) card r idle = flush_begins blocks serves most card idle
 begins blocks (Opening left) card r idle = absurd r
 
 -- a task stays on its job
-same_job : (s : Plan) (steps : List (Want × Got)) → (left_by s steps).job ≡ s.job
+pub same_job : (s : Plan) (steps : List (Want × Got)) → (left_by s steps).job ≡ s.job
 same_job s [] = refl
 same_job s (step ∷ steps) = same_job (after s step.1) steps ∙ job_stays s step.1
 

@@ -23,13 +23,13 @@ use Rattle.wb_target.specs.Performed.{Led}
 use Rattle.wb_target.specs.declared.stage.OwnerStage.{OwnerStage}
 
 -- what a request does after a fault: it gives its block back, or sets the failed bit
-abbrev AreLettingGo : List Want → Type 0
+abbrev pub AreLettingGo : List Want → Type 0
 AreLettingGo [] = Unit {0}
 AreLettingGo (Cell (Release access block) ∷ ws) = AreLettingGo ws
 AreLettingGo (Cell SetFailed ∷ ws) = AreLettingGo ws
 AreLettingGo (w ∷ ws) = ⊥
 
-lets_go_after : (job : BlockJob) (step : DeviceStep) → IsRequest job → AreLettingGo (after_fault_of (OnBlock job) step)
+pub lets_go_after : (job : BlockJob) (step : DeviceStep) → IsRequest job → AreLettingGo (after_fault_of (OnBlock job) step)
 lets_go_after (Reading part) (Read device e) q = tt
 lets_go_after (Writing part) (Read device e) q = tt
 lets_go_after (Migrating migration part) (Read device e) q = absurd q
@@ -53,7 +53,7 @@ no_answer (Desk step) ws l e = absurd (cc)
 no_answer (End answer) ws l e = l
 
 -- so it is not answered done
-not_done : (s : Plan) (ws : List Want) (x : Refusal) → AreLettingGo ws → (steps : List (Want × Got)) → IsRunOf (refused s ws x) steps Finished → ⊥
+pub not_done : (s : Plan) (ws : List Want) (x : Refusal) → AreLettingGo ws → (steps : List (Want × Got)) → IsRunOf (refused s ws x) steps Finished → ⊥
 not_done s [] x l [] e = absurd (cc)
 not_done s [] x l (step ∷ steps) h = no_result (Refuses x) step.1 (subst (λ (w : Want). Fits w step.1) h.0 h.1)
 not_done s (w ∷ ws) x l [] e = no_answer w ws l e

@@ -1,3 +1,14 @@
 pub mod Requests
 pub mod Filling
 pub mod Faulting
+pub mod Paths
+pub mod Routes
+pub mod Passing
+pub mod Moved
+pub mod Served
+pub mod Readying
+pub mod Serves
+pub mod Tasks
+pub mod Carried
+pub mod Knowing
+pub mod Opened

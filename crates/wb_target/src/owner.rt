@@ -94,7 +94,7 @@ impl<D: Disk + Drop, F: TakesContent + Drop> Owner<D, F> {
 }
 
 /// A task's answer as a result.
-fn answered(answer: Answer) -> Result<(), Refusal>
+pub(crate) fn answered(answer: Answer) -> Result<(), Refusal>
     ensures done { OnOk result (answer ≡ Answer.Done) }
     ensures refused { IfErr result (λ refusal. answer ≡ Answer.Refused refusal) }
 {

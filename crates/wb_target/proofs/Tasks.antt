@@ -1,0 +1,54 @@
+-- A stage of a migration or a flush is ready for each of its steps, and from its run to what is told of it.
+use Rattle.std.proofs.Common.{◌≡◌, ℕ, List, [], ◌∷◌, refl, sym, ap, ◌∙◌, subst}
+use Rattle.wb_disk.specs.Device.{History}
+use Rattle.wb_words.specs.declared.card.Hold.TheVariants.{Nothing}
+use Rattle.wb_tasks.specs.Tables.{TaskJob}
+use Rattle.wb_tasks.specs.Ready.{AreFirst, MayTake, left_by}
+use Rattle.wb_tasks.specs.Plan.{Plan, table, want}
+use Rattle.wb_tasks.specs.Run.{IsRunOf, Leads}
+use Rattle.wb_tasks.specs.declared.step.Answer.{Answer}
+use Rattle.wb_tasks.specs.declared.step.Want.{Want}
+use Rattle.wb_tasks.specs.declared.step.Got.{Got}
+use Rattle.wb_stage.specs.Jobs.{MayRun}
+use Rattle.wb_target.specs.Works.{WorkState, WorkStep, WorkLed, WasPerformed, IsReadyToWork}
+use Rattle.wb_target.specs.declared.working.WorkStage.{WorkStage}
+use Rattle.wb_target.proofs.Passing.{made_by_pass, same_table}
+use Rattle.wb_target.proofs.Readying.{kept_by, work_ready, work_idle}
+
+abbrev working_at : {R D P : Type 0} → WorkStage R D P → WorkState D
+working_at x = record { hand = x.hand.now; buffer = x.buffer.now; commit = x.commit.now }
+
+module _ {R D P : Type 0} (tells : Type 0) (size : D → ℕ) (contents : D → List History) (faults : D → ℕ) (s : Plan) (job : TaskJob) (steps : List (Want × Got)) (old new : WorkStage R D P)
+    (begun : s ≡ table job) (leads : Leads (WorkLed tells size contents faults) old steps new) where
+  abbrev led : WorkStage R D P → Want → Got → WorkStage R D P → Type 0
+  led = WorkLed tells size contents faults
+
+  pub same_hand : new.hand.ghost_name ≡ old.hand.ghost_name
+  same_hand = kept_by led (λ x. x.hand.ghost_name) (λ x w g y h. h.same_hand) old steps new leads
+
+  pub same_buffer : new.buffer.ghost_name ≡ old.buffer.ghost_name
+  same_buffer = kept_by led (λ x. x.buffer.ghost_name) (λ x w g y h. h.same_buffer) old steps new leads
+
+  pub same_commit : new.commit.ghost_name ≡ old.commit.ghost_name
+  same_commit = kept_by led (λ x. x.commit.ghost_name) (λ x w g y h. h.same_commit) old steps new leads
+
+  same_cells : new.cells ≡ old.cells
+  same_cells = kept_by led (λ x. x.cells) (λ x w g y h. h.cells) old steps new leads
+
+  pub at_words : new.hand.now.pass.table ≡ old.hand.now.pass.table
+  at_words = kept_by led (λ x. x.hand.now.pass.table) (λ x w g y h. same_table x.cells.now.blocks x.hand.now.pass y.hand.now.pass w g h.by_pass) old steps new leads
+
+  pub ready : MayRun old.cells.now.blocks job → old.hand.now.pass.table ≡ old.cells.now.table → old.hand.now.pass.card.hold ≡ Nothing → AreFirst s steps → IsReadyToWork new (want (left_by s steps))
+  ready may at idle f =
+      let both = work_ready led (λ x. x.hand.now.pass.card) (λ x w g y h. made_by_pass x.cells.now.blocks x.hand.now.pass y.hand.now.pass w g h.by_pass) old.cells.now.blocks s job old begun may idle steps new f leads in
+      ((at_words ∙ (at ∙ ap (λ x. x.now.table) (sym same_cells)), subst (λ x. MayTake x.now.blocks new.hand.now.pass.card (want (left_by s steps))) (sym same_cells) both.0), both.1)
+
+  pub idle_then : (answer : Answer) → MayRun old.cells.now.blocks job → old.hand.now.pass.card.hold ≡ Nothing → IsRunOf s steps answer → new.hand.now.pass.card.hold ≡ Nothing
+  idle_then answer may idle run = work_idle led (λ x. x.hand.now.pass.card) (λ x w g y h. made_by_pass x.cells.now.blocks x.hand.now.pass y.hand.now.pass w g h.by_pass) old.cells.now.blocks s job old begun may idle steps answer new run leads
+
+  pub performed : (answer : Answer) → IsRunOf s steps answer → WasPerformed tells size contents faults old.cells.now.blocks s (working_at old) answer (working_at new)
+  performed answer run = record { steps = steps; run = run; leads = plainly old steps leads }
+    where
+      plainly : (x : WorkStage R D P) (done : List (Want × Got)) → Leads led x done new → Leads (WorkStep tells size contents faults x.cells.now.blocks) (working_at x) done (working_at new)
+      plainly x [] e = ap (λ (y : WorkStage R D P). working_at y) e
+      plainly x (step ∷ done) l = (working_at l.0, (l.1.by_pass, l.1.works), subst (λ c. Leads (WorkStep tells size contents faults c.now.blocks) (working_at l.0) done (working_at new)) l.1.cells (plainly l.0 done l.2))

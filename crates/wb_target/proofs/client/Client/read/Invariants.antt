@@ -1,0 +1,13 @@
+use Rattle.std.proofs.Common.{◌≡◌, ◌≤◌, ◌-◌, length}
+use Rattle.wb_target.proofs.client.Client.read.Given as goal
+
+abbrev pub invariant-loop-from : goal.invariant-loop-from
+invariant-loop-from g l = record {
+  target : l.self.target ≡ l.fn.self.target;
+  many : length l.out ≡ length l.fn.out;
+  within : l.from ≤ length l.fn.out;
+  done : l.done ≤ l.from;
+}
+
+abbrev pub decreases-loop-from : goal.decreases-loop-from
+decreases-loop-from g l = length l.initial.out - l.from

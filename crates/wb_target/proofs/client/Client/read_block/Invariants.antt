@@ -1,0 +1,9 @@
+use Rattle.std.proofs.Common.{◌≡◌, length}
+use Rattle.wb_target.proofs.client.Client.read_block.Given as goal
+
+abbrev pub invariant-loop : goal.invariant-loop
+invariant-loop g l = record {
+  target : l.self.target ≡ l.fn.self.target;
+  geometry : l.self.port.geometry ≡ l.fn.self.port.geometry;
+  many : length l.out ≡ length l.fn.out;
+}

@@ -1,0 +1,12 @@
+use Rattle.std.proofs.Common.{◌≡◌, ◌≤◌, ◌-◌, length}
+use Rattle.wb_target.proofs.client.Client.write.Given as goal
+
+abbrev pub invariant-loop-sent : goal.invariant-loop-sent
+invariant-loop-sent g l = record {
+  target : l.self.target ≡ l.fn.self.target;
+  within : l.sent ≤ length l.from;
+  done : l.done ≤ l.sent;
+}
+
+abbrev pub decreases-loop-sent : goal.decreases-loop-sent
+decreases-loop-sent g l = length l.from - l.sent

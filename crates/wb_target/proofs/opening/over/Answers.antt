@@ -1,0 +1,7 @@
+use Rattle.std.proofs.Common.{◌∙◌}
+use Rattle.wb_target.proofs.Knowing.{known_mapping}
+use Rattle.wb_target.proofs.opening.over.Goals as goal
+
+pub new-requires-3-clause-knows : goal.new-requires-3-clause-knows
+new-requires-3-clause-knows g c =
+    known_mapping (λ holdings. g.P.Policy.knows c.in_ok-policy.policy holdings) c.args.state.root.geometry.cache_blocks c.args.state.root.geometry.origin_blocks c.as_slice.result.now c.args.state.tree.entries (c.as_slice.ensures.value ∙ c.in_ok-entries.ensures) c.requires.mapping c.in_ok-policy.ensures.knows

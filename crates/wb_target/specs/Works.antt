@@ -1,0 +1,75 @@
+-- What a step of a migration or a flush does to a client's stage. Of the desk, under its lock, it tells the kind of the answer.
+use Rattle.std.specs.Prelude.{◌≡◌, ℕ, Bool, true, false, List, Option, Some, None, length}
+use Rattle.wb_disk.specs.Device.{History, Content as Bytes}
+use Rattle.wb_meta.specs.declared.commit_steps.CommitSteps.TheVariants.{NodesWritten}
+use Rattle.wb_tasks.specs.Plan.{Plan, device_of}
+use Rattle.wb_tasks.specs.Run.{IsRunOf, Leads}
+use Rattle.wb_tasks.specs.declared.step.Answer.{Answer}
+use Rattle.wb_tasks.specs.declared.step.DeskStep.{DeskStep}
+use Rattle.wb_tasks.specs.declared.step.DeskStep.TheVariants.{BeginCommit, EndCommit}
+use Rattle.wb_tasks.specs.declared.step.Want.{Want}
+use Rattle.wb_tasks.specs.declared.step.Want.TheVariants.{Device, Desk}
+use Rattle.wb_tasks.specs.declared.step.Got.{Got}
+use Rattle.wb_tasks.specs.declared.step.Got.TheVariants.{Began, Refused}
+use Rattle.wb_devices.specs.Moving.{OthersStay, device_in}
+use Rattle.wb_devices.specs.Stepping.{CommitGoes, DidStep, BufferStays}
+use Rattle.wb_devices.specs.declared.devices.Devices.{Devices}
+use Rattle.wb_devices.specs.declared.running.RunningCommit.{RunningCommit}
+use Rattle.wb_stage.specs.Stages.{IsServed, is_all_done}
+use Rattle.wb_target.specs.Hands.{DoneByPass, IsReadyOn}
+use Rattle.wb_target.specs.declared.hand.Hand.{Hand}
+use Rattle.wb_target.specs.declared.working.WorkStage.{WorkStage}
+
+-- the commit is let go where all of it was done
+abbrev pub EndsIf : Bool → Option RunningCommit → Option RunningCommit → Type 0
+EndsIf true commit commit' = commit' ≡ None
+EndsIf false commit commit' = commit' ≡ commit
+
+-- A commit that began has done nothing yet, and has so many nodes; one that is all done ends.
+abbrev pub DidAskDesk : DeskStep → Got → Option RunningCommit → Option RunningCommit → Type 0
+DidAskDesk (BeginCommit clean most) (Began nodes) commit commit' = (begun : RunningCommit) × (commit' ≡ Some begun) × (begun.steps ≡ NodesWritten 0) × (nodes ≡ length begun.image.nodes.items)
+DidAskDesk (BeginCommit clean most) got commit commit' = commit' ≡ commit
+DidAskDesk EndCommit got commit commit' = EndsIf (is_all_done commit) commit commit'
+DidAskDesk step got commit commit' = commit' ≡ commit
+
+-- A step on a device is one on its own device alone, and leads the commit on where it comes next of it; no other step is on a
+-- device.
+abbrev pub WorksOn : {D : Type 0} → Type 0 → (D → ℕ) → (D → List History) → (D → ℕ) → Devices D → List Bytes → Option RunningCommit → Want → Got → Devices D → List Bytes → Option RunningCommit → Type 0
+WorksOn tells size contents faults old buffer commit (Device step) got new buffer' commit' =
+    OthersStay (device_of step) old new
+    × (size (device_in (device_of step) new) ≡ size (device_in (device_of step) old))
+    × BufferStays step buffer buffer'
+    × CommitGoes (size old.metadata) commit step got commit'
+    × (tells → DidStep commit step got (size (device_in (device_of step) old)) (contents (device_in (device_of step) old)) (faults (device_in (device_of step) old)) buffer buffer' (contents (device_in (device_of step) new)) (faults (device_in (device_of step) new)))
+WorksOn tells size contents faults old buffer commit (Desk step) got new buffer' commit' = (new ≡ old) × (buffer' ≡ buffer) × DidAskDesk step got commit commit'
+WorksOn tells size contents faults old buffer commit want got new buffer' commit' = (new ≡ old) × (buffer' ≡ buffer) × (commit' ≡ commit)
+
+-- What a task of a client is at: a hand, a buffer, and the commit that it runs.
+pub record WorkState (D : Type 0) : Type 0 where
+  pub hand : Hand D
+  pub buffer : List Bytes
+  pub commit : Option RunningCommit
+
+-- what a step of it does, on words of so many blocks
+abbrev pub WorkStep : {D : Type 0} → Type 0 → (D → ℕ) → (D → List History) → (D → ℕ) → ℕ → WorkState D → Want → Got → WorkState D → Type 0
+WorkStep tells size contents faults blocks s want got t =
+    DoneByPass blocks s.hand.pass want got t.hand.pass
+    × WorksOn tells size contents faults s.hand.devices s.buffer s.commit want got t.hand.devices t.buffer t.commit
+
+-- A task was performed, with this answer: its steps are those of its table, and led from the one state to the other.
+pub record WasPerformed {D : Type 0} (tells : Type 0) (size : D → ℕ) (contents : D → List History) (faults : D → ℕ) (blocks : ℕ) (plan : Plan) (old : WorkState D) (answer : Answer) (new : WorkState D) : Type 0 where
+  pub steps : List (Want × Got)
+  pub run : IsRunOf plan steps answer
+  pub leads : Leads (WorkStep tells size contents faults blocks) old steps new
+
+abbrev pub IsReadyToWork : {R D P : Type 0} → WorkStage R D P → Want → Type 0
+IsReadyToWork stage want = IsReadyOn stage.cells.now stage.hand.now.pass want × IsServed want
+
+pub record WorkLed {R D P : Type 0} (tells : Type 0) (size : D → ℕ) (contents : D → List History) (faults : D → ℕ) (old : WorkStage R D P) (want : Want) (got : Got) (new : WorkStage R D P) : Type 0 where
+  pub cells : new.cells ≡ old.cells
+  pub held : new.held ≡ old.held
+  pub same_hand : new.hand.ghost_name ≡ old.hand.ghost_name
+  pub same_buffer : new.buffer.ghost_name ≡ old.buffer.ghost_name
+  pub same_commit : new.commit.ghost_name ≡ old.commit.ghost_name
+  pub by_pass : DoneByPass old.cells.now.blocks old.hand.now.pass want got new.hand.now.pass
+  pub works : WorksOn tells size contents faults old.hand.now.devices old.buffer.now old.commit.now want got new.hand.now.devices new.buffer.now new.commit.now

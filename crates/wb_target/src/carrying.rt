@@ -1,0 +1,250 @@
+//! Orders carried out, and flushes, by a client on its own thread.
+
+ghost use Rattle.std.specs.Prelude.{◌≡◌, ◌<◌, OnOk, IfOk, IfSome, Some, None, [], ◌∷◌};
+ghost use Rattle.wb_tasks.specs.Tables.{TaskJob, OnBlock, Flushing};
+ghost use Rattle.std.specs.Bool.{OnTrue};
+ghost use Rattle.wb_tasks.specs.Plan.{table};
+ghost use Rattle.wb_tasks.specs.declared.step.Migration.TheVariants.{Promote as Promoting, Demote as Demoting, Clean as Cleaning};
+ghost use Rattle.wb_stage.specs.Jobs.{MayRun};
+ghost use Rattle.wb_types.specs.Limits.{node_count};
+ghost use Rattle.wb_target.specs.Works.{WasPerformed};
+ghost use Rattle.wb_target.specs.Carried.{state_of, HasDone, migration_of, IsThere, IsCarriedOut};
+
+use crate::client::Client;
+use crate::orders::perform_task;
+use crate::port::Port;
+use crate::stage::LONGEST;
+use crate::target::Target;
+use std::alloc::Global;
+use std::sync::Wait;
+use std::thread;
+use wb_disk::Disk;
+use wb_flow::FlushTask;
+use wb_policy::{Order, Policy};
+use wb_tasks::{Answer, CleanTask, DemoteTask, PromoteTask, Task};
+use wb_types::{CBlock, Geometry, OBlock, Refusal, SECTOR_BYTES};
+
+/// How a flush was answered done.
+#[derive(Clone, Copy, Debug, PartialEq, Eq)]
+pub enum Flushed {
+    /// By a commit of its own.
+    Led,
+}
+
+impl<D: Disk + Drop> Port<D> {
+    /// Performs a task, under these orders: a run of its table. After a failed write or sync the target is told.
+    fn work<R: Wait, P: Policy, T: Task>(
+        &mut self,
+        rt: &R,
+        target: &Target<P>,
+        held: &[Order],
+        task: &mut T,
+    ) -> Answer
+        requires begun { (job : TaskJob) × (T.plan task.old ≡ table job) × MayRun self.old.geometry.origin_blocks job }
+        ensures performed { WasPerformed D.tells D.size D.contents D.faults self.old.geometry.origin_blocks (T.plan task.old) (state_of self.old) result (state_of self.new) }
+        ensures geometry { self.new.geometry ≡ self.old.geometry }
+    {
+        let answer = perform_task(
+            rt,
+            target,
+            &self.cells,
+            &mut self.hand,
+            self.buffer.as_mut_slice(),
+            held,
+            &mut self.commit,
+            task,
+        );
+        if let Answer::Refused(Refusal::Io(_)) = answer {
+            target.note_failure(rt);
+        }
+        answer
+    }
+
+    /// A buffer for the steps of migrations, if it has none; `Memory` where there is none for it.
+    fn take_buffer(&mut self, alloc: Global) -> Result<(), Refusal>
+        ensures geometry { self.new.geometry ≡ self.old.geometry }
+    {
+        if self.buffer.is_empty() {
+            self.buffer = vec![in alloc; [0; SECTOR_BYTES]; LONGEST as usize]?;
+        }
+        Ok(())
+    }
+}
+
+/// Copies a block into the cache and maps it, again while it is busy.
+fn promote<R: Wait, D: Disk + Drop, P: Policy>(
+    rt: &R,
+    target: &Target<P>,
+    port: &mut Port<D>,
+    held: &[Order],
+    block: OBlock,
+    to: CBlock,
+) -> Result<(), Refusal>
+    requires { block.0 < port.old.geometry.origin_blocks }
+    ensures done { OnOk result (HasDone D.tells D.size D.contents D.faults (migration_of port.old.geometry (Promoting to) block) port.new) }
+    ensures geometry { port.new.geometry ≡ port.old.geometry }
+{
+    for _ in rt.forever() {
+        let mut task = PromoteTask::new(port.geometry.block, block, to, LONGEST);
+        match port.work(rt, target, held, &mut task) {
+            Answer::Done => return Ok(()),
+            Answer::Refused(Refusal::Busy) => thread::yield_now(),
+            Answer::Refused(refusal) => return Err(refusal),
+        }
+    }
+    unreachable!()
+}
+
+/// Copies a dirty block home and unmaps it, again while it is busy.
+fn demote<R: Wait, D: Disk + Drop, P: Policy>(
+    rt: &R,
+    target: &Target<P>,
+    port: &mut Port<D>,
+    held: &[Order],
+    block: OBlock,
+) -> Result<(), Refusal>
+    requires { block.0 < port.old.geometry.origin_blocks }
+    ensures done { OnOk result (HasDone D.tells D.size D.contents D.faults (migration_of port.old.geometry Demoting block) port.new) }
+    ensures geometry { port.new.geometry ≡ port.old.geometry }
+{
+    for _ in rt.forever() {
+        let mut task = DemoteTask::new(port.geometry.block, block, LONGEST);
+        match port.work(rt, target, held, &mut task) {
+            Answer::Done => return Ok(()),
+            Answer::Refused(Refusal::Busy) => thread::yield_now(),
+            Answer::Refused(refusal) => return Err(refusal),
+        }
+    }
+    unreachable!()
+}
+
+/// Copies a dirty block home, again while it is busy.
+fn clean<R: Wait, D: Disk + Drop, P: Policy>(
+    rt: &R,
+    target: &Target<P>,
+    port: &mut Port<D>,
+    held: &[Order],
+    block: OBlock,
+) -> Result<(), Refusal>
+    requires { block.0 < port.old.geometry.origin_blocks }
+    ensures done { OnOk result (HasDone D.tells D.size D.contents D.faults (migration_of port.old.geometry Cleaning block) port.new) }
+    ensures geometry { port.new.geometry ≡ port.old.geometry }
+{
+    for _ in rt.forever() {
+        let mut task = CleanTask::new(port.geometry.block, block, LONGEST);
+        match port.work(rt, target, held, &mut task) {
+            Answer::Done => return Ok(()),
+            Answer::Refused(Refusal::Busy) => thread::yield_now(),
+            Answer::Refused(refusal) => return Err(refusal),
+        }
+    }
+    unreachable!()
+}
+
+/// Makes all that was finished durable, after any commit that runs; the order of a replacement that it serves is given up
+/// where there is no memory, or no next generation.
+fn flush<R: Wait, D: Disk + Drop, P: Policy>(
+    rt: &R,
+    target: &Target<P>,
+    port: &mut Port<D>,
+    held: &[Order],
+    serves: Option<OBlock>,
+) -> Result<(), Refusal>
+    ensures done { OnOk result ((served : _) × HasDone D.tells D.size D.contents D.faults (Flushing served (node_count port.old.geometry.cache_blocks)) port.new) }
+    ensures geometry { port.new.geometry ≡ port.old.geometry }
+{
+    let most = port.geometry.node_count();
+    for _ in rt.forever() {
+        let mut task = FlushTask::new(served(target.alloc, serves)?, most);
+        match port.work(rt, target, held, &mut task) {
+            Answer::Done => return Ok(()),
+            Answer::Refused(Refusal::Busy) => target.await_commit(rt),
+            Answer::Refused(refusal) => return Err(refusal),
+        }
+    }
+    unreachable!()
+}
+
+/// The block of the order that a flush serves, if any.
+fn served(alloc: Global, block: Option<OBlock>) -> Result<Vec<OBlock>, Refusal> {
+    let mut blocks = Vec::new(alloc);
+    if let Some(block) = block {
+        blocks.push(block).map_err(|_| Refusal::Memory)?;
+    }
+    Ok(blocks)
+}
+
+/// Carries out an order of blocks that are there.
+fn carry_out<R: Wait, D: Disk + Drop, P: Policy>(
+    rt: &R,
+    target: &Target<P>,
+    port: &mut Port<D>,
+    order: Order,
+) -> Result<(), Refusal>
+    requires { IsThere port.old.geometry order }
+    ensures carried { OnOk result (IsCarriedOut D.tells D.size D.contents D.faults order port.new) }
+    ensures geometry { port.new.geometry ≡ port.old.geometry }
+{
+    let held = [order];
+    match order {
+        Order::Promote(block, to) => promote(rt, target, port, &held, block, to),
+        Order::Demote(block) => demote(rt, target, port, &held, block),
+        Order::Clean(block) => clean(rt, target, port, &held, block),
+        Order::Replace(victim, block, to) => {
+            demote(rt, target, port, &held, victim)?;
+            flush(rt, target, port, &held, Some(block))?;
+            promote(rt, target, port, &held, block, to)
+        }
+    }
+}
+
+/// Whether an order's blocks are there. All are; the lock cannot say of which cache the desk under it is.
+fn is_there(geometry: &Geometry, order: Order) -> bool
+    ensures { OnTrue result (IsThere geometry.now order) }
+{
+    match order {
+        Order::Promote(block, _) | Order::Demote(block) | Order::Clean(block) => {
+            block.0 < geometry.origin_blocks
+        }
+        Order::Replace(victim, block, _) => {
+            victim.0 < geometry.origin_blocks && block.0 < geometry.origin_blocks
+        }
+    }
+}
+
+impl<'t, D: Disk + Drop, P: Policy> Client<'t, D, P> {
+    /// Carries out the order that waits longest, if any, and says which: its block is copied and mapped, or copied home, each
+    /// task again while its block is busy.
+    ///
+    /// `Failed` where the target has failed; `Memory` where there is none; `Io` where a step failed; `GenerationEnd` where a
+    /// replacement's commit has no next generation.
+    pub fn work_one<R: Wait>(&mut self, rt: &R) -> Result<Option<Order>, Refusal>
+        ensures carried { IfOk result (λ told. IfSome told (λ order. IsCarriedOut D.tells D.size D.contents D.faults order self.new.port)) }
+    {
+        if self.port.has_failed() {
+            return Err(Refusal::Failed);
+        }
+        let target = self.target;
+        self.port.take_buffer(target.alloc)?;
+        let Some(order) = target.take_order(rt) else {
+            return Ok(None);
+        };
+        if !is_there(&self.port.geometry, order) {
+            return Err(Refusal::Range);
+        }
+        carry_out(rt, target, &mut self.port, order)?;
+        Ok(Some(order))
+    }
+
+    /// Makes durable all that was finished before it: a commit of its own, after any that runs.
+    ///
+    /// `Failed` where the target has failed; `Io` where a step failed; `Memory` where there is none; `GenerationEnd` where there
+    /// is no next generation.
+    pub fn flush<R: Wait>(&mut self, rt: &R) -> Result<Flushed, Refusal>
+        ensures flushed { OnOk result ((served : _) × HasDone D.tells D.size D.contents D.faults (Flushing served (node_count self.old.port.geometry.cache_blocks)) self.new.port) }
+    {
+        let target = self.target;
+        flush(rt, target, &mut self.port, &[], None)?;
+        Ok(Flushed::Led)
+    }
+}

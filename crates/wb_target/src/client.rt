@@ -1,0 +1,49 @@
+//! A client of a target.
+
+ghost use Rattle.std.specs.Prelude.{◌≡◌, []};
+
+use crate::port::Port;
+use crate::target::Target;
+use std::sync::Wait;
+use wb_disk::Disk;
+use wb_policy::Policy;
+
+/// A client: what it reads and writes by, and the target that it is of.
+#[derive(Drop)]
+pub struct Client<'t, D, P: Policy> {
+    pub(crate) target: &'t Target<P>,
+    pub port: Port<D>,
+}
+
+impl<'t, D: Disk + Drop, P: Policy> Client<'t, D, P> {
+    pub(crate) fn new(target: &'t Target<P>, port: Port<D>) -> Client<'t, D, P>
+        ensures { result.port ≡ port }
+    {
+        Client { target, port }
+    }
+
+    /// Settles its accesses: the policy is told of each, in order, and orders that it gives wait to be taken.
+    pub fn settle<R: Wait>(&mut self, rt: &R)
+        ensures target { self.new.target ≡ self.old.target }
+        ensures settled { self.new.port.accesses.items ≡ [] }
+        ensures hand { self.new.port.hand ≡ self.old.port.hand }
+        ensures geometry { self.new.port.geometry ≡ self.old.port.geometry }
+        ensures cells { self.new.port.cells ≡ self.old.port.cells }
+    {
+        let target = self.target;
+        settle_all(rt, target, &mut self.port);
+    }
+}
+
+/// Settles a port's accesses.
+fn settle_all<R: Wait, D: Disk + Drop, P: Policy>(rt: &R, target: &Target<P>, port: &mut Port<D>)
+    ensures settled { port.new.accesses.items ≡ [] }
+    ensures hand { port.new.hand ≡ port.old.hand }
+    ensures geometry { port.new.geometry ≡ port.old.geometry }
+    ensures cells { port.new.cells ≡ port.old.cells }
+{
+    if !port.accesses.is_empty() {
+        target.settle(rt, port.accesses.as_slice());
+        port.accesses.clear();
+    }
+}

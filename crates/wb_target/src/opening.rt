@@ -1,0 +1,169 @@
+//! Opening a target over what three devices hold.
+
+ghost use Rattle.std.specs.Prelude.{◌≡◌, ◌≤◌, ◌<◌, IfOk, IfErr, length};
+ghost use Rattle.wb_words.specs.declared.card.Hold.TheVariants.{Nothing};
+ghost use Rattle.wb_tree.specs.Mapping.{IsMapping};
+ghost use Rattle.wb_meta.specs.Reads.{FitsDevice};
+
+use crate::office::Office;
+use crate::seat::Seat;
+use crate::target::{CLIENTS, Target};
+use std::alloc::Global;
+use std::sync::{Arc, Condvar, Mutex};
+use wb_cells::{Cells, Pass};
+use wb_desk::Desk;
+use wb_devices::{Devices, Opening, OpeningStage};
+use wb_disk::Disk;
+use wb_flow::OpenTask;
+use wb_meta::{ReadSteps, State};
+use wb_policy::Policy;
+use wb_tasks::Answer;
+use wb_tree::Tree;
+use wb_types::{CBlock, Entry, Geometry, Key, Mode, Refusal};
+
+impl<P: Policy> Target<P> {
+    /// Opens a cache over three devices, which are handed back: all three are synced, the newest root and its tree are read, and a
+    /// root of the next generation without the clean flag is durable before the target is there. Without the clean flag each
+    /// mapped block counts as dirty (the kernel's device-mapper/cache.rst).
+    ///
+    /// `Geometry` for sizes outside the limits; `NotFormatted`, `Mismatch`, `Damaged`, `GenerationEnd` and `Memory` as the
+    /// metadata are read; `BadMessage` for a key's value that is out of its range; `Io` where a step failed.
+    pub fn open<D: Disk + Drop>(
+        alloc: Global,
+        devices: Devices<D>,
+        block: u64,
+        mode: Mode,
+        keys: &[(Key, u64)],
+    ) -> (Devices<D>, Result<Target<P>, Refusal>) {
+        let geometry = match measure(&devices, block) {
+            Ok(geometry) => geometry,
+            Err(refusal) => return (devices, Err(refusal)),
+        };
+        let mut stage = OpeningStage::new(alloc, devices, geometry);
+        let mut task = OpenTask::new(geometry.meta_sectors);
+        let answer = stage.run(&mut task);
+        let clean = was_clean(&stage.opening);
+        let (devices, state) = stage.finish();
+        let opened = match (answer, state) {
+            (Answer::Done, Some(state)) => over(alloc, state, clean, mode, keys),
+            (Answer::Refused(refusal), _) => Err(refusal),
+            (Answer::Done, None) => Err(Refusal::Memory),
+        };
+        (devices, opened)
+    }
+}
+
+/// The sizes of a cache over these devices: `Geometry` where they are outside the limits, or not of whole blocks.
+fn measure<D: Disk>(devices: &Devices<D>, block: u64) -> Result<Geometry, Refusal>
+    ensures refused { IfErr result (λ refusal. refusal ≡ Refusal.Geometry) }
+{
+    let (cache, origin) = (devices.cache.sectors(), devices.origin.sectors());
+    if block == 0 || cache % block != 0 || origin % block != 0 {
+        return Err(Refusal::Geometry);
+    }
+    Geometry::new(
+        block,
+        cache / block,
+        origin / block,
+        devices.metadata.sectors(),
+    )
+}
+
+/// Whether the root that was read has the clean flag.
+fn was_clean(opening: &Opening) -> bool {
+    match &opening.reading {
+        Some(ReadSteps::Done(state)) => state.root.clean,
+        _ => false,
+    }
+}
+
+/// A target over what was read.
+fn over<P: Policy>(
+    alloc: Global,
+    state: State<Global>,
+    clean: bool,
+    mode: Mode,
+    keys: &[(Key, u64)],
+) -> Result<Target<P>, Refusal>
+    requires { FitsDevice state.root.geometry.meta_sectors state.root state.tree state.used.items }
+{
+    let geometry = state.root.geometry;
+    let entries = entries_of(alloc, &state.tree, &geometry)?;
+    let policy = P::new(alloc, &geometry, entries.as_slice())?;
+    let (cells, mut pass) = Cells::new(alloc, geometry.origin_blocks)?;
+    seal_all(&cells, &mut pass, &geometry, entries.as_slice(), clean)?;
+    let desk = Desk::new(alloc, state, mode, policy, keys)?;
+    let cells = Arc::new(alloc, cells).map_err(|_| Refusal::Memory)?;
+    let seats = seats_of(
+        alloc,
+        Seat {
+            geometry,
+            cells,
+            pass,
+        },
+    )?;
+    Ok(Target {
+        alloc,
+        geometry,
+        office: Mutex::new(Office {
+            desk,
+            seats,
+            failed: false,
+        }),
+        bell: Condvar::new(),
+    })
+}
+
+/// The entry of each cache block.
+fn entries_of(
+    alloc: Global,
+    tree: &Tree<Global>,
+    geometry: &Geometry,
+) -> Result<Vec<Option<Entry>>, Refusal>
+    requires { length tree.now.entries ≡ geometry.now.cache_blocks }
+    ensures { IfOk result (λ v. v.items ≡ tree.now.entries) }
+{
+    let mut entries = vec![in alloc; None; geometry.cache_blocks as usize]?;
+    for c in 0..geometry.cache_blocks {
+        entries[c as usize] = tree.get(CBlock(c));
+    }
+    Ok(entries)
+}
+
+/// Seals each mapped block at its place: dirty as its entry says, and each without the clean flag.
+fn seal_all(
+    cells: &Cells,
+    pass: &mut Pass,
+    geometry: &Geometry,
+    entries: &[Option<Entry>],
+    clean: bool,
+) -> Result<(), Refusal>
+    requires at { pass.old.table ≡ cells.now.table }
+    requires idle { pass.old.card.hold ≡ Nothing }
+    requires blocks { cells.now.blocks ≡ geometry.now.origin_blocks }
+    requires mapping { IsMapping geometry.now.cache_blocks geometry.now.origin_blocks entries.now }
+    ensures at { pass.new.table ≡ pass.old.table }
+    ensures idle { pass.new.card.hold ≡ Nothing }
+{
+    for c in 0..geometry.cache_blocks {
+        if let Some(entry) = entries[c as usize] {
+            let mut own = cells.try_own(pass, entry.origin)?;
+            cells.seal(pass, &mut own, Some(CBlock(c)), !clean || entry.dirty);
+            cells.disown(pass, own);
+        }
+    }
+    Ok(())
+}
+
+/// As many seats as there may be clients, of one.
+fn seats_of(alloc: Global, seat: Seat) -> Result<Vec<Seat>, Refusal> {
+    let mut seats = Vec::with_capacity(alloc, CLIENTS)?;
+    let mut last = seat;
+    for _ in 1..CLIENTS {
+        let (one, other) = last.split()?;
+        seats.push(one).map_err(|_| Refusal::Memory)?;
+        last = other;
+    }
+    seats.push(last).map_err(|_| Refusal::Memory)?;
+    Ok(seats)
+}

@@ -1,0 +1,76 @@
+//! Tasks of a client, driven to their answers: migrations under their orders, and flushes.
+
+ghost use Rattle.std.specs.Prelude.{◌≡◌};
+ghost use Rattle.wb_words.specs.declared.card.Hold.TheVariants.{Nothing};
+ghost use Rattle.wb_tasks.specs.Tables.{TaskJob};
+ghost use Rattle.wb_tasks.specs.Plan.{table};
+ghost use Rattle.wb_stage.specs.Jobs.{MayRun};
+ghost use Rattle.wb_target.specs.Works.{WasPerformed};
+
+use crate::hand::Hand;
+use crate::target::Target;
+use crate::working::WorkStage;
+use std::sync::Wait;
+use wb_cells::Cells;
+use wb_devices::RunningCommit;
+use wb_disk::Disk;
+use wb_policy::{Order, Policy};
+use wb_tasks::{Answer, Task, drive};
+use wb_types::Content;
+
+impl<'a, R: Wait, D: Disk, P: Policy> WorkStage<'a, R, D, P> {
+    /// Performs a task that has not begun, up to its answer: a run of its table.
+    fn run<T: Task>(&mut self, task: &mut T) -> Answer
+        requires begun { (job : TaskJob) × (T.plan task.old ≡ table job) × MayRun self.old.cells.now.blocks job }
+        requires at { self.old.hand.now.pass.table ≡ self.old.cells.now.table }
+        requires idle { self.old.hand.now.pass.card.hold ≡ Nothing }
+        ensures performed { WasPerformed D.tells D.size D.contents D.faults self.old.cells.now.blocks (T.plan task.old) (record { hand = self.old.hand.now; buffer = self.old.buffer.now; commit = self.old.commit.now }) result (record { hand = self.new.hand.now; buffer = self.new.buffer.now; commit = self.new.commit.now }) }
+        ensures same_hand { self.new.hand.ghost_name ≡ self.old.hand.ghost_name }
+        ensures same_buffer { self.new.buffer.ghost_name ≡ self.old.buffer.ghost_name }
+        ensures same_commit { self.new.commit.ghost_name ≡ self.old.commit.ghost_name }
+        ensures at { self.new.hand.now.pass.table ≡ self.old.hand.now.pass.table }
+        ensures idle { self.new.hand.now.pass.card.hold ≡ Nothing }
+    {
+        drive(task, self)
+    }
+}
+
+/// Performs a task on a client's hand, under the orders that it has taken.
+pub(crate) fn perform_task<'a, R: Wait, D: Disk, P: Policy, T: Task>(
+    rt: &'a R,
+    target: &'a Target<P>,
+    cells: &'a Cells,
+    hand: &'a mut Hand<D>,
+    buffer: &'a mut [Content],
+    held: &'a [Order],
+    commit: &'a mut Option<RunningCommit>,
+    task: &mut T,
+) -> Answer
+    requires begun { (job : TaskJob) × (T.plan task.old ≡ table job) × MayRun cells.now.blocks job }
+    requires at { hand.old.pass.table ≡ cells.now.table }
+    requires idle { hand.old.pass.card.hold ≡ Nothing }
+    ensures performed { WasPerformed D.tells D.size D.contents D.faults cells.now.blocks (T.plan task.old) (record { hand = hand.old; buffer = buffer.old; commit = commit.old }) result (record { hand = hand.new; buffer = buffer.new; commit = commit.new }) }
+    ensures at { hand.new.pass.table ≡ hand.old.pass.table }
+    ensures idle { hand.new.pass.card.hold ≡ Nothing }
+{
+    let mut stage = WorkStage {
+        rt,
+        target,
+        cells,
+        hand,
+        buffer,
+        held,
+        commit,
+    };
+    let answer = stage.run(task);
+    let WorkStage {
+        rt: _,
+        target: _,
+        cells: _,
+        hand: _,
+        buffer: _,
+        held: _,
+        commit: _,
+    } = stage;
+    answer
+}

@@ -1,0 +1,213 @@
+//! The steps of a migration or a flush.
+
+ghost use Rattle.std.specs.Prelude.{◌≡◌, ◌≤◌, false, length, IfOk, IfErr};
+ghost use Rattle.wb_tasks.specs.Plan.{Fits, MayBeRefused, device_of};
+ghost use Rattle.wb_tasks.specs.declared.step.Want.TheVariants.{Desk as AskDesk};
+ghost use Rattle.wb_tasks.specs.declared.step.DeskStep.TheVariants.{Map, BeginCommit};
+ghost use Rattle.wb_meta.specs.declared.commit_steps.CommitSteps.TheVariants.{NodesWritten};
+ghost use Rattle.wb_devices.specs.Moving.{IsOutcome, DidRead, DidWrite, OthersStay, device_in};
+ghost use Rattle.wb_devices.specs.Stepping.{CommitGoes, DidStep, BufferStays};
+ghost use Rattle.wb_stage.specs.Stages.{IsServed, is_all_done};
+ghost use Rattle.wb_target.specs.Works.{IsReadyToWork, DidAskDesk, EndsIf, WorkLed};
+
+use crate::target::Target;
+use crate::working::WorkStage;
+use std::sync::Wait;
+use wb_devices::{Devices, RunningCommit, put, sync_metadata};
+use wb_disk::Disk;
+use wb_policy::{Order, Policy};
+use wb_stage::asking;
+use wb_tasks::{DeskStep, DeviceStep, Got, Stage, Want};
+use wb_types::{CBlock, Content, Dev, Extent, OBlock, Refusal};
+
+impl<P: Policy> Target<P> {
+    /// Enters a block into the mapping.
+    fn map<R: Wait>(&self, rt: &R, block: OBlock, to: CBlock) -> Got
+        ensures { Fits (AskDesk (Map block to)) result }
+    {
+        asking::map(&mut self.office.lock(rt).desk, block, to)
+    }
+
+    /// Removes a block from it.
+    fn unmap<R: Wait>(&self, rt: &R, block: OBlock) {
+        asking::unmap(&mut self.office.lock(rt).desk, block);
+    }
+
+    /// Gives up the order of a block, which is one of these.
+    fn release<R: Wait>(&self, rt: &R, held: &[Order], block: OBlock) {
+        asking::release(&mut self.office.lock(rt).desk, held, block);
+    }
+
+    /// Takes the image of a commit.
+    fn begin<R: Wait>(&self, rt: &R, most: u32) -> Result<RunningCommit, Refusal>
+        ensures steps { IfOk result (λ commit. commit.steps ≡ NodesWritten 0) }
+        ensures few { IfOk result (λ commit. length commit.image.nodes.items ≤ most) }
+        ensures kind { IfErr result (MayBeRefused (AskDesk (BeginCommit false most))) }
+    {
+        asking::begin(self.alloc, &mut self.office.lock(rt).desk, most)
+    }
+
+    /// Ends the running commit; whoever waits for it is woken.
+    fn end<R: Wait>(&self, rt: &R) {
+        asking::end(&mut self.office.lock(rt).desk);
+        self.bell.notify_all();
+    }
+}
+
+impl<'a, R: Wait, D: Disk, P: Policy> WorkStage<'a, R, D, P> {
+    /// A step on a device.
+    fn device_step(&mut self, step: DeviceStep) -> Got
+        ensures kind { IsOutcome result }
+        ensures cells { self.new.cells ≡ self.old.cells }
+        ensures held { self.new.held ≡ self.old.held }
+        ensures same_hand { self.new.hand.ghost_name ≡ self.old.hand.ghost_name }
+        ensures same_commit { self.new.commit.ghost_name ≡ self.old.commit.ghost_name }
+        ensures same_buffer { self.new.buffer.ghost_name ≡ self.old.buffer.ghost_name }
+        ensures pass { self.new.hand.now.pass ≡ self.old.hand.now.pass }
+        ensures others { OthersStay (device_of step) self.old.hand.now.devices self.new.hand.now.devices }
+        ensures size { D.size (device_in (device_of step) self.new.hand.now.devices) ≡ D.size (device_in (device_of step) self.old.hand.now.devices) }
+        ensures buffer { BufferStays step self.old.buffer.now self.new.buffer.now }
+        ensures did { D.tells → DidStep self.old.commit.now step result (D.size (device_in (device_of step) self.old.hand.now.devices)) (D.contents (device_in (device_of step) self.old.hand.now.devices)) (D.faults (device_in (device_of step) self.old.hand.now.devices)) self.old.buffer.now self.new.buffer.now (D.contents (device_in (device_of step) self.new.hand.now.devices)) (D.faults (device_in (device_of step) self.new.hand.now.devices)) }
+        ensures goes { CommitGoes (D.size self.old.hand.now.devices.metadata) self.old.commit.now step result self.new.commit.now }
+    {
+        match step {
+            DeviceStep::Read(device, extent) => {
+                read_front(&mut self.hand.devices, device, extent, self.buffer)
+            }
+            DeviceStep::Write(device, extent) => {
+                write_front(&mut self.hand.devices, device, extent, self.buffer)
+            }
+            DeviceStep::Sync(Dev::Metadata) => {
+                sync_metadata(self.commit, &mut self.hand.devices.metadata)
+            }
+            DeviceStep::Sync(Dev::Cache) => self.hand.devices.sync(Dev::Cache),
+            DeviceStep::Sync(Dev::Origin) => self.hand.devices.sync(Dev::Origin),
+            DeviceStep::ReadMetadata(_) => Got::Fault,
+            DeviceStep::WriteNode(_) | DeviceStep::WriteRoot => {
+                put(self.commit, &mut self.hand.devices.metadata, step)
+            }
+        }
+    }
+
+    /// A step on the desk, under the lock.
+    fn desk_step(&mut self, step: DeskStep) -> Got
+        requires { IsServed (AskDesk step) }
+        ensures kind { Fits (AskDesk step) result }
+        ensures cells { self.new.cells ≡ self.old.cells }
+        ensures held { self.new.held ≡ self.old.held }
+        ensures same_hand { self.new.hand.ghost_name ≡ self.old.hand.ghost_name }
+        ensures hand { self.new.hand.now ≡ self.old.hand.now }
+        ensures same_commit { self.new.commit.ghost_name ≡ self.old.commit.ghost_name }
+        ensures same_buffer { self.new.buffer.ghost_name ≡ self.old.buffer.ghost_name }
+        ensures buffer { self.new.buffer.now ≡ self.old.buffer.now }
+        ensures commit { DidAskDesk step result self.old.commit.now self.new.commit.now }
+    {
+        match step {
+            DeskStep::Map(block, to) => self.target.map(self.rt, block, to),
+            DeskStep::Unmap(block) => {
+                self.target.unmap(self.rt, block);
+                Got::Done
+            }
+            DeskStep::ReleaseOrder(block) => {
+                self.target.release(self.rt, self.held, block);
+                Got::Done
+            }
+            DeskStep::BeginCommit(_, most) => self.begin(most),
+            DeskStep::EndCommit => {
+                self.end();
+                Got::Done
+            }
+        }
+    }
+
+    /// Begins a commit, of at most so many nodes.
+    fn begin(&mut self, most: u32) -> Got
+        ensures kind { Fits (AskDesk (BeginCommit false most)) result }
+        ensures cells { self.new.cells ≡ self.old.cells }
+        ensures held { self.new.held ≡ self.old.held }
+        ensures same_hand { self.new.hand.ghost_name ≡ self.old.hand.ghost_name }
+        ensures hand { self.new.hand.now ≡ self.old.hand.now }
+        ensures same_commit { self.new.commit.ghost_name ≡ self.old.commit.ghost_name }
+        ensures same_buffer { self.new.buffer.ghost_name ≡ self.old.buffer.ghost_name }
+        ensures buffer { self.new.buffer.now ≡ self.old.buffer.now }
+        ensures commit { DidAskDesk (BeginCommit false most) result self.old.commit.now self.new.commit.now }
+    {
+        match self.target.begin(self.rt, most) {
+            Ok(commit) => {
+                let nodes = commit.nodes() as u32;
+                *self.commit = Some(commit);
+                Got::Began(nodes)
+            }
+            Err(refusal) => Got::Refused(refusal),
+        }
+    }
+
+    /// Ends the commit, where all of it was done.
+    fn end(&mut self)
+        ensures cells { self.new.cells ≡ self.old.cells }
+        ensures held { self.new.held ≡ self.old.held }
+        ensures same_hand { self.new.hand.ghost_name ≡ self.old.hand.ghost_name }
+        ensures hand { self.new.hand.now ≡ self.old.hand.now }
+        ensures same_commit { self.new.commit.ghost_name ≡ self.old.commit.ghost_name }
+        ensures same_buffer { self.new.buffer.ghost_name ≡ self.old.buffer.ghost_name }
+        ensures buffer { self.new.buffer.now ≡ self.old.buffer.now }
+        ensures commit { EndsIf (is_all_done self.old.commit.now) self.old.commit.now self.new.commit.now }
+    {
+        let is_done = match &*self.commit {
+            Some(commit) => commit.is_done(),
+            None => false,
+        };
+        if is_done {
+            self.target.end(self.rt);
+            *self.commit = None;
+        }
+    }
+}
+
+impl<'a, R: Wait, D: Disk, P: Policy> Stage for WorkStage<'a, R, D, P> {
+    ghost ready = { IsReadyToWork };
+
+    ghost led = { WorkLed D.tells D.size D.contents D.faults };
+
+    #[tactic(auto, using(wb_devices::proofs::Going::outcome_fits))]
+    fn perform(&mut self, want: &Want) -> Got {
+        match want {
+            Want::Cell(step) => Got::from(self.cells.step(&mut self.hand.pass, *step)),
+            Want::Device(step) => self.device_step(*step),
+            Want::Desk(step) => self.desk_step(*step),
+            Want::End(_) => unreachable!(),
+        }
+    }
+}
+
+/// Reads an extent to the front of a buffer.
+fn read_front<D: Disk>(
+    devices: &mut Devices<D>,
+    device: Dev,
+    extent: Extent,
+    buffer: &mut [Content],
+) -> Got
+    ensures kind { IsOutcome result }
+    ensures many { length buffer.new ≡ length buffer.old }
+    ensures others { OthersStay device devices.old devices.new }
+    ensures size { D.size (device_in device devices.new) ≡ D.size (device_in device devices.old) }
+    ensures did { D.tells → DidRead extent result (D.size (device_in device devices.old)) (D.contents (device_in device devices.old)) (D.faults (device_in device devices.old)) buffer.new (D.contents (device_in device devices.new)) (D.faults (device_in device devices.new)) }
+{
+    devices.read(device, extent, buffer)
+}
+
+/// Writes an extent from the front of a buffer, which stays.
+fn write_front<D: Disk>(
+    devices: &mut Devices<D>,
+    device: Dev,
+    extent: Extent,
+    buffer: &mut [Content],
+) -> Got
+    ensures kind { IsOutcome result }
+    ensures same { buffer.new ≡ buffer.old }
+    ensures others { OthersStay device devices.old devices.new }
+    ensures size { D.size (device_in device devices.new) ≡ D.size (device_in device devices.old) }
+    ensures did { D.tells → DidWrite extent result (D.size (device_in device devices.old)) buffer.old (D.contents (device_in device devices.old)) (D.faults (device_in device devices.old)) (D.contents (device_in device devices.new)) (D.faults (device_in device devices.new)) }
+{
+    devices.write(device, extent, buffer)
+}

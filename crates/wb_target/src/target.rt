@@ -1,0 +1,99 @@
+//! A target: what its clients share.
+
+use crate::client::Client;
+use crate::office::Office;
+use crate::port::Port;
+use std::alloc::Global;
+use std::sync::{Condvar, Mutex, Wait};
+use wb_desk::Counts;
+use wb_devices::Devices;
+use wb_disk::Disk;
+use wb_policy::{Order, Policy};
+use wb_types::{Geometry, OBlock, Refusal};
+
+/// How many clients a target has at most.
+pub const CLIENTS: usize = 64;
+
+/// An opened cache: its desk behind a lock, and a bell that rings when orders were given or a commit has ended.
+#[derive(Drop)]
+pub struct Target<P: Policy> {
+    pub(crate) alloc: Global,
+    pub(crate) geometry: Geometry,
+    pub(crate) office: Mutex<Office<P>>,
+    pub(crate) bell: Condvar,
+}
+
+impl<P: Policy> Target<P> {
+    /// A client with these devices, which are the target's. `Busy` where 64 are out, `Failed` where the target has failed,
+    /// `Memory` where there is none; then the devices are handed back.
+    pub fn client<R: Wait, D: Disk + Drop>(
+        &self,
+        rt: &R,
+        devices: Devices<D>,
+    ) -> Result<Client<'_, D, P>, (Devices<D>, Refusal)> {
+        let seat = self.office.lock(rt).seats.pop();
+        let Some(seat) = seat else {
+            return Err((devices, Refusal::Busy));
+        };
+        match Port::new(self.alloc, seat, devices) {
+            Ok(mut port) => {
+                if port.has_failed() {
+                    return Err((self.take_back(rt, port), Refusal::Failed));
+                }
+                Ok(Client::new(self, port))
+            }
+            Err((seat, devices)) => {
+                self.office.lock(rt).give_back(seat);
+                Err((devices, Refusal::Memory))
+            }
+        }
+    }
+
+    /// Takes a client back, its accesses settled: its devices.
+    pub fn retire<R: Wait, D: Disk + Drop>(&self, rt: &R, client: Client<'_, D, P>) -> Devices<D> {
+        let mut client = client;
+        client.settle(rt);
+        let Client { target, port, .. } = client;
+        target.take_back(rt, port)
+    }
+
+    /// What the desk counts.
+    pub fn counts<R: Wait>(&self, rt: &R) -> Counts {
+        self.office.lock(rt).desk.counts()
+    }
+
+    /// Tells the policy of accesses, in order; whoever waits for an order is woken.
+    pub(crate) fn settle<R: Wait>(&self, rt: &R, accesses: &[OBlock]) {
+        self.office.lock(rt).desk.settle(accesses);
+        self.bell.notify_all();
+    }
+
+    /// The order that waits longest, if any.
+    pub(crate) fn take_order<R: Wait>(&self, rt: &R) -> Option<Order> {
+        self.office.lock(rt).desk.next_order()
+    }
+
+    /// Waits while another client's commit runs; not for one that has failed.
+    pub(crate) fn await_commit<R: Wait>(&self, rt: &R) {
+        let mut office = self.office.lock(rt);
+        for _ in rt.forever() {
+            if office.failed || !office.desk.is_committing() {
+                return;
+            }
+            office = self.bell.wait(rt, office);
+        }
+    }
+
+    /// A client met a failed write or sync: whoever waits is woken.
+    pub(crate) fn note_failure<R: Wait>(&self, rt: &R) {
+        self.office.lock(rt).failed = true;
+        self.bell.notify_all();
+    }
+
+    /// A port's seat goes back to the office.
+    fn take_back<R: Wait, D: Disk + Drop>(&self, rt: &R, port: Port<D>) -> Devices<D> {
+        let (seat, devices) = port.leave();
+        self.office.lock(rt).give_back(seat);
+        devices
+    }
+}

@@ -1,0 +1,82 @@
+//! Blocks that are cached, written back and found again.
+
+use crate::fixture::{Memory, begun_with, client_of, formatted, open};
+use std::alloc::Global;
+use std::sync::Wait;
+use std::test::Fail;
+use wb_disk::MemDisk;
+use wb_policy::{Order, TinyLfu};
+use wb_target::{Client, Flushed, Target};
+use wb_types::{CBlock, OBlock, Refusal, SECTOR_BYTES, Sector};
+
+type Lent<'t> = Client<'t, MemDisk, TinyLfu>;
+
+/// Whether a sector begins with this byte.
+fn shows(rt: &impl Wait, client: &mut Lent<'_>, at: u64, byte: u8) -> bool {
+    let mut out = [[0; SECTOR_BYTES]];
+    client.read(rt, Sector(at), &mut out).is_ok() && out[0][0] == byte
+}
+
+/// Writes a sector and reads it, by which its block has two accesses.
+fn write_and_read(rt: &impl Wait, client: &mut Lent<'_>, at: u64, byte: u8) -> bool {
+    client.write(rt, Sector(at), &[begun_with(byte)]).is_ok() && shows(rt, client, at, byte)
+}
+
+/// What the order that waits longest was, once it is carried out.
+fn worked(rt: &impl Wait, client: &mut Lent<'_>) -> Option<Order> {
+    client.work_one(rt).unwrap_or(None)
+}
+
+#[test]
+fn a_block_is_cached_at_its_second_access(rt: HostRuntime) -> Result<(), Fail> {
+    let (devices, target) = open(rt.alloc(), formatted(rt.alloc())?)?;
+    let mut client = client_of(&rt, &target, devices)?;
+    assert!(rt; write_and_read(&rt, &mut client, 70, 0x11));
+    assert!(rt; worked(&rt, &mut client) == Some(Order::Promote(OBlock(1), CBlock(0))));
+    assert!(rt; target.counts(&rt).promotions == 1);
+    assert!(rt; shows(&rt, &mut client, 70, 0x11));
+    assert!(rt; worked(&rt, &mut client).is_none());
+    Ok(())
+}
+
+/// What a new target over these devices shows of a sector.
+fn reopened_shows(
+    rt: &impl Wait,
+    alloc: Global,
+    devices: Memory,
+    at: u64,
+    byte: u8,
+) -> Result<bool, Refusal> {
+    let (devices, target) = open(alloc, devices)?;
+    let mut client = client_of(rt, &target, devices)?;
+    Ok(shows(rt, &mut client, at, byte))
+}
+
+/// Caches a block, writes it there, and flushes: the devices then.
+fn cached_and_flushed(
+    rt: &impl Wait,
+    target: &Target<TinyLfu>,
+    devices: Memory,
+) -> Result<Option<Memory>, Refusal> {
+    let mut client = client_of(rt, target, devices)?;
+    let cached = write_and_read(rt, &mut client, 70, 0x11) && worked(rt, &mut client).is_some();
+    let written = client.write(rt, Sector(70), &[begun_with(0x22)]).is_ok();
+    let flushed = client.flush(rt) == Ok(Flushed::Led);
+    let devices = target.retire(rt, client);
+    Ok(if cached && written && flushed {
+        Some(devices)
+    } else {
+        None
+    })
+}
+
+#[test]
+fn what_was_flushed_is_found_in_the_cache(rt: HostRuntime) -> Result<(), Fail> {
+    let (devices, target) = open(rt.alloc(), formatted(rt.alloc())?)?;
+    let devices = cached_and_flushed(&rt, &target, devices)?;
+    assert!(rt; devices.is_some());
+    if let Some(devices) = devices {
+        assert!(rt; reopened_shows(&rt, rt.alloc(), devices, 70, 0x22)?);
+    }
+    Ok(())
+}

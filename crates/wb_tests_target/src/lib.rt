@@ -1,0 +1,9 @@
+//! Tests of a target and its clients over memory devices, by public contracts.
+#![tactic(auto)]
+
+#[cfg(test)]
+mod caching;
+#[cfg(test)]
+mod fixture;
+#[cfg(test)]
+mod requests;
