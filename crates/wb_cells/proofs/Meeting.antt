@@ -1,19 +1,17 @@
 -- Steps that look or exchange, by a pass.
-use Rattle.std.proofs.Common.{◌≡◌, ℕ, ◌==◌, Bool, true, false, if◌then◌else◌, refl, sym, ap, ◌∙◌, subst, eq-eqb}
+use Rattle.std.proofs.Common.{◌≡◌, ℕ, ◌==◌, Bool, if◌then◌else◌, refl, sym, ap, ◌∙◌, subst}
 use Rattle.wb_types.specs.declared.number.OBlock.{OBlock}
 use Rattle.wb_words.specs.declared.word.Access.{Access}
 use Rattle.wb_words.specs.declared.word.Word.{Word as WordName}
-use Rattle.wb_words.specs.declared.word.Word.TheVariants.{Fail}
 use Rattle.wb_words.specs.declared.card.Hold.TheVariants.{Held}
 use Rattle.wb_words.specs.declared.step.CellStep.{CellStep}
 use Rattle.wb_words.specs.declared.step.CellStep.TheVariants.{Look, Take}
 use Rattle.wb_words.specs.declared.step.CellResult.TheVariants.{Done, Word as Found, Lost}
-use Rattle.wb_words.specs.SharedWords.{HasBits, value_of, word_at}
+use Rattle.wb_words.specs.SharedWords.{value_of, word_at}
 use Rattle.wb_words.specs.Cards.{looked, losing, holding}
-use Rattle.wb_words.specs.Looks.{Finds}
 use Rattle.wb_words.specs.Moments.{Moment}
 use Rattle.wb_cells.specs.Fractions.{IsWhole}
-use Rattle.wb_cells.specs.Passes.{PassState, IsSum, IsFound, StepsBy}
+use Rattle.wb_cells.specs.Passes.{PassState, IsFound, StepsBy}
 
 module _ (blocks : ℕ) (pass pass' : PassState) (step : CellStep) (x : ℕ) where
   pub looks : (word : WordName) → step ≡ Look word → pass' ≡ record pass { card = looked word x pass.card } → IsFound word x pass

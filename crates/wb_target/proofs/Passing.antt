@@ -1,22 +1,20 @@
 -- What the pass knows after each step of a request that is answered done.
-use Rattle.std.proofs.Common.{◌≡◌, ◌==◌, ℕ, Bool, true, false, List, [], ◌∷◌, Option, Some, None, refl, sym, ap, ◌∙◌, subst, if◌then◌else◌}
+use Rattle.std.proofs.Common.{◌≡◌, ◌==◌, ℕ, Bool, true, false, List, ◌∷◌, refl, sym, ap, ◌∙◌, subst, if◌then◌else◌}
 use Rattle.wb_types.specs.declared.number.OBlock.{OBlock}
-use Rattle.wb_types.specs.declared.number.CBlock.{CBlock}
 use Rattle.wb_words.specs.declared.word.Access.{Access}
 use Rattle.wb_words.specs.declared.word.Word.{Word as WordName}
 use Rattle.wb_words.specs.declared.word.Word.TheVariants.{Cell as LockWord, Seal as SealWord, Number, Fail}
 use Rattle.wb_words.specs.declared.card.Hold.TheVariants.{Held}
 use Rattle.wb_words.specs.declared.card.Card.{Card}
 use Rattle.wb_words.specs.declared.step.CellStep.{CellStep}
-use Rattle.wb_words.specs.declared.step.CellStep.TheVariants.{Look, Take, Release, Seal, Finish, Count}
-use Rattle.wb_words.specs.declared.step.CellResult.{CellResult}
+use Rattle.wb_words.specs.declared.step.CellStep.TheVariants.{Look, Take}
 use Rattle.wb_words.specs.declared.step.CellResult.TheVariants.{Done as CellDone, Word as Found, Lost as CellLost}
 use Rattle.wb_words.specs.SharedWords.{Words, value_of, word_at}
-use Rattle.wb_words.specs.Effects.{result_of, card_after}
+use Rattle.wb_words.specs.Effects.{card_after}
 use Rattle.wb_words.specs.Cards.{looked, losing, holding}
-use Rattle.wb_words.specs.Looks.{Finds, SawAtMost}
+use Rattle.wb_words.specs.Looks.{SawAtMost}
 use Rattle.wb_words.specs.declared.word.FailBit.{FailBit}
-use Rattle.wb_cells.specs.Passes.{PassState, StepsBy, IsFound, bits_after}
+use Rattle.wb_cells.specs.Passes.{PassState, IsFound, bits_after}
 use Rattle.wb_tasks.specs.Ready.{MayMake}
 use Rattle.wb_tasks.specs.Plan.{got_of}
 use Rattle.wb_tasks.specs.declared.step.Want.{Want}

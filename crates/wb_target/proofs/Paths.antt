@@ -1,10 +1,9 @@
 -- The way of a request that is answered done: each step gave the one result with which the table goes on.
-use Rattle.std.proofs.Common.{◌≡◌, ◌≤◌, ◌<◌, ◌+◌, ◌-◌, ◌==◌, ℕ, zero, suc, min, Bool, true, false, List, [], ◌∷◌, ◌++◌, Option, Some, None, map, refl, sym, subst, ◌∙◌, if◌then◌else◌, arith}
+use Rattle.std.proofs.Common.{◌≡◌, ◌≤◌, ◌+◌, ◌-◌, ◌==◌, ℕ, zero, suc, min, Bool, true, false, List, [], ◌∷◌, ◌++◌, Option, map, refl, subst, ◌∙◌, if◌then◌else◌, arith}
 use Rattle.std.proofs.lemmas.Bool.{eqb-true}
 use Rattle.wb_types.specs.declared.extent.Extent.{Extent}
 use Rattle.wb_types.specs.Extents.{pieces}
 use Rattle.wb_types.specs.declared.number.OBlock.{OBlock}
-use Rattle.wb_types.specs.declared.refusal.Refusal.{Refusal}
 use Rattle.wb_types.specs.declared.refusal.Refusal.TheVariants.{Busy, Failed, Worn, Io}
 use Rattle.wb_words.specs.declared.word.Access.{Access}
 use Rattle.wb_words.specs.declared.word.Word.{Word as WordName}
@@ -13,9 +12,8 @@ use Rattle.wb_words.specs.SharedWords.{place_in, dirty_in}
 use Rattle.wb_words.specs.declared.step.CellStep.{CellStep}
 use Rattle.wb_words.specs.declared.step.CellStep.TheVariants.{Look, Take, Release, Seal, Finish, Count}
 use Rattle.wb_tasks.specs.Tables.{BlockJob, OnBlock, range_of, access_of, work, taking}
-use Rattle.wb_tasks.specs.Plan.{Plan, table, want, after, after_look, refused, may_take, is_worn, gives_back, Fits, IsStep}
+use Rattle.wb_tasks.specs.Plan.{Plan, table, after, after_look, refused, may_take, is_worn, gives_back, Fits, IsStep}
 use Rattle.wb_tasks.specs.Run.{IsRunOf, Leads}
-use Rattle.wb_tasks.specs.declared.step.DeviceStep.{DeviceStep}
 use Rattle.wb_tasks.specs.declared.step.DeviceStep.TheVariants.{Read, Write}
 use Rattle.wb_tasks.specs.declared.step.Answer.TheVariants.{Done as Finished}
 use Rattle.wb_tasks.specs.declared.step.Want.{Want}

@@ -1,5 +1,5 @@
 -- What a request that was answered done has done to a client's hand.
-use Rattle.std.proofs.Common.{◌≡◌, ◌≤◌, ◌<◌, ◌+◌, ◌%◌, ℕ, Bool, true, false, List, [], ◌∷◌, ◌++◌, Option, Some, None, length, map, take, refl, sym, ap, ◌∙◌, subst, arith, append_assoc}
+use Rattle.std.proofs.Common.{◌≡◌, ◌≤◌, ◌+◌, ◌%◌, ℕ, Bool, true, false, List, [], ◌∷◌, ◌++◌, Option, Some, None, length, map, refl, sym, ap, ◌∙◌, subst, arith, append_assoc}
 use Rattle.std.proofs.lemmas.List.{take_all}
 use Rattle.wb_types.specs.declared.extent.Extent.{Extent}
 use Rattle.wb_types.specs.Extents.{pieces}
@@ -8,15 +8,13 @@ use Rattle.wb_types.specs.declared.number.CBlock.{CBlock}
 use Rattle.wb_disk.specs.Device.{History, Content}
 use Rattle.wb_disk.specs.Extents.{GivesEach, written_each}
 use Rattle.wb_words.specs.declared.word.Access.TheVariants.{Shared, Owned}
-use Rattle.wb_words.specs.declared.word.Kind.{Kind}
 use Rattle.wb_words.specs.declared.card.Hold.TheVariants.{Nothing}
 use Rattle.wb_words.specs.declared.card.Card.{Card}
 use Rattle.wb_words.specs.SharedWords.{place_in, dirty_in, seal_word}
 use Rattle.wb_words.specs.Cards.{holding, sealing, finishing, counting}
-use Rattle.wb_words.specs.declared.step.CellStep.{CellStep}
 use Rattle.wb_words.specs.declared.step.CellStep.TheVariants.{Release, Seal, Finish, Count}
 use Rattle.wb_cells.specs.Passes.{PassState}
-use Rattle.wb_tasks.specs.Tables.{BlockRange, BlockJob, OnBlock, Reading, Writing, device_at, read_step, write_step, read_count, write_count, work, dirtying}
+use Rattle.wb_tasks.specs.Tables.{BlockRange, BlockJob, OnBlock, Reading, Writing, device_at, read_step, write_step, read_count, write_count, dirtying}
 use Rattle.wb_tasks.specs.Plan.{table, IsStep}
 use Rattle.wb_tasks.specs.Run.{IsRunOf, Leads}
 use Rattle.wb_tasks.specs.declared.step.Answer.TheVariants.{Done as Finished}
@@ -28,10 +26,10 @@ use Rattle.wb_devices.specs.Moving.{OthersStay, device_in}
 use Rattle.wb_devices.specs.declared.devices.Devices.{Devices}
 use Rattle.wb_target.specs.declared.stage.TheConstants.{LONGEST}
 use Rattle.wb_target.specs.Hands.{ReadLed, WriteLed}
-use Rattle.wb_target.specs.Requests.{part_of, first_at, read_kind, write_kind, taking_card, dirtied, read_card, write_card, WasRead, WasWritten}
+use Rattle.wb_target.specs.Requests.{part_of, first_at, read_kind, write_kind, taking_card, dirtied, WasRead, WasWritten}
 use Rattle.wb_target.specs.declared.moving.ReadStage.{ReadStage}
 use Rattle.wb_target.specs.declared.moving.WriteStage.{WriteStage}
-use Rattle.wb_target.proofs.Paths.{going, done, at_end, OnlyDone, only_release, only_seal, only_finish, only_count, only_read, only_write, acquired, acquired_keeps, AllMoved, all_moved}
+use Rattle.wb_target.proofs.Paths.{going, done, at_end, OnlyDone, only_release, only_seal, only_finish, only_count, only_read, only_write, acquired, acquired_keeps, all_moved}
 use Rattle.wb_target.proofs.Passing.{with_card, by_taking, by_step}
 use Rattle.wb_target.proofs.Moved.{ReadSoFar, read_more, WrittenSoFar, write_more, others-stay}
 

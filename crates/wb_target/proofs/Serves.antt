@@ -1,5 +1,5 @@
 -- A stage of a request is ready for each of its steps; and from its run to what is told of it.
-use Rattle.std.proofs.Common.{◌≡◌, ◌≤◌, ◌<◌, ◌+◌, ◌%◌, ℕ, List, [], ◌∷◌, Result, Ok, Err, length, refl, sym, ap, ◌∙◌, subst}
+use Rattle.std.proofs.Common.{◌≡◌, ◌≤◌, ◌<◌, ◌+◌, ◌%◌, ℕ, List, [], ◌∷◌, Result, Ok, Err, length, sym, ap, ◌∙◌, subst}
 use Rattle.std.specs.Prelude.{OnOk, IfErr}
 use Rattle.wb_types.specs.declared.extent.Extent.{Extent}
 use Rattle.wb_types.specs.declared.number.OBlock.{OBlock}

@@ -1,7 +1,6 @@
 -- What a read or write of sectors of one block did to a client's hand.
-use Rattle.std.specs.Prelude.{◌≡◌, ◌<◌, ◌+◌, ◌*◌, ◌%◌, ◌⊎◌, ℕ, Bool, true, false, List, Option, Some, None, min}
+use Rattle.std.specs.Prelude.{◌≡◌, ◌<◌, ◌+◌, ◌*◌, ◌%◌, ◌⊎◌, ℕ, Bool, true, false, List, Option, Some, None}
 use Rattle.wb_types.specs.declared.extent.Extent.{Extent}
-use Rattle.wb_types.specs.declared.mode.Dev.{Dev}
 use Rattle.wb_types.specs.declared.number.OBlock.{OBlock}
 use Rattle.wb_types.specs.declared.number.CBlock.{CBlock}
 use Rattle.wb_types.specs.declared.refusal.Refusal.{Refusal}
@@ -19,7 +18,6 @@ use Rattle.wb_words.specs.declared.card.Card.{Card}
 use Rattle.wb_words.specs.SharedWords.{place_in, dirty_in, seal_word}
 use Rattle.wb_words.specs.Cards.{looked, holding, sealing, finishing, counting}
 use Rattle.wb_words.specs.Looks.{SawAtMost}
-use Rattle.wb_cells.specs.Passes.{PassState}
 use Rattle.wb_tasks.specs.Tables.{BlockRange, BlockJob, Reading, Writing, OnBlock, device_at}
 use Rattle.wb_tasks.specs.Plan.{table}
 use Rattle.wb_tasks.specs.Run.{IsRunOf, Leads}
@@ -28,7 +26,6 @@ use Rattle.wb_tasks.specs.declared.step.Answer.TheVariants.{Refused as Refuses}
 use Rattle.wb_tasks.specs.declared.step.Want.{Want}
 use Rattle.wb_tasks.specs.declared.step.Got.{Got}
 use Rattle.wb_devices.specs.Moving.{OthersStay, device_in}
-use Rattle.wb_devices.specs.declared.devices.Devices.{Devices}
 use Rattle.wb_target.specs.declared.stage.TheConstants.{LONGEST}
 use Rattle.wb_target.specs.declared.hand.Hand.{Hand}
 use Rattle.wb_target.specs.Hands.{ReadStep, WriteStep}

@@ -10,7 +10,7 @@ use Rattle.wb_tasks.specs.declared.step.DeskStep.TheVariants.{BeginCommit, EndCo
 use Rattle.wb_tasks.specs.declared.step.Want.{Want}
 use Rattle.wb_tasks.specs.declared.step.Want.TheVariants.{Device, Desk}
 use Rattle.wb_tasks.specs.declared.step.Got.{Got}
-use Rattle.wb_tasks.specs.declared.step.Got.TheVariants.{Began, Refused}
+use Rattle.wb_tasks.specs.declared.step.Got.TheVariants.{Began}
 use Rattle.wb_devices.specs.Moving.{OthersStay, device_in}
 use Rattle.wb_devices.specs.Stepping.{CommitGoes, DidStep, BufferStays}
 use Rattle.wb_devices.specs.declared.devices.Devices.{Devices}

@@ -4,7 +4,6 @@ ghost use Rattle.std.specs.Prelude.{◌≡◌, ◌<◌, OnOk, IfOk, IfSome, Some
 ghost use Rattle.wb_tasks.specs.Tables.{TaskJob, OnBlock, Flushing};
 ghost use Rattle.std.specs.Bool.{OnTrue};
 ghost use Rattle.wb_tasks.specs.Plan.{table};
-ghost use Rattle.wb_tasks.specs.declared.step.Migration.TheVariants.{Promote as Promoting, Demote as Demoting, Clean as Cleaning};
 ghost use Rattle.wb_stage.specs.Jobs.{MayRun};
 ghost use Rattle.wb_types.specs.Limits.{node_count};
 ghost use Rattle.wb_target.specs.Works.{WasPerformed};
@@ -21,8 +20,8 @@ use std::thread;
 use wb_disk::Disk;
 use wb_flow::FlushTask;
 use wb_policy::{Order, Policy};
-use wb_tasks::{Answer, CleanTask, DemoteTask, PromoteTask, Task};
-use wb_types::{CBlock, Geometry, OBlock, Refusal, SECTOR_BYTES};
+use wb_tasks::{Answer, Migration, MigrationTask, Task};
+use wb_types::{Geometry, OBlock, Refusal, SECTOR_BYTES};
 
 /// How a flush was answered done.
 #[derive(Clone, Copy, Debug, PartialEq, Eq)]
@@ -71,68 +70,23 @@ impl<D: Disk + Drop> Port<D> {
     }
 }
 
-/// Copies a block into the cache and maps it, again while it is busy.
-fn promote<R: Wait, D: Disk + Drop, P: Policy>(
+/// Migrates a block under its order, again while it is busy.
+fn migrate<R: Wait, D: Disk + Drop, P: Policy>(
     rt: &R,
     target: &Target<P>,
     port: &mut Port<D>,
-    held: &[Order],
-    block: OBlock,
-    to: CBlock,
-) -> Result<(), Refusal>
-    requires { block.0 < port.old.geometry.origin_blocks }
-    ensures done { OnOk result (HasDone D.tells D.size D.contents D.faults (migration_of port.old.geometry (Promoting to) block) port.new) }
-    ensures geometry { port.new.geometry ≡ port.old.geometry }
-{
-    for _ in rt.forever() {
-        let mut task = PromoteTask::new(port.geometry.block, block, to, LONGEST);
-        match port.work(rt, target, held, &mut task) {
-            Answer::Done => return Ok(()),
-            Answer::Refused(Refusal::Busy) => thread::yield_now(),
-            Answer::Refused(refusal) => return Err(refusal),
-        }
-    }
-    unreachable!()
-}
-
-/// Copies a dirty block home and unmaps it, again while it is busy.
-fn demote<R: Wait, D: Disk + Drop, P: Policy>(
-    rt: &R,
-    target: &Target<P>,
-    port: &mut Port<D>,
-    held: &[Order],
+    order: Order,
+    migration: Migration,
     block: OBlock,
 ) -> Result<(), Refusal>
     requires { block.0 < port.old.geometry.origin_blocks }
-    ensures done { OnOk result (HasDone D.tells D.size D.contents D.faults (migration_of port.old.geometry Demoting block) port.new) }
+    ensures done { OnOk result (HasDone D.tells D.size D.contents D.faults (migration_of port.old.geometry migration block) port.new) }
     ensures geometry { port.new.geometry ≡ port.old.geometry }
 {
+    let held = [order];
     for _ in rt.forever() {
-        let mut task = DemoteTask::new(port.geometry.block, block, LONGEST);
-        match port.work(rt, target, held, &mut task) {
-            Answer::Done => return Ok(()),
-            Answer::Refused(Refusal::Busy) => thread::yield_now(),
-            Answer::Refused(refusal) => return Err(refusal),
-        }
-    }
-    unreachable!()
-}
-
-/// Copies a dirty block home, again while it is busy.
-fn clean<R: Wait, D: Disk + Drop, P: Policy>(
-    rt: &R,
-    target: &Target<P>,
-    port: &mut Port<D>,
-    held: &[Order],
-    block: OBlock,
-) -> Result<(), Refusal>
-    requires { block.0 < port.old.geometry.origin_blocks }
-    ensures done { OnOk result (HasDone D.tells D.size D.contents D.faults (migration_of port.old.geometry Cleaning block) port.new) }
-    ensures geometry { port.new.geometry ≡ port.old.geometry }
-{
-    for _ in rt.forever() {
-        let mut task = CleanTask::new(port.geometry.block, block, LONGEST);
-        match port.work(rt, target, held, &mut task) {
+        let mut task = MigrationTask::new(migration, port.geometry.block, block, LONGEST);
+        match port.work(rt, target, &held, &mut task) {
             Answer::Done => return Ok(()),
             Answer::Refused(Refusal::Busy) => thread::yield_now(),
             Answer::Refused(refusal) => return Err(refusal),
@@ -185,15 +139,16 @@ fn carry_out<R: Wait, D: Disk + Drop, P: Policy>(
     ensures carried { OnOk result (IsCarriedOut D.tells D.size D.contents D.faults order port.new) }
     ensures geometry { port.new.geometry ≡ port.old.geometry }
 {
-    let held = [order];
     match order {
-        Order::Promote(block, to) => promote(rt, target, port, &held, block, to),
-        Order::Demote(block) => demote(rt, target, port, &held, block),
-        Order::Clean(block) => clean(rt, target, port, &held, block),
+        Order::Promote(block, to) => {
+            migrate(rt, target, port, order, Migration::Promote(to), block)
+        }
+        Order::Demote(block) => migrate(rt, target, port, order, Migration::Demote, block),
+        Order::Clean(block) => migrate(rt, target, port, order, Migration::Clean, block),
         Order::Replace(victim, block, to) => {
-            demote(rt, target, port, &held, victim)?;
-            flush(rt, target, port, &held, Some(block))?;
-            promote(rt, target, port, &held, block, to)
+            migrate(rt, target, port, order, Migration::Demote, victim)?;
+            flush(rt, target, port, &[order], Some(block))?;
+            migrate(rt, target, port, order, Migration::Promote(to), block)
         }
     }
 }

@@ -1,5 +1,5 @@
 use Rattle.std.proofs.Common.{◌≡◌}
-use Rattle.wb_target.proofs.carrying.promote.Given as goal
+use Rattle.wb_target.proofs.carrying.migrate.Given as goal
 
 abbrev pub invariant-loop : goal.invariant-loop
 invariant-loop g l = l.port.geometry ≡ l.fn.port.geometry

@@ -1,0 +1,8 @@
+use Rattle.std.proofs.Common.{ap, sym}
+use Rattle.wb_target.specs.Carried.{migration_of}
+use Rattle.wb_target.proofs.Carried.{done_now}
+use Rattle.wb_target.proofs.carrying.migrate.Goals as goal
+
+pub returns-in-Done-clause-done : goal.returns-in-Done-clause-done
+returns-in-Done-clause-done g c =
+    done_now g.D.Disk.tells g.D.Disk.size g.D.Disk.contents g.D.Disk.faults _ _ c.new-task.result _ _ _ _ c.work.result c.new-task.ensures (ap (λ geometry. migration_of geometry c.args.migration c.args.block) c.loop.invariant) (ap (λ geometry. geometry.origin_blocks) (sym c.work.ensures.geometry)) c.in-Done.is c.work.ensures.performed
