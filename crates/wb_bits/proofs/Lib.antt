@@ -1,3 +1,4 @@
 pub mod Members
 pub mod Least
 pub mod Chosen
+mod Cleared
