@@ -1,7 +1,8 @@
 //! Sets of numbers below a bound, whose least member is found in a few steps.
 
-ghost use Rattle.std.specs.Prelude.{◌≡◌, ◌≢◌, ℕ, ◌<◌, ◌*◌, ◌/◌, ◌^◌, Bool, true, false, length, replicate, IfOk, slice_set, slice_get, Some, get_or};
+ghost use Rattle.std.specs.Prelude.{◌≡◌, ◌≢◌, ◌||◌, ℕ, ◌<◌, ◌≤◌, ◌+◌, ◌*◌, ◌/◌, ◌^◌, Bool, true, false, length, replicate, IfOk, slice_set, slice_get, Some, get_or};
 ghost use Rattle.std.specs.List.{position};
+ghost use Rattle.std.specs.Bool.{OnTrue, OnFalse};
 ghost use Rattle.wb_bits.specs.BitWords.{Differs, least_in};
 
 use std::alloc::{AllocError, Global};
@@ -151,6 +152,16 @@ impl BitSet {
             Above::Nothing => {}
             Above::Summary(above) => above.remove(at),
         }
+    }
+
+    /// Whether each number that this word stands for is a member of this set or of the other.
+    pub fn fills_with(&self, other: &BitSet, word: usize) -> bool
+        requires here { 64 * word + 64 ≤ length self.now }
+        requires there { 64 * word + 64 ≤ length other.now }
+        ensures full { OnTrue result ((i : ℕ) → i / 64 ≡ word → (get_or self.now i false || get_or other.now i false) ≡ true) }
+        ensures other { OnFalse result ((i : ℕ) × (i / 64 ≡ word) × ((get_or self.now i false || get_or other.now i false) ≡ false)) }
+    {
+        self.words[word] | other.words[word] == u64::MAX
     }
 
     /// The least member.
