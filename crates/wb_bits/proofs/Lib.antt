@@ -1,3 +1,5 @@
 pub mod Members
 pub mod Least
 pub mod Chosen
+mod Cleared
+mod Filled

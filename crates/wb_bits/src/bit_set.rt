@@ -1,7 +1,8 @@
 //! Sets of numbers below a bound, whose least member is found in a few steps.
 
-ghost use Rattle.std.specs.Prelude.{◌≡◌, ℕ, ◌<◌, ◌*◌, ◌/◌, ◌^◌, Bool, true, false, length, replicate, IfOk, slice_set, slice_get, Some, get_or};
+ghost use Rattle.std.specs.Prelude.{◌≡◌, ◌≢◌, ◌||◌, ℕ, ◌<◌, ◌≤◌, ◌+◌, ◌*◌, ◌/◌, ◌^◌, Bool, true, false, length, replicate, IfOk, slice_set, slice_get, Some, get_or};
 ghost use Rattle.std.specs.List.{position};
+ghost use Rattle.std.specs.Bool.{OnTrue, OnFalse};
 ghost use Rattle.wb_bits.specs.BitWords.{Differs, least_in};
 
 use std::alloc::{AllocError, Global};
@@ -90,11 +91,15 @@ impl BitSet {
         requires { i < length self.old }
         ensures { self.new ≡ slice_set self.old i true }
     {
-        let word = with_bit(self.words[i / 64], i % 64);
-        self.words[i / 64] = word;
+        let before = self.words[i / 64];
+        self.words[i / 64] = with_bit(before, i % 64);
         match &mut self.above {
             Above::Nothing => {}
-            Above::Summary(above) => above.insert(i / 64),
+            Above::Summary(above) => {
+                if before == 0 {
+                    above.insert(i / 64);
+                }
+            }
         }
     }
 
@@ -126,13 +131,37 @@ impl BitSet {
         }
     }
 
-    /// Takes every member out, by a few words' work for each.
+    /// Takes every member out, by a few words' work for each word that has one.
     pub fn clear(&mut self)
         ensures { self.new ≡ replicate (length self.old) false }
     {
         while let Some(i) = self.least() {
-            self.remove(i);
+            self.clear_word(i / 64);
         }
+    }
+
+    /// Takes out the members that one word has.
+    fn clear_word(&mut self, at: usize)
+        requires { 64 * at < length self.old }
+        ensures size { length self.new ≡ length self.old }
+        ensures cleared { (i : ℕ) → i / 64 ≡ at → get_or self.new i false ≡ false }
+        ensures others { (i : ℕ) → i / 64 ≢ at → get_or self.new i false ≡ get_or self.old i false }
+    {
+        self.words[at] = 0;
+        match &mut self.above {
+            Above::Nothing => {}
+            Above::Summary(above) => above.remove(at),
+        }
+    }
+
+    /// Whether each number that this word stands for is a member of this set or of the other.
+    pub fn fills_with(&self, other: &BitSet, word: usize) -> bool
+        requires here { 64 * word + 64 ≤ length self.now }
+        requires there { 64 * word + 64 ≤ length other.now }
+        ensures full { OnTrue result ((i : ℕ) → i / 64 ≡ word → (get_or self.now i false || get_or other.now i false) ≡ true) }
+        ensures other { OnFalse result ((i : ℕ) × (i / 64 ≡ word) × ((get_or self.now i false || get_or other.now i false) ≡ false)) }
+    {
+        self.words[word] | other.words[word] == u64::MAX
     }
 
     /// The least member.

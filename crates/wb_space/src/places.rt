@@ -1,7 +1,8 @@
 //! Which metadata places the images use.
 
 ghost use Rattle.std.specs.Prelude.{◌≡◌, ◌<◌, ◌≤◌, ◌+◌, ◌*◌, ◌^◌, ℕ, List, length, map, take, true, IfOk, slice_set};
-ghost use Rattle.wb_space.specs.Places.{unused, noted, is_free_place, free_places, place};
+ghost use Rattle.std.specs.Bool.{OnTrue, OnFalse};
+ghost use Rattle.wb_space.specs.Places.{unused, noted, is_free_place, free_places, place, AreUsedFrom};
 
 use std::alloc::{AllocError, Global};
 use std::marker::Model;
@@ -57,15 +58,37 @@ impl Places {
         self.running.clear();
     }
 
-    /// The so many least free places from 2 on, rising.
+    /// The so many least free places from 2 on, rising. A look at each place up to the last of them, but one look for 64
+    /// that are all in use.
     pub fn free(&self, alloc: Global, n: usize) -> Result<Vec<Place>, AllocError>
         ensures { IfOk result (λ v. v.items ≡ map place (take n (free_places self.now))) }
     {
-        (2..self.bound())
-            .filter(|at| self.is_free(*at))
-            .take(n)
-            .map(|at| Place(at))
-            .collect(alloc)
+        let bound = self.bound();
+        let mut places = Vec::new(alloc);
+        let mut at = 2;
+        while at < bound && places.len() < n {
+            if self.are_used(at) {
+                at += 64;
+            } else {
+                if self.is_free(at) {
+                    places.push(Place(at))?;
+                }
+                at += 1;
+            }
+        }
+        Ok(places)
+    }
+
+    /// Whether a whole word of places begins here, and an image uses each of them.
+    fn are_used(&self, at: u32) -> bool
+        ensures used { OnTrue result (AreUsedFrom self.now at) }
+        ensures other { OnFalse result (¬ AreUsedFrom self.now at) }
+    {
+        let at = at as usize;
+        if at % 64 != 0 || self.committed.size() < at + 64 {
+            return false;
+        }
+        self.committed.fills_with(&self.running, at / 64)
     }
 
     fn bound(&self) -> u32

@@ -183,6 +183,9 @@ impl<A: Allocator> Node<A> {
         if let Some(place) = self.place {
             places.push(place)?;
         }
+        if self.level == 1 {
+            return Ok(());
+        }
         for kid in self.kids.iter() {
             if let Some(kid) = kid {
                 kid.collect(places)?;
