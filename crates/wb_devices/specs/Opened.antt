@@ -55,7 +55,7 @@ HasGeneration commit = IfSome commit (λ running. running.image.root.generation 
 abbrev pub DidRead : {A : Type 0} → Type 0 → Geometry → ℕ → ReadSteps A → List History → ℕ → Option RunningCommit → Got → Option (ReadSteps A) → ℕ → Option RunningCommit → Type 0
 DidRead {A} tells geometry left was device faults commit got after faults' commit' =
     ((now : ReadSteps A) × (tells → ReadingGoesOn was device now) × (tells → faults' ≡ faults) × HasCome geometry left now commit got after commit'
-        × ReadOneMore was now × (HasGeneration commit → HasGeneration commit'))
+    × ReadOneMore was now × (HasGeneration commit → HasGeneration commit'))
     ⊎ ((refusal : Refusal) × (tells → StopsBy was device refusal) × (tells → CountsFault refusal faults faults') × (got ≡ got_of_refusal refusal) × (after ≡ None) × (commit' ≡ commit) × IsOfReading refusal)
 
 -- What a step of an opening did, from the reading that was there: with none, the opening was over, and nothing was read.
