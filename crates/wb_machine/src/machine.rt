@@ -141,8 +141,8 @@ fn happen(
 {
     match event {
         Event::Start(a, job) => Ok(start(geometry, devices, opener, *a, job)),
-        Event::Step(a) => step(geometry, alloc, devices, opener, *a),
-        Event::FaultStep(a, choice) => falter(geometry, devices, opener, *a, choice),
-        Event::Stop(choice) => Ok(stop(geometry, devices, opener, choice)),
+        Event::Step(a) => step(alloc, devices, opener, *a),
+        Event::FaultStep(a, choice) => falter(devices, opener, *a, choice),
+        Event::Stop(choice) => Ok(stop(devices, opener, choice)),
     }
 }

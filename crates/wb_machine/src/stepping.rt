@@ -2,9 +2,10 @@
 
 ghost use Rattle.std.specs.Prelude.{◌≡◌, [], IfOk, IfErr, OnErr};
 ghost use Rattle.wb_runs.specs.declared.event.Event.TheVariants.{Step, FaultStep};
+ghost use Rattle.wb_runs.specs.States.{Shape};
 ghost use Rattle.wb_machine.specs.declared.halt.Halt.TheVariants.{Beyond};
 ghost use Rattle.wb_machine.specs.declared.machine.TheConstants.{ACTORS};
-ghost use Rattle.wb_machine.specs.Life.{Happens, IsGap, IsThere, is_refusal, shape_of, state_of, sync_of};
+ghost use Rattle.wb_machine.specs.Life.{Happens, IsGap, IsThere, is_refusal, state_of, sync_of};
 
 use crate::halt::Halt;
 use crate::opener::{Opener, fail_sync};
@@ -13,11 +14,10 @@ use wb_devices::Devices;
 use wb_disk::{CrashChoice, MemDisk};
 use wb_runs::What;
 use wb_tasks::{Answer, DeviceStep, Got, Want};
-use wb_types::{Dev, Geometry};
+use wb_types::Dev;
 
 /// The next step of an actor's opening, if it opens.
 pub(crate) fn step(
-    geometry: &Geometry,
     alloc: Global,
     devices: &mut Devices<MemDisk>,
     opener: &mut Option<Opener>,
@@ -25,11 +25,10 @@ pub(crate) fn step(
 ) -> Result<What, Halt>
     requires { IsThere ACTORS opener.old }
     ensures there { IsThere ACTORS opener.new }
-    ensures ok { IfOk result (λ what. Happens (shape_of geometry.now ACTORS) (state_of ACTORS devices.old opener.old) (Step actor) what [] (state_of ACTORS devices.new opener.new)) }
+    ensures ok { IfOk result (λ what. (shape : Shape) → Happens shape (state_of ACTORS devices.old opener.old) (Step actor) what [] (state_of ACTORS devices.new opener.new)) }
     ensures err { OnErr result ((devices.new ≡ devices.old) × (opener.new ≡ opener.old)) }
     ensures gap { IfErr result (λ halt. (halt ≡ Beyond) × IsGap (state_of ACTORS devices.old opener.old) (Step actor)) }
 {
-    let _ = geometry;
     let Some(at_work) = opener else {
         return Ok(What::Skipped);
     };
@@ -50,7 +49,6 @@ pub(crate) fn step(
 
 /// The next step of an actor's opening, which is on a device, fails as the choice says.
 pub(crate) fn falter(
-    geometry: &Geometry,
     devices: &mut Devices<MemDisk>,
     opener: &mut Option<Opener>,
     actor: usize,
@@ -58,11 +56,10 @@ pub(crate) fn falter(
 ) -> Result<What, Halt>
     requires { IsThere ACTORS opener.old }
     ensures there { IsThere ACTORS opener.new }
-    ensures ok { IfOk result (λ what. Happens (shape_of geometry.now ACTORS) (state_of ACTORS devices.old opener.old) (FaultStep actor choice.now) what [] (state_of ACTORS devices.new opener.new)) }
+    ensures ok { IfOk result (λ what. (shape : Shape) → Happens shape (state_of ACTORS devices.old opener.old) (FaultStep actor choice.now) what [] (state_of ACTORS devices.new opener.new)) }
     ensures err { OnErr result ((devices.new ≡ devices.old) × (opener.new ≡ opener.old)) }
     ensures gap { IfErr result (λ halt. (halt ≡ Beyond) × IsGap (state_of ACTORS devices.old opener.old) (FaultStep actor choice.now)) }
 {
-    let _ = geometry;
     let Some(at_work) = opener else {
         return Ok(What::Skipped);
     };
