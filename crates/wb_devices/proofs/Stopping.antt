@@ -11,10 +11,10 @@ use Rattle.wb_tasks.specs.declared.step.Got.{Got}
 use Rattle.wb_types.specs.declared.geometry.Geometry.{Geometry}
 use Rattle.wb_disk.specs.Device.{History}
 use Rattle.wb_format.specs.declared.root.Root.{Root}
-use Rattle.wb_meta.specs.Reads.{ReadingGoesOn, known_root}
+use Rattle.wb_meta.specs.Reads.{ReadingGoesOn, ReadOneMore, known_root}
 use Rattle.wb_meta.specs.declared.read_steps.ReadSteps.{ReadSteps}
 use Rattle.wb_devices.specs.declared.running.RunningCommit.{RunningCommit}
-use Rattle.wb_devices.specs.Opened.{DidOpen, HasCome, IsOf, got_of_refusal}
+use Rattle.wb_devices.specs.Opened.{DidOpen, HasCome, HasGeneration, IsOf, got_of_refusal}
 
 pub fits_reading : (refusal : Refusal) (left : ℕ) → IsOfReading refusal → Fits (Device (ReadMetadata left)) (got_of_refusal refusal)
 fits_reading (Io Metadata) left h = tt
@@ -38,6 +38,6 @@ of_root geometry now root known fits other also =
     let same : root ≡ other = cc in
     subst (λ (r : Root). r.geometry ≡ geometry) same fits
 
-pub did_open : {A : Type 0} (tells : Type 0) (geometry : Geometry) (left : ℕ) (before : Option (ReadSteps A)) (was now : ReadSteps A) (device : List History) (faults faults' : ℕ) (commit commit' : Option RunningCommit) (got : Got) (after : Option (ReadSteps A)) → before ≡ Some was → (tells → ReadingGoesOn was device now) → (tells → faults' ≡ faults) → HasCome geometry left now commit got after commit' → DidOpen tells geometry left before device faults commit got after faults' commit'
-did_open {A} tells geometry left before was now device faults faults' commit commit' got after is on same come =
-    subst (λ (b : Option (ReadSteps A)). DidOpen tells geometry left b device faults commit got after faults' commit') (sym is) (inl (now, on, same, come))
+pub did_open : {A : Type 0} (tells : Type 0) (geometry : Geometry) (left : ℕ) (before : Option (ReadSteps A)) (was now : ReadSteps A) (device : List History) (faults faults' : ℕ) (commit commit' : Option RunningCommit) (got : Got) (after : Option (ReadSteps A)) → before ≡ Some was → (tells → ReadingGoesOn was device now) → (tells → faults' ≡ faults) → HasCome geometry left now commit got after commit' → ReadOneMore was now → (HasGeneration commit → HasGeneration commit') → DidOpen tells geometry left before device faults commit got after faults' commit'
+did_open {A} tells geometry left before was now device faults faults' commit commit' got after is on same come one spells =
+    subst (λ (b : Option (ReadSteps A)). DidOpen tells geometry left b device faults commit got after faults' commit') (sym is) (inl (now, on, same, come, one, spells))

@@ -1,13 +1,13 @@
 -- What a step of an opening that reads metadata does.
-use Rattle.std.specs.Prelude.{◌≡◌, ◌≢◌, ◌≤◌, ◌⊎◌, ◌+◌, ◌^◌, ℕ, List, Option, Some, None}
+use Rattle.std.specs.Prelude.{◌≡◌, ◌≢◌, ◌≤◌, ◌<◌, ◌⊎◌, ◌+◌, ◌^◌, ℕ, List, Option, Some, None, IfSome}
 use Rattle.wb_types.specs.declared.geometry.Geometry.{Geometry}
 use Rattle.wb_types.specs.declared.refusal.Refusal.{Refusal}
 use Rattle.wb_types.specs.declared.refusal.Refusal.TheVariants.{Mismatch, GenerationEnd, Io}
 use Rattle.wb_disk.specs.Device.{History}
 use Rattle.wb_format.specs.declared.root.Root.{Root}
 use Rattle.wb_meta.specs.Openings.{IsOpening}
-use Rattle.wb_meta.specs.States.{CountsFault}
-use Rattle.wb_meta.specs.Reads.{ReadingGoesOn, StopsBy, IsDone, known_root}
+use Rattle.wb_meta.specs.States.{CountsFault, IsOfReading}
+use Rattle.wb_meta.specs.Reads.{ReadingGoesOn, ReadOneMore, StopsBy, IsDone, known_root}
 use Rattle.wb_meta.specs.declared.commit_steps.CommitSteps.TheVariants.{NodesSynced}
 use Rattle.wb_meta.specs.declared.read_steps.ReadSteps.{ReadSteps}
 use Rattle.wb_tasks.specs.declared.step.Got.{Got}
@@ -46,11 +46,17 @@ HasCome geometry left now commit (Refused refusal) after commit' = (after ≡ No
 HasCome geometry left now commit Fault after commit' = (after ≡ None) × (commit' ≡ commit) × (left ≡ 0)
 HasCome geometry left now commit got after commit' = ⊥
 
--- A sector was read: the reading goes on from what it was as the device says, where it tells, or stops for what wb_meta says.
+-- the root that a commit writes, if there is one, is of a generation that a sector can spell
+abbrev pub HasGeneration : Option RunningCommit → Type 0
+HasGeneration commit = IfSome commit (λ running. running.image.root.generation < 2 ^ 64)
+
+-- A sector was read: the reading goes on from what it was, by that sector, as the device says, where it tells, or stops for what
+-- wb_meta says.
 abbrev pub DidRead : {A : Type 0} → Type 0 → Geometry → ℕ → ReadSteps A → List History → ℕ → Option RunningCommit → Got → Option (ReadSteps A) → ℕ → Option RunningCommit → Type 0
 DidRead {A} tells geometry left was device faults commit got after faults' commit' =
-    ((now : ReadSteps A) × (tells → ReadingGoesOn was device now) × (tells → faults' ≡ faults) × HasCome geometry left now commit got after commit')
-    ⊎ ((refusal : Refusal) × (tells → StopsBy was device refusal) × (tells → CountsFault refusal faults faults') × (got ≡ got_of_refusal refusal) × (after ≡ None) × (commit' ≡ commit))
+    ((now : ReadSteps A) × (tells → ReadingGoesOn was device now) × (tells → faults' ≡ faults) × HasCome geometry left now commit got after commit'
+    × ReadOneMore was now × (HasGeneration commit → HasGeneration commit'))
+    ⊎ ((refusal : Refusal) × (tells → StopsBy was device refusal) × (tells → CountsFault refusal faults faults') × (got ≡ got_of_refusal refusal) × (after ≡ None) × (commit' ≡ commit) × IsOfReading refusal)
 
 -- What a step of an opening did, from the reading that was there: with none, the opening was over, and nothing was read.
 abbrev pub DidOpen : {A : Type 0} → Type 0 → Geometry → ℕ → Option (ReadSteps A) → List History → ℕ → Option RunningCommit → Got → Option (ReadSteps A) → ℕ → Option RunningCommit → Type 0

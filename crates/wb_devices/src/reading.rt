@@ -8,7 +8,7 @@ ghost use Rattle.wb_tasks.specs.declared.step.DeviceStep.TheVariants.{ReadMetada
 ghost use Rattle.wb_meta.specs.Reads.{AreStepsOn, IsDone, known_root};
 ghost use Rattle.wb_meta.specs.States.{IsOfReading};
 ghost use Rattle.wb_devices.specs.Openings.{MayGoOn};
-ghost use Rattle.wb_devices.specs.Opened.{DidOpen, HasCome, IsOf, got_of_refusal};
+ghost use Rattle.wb_devices.specs.Opened.{DidOpen, HasCome, HasGeneration, IsOf, got_of_refusal};
 
 use crate::opening::Opening;
 use crate::running::RunningCommit;
@@ -54,6 +54,7 @@ impl Opening {
         ensures geometry { self.new.geometry ≡ self.old.geometry }
         ensures on { (sectors : ℕ) → AreStepsOn sectors steps → IfSome self.new.reading (AreStepsOn sectors) }
         ensures come { HasCome self.old.geometry left steps self.old.commit result self.new.reading self.new.commit }
+        ensures generation { HasGeneration self.old.commit → HasGeneration self.new.commit }
     {
         match steps.root() {
             Some(root) => self.has_found(steps, root, left),
@@ -70,6 +71,7 @@ impl Opening {
         ensures geometry { self.new.geometry ≡ self.old.geometry }
         ensures on { (sectors : ℕ) → AreStepsOn sectors steps → IfSome self.new.reading (AreStepsOn sectors) }
         ensures come { HasCome self.old.geometry left steps self.old.commit result self.new.reading self.new.commit }
+        ensures generation { HasGeneration self.old.commit → HasGeneration self.new.commit }
     {
         if !is_same(root.geometry, self.geometry) {
             return Got::Refused(Refusal::Mismatch);
@@ -88,6 +90,7 @@ impl Opening {
         ensures geometry { self.new.geometry ≡ self.old.geometry }
         ensures on { (sectors : ℕ) → AreStepsOn sectors steps → IfSome self.new.reading (AreStepsOn sectors) }
         ensures come { HasCome self.old.geometry left steps self.old.commit result self.new.reading self.new.commit }
+        ensures generation { HasGeneration self.old.commit → HasGeneration self.new.commit }
     {
         if left < 1 {
             return Got::Fault;
@@ -107,6 +110,7 @@ impl Opening {
         ensures geometry { self.new.geometry ≡ self.old.geometry }
         ensures on { (sectors : ℕ) → AreStepsOn sectors steps → IfSome self.new.reading (AreStepsOn sectors) }
         ensures come { HasCome self.old.geometry left steps self.old.commit result self.new.reading self.new.commit }
+        ensures generation { HasGeneration self.old.commit → HasGeneration self.new.commit }
     {
         match RunningCommit::opening(self.alloc, &root) {
             Ok(commit) => {

@@ -1,6 +1,6 @@
 //! A commit that runs.
 
-ghost use Rattle.std.specs.Prelude.{◌≡◌, ◌+◌, ◌^◌, true, length, IfOk, IfErr};
+ghost use Rattle.std.specs.Prelude.{◌≡◌, ◌<◌, ◌+◌, ◌^◌, true, length, IfOk, IfErr};
 ghost use Rattle.wb_types.specs.declared.refusal.Refusal.TheVariants.{GenerationEnd as NoNextGeneration};
 ghost use Rattle.wb_meta.specs.Placing.{HavePlaces};
 ghost use Rattle.wb_meta.specs.Openings.{IsOpening};
@@ -41,10 +41,12 @@ impl RunningCommit {
     pub fn opening(global: Global, root: &Root) -> Result<RunningCommit, Refusal>
         ensures image { IfOk result (λ commit. IsOpening commit.image root.now) }
         ensures steps { IfOk result (λ commit. commit.steps ≡ NodesSynced) }
+        ensures generation { IfOk result (λ commit. commit.image.root.generation < 2 ^ 64) }
         ensures refused { IfErr result (λ refusal. (refusal ≡ NoNextGeneration) × (root.now.generation + 1 ≡ 2 ^ 64)) }
     {
         let image = opening_image(global, root, Vec::new(global))?;
         let _two_slots = image.root.geometry.node_count();
+        let _spelled = image.root.generation;
         Ok(RunningCommit {
             image,
             steps: CommitSteps::root_alone(),

@@ -53,9 +53,16 @@ impl OpenTask {
         requires { 1 ≤ metadata_sectors }
         ensures { result ≡ table (Opening (metadata_sectors - 1)) }
     {
+        OpenTask::reading(metadata_sectors - 1)
+    }
+
+    /// An opening that reads at most so many metadata sectors behind the first.
+    pub fn reading(more: u32) -> OpenTask
+        ensures { result ≡ table (Opening more) }
+    {
         OpenTask {
             phase: Phase::SyncsMetadata,
-            more: metadata_sectors - 1,
+            more,
         }
     }
 

@@ -1,0 +1,270 @@
+-- What an event does to an opening is what wb_runs says.
+use Rattle.std.proofs.Common.{◌≡◌, ◌≢◌, ◌≤◌, ◌<◌, ◌⊎◌, inl, inr, ℕ, zero, suc, Bool, true, false, List, [], ◌∷◌, Option, Some, None, refl, sym, ap, subst, ◌∙◌, arith, slice_get, slice_set, length, length-set, replicate}
+use Rattle.std.proofs.lemmas.Option.{slice_get_past}
+use Rattle.std.proofs.lemmas.Bool.{eqb-false, eqb-true}
+use Rattle.std.specs.Bool.{OnTrue}
+use Rattle.std.specs.declared.alloc.Global.{Global}
+use Rattle.wb_types.specs.declared.mode.Mode.TheVariants.{Writeback}
+use Rattle.wb_types.specs.declared.mode.Dev.{Dev}
+use Rattle.wb_types.specs.declared.mode.Dev.TheVariants.{Metadata, Cache, Origin}
+use Rattle.wb_types.specs.declared.refusal.Refusal.{Refusal}
+use Rattle.wb_disk.specs.Device.{History, synced}
+use Rattle.wb_disk.specs.Memory.{Memory}
+use Rattle.wb_disk.specs.Crash.{Choice, Applies, crashed}
+use Rattle.wb_disk.specs.Failing.{MayFail, lands, synced_where}
+use Rattle.wb_meta.specs.declared.read_steps.ReadSteps.{ReadSteps}
+use Rattle.wb_meta.specs.declared.read_steps.ReadSteps.TheVariants.{Begun}
+use Rattle.wb_tasks.specs.Plan.{Plan, want, after, table}
+use Rattle.wb_tasks.specs.Tables.{Opening}
+use Rattle.wb_tasks.specs.declared.step.Answer.TheVariants.{Refused as Refuses}
+use Rattle.wb_tasks.specs.declared.step.DeviceStep.{DeviceStep}
+use Rattle.wb_tasks.specs.declared.step.DeviceStep.TheVariants.{Sync}
+use Rattle.wb_tasks.specs.declared.step.Want.{Want}
+use Rattle.wb_tasks.specs.declared.step.Want.TheVariants.{Device, End}
+use Rattle.wb_tasks.specs.declared.step.Got.{Got}
+use Rattle.wb_tasks.specs.declared.step.Got.TheVariants.{Done, Fault}
+use Rattle.wb_devices.specs.declared.devices.Devices.{Devices}
+use Rattle.wb_devices.specs.Moving.{device_in}
+use Rattle.wb_runs.specs.declared.job.Job.{Job}
+use Rattle.wb_runs.specs.declared.job.Job.TheVariants.{Open}
+use Rattle.wb_runs.specs.declared.event.Event.{Event}
+use Rattle.wb_runs.specs.declared.event.Event.TheVariants.{Start, Step, FaultStep, Stop}
+use Rattle.wb_runs.specs.declared.event.What.{What}
+use Rattle.wb_runs.specs.declared.event.What.TheVariants.{Skipped, Started, Stepped, Stopped}
+use Rattle.wb_runs.specs.States.{Shape, Actor, Gone, Opens, OfTarget, resting, with_device}
+use Rattle.wb_runs.specs.Happenings.{Chosen, Plain, Begins, OfSome, DoesNotApply, MayFailAt, MayStop}
+use Rattle.wb_runs.specs.Effects.{after_what, all_crashed, all_resting, job_of, stepped, with_actor, device_done, device_failed, went}
+use Rattle.wb_machine.specs.declared.opener.Opener.{Opener}
+use Rattle.wb_machine.specs.Life.{Now, Happens, IsThere, is_refusal, sync_of, actors_of, contents_of, is_opening, opening_actor, opens, phase_of, reading_synced, reading_failed, state_of}
+
+-- ---- lists of one actor that opens, beside others that rest
+
+get_replicate : {X : Type 0} (n i : ℕ) (x : X) → i < n → slice_get (replicate n x) i ≡ Some x
+get_replicate zero i x h = absurd (omega arith)
+get_replicate (suc n) zero x h = refl
+get_replicate (suc n) (suc i) x h = get_replicate n i x (omega arith)
+
+set_replicate : {X : Type 0} (n i : ℕ) (x : X) → slice_set (replicate n x) i x ≡ replicate n x
+set_replicate zero i x = refl
+set_replicate (suc n) zero x = refl
+set_replicate (suc n) (suc i) x = ap (λ xs. x ∷ xs) (set_replicate n i x)
+
+set_twice : {X : Type 0} (xs : List X) (i : ℕ) (x y : X) → slice_set (slice_set xs i x) i y ≡ slice_set xs i y
+set_twice [] i x y = refl
+set_twice (z ∷ xs) zero x y = refl
+set_twice (z ∷ xs) (suc i) x y = ap (λ ys. z ∷ ys) (set_twice xs i x y)
+
+get_set : {X : Type 0} (xs : List X) (i : ℕ) (x y : X) → slice_get xs i ≡ Some x → slice_get (slice_set xs i y) i ≡ Some y
+get_set [] i x y e = absurd (cc)
+get_set (z ∷ xs) zero x y e = refl
+get_set (z ∷ xs) (suc i) x y e = get_set xs i x y e
+
+get_beside : {X : Type 0} (xs : List X) (i j : ℕ) (x : X) → i ≢ j → slice_get (slice_set xs i x) j ≡ slice_get xs j
+get_beside [] i j x h = refl
+get_beside (z ∷ xs) zero zero x h = absurd (h refl)
+get_beside (z ∷ xs) zero (suc j) x h = refl
+get_beside (z ∷ xs) (suc i) zero x h = refl
+get_beside (z ∷ xs) (suc i) (suc j) x h = get_beside xs i j x (λ e. h (ap suc e))
+
+slice_get_some : {X : Type 0} (xs : List X) (i : ℕ) → i < length xs → (x : X) × (slice_get xs i ≡ Some x)
+slice_get_some [] i h = absurd (omega arith)
+slice_get_some (z ∷ xs) zero h = (z, refl)
+slice_get_some (z ∷ xs) (suc i) h = slice_get_some xs i (omega arith)
+
+length_replicate : {X : Type 0} (n : ℕ) (x : X) → length (replicate n x) ≡ n
+length_replicate zero x = refl
+length_replicate (suc n) x = ap suc (length_replicate n x)
+
+resting_all : (xs : List Actor) → all_resting xs ≡ replicate (length xs) resting
+resting_all [] = refl
+resting_all (x ∷ xs) = ap (λ ys. resting ∷ ys) (resting_all xs)
+
+many : (n : ℕ) (o : Option Opener) → length (actors_of n o) ≡ n
+many n None = length_replicate n resting
+many n (Some o) = length-set (replicate n resting) o.actor (opening_actor o.task) ∙ length_replicate n resting
+
+pub all_rest : (n : ℕ) (o : Option Opener) → all_resting (actors_of n o) ≡ replicate n resting
+all_rest n o = resting_all (actors_of n o) ∙ ap (λ k. replicate k resting) (many n o)
+
+within : (n : ℕ) (o : Option Opener) (a : ℕ) → a < n → (x : Actor) × (slice_get (actors_of n o) a ≡ Some x)
+within n o a h = slice_get_some (actors_of n o) a (let l = many n o in omega (arith, l))
+
+there : (n : ℕ) (o : Opener) → o.actor < n → slice_get (actors_of n (Some o)) o.actor ≡ Some (opening_actor o.task)
+there n o h = get_set (replicate n resting) o.actor resting (opening_actor o.task) (get_replicate n o.actor resting h)
+
+rests : (n a : ℕ) (P : Job × Plan → Type 0) → OfSome (slice_get (replicate n resting) a) (λ (x : Actor). OfSome x.task P) → ⊥
+rests zero a P h = h
+rests (suc n) zero P h = h
+rests (suc n) (suc a) P h = rests n a P h
+
+pub idle_beside : (n : ℕ) (o : Opener) (a : ℕ) (P : Job × Plan → Type 0) → o.actor ≢ a → OfSome (slice_get (actors_of n (Some o)) a) (λ (x : Actor). OfSome x.task P) → ⊥
+idle_beside n o a P e h = rests n a P (subst (λ (x : Option Actor). OfSome x (λ (y : Actor). OfSome y.task P)) (get_beside (replicate n resting) o.actor a (opening_actor o.task) e) h)
+
+-- who does not open is at nothing
+pub idle : (n : ℕ) (o : Option Opener) (a : ℕ) (P : Job × Plan → Type 0) → opens a o ≡ false → OfSome (slice_get (actors_of n o) a) (λ (x : Actor). OfSome x.task P) → ⊥
+idle n None a P e h = rests n a P h
+idle n (Some o) a P e h = idle_beside n o a P (eqb-false o.actor a e) h
+
+-- and who opens is at its opening
+pub busy : (n : ℕ) (o : Opener) (P : Job × Plan → Type 0) → o.actor < n → P (Open Writeback, o.task) → OfSome (slice_get (actors_of n (Some o)) o.actor) (λ (x : Actor). OfSome x.task P)
+busy n o P h p = subst (λ (x : Option Actor). OfSome x (λ (y : Actor). OfSome y.task P)) (sym (there n o h)) p
+
+pub only_busy : (n : ℕ) (o : Opener) (P : Job × Plan → Type 0) → o.actor < n → OfSome (slice_get (actors_of n (Some o)) o.actor) (λ (x : Actor). OfSome x.task P) → P (Open Writeback, o.task)
+only_busy n o P h p = subst (λ (x : Option Actor). OfSome x (λ (y : Actor). OfSome y.task P)) (there n o h) p
+
+-- ---- an event that does not apply
+
+pub passes : (shape : Shape) (w : Now) (event : Event) (what : What) → DoesNotApply w event → what ≡ Skipped → Happens shape w event what [] w
+passes shape w (Start a job) what d e = rw e (record { chosen = Plain; may = ((refl, refl), d); leads = refl })
+passes shape w (Step a) what d e = rw e (record { chosen = Plain; may = ((refl, refl), d); leads = refl })
+passes shape w (FaultStep a choice) what d e = rw e (record { chosen = Plain; may = ((refl, refl), d); leads = refl })
+passes shape w (Stop choice) what d e = rw e (record { chosen = Plain; may = ((refl, refl), d); leads = refl })
+
+-- ---- starts
+
+pub nobody_starts : (shape : Shape) (devices : Devices Memory) (n : ℕ) (o : Option Opener) (a : ℕ) (job : Job) → n ≤ a → DoesNotApply (state_of n devices o) (Start a job)
+nobody_starts shape devices n o a job h = inl (slice_get_past (actors_of n o) a (let l = many n o in omega (arith, l)))
+
+pub opener_starts : (devices : Devices Memory) (n : ℕ) (o : Option Opener) (a : ℕ) (job : Job) → IsThere n o → opens a o ≡ true → DoesNotApply (state_of n devices o) (Start a job)
+opener_starts devices n None a job h e = absurd (cc)
+opener_starts devices n (Some o) a job h e =
+    let same : o.actor ≡ a = eqb-true o.actor a e in
+    inr (inl (subst (λ k. OfSome (slice_get (actors_of n (Some o)) k) (λ (x : Actor). OfSome x.task (λ doing. Unit {0}))) same (busy n o (λ doing. Unit {0}) h tt)))
+
+pub no_target : (devices : Devices Memory) (n : ℕ) (o : Option Opener) (a : ℕ) (job : Job) → is_opening job ≡ false → DoesNotApply (state_of n devices o) (Start a job)
+no_target devices n o a (Open Writeback) e = absurd (cc)
+no_target devices n o a (Open mode) e = inr (inr (inr (λ same. cc)))
+no_target devices n None a job e = inr (inr (λ t. t))
+no_target devices n (Some o) a job e = inr (inr (λ t. t))
+
+begun_state : (n : ℕ) (devices : Devices Memory) (o : Option Opener) (a : ℕ) (plan : Plan) (new : Opener) → new.actor ≡ a → new.task ≡ plan → new.reading ≡ None →
+    state_of n devices (Some new) ≡ record { devices = contents_of devices; commit = None; phase = Opens Writeback None; actors = slice_set (all_resting (actors_of n o)) a (opening_actor plan) }
+begun_state n devices o a plan new e f g = rw (e, f, g, all_rest n o) refl
+
+pub starts : (shape : Shape) (devices : Devices Memory) (n : ℕ) (o : Option Opener) (a : ℕ) (job : Job) (what : What) (new : Opener) → is_opening job ≡ true → a < n → opens a o ≡ false → new.actor ≡ a → new.task ≡ table (Opening shape.geometry.meta_sectors) → new.reading ≡ None → what ≡ Started →
+    Happens shape (state_of n devices o) (Start a job) what [] (state_of n devices (Some new))
+starts shape devices n o a (Open Writeback) what new j h i e f g s = rw s (record {
+  chosen = Plain;
+  may = (refl, applies, tt);
+  leads = begun_state n devices o a (table (Opening shape.geometry.meta_sectors)) new e f g ∙ sym given;
+})
+  where
+    some : slice_get (all_resting (actors_of n o)) a ≡ Some resting
+    some = ap (λ xs. slice_get xs a) (all_rest n o) ∙ get_replicate n a resting h
+
+    given : after_what shape (state_of n devices o) (Start a (Open Writeback)) Started Plain
+        ≡ record { devices = contents_of devices; commit = None; phase = Opens Writeback None; actors = slice_set (all_resting (actors_of n o)) a (opening_actor (table (Opening shape.geometry.meta_sectors))) }
+    given = rw some refl
+
+    no_standing : (x : Option Opener) → ((OfTarget (phase_of x) (λ t. t.words.fail ≡ 0)) ⊎ (Writeback ≢ Writeback)) → ⊥
+    no_standing None (inl t) = t
+    no_standing (Some y) (inl t) = t
+    no_standing x (inr d) = d refl
+
+    applies : DoesNotApply (state_of n devices o) (Start a (Open Writeback)) → ⊥
+    applies (inl none) = let inside = within n o a h in let is = inside.1 in absurd (cc)
+    applies (inr (inl t)) = idle n o a (λ doing. Unit {0}) i t
+    applies (inr (inr p)) = no_standing o p
+starts shape devices n o a job what new j h i e f g s = absurd (cc)
+
+-- ---- steps of who opens
+
+module _ (shape : Shape) (n : ℕ) (devices devices' : Devices Memory) (o new : Opener) (h : o.actor < n) (same : new.actor ≡ o.actor) where
+  abbrev w : Now
+  w = state_of n devices (Some o)
+
+  -- the actors once its task is this
+  acts : (plan : Plan) → new.task ≡ plan → actors_of n (Some new) ≡ slice_set (actors_of n (Some o)) o.actor (opening_actor plan)
+  acts plan t = rw (same, t) (sym (set_twice (replicate n resting) o.actor (opening_actor o.task) (opening_actor plan)))
+
+  -- what its step leads to
+  leads : (next : Want) (got : Got) (chosen : Chosen (Unit {0}) Global) (change : Job → DeviceStep → List History → List History) →
+      went shape w o.actor next got chosen change ≡ stepped shape w o.actor (opening_actor o.task) next got chosen (change (Open Writeback))
+  leads next got chosen change = ap (λ (x : Option Actor). with_actor w x (λ y. stepped shape w o.actor y next got chosen (change (job_of y.task)))) (there n o h)
+
+  next_state : (contents : Devices (List History)) (reading : Option (ReadSteps Global)) (plan : Plan) → contents_of devices' ≡ contents → new.reading ≡ reading → new.task ≡ plan →
+      state_of n devices' (Some new) ≡ record { devices = contents; commit = None; phase = Opens Writeback reading; actors = slice_set (actors_of n (Some o)) o.actor (opening_actor plan) }
+  next_state contents reading plan d r t = rw (d, r, acts plan t) refl
+
+  pub syncs : (alloc : Global) (device : Dev) (what : What) → want o.task ≡ Device (Sync device) → what ≡ Stepped (Device (Sync device)) Done → new.task ≡ after o.task Done → new.reading ≡ reading_synced alloc device o.reading →
+      contents_of devices' ≡ with_device device (contents_of devices) (synced (device_in device (contents_of devices))) → Happens shape w (Step o.actor) what [] (state_of n devices' (Some new))
+  syncs alloc Metadata what next e t r d = rw e (record {
+    chosen = Begins (Begun alloc alloc);
+    may = busy n o _ h (sym next, (refl, refl, refl));
+    leads = next_state _ _ _ d r t ∙ sym (leads (Device (Sync Metadata)) Done (Begins (Begun alloc alloc)) (λ job step. device_done {P = Unit {0}} {A = Global} job step (Begins (Begun alloc alloc))));
+  })
+  syncs alloc Cache what next e t r d = rw e (record {
+    chosen = Plain;
+    may = busy n o _ h (sym next, ((refl, refl), refl));
+    leads = next_state _ _ _ d r t ∙ sym (leads (Device (Sync Cache)) Done Plain (λ job step. device_done {P = Unit {0}} {A = Global} job step Plain));
+  })
+  syncs alloc Origin what next e t r d = rw e (record {
+    chosen = Plain;
+    may = busy n o _ h (sym next, ((refl, refl), refl));
+    leads = next_state _ _ _ d r t ∙ sym (leads (Device (Sync Origin)) Done Plain (λ job step. device_done {P = Unit {0}} {A = Global} job step Plain));
+  })
+
+  pub fails : (choice : Choice) (device : Dev) (what : What) → want o.task ≡ Device (Sync device) → what ≡ Stepped (Device (Sync device)) Fault → MayFail device choice (length (device_in device (contents_of devices))) → new.task ≡ after o.task Fault → new.reading ≡ reading_failed device o.reading →
+      contents_of devices' ≡ with_device device (contents_of devices) (synced_where (lands device choice) (device_in device (contents_of devices))) → Happens shape w (FaultStep o.actor choice) what [] (state_of n devices' (Some new))
+  fails choice Metadata what next e m t r d = rw e (record {
+    chosen = Plain;
+    may = (refl, refl, busy n o _ h (sym next, m, (refl, tt)));
+    leads = next_state _ _ _ d r t ∙ sym (leads (Device (Sync Metadata)) Fault Plain (λ job step. device_failed {P = Unit {0}} {A = Global} (lands Metadata choice) job step Plain));
+  })
+  fails choice Cache what next e m t r d = rw e (record {
+    chosen = Plain;
+    may = (refl, refl, busy n o _ h (sym next, m, refl));
+    leads = next_state _ _ _ d r t ∙ sym (leads (Device (Sync Cache)) Fault Plain (λ job step. device_failed {P = Unit {0}} {A = Global} (lands Cache choice) job step Plain));
+  })
+  fails choice Origin what next e m t r d = rw e (record {
+    chosen = Plain;
+    may = (refl, refl, busy n o _ h (sym next, m, refl));
+    leads = next_state _ _ _ d r t ∙ sym (leads (Device (Sync Origin)) Fault Plain (λ job step. device_failed {P = Unit {0}} {A = Global} (lands Origin choice) job step Plain));
+  })
+
+-- its answer, which is a refusal
+pub refused : (shape : Shape) (n : ℕ) (devices : Devices Memory) (o : Opener) → o.actor < n → (refusal : Refusal) (what : What) → want o.task ≡ End (Refuses refusal) → what ≡ Stepped (End (Refuses refusal)) Done →
+    Happens shape (state_of n devices (Some o)) (Step o.actor) what [] (state_of n devices None)
+refused shape n devices o h refusal what next e = rw e (record {
+  chosen = Plain;
+  may = busy n o _ h (sym next, ((refl, refl), refl));
+  leads = ap (λ xs. record { devices = contents_of devices; commit = None; phase = Gone; actors = xs }) (sym (set_twice (replicate n resting) o.actor (opening_actor o.task) resting ∙ set_replicate n o.actor resting))
+      ∙ sym (ap (λ (x : Option Actor). with_actor (state_of n devices (Some o)) x (λ y. stepped shape (state_of n devices (Some o)) o.actor y (End (Refuses refusal)) Done Plain (λ step. device_done {P = Unit {0}} {A = Global} (Open Writeback) step Plain))) (there n o h));
+})
+
+-- ---- a crash
+
+pub stops : (shape : Shape) (n : ℕ) (devices devices' : Devices Memory) (o : Option Opener) (choice : Choice) (what : What) → MayStop choice (contents_of devices) → contents_of devices' ≡ all_crashed choice (contents_of devices) → what ≡ Stopped →
+    Happens shape (state_of n devices o) (Stop choice) what [] (state_of n devices' None)
+stops shape n devices devices' o choice what m d e = rw e (record {
+  chosen = Plain;
+  may = ((refl, refl), m);
+  leads = rw (d, all_rest n o) refl;
+})
+
+on_true : {P : Type 0} (b : Bool) → b ≡ true → OnTrue b P → P
+on_true true e h = h
+on_true false e h = absurd (cc)
+
+pub crashes : (device : Dev) (choice : Choice) (d0 d1 d2 : Memory) (b : Bool) → d1 ≡ d0 → Applies device choice d0.contents → (Applies device choice d1.contents → b ≡ true) → OnTrue b (d2 ≡ record d1 { contents = crashed device choice d1.contents }) → d2.contents ≡ crashed device choice d0.contents
+crashes device choice d0 d1 d2 b same applies stops crashed_so =
+    let applied : Applies device choice d1.contents = subst (λ (d : Memory). Applies device choice d.contents) (sym same) applies in
+    ap (λ (d : Memory). d.contents) (on_true b (stops applied) crashed_so) ∙ ap (λ (d : Memory). crashed device choice d.contents) same
+
+-- ---- what kind a step is
+
+pub is_sync : (next : Want) (device : Dev) → sync_of next ≡ Some device → next ≡ Device (Sync device)
+is_sync (Device (Sync other)) device e = let same : other ≡ device = cc in ap (λ d. Device (Sync d)) same
+is_sync next device e = absurd (cc)
+
+pub refuses : (next : Want) → is_refusal next ≡ true → (refusal : Refusal) × (next ≡ End (Refuses refusal))
+refuses (End (Refuses refusal)) e = (refusal, refl)
+refuses next e = absurd (cc)
+
+-- an answer is no step on a device
+pub never_fails : (next : Want) (devices : Devices (List History)) (choice : Choice) → is_refusal next ≡ true → MayFailAt devices choice next → ⊥
+never_fails (End (Refuses refusal)) devices choice e m = m
+never_fails next devices choice e m = absurd (cc)
+
+pub cannot_fail : (b : Bool) → b ≡ false → b ≡ true → ⊥
+cannot_fail b e f = cc

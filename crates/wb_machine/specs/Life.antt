@@ -1,0 +1,136 @@
+-- A machine that runs, as its callers see it, and what an event does to it, by the definitions of wb_runs.
+use Rattle.std.specs.Prelude.{◌≡◌, ◌<◌, ◌==◌, ◌++◌, ◌∷◌, [], ℕ, Bool, true, false, List, Option, Some, None, IfSome, length, replicate, slice_set}
+use Rattle.std.specs.declared.alloc.Global.{Global}
+use Rattle.wb_types.specs.declared.geometry.Geometry.{Geometry}
+use Rattle.wb_types.specs.declared.mode.Dev.{Dev}
+use Rattle.wb_types.specs.declared.mode.Dev.TheVariants.{Metadata}
+use Rattle.wb_types.specs.declared.mode.Mode.TheVariants.{Writeback}
+use Rattle.wb_disk.specs.Device.{Content as Bytes, History}
+use Rattle.wb_disk.specs.Memory.{Memory}
+use Rattle.wb_words.specs.Cards.{blank_card}
+use Rattle.wb_meta.specs.Formats.{IsFormatted}
+use Rattle.wb_meta.specs.declared.read_steps.ReadSteps.{ReadSteps}
+use Rattle.wb_meta.specs.declared.read_steps.ReadSteps.TheVariants.{Begun}
+use Rattle.wb_desk.specs.Opening.{threshold_of}
+use Rattle.wb_devices.specs.declared.devices.Devices.{Devices}
+use Rattle.wb_tasks.specs.Plan.{Plan, want}
+use Rattle.wb_tasks.specs.declared.step.Answer.TheVariants.{Refused as Refuses}
+use Rattle.wb_tasks.specs.declared.step.DeviceStep.TheVariants.{Sync}
+use Rattle.wb_tasks.specs.declared.step.Want.{Want}
+use Rattle.wb_tasks.specs.declared.step.Want.TheVariants.{Device, End}
+use Rattle.wb_runs.specs.declared.job.Job.{Job}
+use Rattle.wb_runs.specs.declared.job.Job.TheVariants.{Open}
+use Rattle.wb_runs.specs.declared.event.Event.{Event}
+use Rattle.wb_runs.specs.declared.event.Event.TheVariants.{Step, FaultStep}
+use Rattle.wb_runs.specs.declared.event.What.{What}
+use Rattle.wb_runs.specs.declared.event.Record.{Record}
+use Rattle.wb_runs.specs.States.{Shape, State, Actor, Phase, Gone, Opens, resting, start}
+use Rattle.wb_runs.specs.Happenings.{Chosen, Happening, AtWork, MayBe, May}
+use Rattle.wb_runs.specs.Effects.{after_what, after_happening, after_all, IsRun, records_of}
+use Rattle.wb_machine.specs.declared.opener.Opener.{Opener}
+
+-- No target stands here yet, so of its policy there is nothing to say.
+abbrev pub Now : Type 0
+Now = State (Unit {0}) Global
+
+abbrev pub Happened : Type 0
+Happened = Happening (Unit {0}) Global
+
+-- the shape of a machine of this geometry, its threshold being the one that nobody names
+abbrev pub shape_of : Geometry → ℕ → Shape
+shape_of geometry actors = record { geometry = geometry; threshold = threshold_of None; actors = actors }
+
+-- Its sizes, what has happened, and where that has led.
+pub record Life : Type 0 where
+  pub shape : Shape
+  pub trace : List Record
+  pub state : Now
+
+-- ---- what the parts of a machine stand for
+
+abbrev pub contents_of : Devices Memory → Devices (List History)
+contents_of devices = record { metadata = devices.metadata.contents; cache = devices.cache.contents; origin = devices.origin.contents }
+
+-- who opens, with this left of the opening
+abbrev pub opening_actor : Plan → Actor
+opening_actor plan = record { task = Some (Open Writeback, plan); card = blank_card }
+
+-- beside who opens nobody is at anything
+abbrev pub actors_of : ℕ → Option Opener → List Actor
+actors_of actors None = replicate actors resting
+actors_of actors (Some opener) = slice_set (replicate actors resting) opener.actor (opening_actor opener.task)
+
+abbrev pub phase_of : Option Opener → Phase (Unit {0}) Global
+phase_of None = Gone
+phase_of (Some opener) = Opens Writeback opener.reading
+
+abbrev pub state_of : ℕ → Devices Memory → Option Opener → Now
+state_of actors devices opener = record { devices = contents_of devices; commit = None; phase = phase_of opener; actors = actors_of actors opener }
+
+-- who opens is one of so many
+abbrev pub IsThere : ℕ → Option Opener → Type 0
+IsThere actors opener = IfSome opener (λ o. o.actor < actors)
+
+-- this actor opens
+abbrev pub opens : ℕ → Option Opener → Bool
+opens a None = false
+opens a (Some opener) = opener.actor == a
+
+-- a job that may start where no target stands
+abbrev pub is_opening : Job → Bool
+is_opening (Open Writeback) = true
+is_opening job = false
+
+-- Once the metadata are durable a reading of them begins; where they are not, it is over.
+abbrev pub reading_synced : Global → Dev → Option (ReadSteps Global) → Option (ReadSteps Global)
+reading_synced alloc Metadata reading = Some (Begun alloc alloc)
+reading_synced alloc device reading = reading
+
+abbrev pub reading_failed : Dev → Option (ReadSteps Global) → Option (ReadSteps Global)
+reading_failed Metadata reading = None
+reading_failed device reading = reading
+
+-- ---- what an event does
+
+-- what an event does, and reads, from one state to the next
+pub record Happens (shape : Shape) (old : Now) (event : Event) (what : What) (read : List Bytes) (new : Now) : Type 0 where
+  pub chosen : Chosen (Unit {0}) Global
+  pub may : MayBe shape old event what read chosen
+  pub leads : new ≡ after_what shape old event what chosen
+
+-- The life goes on by one record of this event, which says what the event does here.
+pub record GoesOn (old : Life) (event : Event) (new : Life) : Type 0 where
+  pub happening : Happened
+  pub of_event : happening.record_is.event ≡ event
+  pub may : May old.shape old.state happening
+  pub leads : new ≡ record old { trace = old.trace ++ happening.record_is ∷ []; state = after_happening old.shape old.state happening }
+
+-- The trace is that of a run from formatted metadata, which has led here.
+pub record IsReached (life : Life) : Type 0 where
+  pub metadata : List History
+  pub formatted : IsFormatted life.shape.geometry metadata
+  pub size : length metadata ≡ life.shape.geometry.meta_sectors
+  pub happenings : List Happened
+  pub run : IsRun life.shape (start life.shape metadata) happenings
+  pub told : records_of happenings ≡ life.trace
+  pub leads : after_all life.shape (start life.shape metadata) happenings ≡ life.state
+
+-- ---- what it cannot do yet
+
+-- the device that a step syncs, if it is a sync
+abbrev pub sync_of : Want → Option Dev
+sync_of (Device (Sync device)) = Some device
+sync_of next = None
+
+abbrev pub is_refusal : Want → Bool
+is_refusal (End (Refuses refusal)) = true
+is_refusal next = false
+
+-- The next step of the actor that is named is neither a sync nor a refusal.
+abbrev pub IsBeyond : Want → Type 0
+IsBeyond next = (sync_of next ≡ None) × (is_refusal next ≡ false)
+
+abbrev pub IsGap : Now → Event → Type 0
+IsGap w (Step a) = AtWork w a (λ job s. IsBeyond (want s))
+IsGap w (FaultStep a choice) = AtWork w a (λ job s. IsBeyond (want s))
+IsGap w event = ⊥

@@ -1,0 +1,148 @@
+//! A machine that runs.
+
+ghost use Rattle.std.specs.Prelude.{◌≡◌, [], OnOk, OnErr, IfOk, IfErr};
+ghost use Rattle.std.specs.declared.alloc.Global.{Global};
+ghost use Rattle.wb_types.specs.declared.refusal.Refusal.TheVariants.{Memory};
+ghost use Rattle.wb_disk.specs.Device.{History};
+ghost use Rattle.wb_runs.specs.Clerk.{formatted};
+ghost use Rattle.wb_runs.specs.Headline.{AllOpenRightly, AllRefuseByCause, CrashConsistent, noted};
+ghost use Rattle.wb_runs.specs.Latest.{AllReadRightly};
+ghost use Rattle.wb_runs.specs.States.{start};
+ghost use Rattle.wb_machine.specs.declared.halt.Halt.TheVariants.{Beyond};
+ghost use Rattle.wb_machine.specs.declared.machine.TheConstants.{ACTORS};
+ghost use Rattle.wb_machine.specs.Life.{GoesOn, Happens, IsGap, IsReached, IsThere, shape_of, state_of};
+
+use crate::halt::Halt;
+use crate::opener::Opener;
+use crate::starting::start;
+use crate::stepping::{falter, step};
+use crate::stopping::stop;
+use crate::trace::Trace;
+use std::alloc::Global;
+use std::marker::Model;
+use wb_devices::Devices;
+use wb_disk::MemDisk;
+use wb_meta::format;
+use wb_runs::{
+    Event, Record, What, every_crash_is_consistent, every_opening_shows_allowed,
+    openings_refuse_by_cause, reads_give_the_latest_write,
+};
+use wb_types::{Geometry, Refusal};
+
+/// How many actors a machine has.
+pub const ACTORS: usize = 64;
+
+/// Three devices in memory, who opens a target over them, and the trace of what happened.
+#[derive(Drop)]
+pub struct Machine {
+    alloc: Global,
+    geometry: Geometry,
+    devices: Devices<MemDisk>,
+    opener: Option<Opener>,
+    trace: Trace,
+}
+
+impl Model for Machine {
+    ghost use Rattle.wb_machine.specs.declared.machine.TheConstants.{ACTORS};
+    ghost use Rattle.wb_machine.specs.Life.{Life, IsReached, IsThere, shape_of, state_of};
+
+    ghost Value = { Life };
+
+    ghost view = { λ m. record { shape = shape_of m.geometry ACTORS; trace = m.trace.records; state = state_of ACTORS m.devices m.opener } };
+
+    ghost invariant = { λ m. IsReached (record { shape = shape_of m.geometry ACTORS; trace = m.trace.records; state = state_of ACTORS m.devices m.opener })
+        × IsThere ACTORS m.opener };
+}
+
+impl Machine {
+    /// A machine in which nothing has happened: metadata that were formatted, two devices of zeros, no target, and nobody at work.
+    /// `Memory` where there is none for it.
+    pub fn new(alloc: Global, geometry: Geometry) -> Result<Machine, Refusal>
+        ensures shape { IfOk result (λ m. m.shape ≡ shape_of geometry ACTORS) }
+        ensures trace { IfOk result (λ m. m.trace ≡ []) }
+        ensures refusal { IfErr result (λ refusal. refusal ≡ Memory) }
+    {
+        let mut metadata = MemDisk::new(alloc, u64::from(geometry.meta_sectors))?;
+        if format(&mut metadata, &geometry).is_err() {
+            return Err(Refusal::Memory);
+        }
+        let cache = MemDisk::new(alloc, geometry.cache_sectors())?;
+        let origin = MemDisk::new(alloc, geometry.origin_sectors())?;
+        Ok(Machine {
+            alloc,
+            geometry,
+            devices: Devices {
+                metadata,
+                cache,
+                origin,
+            },
+            opener: None,
+            trace: Trace::new(alloc),
+        })
+    }
+
+    /// One event. It adds one record, which says what the event did. Where the record wants more memory than there is, or the
+    /// event is a step that the machine cannot do yet, nothing has changed.
+    pub fn event(&mut self, event: Event) -> Result<(), Halt>
+        ensures ok { OnOk result (GoesOn self.old event self.new) }
+        ensures err { OnErr result (self.new ≡ self.old) }
+        ensures gap { IfErr result (λ halt. halt ≡ Beyond → IsGap self.old.state event) }
+    {
+        if self.trace.reserve().is_err() {
+            return Err(Halt::Memory);
+        }
+        let what = happen(
+            &self.geometry,
+            self.alloc,
+            &mut self.devices,
+            &mut self.opener,
+            &event,
+        )?;
+        self.trace.push_reserved(Record {
+            event,
+            what,
+            read: Vec::new(self.alloc),
+        });
+        Ok(())
+    }
+
+    /// The trace. It is one of a run from formatted metadata. So whatever a crash leaves of the devices shows of each sector an
+    /// entry of its history at its durable floor or later, so does each opening that was answered done, one was refused only for a
+    /// cause, and reads were given what was written last.
+    pub fn trace(&self) -> &Trace
+        ensures trace { result.now.records ≡ self.now.trace }
+        ensures reached { IsReached self.now }
+        ensures consistent { (run : IsReached self.now) → CrashConsistent self.now.shape (noted self.now.shape (start self.now.shape run.metadata) (formatted self.now.shape) run.happenings) self.now.state.devices }
+        ensures openings { (run : IsReached self.now) → AllOpenRightly self.now.shape (start self.now.shape run.metadata) (formatted self.now.shape) run.happenings }
+        ensures causes { (run : IsReached self.now) → AllRefuseByCause self.now.shape (start self.now.shape run.metadata) (formatted self.now.shape) run.happenings }
+        ensures reads { (run : IsReached self.now) → AllReadRightly self.now.shape (start self.now.shape run.metadata) (formatted self.now.shape) run.happenings }
+    {
+        every_crash_is_consistent::<(), Global>();
+        every_opening_shows_allowed::<(), Global>();
+        openings_refuse_by_cause::<(), Global>();
+        reads_give_the_latest_write::<(), Global>();
+        &self.trace
+    }
+}
+
+/// What an event does to the parts of a machine.
+fn happen(
+    geometry: &Geometry,
+    alloc: Global,
+    devices: &mut Devices<MemDisk>,
+    opener: &mut Option<Opener>,
+    event: &Event,
+) -> Result<What, Halt>
+    requires { IsThere ACTORS opener.old }
+    ensures there { IsThere ACTORS opener.new }
+    ensures ok { IfOk result (λ what. Happens (shape_of geometry.now ACTORS) (state_of ACTORS devices.old opener.old) event.now what [] (state_of ACTORS devices.new opener.new)) }
+    ensures err { OnErr result ((devices.new ≡ devices.old) × (opener.new ≡ opener.old)) }
+    ensures gap { IfErr result (λ halt. (halt ≡ Beyond) × IsGap (state_of ACTORS devices.old opener.old) event.now) }
+{
+    match event {
+        Event::Start(a, job) => Ok(start(geometry, devices, opener, *a, job)),
+        Event::Step(a) => step(alloc, devices, opener, *a),
+        Event::FaultStep(a, choice) => falter(devices, opener, *a, choice),
+        Event::Stop(choice) => Ok(stop(devices, opener, choice)),
+    }
+}

@@ -1,0 +1,91 @@
+//! Openings by hand, and what they answer.
+
+mod rows;
+
+use self::rows::{Line, ROWS};
+use std::alloc::Global;
+use std::test::Fail;
+use wb_disk::{Base, CrashChoice, NamedContent};
+use wb_machine::{Halt, Machine};
+use wb_runs::{Event, Job, What};
+use wb_types::{Dev, Geometry, Mode, Refusal};
+
+/// Ten blocks of 64 sectors, and a cache of four.
+fn small_machine(alloc: Global) -> Result<Machine, Refusal> {
+    Machine::new(alloc, Geometry::new(64, 4, 10, 4)?)
+}
+
+/// A choice that names no sector.
+fn unnamed(alloc: Global, base: Base) -> CrashChoice {
+    CrashChoice::new(base, Vec::new(alloc))
+}
+
+/// One that names a sector of a device by this number.
+fn named(alloc: Global, device: Dev, sector: u64, position: u64) -> Result<CrashChoice, Refusal> {
+    let mut names = Vec::new(alloc);
+    names
+        .push(NamedContent {
+            device,
+            sector,
+            position,
+        })
+        .map_err(|_| Refusal::Memory)?;
+    Ok(CrashChoice::new(Base::Newest, names))
+}
+
+/// What a line is as an event.
+fn event_of(alloc: Global, line: Line) -> Result<Event, Refusal> {
+    match line {
+        Line::Start(actor, job) => Ok(Event::Start(actor, job)),
+        Line::Step(actor) => Ok(Event::Step(actor)),
+        Line::Fault(actor, base) => Ok(Event::FaultStep(actor, unnamed(alloc, base))),
+        Line::FaultOf(actor, device, sector, position) => Ok(Event::FaultStep(
+            actor,
+            named(alloc, device, sector, position)?,
+        )),
+        Line::Crash => Ok(Event::Stop(unnamed(alloc, Base::Newest))),
+        Line::CrashOf(device, sector, position) => {
+            Ok(Event::Stop(named(alloc, device, sector, position)?))
+        }
+    }
+}
+
+/// What the last event did.
+fn last(machine: &Machine) -> What {
+    match machine.trace().records().last() {
+        Some(record) => record.what,
+        None => What::Skipped,
+    }
+}
+
+/// The first line of a row after which something else happened, if there is one.
+fn play(alloc: Global, lines: &[(Line, What)]) -> Result<Option<usize>, Refusal> {
+    let mut machine = small_machine(alloc)?;
+    for (number, line) in lines.iter().enumerate() {
+        let event = event_of(alloc, line.0)?;
+        if machine.event(event).is_err() || last(&machine) != line.1 {
+            return Ok(Some(number));
+        }
+    }
+    Ok(None)
+}
+
+#[test]
+fn openings_go_as_their_rows_say(rt: HostRuntime) -> Result<(), Fail> {
+    for row in &ROWS {
+        assert!(rt; play(rt.alloc(), row.lines)? == None, "{}", row.name);
+    }
+    Ok(())
+}
+
+#[test]
+fn a_machine_reads_no_metadata_yet(rt: HostRuntime) -> Result<(), Fail> {
+    let mut machine = small_machine(rt.alloc())?;
+    assert!(rt; machine.event(Event::Start(0, Job::Open(Mode::Writeback))) == Ok(()));
+    for _ in 0..3 {
+        assert!(rt; machine.event(Event::Step(0)) == Ok(()));
+    }
+    assert!(rt; machine.event(Event::Step(0)) == Err(Halt::Beyond));
+    assert_eq!(rt; machine.trace().records().len(), 4);
+    Ok(())
+}

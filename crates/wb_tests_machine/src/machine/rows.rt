@@ -1,0 +1,122 @@
+//! What happens line by line, and what the last event of each line did.
+
+use wb_disk::Base;
+use wb_runs::{Job, What};
+use wb_tasks::{Answer, DeviceStep, Got, Want};
+use wb_types::{Dev, Extent, Mode, Refusal};
+
+/// What is to happen.
+#[derive(Clone, Copy)]
+pub enum Line {
+    Start(usize, Job),
+    Step(usize),
+    /// The actor's next step fails; what it syncs has landed, or not.
+    Fault(usize, Base),
+    /// The same with a sector of a device named by a number.
+    FaultOf(usize, Dev, u64, u64),
+    /// Each sector keeps its newest content.
+    Crash,
+    /// All do but this one of a device, which keeps the content at this position.
+    CrashOf(Dev, u64, u64),
+}
+
+#[derive(Clone, Copy)]
+pub struct Row {
+    pub name: &'static str,
+    pub lines: &'static [(Line, What)],
+}
+
+const OPEN: Job = Job::Open(Mode::Writeback);
+
+const FIRST_SECTOR: Extent = Extent { first: 0, count: 1 };
+
+const METADATA: Want = Want::Device(DeviceStep::Sync(Dev::Metadata));
+
+const CACHE: Want = Want::Device(DeviceStep::Sync(Dev::Cache));
+
+const ORIGIN: Want = Want::Device(DeviceStep::Sync(Dev::Origin));
+
+const METADATA_FAILED: Want = Want::End(Answer::Refused(Refusal::Io(Dev::Metadata)));
+
+const CACHE_FAILED: Want = Want::End(Answer::Refused(Refusal::Io(Dev::Cache)));
+
+pub const ROWS: [Row; 6] = [
+    Row {
+        name: "without a target only an opening starts, in write-back mode",
+        lines: &[
+            (Line::Start(0, Job::Read(FIRST_SECTOR)), What::Skipped),
+            (Line::Start(0, Job::Flush), What::Skipped),
+            (Line::Start(0, Job::Open(Mode::Writethrough)), What::Skipped),
+            (Line::Start(64, OPEN), What::Skipped),
+            (Line::Step(0), What::Skipped),
+            (Line::Start(0, OPEN), What::Started),
+            (Line::Start(0, OPEN), What::Skipped),
+        ],
+    },
+    Row {
+        name: "an opening syncs the metadata, the cache and the origin",
+        lines: &[
+            (Line::Start(3, OPEN), What::Started),
+            (Line::Step(3), What::Stepped(METADATA, Got::Done)),
+            (Line::Step(2), What::Skipped),
+            (Line::Step(3), What::Stepped(CACHE, Got::Done)),
+            (Line::Step(3), What::Stepped(ORIGIN, Got::Done)),
+        ],
+    },
+    Row {
+        name: "a sync that fails refuses the opening, and another may begin",
+        lines: &[
+            (Line::Start(0, OPEN), What::Started),
+            (Line::Step(0), What::Stepped(METADATA, Got::Done)),
+            (
+                Line::Fault(0, Base::Durable),
+                What::Stepped(CACHE, Got::Fault),
+            ),
+            (Line::Fault(0, Base::Durable), What::Skipped),
+            (Line::Step(0), What::Stepped(CACHE_FAILED, Got::Done)),
+            (Line::Step(0), What::Skipped),
+            (Line::Start(0, OPEN), What::Started),
+            (
+                Line::Fault(0, Base::Newest),
+                What::Stepped(METADATA, Got::Fault),
+            ),
+            (Line::Step(0), What::Stepped(METADATA_FAILED, Got::Done)),
+        ],
+    },
+    Row {
+        name: "an opening gives up the one that was at work",
+        lines: &[
+            (Line::Start(0, OPEN), What::Started),
+            (Line::Step(0), What::Stepped(METADATA, Got::Done)),
+            (Line::Start(1, OPEN), What::Started),
+            (Line::Step(0), What::Skipped),
+            (Line::Step(1), What::Stepped(METADATA, Got::Done)),
+        ],
+    },
+    Row {
+        name: "a failing sync names sectors of its own device, with 0 or 1",
+        lines: &[
+            (Line::Start(0, OPEN), What::Started),
+            (Line::FaultOf(0, Dev::Cache, 0, 1), What::Skipped),
+            (Line::FaultOf(0, Dev::Metadata, 4, 1), What::Skipped),
+            (Line::FaultOf(0, Dev::Metadata, 3, 2), What::Skipped),
+            (
+                Line::FaultOf(0, Dev::Metadata, 3, 1),
+                What::Stepped(METADATA, Got::Fault),
+            ),
+        ],
+    },
+    Row {
+        name: "a crash ends an opening, and keeps contents that are there",
+        lines: &[
+            (Line::Start(0, OPEN), What::Started),
+            (Line::CrashOf(Dev::Cache, 0, 1), What::Skipped),
+            (Line::CrashOf(Dev::Origin, 640, 0), What::Skipped),
+            (Line::Step(0), What::Stepped(METADATA, Got::Done)),
+            (Line::CrashOf(Dev::Origin, 639, 0), What::Stopped),
+            (Line::Step(0), What::Skipped),
+            (Line::Crash, What::Stopped),
+            (Line::Start(0, OPEN), What::Started),
+        ],
+    },
+];
