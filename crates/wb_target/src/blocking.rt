@@ -1,6 +1,6 @@
 //! Requests that wait, over any number of blocks.
 
-ghost use Rattle.std.specs.Prelude.{◌≡◌, ◌<◌, ◌+◌, ◌^◌, OnOk, IfErr, length};
+ghost use Rattle.std.specs.Prelude.{◌≡◌, ◌≤◌, ◌<◌, ◌+◌, ◌*◌, OnOk, IfErr, length};
 
 use crate::client::Client;
 use std::sync::Wait;
@@ -21,6 +21,7 @@ impl<'t, D: Disk + Drop, P: Policy> Client<'t, D, P> {
     ///
     /// `Range` for no sector, or one outside the origin, before any block; `Failed`, `Io` and `Memory` where a block met them.
     pub fn read<R: Wait>(&mut self, rt: &R, at: Sector, out: &mut [Content]) -> Result<(), Stopped>
+        ensures inside { OnOk result ((0 < length out.old) × (at.0 + length out.old ≤ self.old.port.geometry.block * self.old.port.geometry.origin_blocks)) }
         ensures target { self.new.target ≡ self.old.target }
         ensures many { length out.new ≡ length out.old }
     {
@@ -46,6 +47,7 @@ impl<'t, D: Disk + Drop, P: Policy> Client<'t, D, P> {
     ///
     /// `Range` as `read`; `Failed`, `Worn` and `Io` where a block met them.
     pub fn write<R: Wait>(&mut self, rt: &R, at: Sector, from: &[Content]) -> Result<(), Stopped>
+        ensures inside { OnOk result ((0 < length from.now) × (at.0 + length from.now ≤ self.old.port.geometry.block * self.old.port.geometry.origin_blocks)) }
         ensures target { self.new.target ≡ self.old.target }
     {
         let count = from.len() as u64;
@@ -68,7 +70,7 @@ impl<'t, D: Disk + Drop, P: Policy> Client<'t, D, P> {
 
     /// Whether so many sectors, and at least one, lie in the origin.
     fn in_range(&self, at: Sector, count: u64) -> Result<(), Stopped>
-        ensures inside { OnOk result (at.0 + count < 2 ^ 64) }
+        ensures inside { OnOk result ((0 < count) × (at.0 + count ≤ self.now.port.geometry.block * self.now.port.geometry.origin_blocks)) }
         ensures refused { IfErr result (λ stopped. (stopped.done ≡ 0) × (stopped.refusal ≡ Refusal.Range)) }
     {
         let Sector(first) = at;
