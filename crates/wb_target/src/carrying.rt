@@ -31,7 +31,7 @@ pub enum Flushed {
 }
 
 impl<D: Disk + Drop> Port<D> {
-    /// Performs a task, under these orders: a run of its table. After a failed write or sync the target is told.
+    /// Performs a task, under these orders: a run of its table.
     fn work<R: Wait, P: Policy, T: Task>(
         &mut self,
         rt: &R,
@@ -43,7 +43,7 @@ impl<D: Disk + Drop> Port<D> {
         ensures performed { WasPerformed D.tells D.size D.contents D.faults self.old.geometry.origin_blocks (T.plan task.old) (state_of self.old) result (state_of self.new) }
         ensures geometry { self.new.geometry ≡ self.old.geometry }
     {
-        let answer = perform_task(
+        perform_task(
             rt,
             target,
             &self.cells,
@@ -52,11 +52,16 @@ impl<D: Disk + Drop> Port<D> {
             held,
             &mut self.commit,
             task,
-        );
-        if let Answer::Refused(Refusal::Io(_)) = answer {
+        )
+    }
+
+    /// Where the target has failed, whoever waits for its commit is told.
+    fn note_failure<R: Wait, P: Policy>(&mut self, rt: &R, target: &Target<P>)
+        ensures geometry { self.new.geometry ≡ self.old.geometry }
+    {
+        if self.has_failed() {
             target.note_failure(rt);
         }
-        answer
     }
 
     /// A buffer for the steps of migrations, if it has none; `Memory` where there is none for it.
@@ -89,7 +94,10 @@ fn migrate<R: Wait, D: Disk + Drop, P: Policy>(
         match port.work(rt, target, &held, &mut task) {
             Answer::Done => return Ok(()),
             Answer::Refused(Refusal::Busy) => thread::yield_now(),
-            Answer::Refused(refusal) => return Err(refusal),
+            Answer::Refused(refusal) => {
+                port.note_failure(rt, target);
+                return Err(refusal);
+            }
         }
     }
     unreachable!()
@@ -109,11 +117,21 @@ fn flush<R: Wait, D: Disk + Drop, P: Policy>(
 {
     let most = port.geometry.node_count();
     for _ in rt.forever() {
-        let mut task = FlushTask::new(served(target.alloc, serves)?, most);
+        let blocks = match served(target.alloc, serves) {
+            Ok(blocks) => blocks,
+            Err(refusal) => {
+                give_up(rt, target, held, serves);
+                return Err(refusal);
+            }
+        };
+        let mut task = FlushTask::new(blocks, most);
         match port.work(rt, target, held, &mut task) {
             Answer::Done => return Ok(()),
             Answer::Refused(Refusal::Busy) => target.await_commit(rt),
-            Answer::Refused(refusal) => return Err(refusal),
+            Answer::Refused(refusal) => {
+                port.note_failure(rt, target);
+                return Err(refusal);
+            }
         }
     }
     unreachable!()
@@ -126,6 +144,13 @@ fn served(alloc: Global, block: Option<OBlock>) -> Result<Vec<OBlock>, Refusal> 
         blocks.push(block).map_err(|_| Refusal::Memory)?;
     }
     Ok(blocks)
+}
+
+/// Gives up the order of a block, which is one of these.
+fn give_up<R: Wait, P: Policy>(rt: &R, target: &Target<P>, held: &[Order], block: Option<OBlock>) {
+    if let Some(block) = block {
+        target.release(rt, held, block);
+    }
 }
 
 /// Carries out an order of blocks that are there.

@@ -34,7 +34,7 @@ impl<P: Policy> Target<P> {
     }
 
     /// Gives up the order of a block, which is one of these.
-    fn release<R: Wait>(&self, rt: &R, held: &[Order], block: OBlock) {
+    pub(crate) fn release<R: Wait>(&self, rt: &R, held: &[Order], block: OBlock) {
         asking::release(&mut self.office.lock(rt).desk, held, block);
     }
 

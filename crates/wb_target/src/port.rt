@@ -89,7 +89,9 @@ impl<D: Disk + Drop> Port<D> {
     }
 
     /// Whether the fail word is set.
-    pub(crate) fn has_failed(&mut self) -> bool {
+    pub(crate) fn has_failed(&mut self) -> bool
+        ensures geometry { self.new.geometry ≡ self.old.geometry }
+    {
         self.cells.look(&mut self.hand.pass, Word::Fail) != 0
     }
 }

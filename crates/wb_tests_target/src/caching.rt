@@ -80,3 +80,26 @@ fn what_was_flushed_is_found_in_the_cache(rt: HostRuntime) -> Result<(), Fail> {
     }
     Ok(())
 }
+
+/// Caches the first four blocks, which is as many as there is room for.
+fn fill_cache(rt: &impl Wait, client: &mut Lent<'_>) -> bool {
+    (0..4).all(|block| {
+        write_and_read(rt, client, 64 * block, 0x10) && worked(rt, client).is_some()
+    })
+}
+
+#[test]
+fn a_block_that_is_wanted_more_replaces_the_least_recent(rt: HostRuntime) -> Result<(), Fail> {
+    let (devices, target) = open(rt.alloc(), formatted(rt.alloc())?)?;
+    let mut client = client_of(&rt, &target, devices)?;
+    assert!(rt; fill_cache(&rt, &mut client));
+    for _ in 0..3 {
+        assert!(rt; write_and_read(&rt, &mut client, 320, 0x55));
+    }
+    let replaced = worked(&rt, &mut client);
+    assert!(rt; replaced == Some(Order::Replace(OBlock(0), OBlock(5), CBlock(0))));
+    assert!(rt; target.counts(&rt).demotions == 1);
+    assert!(rt; shows(&rt, &mut client, 320, 0x55));
+    assert!(rt; shows(&rt, &mut client, 0, 0x10));
+    Ok(())
+}
