@@ -110,14 +110,24 @@ if test $# != 2; then
   done
 fi
 cd "$work" || exit 1
-fresh() {
+blank() { # files of zeros
   rm -f m.img c.img o.img
   truncate -s 2048 m.img
   truncate -s 131072 c.img
   truncate -s 327680 o.img
 }
+fresh() { # the same, formatted
+  blank
+  cp formatted.img m.img
+}
 table='cache m.img c.img o.img 64 0 tinylfu 0'
 sums() { cksum m.img c.img o.img | cut -d' ' -f1 | tr '\n' ' '; }
+blank
+check 'a run over files that are not formatted' "$(echo 'r 0 1' | "$cache" -v run "$table" 2>&1; echo $?) $(sums)" "refused 10 NotFormatted
+wbcache: 10 NotFormatted
+1 $(sums)"
+check 'a formatting' "$("$cache" format "$table")" 'formatted 4 10'
+cp m.img formatted.img
 
 # --- The rows of scripts/cases.
 filled() { # bytes, octal value: so many bytes of this value
@@ -166,7 +176,9 @@ while IFS='|' read -r files printed status reason <&4; do
 done 4<rows.txt
 check 'a refusal writes nothing' "$(tr -d '\245' <2048.img | wc -c)" 0
 printf 'r 639 1\nr 640 1\n' >lines
-said=$("$cache" run '  cache 2559.img  131583.img 328191.img 00064 0   tinylfu 0 ' <lines; echo $?)
+odd='  cache 2559.img  131583.img 328191.img 00064 0   tinylfu 0 '
+check 'files with a part of a sector are formatted' "$("$cache" format "$odd")" 'formatted 4 10'
+said=$("$cache" run "$odd" <lines; echo $?)
 check 'a part of a sector at the end is passed over' "$said" '639 a5
 refused 1 Range
 1'
@@ -176,8 +188,16 @@ fresh
 printf 'w 63 2 5a\n' | "$cache" run "$table" >out.txt
 { filled 32256 000; filled 1024 132; filled 294400 000; } >wanted.img
 check 'a write stays in the origin' "$(cat out.txt) $(cmp o.img wanted.img 2>&1)" 'ok '
-check 'a write changes no other file' "$(tr -d '\0' <m.img | wc -c) $(tr -d '\0' <c.img | wc -c)" '0 0'
+check 'a write of a block that is not cached leaves the cache' "$(tr -d '\0' <c.img | wc -c)" 0
 check 'and is read again' "$(printf 'r 62 4\n' | "$cache" run "$table" | tr '\n' ' ')" '62 00 63 5a 64 5a 65 00 '
+
+# A block that is cached is written there, found again after a flush, and after a run that ended without one.
+fresh
+printf 'w 70 1 11\nr 70 1\nwork\nw 70 1 22\nflush\n' | "$cache" run "$table" >out.txt
+check 'a block is cached' "$(tr '\n' ' ' <out.txt)" 'ok 70 11 promoted 1 to 0 ok ok '
+check 'and written there alone' "$(tr -d '\0' <c.img | tr -d '\042' | wc -c) $(tr -d '\0' <c.img | wc -c) $(tr -d '\0\021' <o.img | wc -c)" '0 512 0'
+check 'and found again' "$(printf 'r 70 1\nw 70 1 33\nr 70 1\n' | "$cache" run "$table" | tr '\n' ' ')" '70 22 ok 70 33 '
+check 'and once more, without a flush' "$(printf 'r 70 1\nwork\n' | "$cache" run "$table" | tr '\n' ' ')" '70 33 idle '
 fresh
 for at in 512 2047 2048; do
   printf '\001' | dd of=o.img bs=1 seek=$at conv=notrunc 2>/dev/null
@@ -208,27 +228,28 @@ done
 fresh
 check 'a refused formatting can be repeated' "$("$cache" format "$table")" 'formatted 4 10'
 
-# Descriptors 0 to 2.
+# Descriptors 0 to 2. An opening writes its root; the other two files are left.
+data() { cksum c.img o.img | cut -d' ' -f1 | tr '\n' ' '; }
 fresh
-before=$(sums)
+before=$(data)
 "$cache" format "$table" >&-
 check 'format without a standard output ends with 4' $? 4
 fresh
 printf 'r 0 1\n' | "$cache" run "$table" >&-
 check 'run without a standard output ends with 4' $? 4
-check 'run without a standard output leaves the files' "$(sums)" "$before"
+check 'run without a standard output leaves the files' "$(data)" "$before"
 "$cache" run "$table" <&- >out.txt
 check 'run without a standard input ends with 4' "$? $(cat out.txt)" '4 '
 printf 'x\n' | "$cache" -v run "$table" 2>&- >out.txt
 check 'run without a standard error answers' "$? $(cat out.txt)" '1 bad line 1'
 printf 'r 0 1\n' | "$cache" run "$table" >&- 2>&-
 check 'run without both outputs ends with 4' $? 4
-check 'the files are left' "$(sums)" "$before"
+check 'the files are left' "$(data)" "$before"
 "$bench" o.img read 8 16 >&- 2>/dev/null
 check 'wb_bench without a standard output ends with 4' $? 4
-check 'wb_bench without a standard output leaves its file' "$(sums)" "$before"
+check 'wb_bench without a standard output leaves its file' "$(data)" "$before"
 "$bench" o.img read 8 16 <&- >&- 2>&-
-check 'wb_bench without any ends with 4' "$? $(sums)" "4 $before"
+check 'wb_bench without any ends with 4' "$? $(data)" "4 $before"
 
 # A file that another program holds.
 fresh

@@ -25,37 +25,30 @@ mod asked;
 mod desks;
 mod edits;
 mod mapping;
+mod requests;
 mod settles;
 mod shares;
 mod traces;
 mod turnover;
-mod unnoted;
 
 use crate::accesses::{add_all, time_reset};
 use crate::asked::{Asked, Direction, Requests, read_asked};
 use crate::desks::{Accessed, Spent, access_all};
 use crate::edits::edit_all;
 use crate::mapping::{read_mapping, write_mapping};
+use crate::requests::{drive_all, port_over};
 use crate::settles::{settle_all, tick_all};
 use crate::shares::share_all;
 use crate::traces::read_trace;
 use crate::turnover::turn_over;
-use crate::unnoted::Unnoted;
 use std::env;
 use std::process::ExitCode;
 use wb_disk::{Disk, FileDisk};
 use wb_streams::hold_streams;
-use wb_target::Owner;
-use wb_types::{Extent, OBlock, Refusal, SECTOR_BYTES};
-
-/// A block has a multiple of so many sectors.
-const BLOCK_UNIT: u64 = 64;
+use wb_types::Refusal;
 
 /// The exit status where the standard streams cannot be held, or the output failed.
 const STREAM_FAILED: u8 = 4;
-
-/// The most blocks that a run goes over.
-const MOST_BLOCKS: u64 = 1_048_576;
 
 /// What it can be asked.
 const USAGE: &str = "usage: wb_bench FILE read|write SECTORS REQUESTS
@@ -163,17 +156,11 @@ fn tell(rt: &HostRuntime, nodes: Result<u64, Refusal>) -> ExitCode {
 
 /// Drives requests over their file, and prints how many were done.
 fn serve(rt: &HostRuntime, requests: &Requests<'_>) -> ExitCode {
-    let Ok(disk) = FileDisk::open(rt, requests.file) else {
-        return failed(rt, "the file cannot be opened");
+    let mut port = match port_over(rt, requests) {
+        Ok(port) => port,
+        Err(why) => return failed(rt, why),
     };
-    let blocks = (disk.sectors() / block_size(requests.sectors)).min(MOST_BLOCKS);
-    if blocks == 0 {
-        return failed(rt, "the file has no whole block");
-    }
-    let Ok(mut owner) = Owner::new(rt.alloc(), blocks as u32, disk, Unnoted) else {
-        return failed(rt, "out of memory");
-    };
-    match drive_all(requests, blocks, &mut owner) {
+    match drive_all(rt.alloc(), requests, &mut port) {
         Some(done) => print(rt, done),
         None => failed(rt, "a request failed"),
     }
@@ -187,41 +174,6 @@ fn print(rt: &HostRuntime, number: u64) -> ExitCode {
             ExitCode::from(STREAM_FAILED)
         }
     }
-}
-
-/// Sectors of the least block that holds a request of so many.
-fn block_size(sectors: u64) -> u64
-    requires { sectors ≤ 2048 }
-    ensures holds { sectors ≤ result }
-    ensures some { 64 ≤ result }
-    ensures few { result ≤ 2048 }
-{
-    sectors.max(1).div_ceil(BLOCK_UNIT) * BLOCK_UNIT
-}
-
-/// Drives all requests; None where one is not answered done.
-fn drive_all(asked: &Requests<'_>, blocks: u64, owner: &mut Owner<FileDisk, Unnoted>) -> Option<u64>
-    requires some { 0 < blocks }
-    requires blocks { blocks ≡ owner.old.stage.origin_blocks }
-    requires few { blocks ≤ 1048576 }
-    requires few_sectors { asked.now.sectors ≤ 2048 }
-{
-    let size = block_size(asked.sectors);
-    owner.fill(&[0x5a; SECTOR_BYTES], asked.sectors);
-    for number in 0..asked.requests {
-        let block = number % blocks;
-        let sectors = Extent {
-            first: block * size,
-            count: asked.sectors,
-        };
-        let block = OBlock(block as u32);
-        let answer = match asked.direction {
-            Direction::Read => owner.read(size as u32, block, sectors),
-            Direction::Write => owner.write(size as u32, block, sectors),
-        };
-        answer.ok()?;
-    }
-    Some(asked.requests)
 }
 
 fn usage(rt: &HostRuntime) -> ExitCode {

@@ -1,13 +1,4 @@
-pub mod Requests
-pub mod Filling
-pub mod Faulting
-pub mod Paths
-pub mod Routes
-pub mod Passing
-pub mod Moved
-pub mod Served
 pub mod Readying
-pub mod Serves
 pub mod Tasks
 pub mod Carried
 pub mod Knowing

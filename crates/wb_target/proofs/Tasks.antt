@@ -12,8 +12,9 @@ use Rattle.wb_tasks.specs.declared.step.Got.{Got}
 use Rattle.wb_stage.specs.Jobs.{MayRun}
 use Rattle.wb_target.specs.Works.{WorkState, WorkStep, WorkLed, WasPerformed, IsReadyToWork}
 use Rattle.wb_target.specs.declared.working.WorkStage.{WorkStage}
-use Rattle.wb_target.proofs.Passing.{made_by_pass, same_table}
-use Rattle.wb_target.proofs.Readying.{kept_by, work_ready, work_idle}
+use Rattle.wb_port.proofs.Passing.{made_by_pass, same_table}
+use Rattle.wb_port.proofs.Readying.{kept_by}
+use Rattle.wb_target.proofs.Readying.{work_ready, work_idle}
 
 abbrev working_at : {R D P : Type 0} → WorkStage R D P → WorkState D
 working_at x = record { hand = x.hand.now; buffer = x.buffer.now; commit = x.commit.now }

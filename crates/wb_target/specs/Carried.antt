@@ -12,8 +12,8 @@ use Rattle.wb_tasks.specs.Plan.{table}
 use Rattle.wb_tasks.specs.declared.step.Migration.{Migration}
 use Rattle.wb_tasks.specs.declared.step.Migration.TheVariants.{Promote as Promoting, Demote as Demoting, Clean as Cleaning}
 use Rattle.wb_tasks.specs.declared.step.Answer.TheVariants.{Done as Finished}
-use Rattle.wb_target.specs.declared.stage.TheConstants.{LONGEST}
-use Rattle.wb_target.specs.declared.port.Port.{Port}
+use Rattle.wb_port.specs.declared.moving.TheConstants.{LONGEST}
+use Rattle.wb_port.specs.declared.port.Port.{Port}
 use Rattle.wb_target.specs.Works.{WorkState, WasPerformed}
 
 -- what a client is at

@@ -16,8 +16,8 @@ use Rattle.wb_devices.specs.Stepping.{CommitGoes, DidStep, BufferStays}
 use Rattle.wb_devices.specs.declared.devices.Devices.{Devices}
 use Rattle.wb_devices.specs.declared.running.RunningCommit.{RunningCommit}
 use Rattle.wb_stage.specs.Stages.{IsServed, is_all_done}
-use Rattle.wb_target.specs.Hands.{DoneByPass, IsReadyOn}
-use Rattle.wb_target.specs.declared.hand.Hand.{Hand}
+use Rattle.wb_port.specs.Hands.{DoneByPass, IsReadyOn}
+use Rattle.wb_port.specs.declared.hand.Hand.{Hand}
 use Rattle.wb_target.specs.declared.working.WorkStage.{WorkStage}
 
 -- the commit is let go where all of it was done

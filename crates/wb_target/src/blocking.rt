@@ -1,6 +1,7 @@
 //! Requests that wait, over any number of blocks.
 
 ghost use Rattle.std.specs.Prelude.{◌≡◌, ◌≤◌, ◌<◌, ◌+◌, ◌*◌, OnOk, IfErr, length};
+ghost use Rattle.wb_port.specs.Requests.{IsOutside};
 
 use crate::client::Client;
 use std::sync::Wait;
@@ -21,6 +22,7 @@ impl<'t, D: Disk + Drop, P: Policy> Client<'t, D, P> {
     ///
     /// `Range` for no sector, or one outside the origin, before any block; `Failed`, `Io` and `Memory` where a block met them.
     pub fn read<R: Wait>(&mut self, rt: &R, at: Sector, out: &mut [Content]) -> Result<(), Stopped>
+        ensures range { IfErr result (λ stopped. stopped.refusal ≡ Refusal.Range → IsOutside self.old.port.geometry at.0 (length out.old)) }
         ensures inside { OnOk result ((0 < length out.old) × (at.0 + length out.old ≤ self.old.port.geometry.block * self.old.port.geometry.origin_blocks)) }
         ensures target { self.new.target ≡ self.old.target }
         ensures many { length out.new ≡ length out.old }
@@ -47,6 +49,7 @@ impl<'t, D: Disk + Drop, P: Policy> Client<'t, D, P> {
     ///
     /// `Range` as `read`; `Failed`, `Worn` and `Io` where a block met them.
     pub fn write<R: Wait>(&mut self, rt: &R, at: Sector, from: &[Content]) -> Result<(), Stopped>
+        ensures range { IfErr result (λ stopped. stopped.refusal ≡ Refusal.Range → IsOutside self.old.port.geometry at.0 (length from.now)) }
         ensures inside { OnOk result ((0 < length from.now) × (at.0 + length from.now ≤ self.old.port.geometry.block * self.old.port.geometry.origin_blocks)) }
         ensures target { self.new.target ≡ self.old.target }
     {
@@ -71,7 +74,7 @@ impl<'t, D: Disk + Drop, P: Policy> Client<'t, D, P> {
     /// Whether so many sectors, and at least one, lie in the origin.
     fn in_range(&self, at: Sector, count: u64) -> Result<(), Stopped>
         ensures inside { OnOk result ((0 < count) × (at.0 + count ≤ self.now.port.geometry.block * self.now.port.geometry.origin_blocks)) }
-        ensures refused { IfErr result (λ stopped. (stopped.done ≡ 0) × (stopped.refusal ≡ Refusal.Range)) }
+        ensures refused { IfErr result (λ stopped. (stopped.done ≡ 0) × (stopped.refusal ≡ Refusal.Range) × IsOutside self.now.port.geometry at.0 count) }
     {
         let Sector(first) = at;
         let all = self.port.geometry.origin_sectors();
@@ -91,6 +94,7 @@ impl<'t, D: Disk + Drop, P: Policy> Client<'t, D, P> {
         at: Sector,
         out: &mut [Content],
     ) -> Result<(), Refusal>
+        ensures range { IfErr result (λ refusal. refusal ≡ Refusal.Range → IsOutside self.old.port.geometry at.0 (length out.old)) }
         ensures target { self.new.target ≡ self.old.target }
         ensures geometry { self.new.port.geometry ≡ self.old.port.geometry }
         ensures many { length out.new ≡ length out.old }
@@ -109,6 +113,7 @@ impl<'t, D: Disk + Drop, P: Policy> Client<'t, D, P> {
 
     /// Writes sectors of one block, as `read_block` reads them.
     fn write_block<R: Wait>(&mut self, rt: &R, at: Sector, from: &[Content]) -> Result<(), Refusal>
+        ensures range { IfErr result (λ refusal. refusal ≡ Refusal.Range → IsOutside self.old.port.geometry at.0 (length from.now)) }
         ensures target { self.new.target ≡ self.old.target }
         ensures geometry { self.new.port.geometry ≡ self.old.port.geometry }
     {

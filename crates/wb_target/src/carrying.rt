@@ -11,8 +11,6 @@ ghost use Rattle.wb_target.specs.Carried.{state_of, HasDone, migration_of, IsThe
 
 use crate::client::Client;
 use crate::orders::perform_task;
-use crate::port::Port;
-use crate::stage::LONGEST;
 use crate::target::Target;
 use std::alloc::Global;
 use std::sync::Wait;
@@ -20,6 +18,7 @@ use std::thread;
 use wb_disk::Disk;
 use wb_flow::FlushTask;
 use wb_policy::{Order, Policy};
+use wb_port::{LONGEST, Port};
 use wb_tasks::{Answer, Migration, MigrationTask, Task};
 use wb_types::{Geometry, OBlock, Refusal, SECTOR_BYTES};
 
@@ -30,49 +29,47 @@ pub enum Flushed {
     Led,
 }
 
-impl<D: Disk + Drop> Port<D> {
-    /// Performs a task, under these orders: a run of its table.
-    fn work<R: Wait, P: Policy, T: Task>(
-        &mut self,
-        rt: &R,
-        target: &Target<P>,
-        held: &[Order],
-        task: &mut T,
-    ) -> Answer
-        requires begun { (job : TaskJob) × (T.plan task.old ≡ table job) × MayRun self.old.geometry.origin_blocks job }
-        ensures performed { WasPerformed D.tells D.size D.contents D.faults self.old.geometry.origin_blocks (T.plan task.old) (state_of self.old) result (state_of self.new) }
-        ensures geometry { self.new.geometry ≡ self.old.geometry }
-    {
-        perform_task(
-            rt,
-            target,
-            &self.cells,
-            &mut self.hand,
-            self.buffer.as_mut_slice(),
-            held,
-            &mut self.commit,
-            task,
-        )
-    }
+/// Performs a task, under these orders: a run of its table.
+fn work<R: Wait, D: Disk + Drop, P: Policy, T: Task>(
+    rt: &R,
+    target: &Target<P>,
+    port: &mut Port<D>,
+    held: &[Order],
+    task: &mut T,
+) -> Answer
+    requires begun { (job : TaskJob) × (T.plan task.old ≡ table job) × MayRun port.old.geometry.origin_blocks job }
+    ensures performed { WasPerformed D.tells D.size D.contents D.faults port.old.geometry.origin_blocks (T.plan task.old) (state_of port.old) result (state_of port.new) }
+    ensures geometry { port.new.geometry ≡ port.old.geometry }
+{
+    perform_task(
+        rt,
+        target,
+        &port.cells,
+        &mut port.hand,
+        port.buffer.as_mut_slice(),
+        held,
+        &mut port.commit,
+        task,
+    )
+}
 
-    /// Where the target has failed, whoever waits for its commit is told.
-    fn note_failure<R: Wait, P: Policy>(&mut self, rt: &R, target: &Target<P>)
-        ensures geometry { self.new.geometry ≡ self.old.geometry }
-    {
-        if self.has_failed() {
-            target.note_failure(rt);
-        }
+/// Where the target has failed, whoever waits for its commit is told.
+fn note_failure<R: Wait, D: Disk + Drop, P: Policy>(rt: &R, target: &Target<P>, port: &mut Port<D>)
+    ensures geometry { port.new.geometry ≡ port.old.geometry }
+{
+    if port.has_failed() {
+        target.note_failure(rt);
     }
+}
 
-    /// A buffer for the steps of migrations, if it has none; `Memory` where there is none for it.
-    fn take_buffer(&mut self, alloc: Global) -> Result<(), Refusal>
-        ensures geometry { self.new.geometry ≡ self.old.geometry }
-    {
-        if self.buffer.is_empty() {
-            self.buffer = vec![in alloc; [0; SECTOR_BYTES]; LONGEST as usize]?;
-        }
-        Ok(())
+/// A buffer for the steps of migrations, if it has none; `Memory` where there is none for it.
+fn take_buffer<D>(alloc: Global, port: &mut Port<D>) -> Result<(), Refusal>
+    ensures geometry { port.new.geometry ≡ port.old.geometry }
+{
+    if port.buffer.is_empty() {
+        port.buffer = vec![in alloc; [0; SECTOR_BYTES]; LONGEST as usize]?;
     }
+    Ok(())
 }
 
 /// Migrates a block under its order, again while it is busy.
@@ -91,11 +88,11 @@ fn migrate<R: Wait, D: Disk + Drop, P: Policy>(
     let held = [order];
     for _ in rt.forever() {
         let mut task = MigrationTask::new(migration, port.geometry.block, block, LONGEST);
-        match port.work(rt, target, &held, &mut task) {
+        match work(rt, target, port, &held, &mut task) {
             Answer::Done => return Ok(()),
             Answer::Refused(Refusal::Busy) => thread::yield_now(),
             Answer::Refused(refusal) => {
-                port.note_failure(rt, target);
+                note_failure(rt, target, port);
                 return Err(refusal);
             }
         }
@@ -125,11 +122,11 @@ fn flush<R: Wait, D: Disk + Drop, P: Policy>(
             }
         };
         let mut task = FlushTask::new(blocks, most);
-        match port.work(rt, target, held, &mut task) {
+        match work(rt, target, port, held, &mut task) {
             Answer::Done => return Ok(()),
             Answer::Refused(Refusal::Busy) => target.await_commit(rt),
             Answer::Refused(refusal) => {
-                port.note_failure(rt, target);
+                note_failure(rt, target, port);
                 return Err(refusal);
             }
         }
@@ -205,7 +202,7 @@ impl<'t, D: Disk + Drop, P: Policy> Client<'t, D, P> {
             return Err(Refusal::Failed);
         }
         let target = self.target;
-        self.port.take_buffer(target.alloc)?;
+        take_buffer(target.alloc, &mut self.port)?;
         let Some(order) = target.take_order(rt) else {
             return Ok(None);
         };

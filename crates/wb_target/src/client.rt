@@ -2,11 +2,11 @@
 
 ghost use Rattle.std.specs.Prelude.{◌≡◌, []};
 
-use crate::port::Port;
 use crate::target::Target;
 use std::sync::Wait;
 use wb_disk::Disk;
 use wb_policy::Policy;
+use wb_port::Port;
 
 /// A client: what it reads and writes by, and the target that it is of.
 #[derive(Drop)]

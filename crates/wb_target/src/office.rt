@@ -1,8 +1,8 @@
 //! What lies under a target's lock.
 
-use crate::seat::Seat;
 use wb_desk::Desk;
 use wb_policy::Policy;
+use wb_port::Seat;
 
 /// The desk, and the seats that no client has.
 #[derive(Drop)]

@@ -6,10 +6,9 @@ ghost use Rattle.wb_tree.specs.Mapping.{IsMapping};
 ghost use Rattle.wb_meta.specs.Reads.{FitsDevice};
 
 use crate::office::Office;
-use crate::seat::Seat;
 use crate::target::{CLIENTS, Target};
 use std::alloc::Global;
-use std::sync::{Arc, Condvar, Mutex};
+use std::sync::{Condvar, Mutex};
 use wb_cells::{Cells, Pass};
 use wb_desk::Desk;
 use wb_devices::{Devices, Opening, OpeningStage};
@@ -17,6 +16,7 @@ use wb_disk::Disk;
 use wb_flow::OpenTask;
 use wb_meta::{ReadSteps, State};
 use wb_policy::Policy;
+use wb_port::Seat;
 use wb_tasks::Answer;
 use wb_tree::Tree;
 use wb_types::{CBlock, Entry, Geometry, Key, Mode, Refusal};
@@ -90,18 +90,10 @@ fn over<P: Policy>(
     let geometry = state.root.geometry;
     let entries = entries_of(alloc, &state.tree, &geometry)?;
     let policy = P::new(alloc, &geometry, entries.as_slice())?;
-    let (cells, mut pass) = Cells::new(alloc, geometry.origin_blocks)?;
-    seal_all(&cells, &mut pass, &geometry, entries.as_slice(), clean)?;
+    let mut seat = Seat::new(alloc, geometry)?;
+    seal_all(&seat.cells, &mut seat.pass, &geometry, entries.as_slice(), clean)?;
     let desk = Desk::new(alloc, state, mode, policy, keys)?;
-    let cells = Arc::new(alloc, cells).map_err(|_| Refusal::Memory)?;
-    let seats = seats_of(
-        alloc,
-        Seat {
-            geometry,
-            cells,
-            pass,
-        },
-    )?;
+    let seats = seats_of(alloc, seat)?;
     Ok(Target {
         alloc,
         geometry,

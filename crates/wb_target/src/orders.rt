@@ -7,7 +7,6 @@ ghost use Rattle.wb_tasks.specs.Plan.{table};
 ghost use Rattle.wb_stage.specs.Jobs.{MayRun};
 ghost use Rattle.wb_target.specs.Works.{WasPerformed};
 
-use crate::hand::Hand;
 use crate::target::Target;
 use crate::working::WorkStage;
 use std::sync::Wait;
@@ -15,6 +14,7 @@ use wb_cells::Cells;
 use wb_devices::RunningCommit;
 use wb_disk::Disk;
 use wb_policy::{Order, Policy};
+use wb_port::Hand;
 use wb_tasks::{Answer, Task, drive};
 use wb_types::Content;
 

@@ -2,13 +2,13 @@
 
 use crate::client::Client;
 use crate::office::Office;
-use crate::port::Port;
 use std::alloc::Global;
 use std::sync::{Condvar, Mutex, Wait};
 use wb_desk::Counts;
 use wb_devices::Devices;
 use wb_disk::Disk;
 use wb_policy::{Order, Policy};
+use wb_port::Port;
 use wb_types::{Geometry, OBlock, Refusal};
 
 /// How many clients a target has at most.

@@ -1,12 +1,12 @@
 //! Where a client performs migrations and flushes: on the shared words by its pass, on its devices, and on the desk, for each
 //! step of which it takes the lock.
 
-use crate::hand::Hand;
 use crate::target::Target;
 use std::sync::Wait;
 use wb_cells::Cells;
 use wb_devices::RunningCommit;
 use wb_policy::{Order, Policy};
+use wb_port::Hand;
 use wb_types::Content;
 
 /// The stage of a migration or a flush.

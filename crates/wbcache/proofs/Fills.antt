@@ -1,10 +1,8 @@
--- A content whose bytes are each the one before, and what is shown of contents one after the other.
+-- A content whose bytes are each the one before.
 use Rattle.std.proofs.Common.{◌≡◌, ◌≢◌, ◌<◌, ◌+◌, ◌-◌, ℕ, zero, suc, List, [], ◌∷◌, ◌++◌, Some, length, take, drop, get_or, refl, sym, ap, subst, ◌∙◌, arith, slice_get, slice_set}
 use Rattle.std.specs.Prelude.{All}
 use Rattle.std.proofs.lemmas.List.{take_all}
 use Rattle.std.proofs.lemmas.List.Elements.{All-nil, All-cons}
-use Rattle.wbcache.specs.declared.fill.Fill.{Fill}
-use Rattle.wbcache.specs.Fill.{Shows, ShowEach, set_each}
 
 -- all bytes are the first
 pub all_first : (x : ℕ) (xs : List ℕ) → xs ≡ take (length xs) (x ∷ xs) → All (λ b. b ≡ x) (x ∷ xs)
@@ -40,23 +38,3 @@ mixed (x ∷ xs) part b l i n a =
     let many : length xs ≡ 511 = omega (arith, l) in
     let whole : part ≡ xs = i ∙ ap (λ n. take n xs) (sym many) ∙ take_all (length xs) xs (omega arith) in
     n (whole ∙ first_all b x xs a ∙ ap (λ n. take n (x ∷ xs)) many)
-
--- one content more
-pub show_more : (fills : List Fill) (contents : List (List ℕ)) (k : ℕ) (fill : Fill) (content : List ℕ) → slice_get contents k ≡ Some content → ShowEach fills (take k contents) → Shows fill content → ShowEach (fills ++ fill ∷ []) (take (suc k) contents)
-show_more fills [] k fill content e s f = absurd (cc)
-show_more [] (c ∷ cs) zero fill content e s f = let same : content ≡ c = cc in (subst (λ (v : List ℕ). Shows fill v) same f, tt)
-show_more (g ∷ gs) (c ∷ cs) zero fill content e s f = absurd s
-show_more [] (c ∷ cs) (suc k) fill content e s f = absurd s
-show_more (g ∷ gs) (c ∷ cs) (suc k) fill content e s f = (s.0, show_more gs cs k fill content e s.1 f)
-
-pub show_length : (fills : List Fill) (contents : List (List ℕ)) (k : ℕ) → k < length contents → ShowEach fills (take k contents) → length fills ≡ k
-show_length fills [] k l s = absurd (omega (arith, l))
-show_length [] (c ∷ cs) zero l s = refl
-show_length (g ∷ gs) (c ∷ cs) zero l s = absurd s
-show_length [] (c ∷ cs) (suc k) l s = absurd s
-show_length (g ∷ gs) (c ∷ cs) (suc k) l s = ap (λ n. suc n) (show_length gs cs k (omega (arith, l)) s.1)
-
-pub set_more : (places : List Fill) (at : ℕ) (fills : List Fill) (fill : Fill) → set_each places at (fills ++ fill ∷ []) ≡ slice_set (set_each places at fills) (at + length fills) fill
-set_more places at [] fill = let same : at ≡ at + 0 = omega arith in ap (λ k. slice_set places k fill) same
-set_more places at (g ∷ gs) fill = let same : suc at + length gs ≡ at + suc (length gs) = omega arith in
-    set_more (slice_set places at g) (suc at) gs fill ∙ ap (λ k. slice_set (set_each (slice_set places at g) (suc at) gs) k fill) same

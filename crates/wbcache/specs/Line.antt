@@ -3,7 +3,7 @@ use Rattle.std.specs.Str.{IsUtf8}
 use Rattle.wbcache.specs.Words.{words_of}
 use Rattle.wbcache.specs.Numbers.{SpellsNumber, SpellsByte}
 use Rattle.wbcache.specs.declared.line.Line.{Line}
-use Rattle.wbcache.specs.declared.line.Line.TheVariants.{Nothing, Read, Write}
+use Rattle.wbcache.specs.declared.line.Line.TheVariants.{Nothing, Read, Write, TryRead, TryWrite, Flush, Settle, Work}
 
 -- the first byte other than a space
 abbrev pub first_byte_of : List ℕ → Option ℕ
@@ -13,11 +13,26 @@ first_byte_of line = find (λ byte. not (byte == 32)) line
 abbrev pub IsComment : List ℕ → Type 0
 IsComment line = first_byte_of line ≡ Some 35
 
--- The words of a line that asks this: none, `r S N`, or `w S N hh`.
+-- words that spell a sector and a number of sectors: `S N`
+abbrev pub SpellsSectors : List (List ℕ) → ℕ → ℕ → Type 0
+SpellsSectors (sector ∷ number ∷ []) at count = SpellsNumber sector at × SpellsNumber number count
+SpellsSectors words at count = ⊥
+
+-- and a byte to fill them with: `S N hh`
+abbrev pub SpellsFill : List (List ℕ) → ℕ → ℕ → ℕ → Type 0
+SpellsFill (sector ∷ number ∷ digits ∷ []) at count fill = SpellsNumber sector at × SpellsNumber number count × SpellsByte digits fill
+SpellsFill words at count fill = ⊥
+
+-- The words of a line that asks this: none, one that names the call, or `r`, `tr`, `w`, `tw` and what they take.
 abbrev pub Asks : List (List ℕ) → Line → Type 0
 Asks [] Nothing = Unit {0}
-Asks (name ∷ sector ∷ number ∷ []) (Read at count) = (name ≡ codes "r") × SpellsNumber sector at.0 × SpellsNumber number count
-Asks (name ∷ sector ∷ number ∷ digits ∷ []) (Write at count fill) = (name ≡ codes "w") × SpellsNumber sector at.0 × SpellsNumber number count × SpellsByte digits fill
+Asks (name ∷ words) (Read at count) = (name ≡ codes "r") × SpellsSectors words at.0 count
+Asks (name ∷ words) (TryRead at count) = (name ≡ codes "tr") × SpellsSectors words at.0 count
+Asks (name ∷ words) (Write at count fill) = (name ≡ codes "w") × SpellsFill words at.0 count fill
+Asks (name ∷ words) (TryWrite at count fill) = (name ≡ codes "tw") × SpellsFill words at.0 count fill
+Asks (name ∷ words) Flush = (name ≡ codes "flush") × (words ≡ [])
+Asks (name ∷ words) Settle = (name ≡ codes "settle") × (words ≡ [])
+Asks (name ∷ words) Work = (name ≡ codes "work") × (words ≡ [])
 Asks words line = ⊥
 
 -- A line is a comment, or a text whose words ask this.

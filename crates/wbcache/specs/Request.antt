@@ -1,14 +1,24 @@
 use Rattle.std.specs.Prelude.{◌<◌, ◌≤◌, ◌+◌, ℕ}
 use Rattle.wbcache.specs.declared.line.Line.{Line}
-use Rattle.wbcache.specs.declared.line.Line.TheVariants.{Nothing, Read, Write}
+use Rattle.wbcache.specs.declared.line.Line.TheVariants.{Read, Write, TryRead, TryWrite}
 
 -- A request over so many sectors from the first on has at least one, and all of them lie on an origin of this size.
 pub record IsInside (first count sectors : ℕ) : Type 0 where
   pub some : 0 < count
   pub within : first + count ≤ sectors
 
+-- a line that asks for sectors
+abbrev pub IsRequest : Line → Type 0
+IsRequest (Read at count) = Unit {0}
+IsRequest (TryRead at count) = Unit {0}
+IsRequest (Write at count fill) = Unit {0}
+IsRequest (TryWrite at count fill) = Unit {0}
+IsRequest line = ⊥
+
 -- What a line asks lies on an origin of this size.
 abbrev pub AsksInside : Line → ℕ → Type 0
-AsksInside Nothing sectors = Unit {0}
 AsksInside (Read at count) sectors = IsInside at.0 count sectors
+AsksInside (TryRead at count) sectors = IsInside at.0 count sectors
 AsksInside (Write at count fill) sectors = IsInside at.0 count sectors
+AsksInside (TryWrite at count fill) sectors = IsInside at.0 count sectors
+AsksInside line sectors = Unit {0}

@@ -17,10 +17,14 @@ blocks, 32 a node: 4 sectors serve 32 cache blocks.
 A script, one answer a line, is read from standard input:
   w S N hh    fill N sectors from S on with the byte hh: prints 'ok'
   r S N       read them: prints '<sector> <hh>' or '<sector> mixed' for each
+  tw, tr      the same over sectors of one block, without waiting
+  work        carry out an order of the policy, if any: prints which, or 'idle'
+  settle      tell the policy of the accesses so far: prints 'ok'
+  flush       make all that was written durable: prints 'ok'
   # ..        nothing; empty lines too
 What is refused prints 'refused <number> <Name>'. What was written is durable
-only after a flush, which comes with the cache. Status: 0 all was answered, 1
-something was refused, 2 the arguments, 3 a device failed, 4 a stream failed.
+only after a flush. Status: 0 all was answered, 1 something was refused, 2 the
+arguments, 3 a device failed, 4 a stream failed.
 
 Example:
   truncate -s 2048 m; truncate -s 131072 c; truncate -s 327680 o

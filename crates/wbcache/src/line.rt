@@ -1,7 +1,7 @@
 //! The lines of a script.
 
-ghost use Rattle.std.specs.Prelude.{◌≡◌, ◌↔◌, ◌∷◌, IsTrue, IfSome, IfNone, codes};
-ghost use Rattle.wbcache.specs.Line.{first_byte_of, IsComment, Asks, IsLine};
+ghost use Rattle.std.specs.Prelude.{◌≡◌, ◌≢◌, ◌↔◌, ◌∷◌, ℕ, IsTrue, IfSome, IfNone, codes};
+ghost use Rattle.wbcache.specs.Line.{first_byte_of, IsComment, SpellsSectors, SpellsFill, Asks, IsLine};
 ghost use Rattle.wbcache.specs.Words.{words_of};
 ghost use Rattle.wbcache.specs.declared.line.Line.{Line as Asked};
 
@@ -19,6 +19,16 @@ pub enum Line {
     Read { at: Sector, count: u64 },
     /// `w S N hh`: fills so many sectors, from a sector on, with a byte.
     Write { at: Sector, count: u64, fill: u8 },
+    /// `tr S N`: reads sectors of one block, without waiting.
+    TryRead { at: Sector, count: u64 },
+    /// `tw S N hh`: fills sectors of one block with a byte, without waiting.
+    TryWrite { at: Sector, count: u64, fill: u8 },
+    /// `flush`: makes durable what was finished.
+    Flush,
+    /// `settle`: settles the client's accesses.
+    Settle,
+    /// `work`: carries out the order that waits longest.
+    Work,
 }
 
 /// Reads a line, without its line break. None is a line that asks nothing that a script can ask.
@@ -52,31 +62,61 @@ fn read_words(mut words: SplitSpaces<'_>) -> Option<Line>
 {
     match words.next() {
         None => Some(Line::Nothing),
-        Some("r") => read_read(words),
-        Some("w") => read_write(words),
-        Some(_) => None,
+        Some("r") => {
+            let (at, count) = read_sectors(words)?;
+            Some(Line::Read { at, count })
+        }
+        Some("tr") => {
+            let (at, count) = read_sectors(words)?;
+            Some(Line::TryRead { at, count })
+        }
+        Some("w") => {
+            let (at, count, fill) = read_fill(words)?;
+            Some(Line::Write { at, count, fill })
+        }
+        Some("tw") => {
+            let (at, count, fill) = read_fill(words)?;
+            Some(Line::TryWrite { at, count, fill })
+        }
+        Some(word) => read_word(word, words),
     }
 }
 
-/// Reads what follows `r`.
-fn read_read(mut words: SplitSpaces<'_>) -> Option<Line>
-    ensures found { IfSome result (Asks (codes "r" ∷ words_of words.entry.0.now)) }
-    ensures none { IfNone result ((asked : Asked) → ¬ Asks (codes "r" ∷ words_of words.entry.0.now) asked) }
+/// Reads a line of one word.
+fn read_word(word: &str, mut words: SplitSpaces<'_>) -> Option<Line>
+    requires reads { (word.now ≢ codes "r") × (word.now ≢ codes "tr") }
+    requires writes { (word.now ≢ codes "w") × (word.now ≢ codes "tw") }
+    ensures found { IfSome result (Asks (word.now ∷ words_of words.entry.0.now)) }
+    ensures none { IfNone result ((asked : Asked) → ¬ Asks (word.now ∷ words_of words.entry.0.now) asked) }
+{
+    words.expect_end()?;
+    match word {
+        "flush" => Some(Line::Flush),
+        "settle" => Some(Line::Settle),
+        "work" => Some(Line::Work),
+        _ => None,
+    }
+}
+
+/// Reads a sector and a number of sectors, and nothing behind them.
+fn read_sectors(mut words: SplitSpaces<'_>) -> Option<(Sector, u64)>
+    ensures found { IfSome result (λ read. SpellsSectors (words_of words.entry.0.now) read.0.0 read.1) }
+    ensures none { IfNone result ((at count : ℕ) → ¬ SpellsSectors (words_of words.entry.0.now) at count) }
 {
     let at = Sector(read_number(words.next()?)?);
     let count = read_number(words.next()?)?;
     words.expect_end()?;
-    Some(Line::Read { at, count })
+    Some((at, count))
 }
 
-/// Reads what follows `w`.
-fn read_write(mut words: SplitSpaces<'_>) -> Option<Line>
-    ensures found { IfSome result (Asks (codes "w" ∷ words_of words.entry.0.now)) }
-    ensures none { IfNone result ((asked : Asked) → ¬ Asks (codes "w" ∷ words_of words.entry.0.now) asked) }
+/// Reads a sector, a number of sectors and a byte, and nothing behind them.
+fn read_fill(mut words: SplitSpaces<'_>) -> Option<(Sector, u64, u8)>
+    ensures found { IfSome result (λ read. SpellsFill (words_of words.entry.0.now) read.0.0 read.1 read.2) }
+    ensures none { IfNone result ((at count fill : ℕ) → ¬ SpellsFill (words_of words.entry.0.now) at count fill) }
 {
     let at = Sector(read_number(words.next()?)?);
     let count = read_number(words.next()?)?;
     let fill = read_byte(words.next()?)?;
     words.expect_end()?;
-    Some(Line::Write { at, count, fill })
+    Some((at, count, fill))
 }

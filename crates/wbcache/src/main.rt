@@ -1,13 +1,12 @@
 //! A write-back block cache over three files: it formats them, and serves a script.
 #![tactic(auto)]
 
+mod answers;
 mod arguments;
 mod devices;
 mod ended;
-mod engine;
 mod fill;
 mod format;
-mod found;
 mod help;
 mod line;
 mod number;
@@ -21,10 +20,10 @@ mod table;
 mod tally;
 mod words;
 
-use crate::arguments::{Asked, read_arguments};
-use crate::ended::Ended;
 use clap::Error;
 use clap::error::ErrorKind;
+use crate::arguments::{Asked, read_arguments};
+use crate::ended::Ended;
 use std::io::{BufReader, IsTerminal};
 use std::process::ExitCode;
 use std::{env, io};

@@ -1,8 +1,8 @@
 //! Scripts: a line in, its answer out.
 
+use crate::answers::answer;
 use crate::devices::{Disks, open_table};
 use crate::ended::Ended;
-use crate::engine::Engine;
 use crate::line::{Line, read_line};
 use crate::output::{StreamFailed, print, print_bad_line, print_refusal, refuse};
 use crate::reason::Reason;
@@ -12,8 +12,12 @@ use std::alloc::Global;
 use std::fs::File;
 use std::io::{BufRead, ErrorKind, Read, Write};
 use std::rt::Files;
-use wb_disk::Disk;
-use wb_types::Refusal;
+use std::sync::Wait;
+use wb_devices::Devices;
+use wb_disk::{Disk, FileDisk};
+use wb_policy::{Policy, TinyLfu};
+use wb_target::{Client, Target};
+use wb_types::{Geometry, Mode, Refusal};
 
 /// Room for an answer of one line, made before the first line is read.
 const ONE_LINE: usize = 64;
@@ -21,13 +25,13 @@ const ONE_LINE: usize = 64;
 /// So many bytes without a line break are no line of a script: 1 MiB.
 const MOST_OF_A_LINE: u64 = 1_048_576;
 
-/// Runs a script over the files of a table, and gives the exit status with the reason of what was refused. Each
-/// line's answer is out, in one write, before the next line is read. The metadata and cache files are left alone; all
-/// three are locked until the script ends.
+/// Runs a script over the files of a table, and gives the exit status with the reason of what was refused: the cache is opened,
+/// in write-back mode with TinyLFU, and one client plays the script. Each line's answer is out, in one write, before the next line
+/// is read. All three files are locked until the script ends, which leaves the cache without the clean flag.
 ///
-/// 0 where each line was answered, 1 where one was refused or was no line of a script, 3 where a device failed, 4
-/// where the reader or the writer did.
-pub fn run<'a, R: Files<File = File>, I: BufRead, W: Write>(
+/// 0 where each line was answered, 1 where the opening or a line was refused or one was no line of a script, 3 where a device
+/// failed, 4 where the reader or the writer did.
+pub fn run<'a, R: Files<File = File> + Wait, I: BufRead, W: Write>(
     rt: &R,
     alloc: Global,
     table: &'a str,
@@ -41,31 +45,66 @@ pub fn run<'a, R: Files<File = File>, I: BufRead, W: Write>(
             return Ended::new(printed, Some(Reason::Unopened(unopened)));
         }
     };
+    match open_target(alloc, disks, &geometry) {
+        Ok((devices, target)) => serve(rt, alloc, &target, devices, reader, writer),
+        Err(refusal) => refused(alloc, refusal, writer),
+    }
+}
+
+/// Opens the cache on these devices.
+fn open_target(
+    alloc: Global,
+    disks: Disks<FileDisk>,
+    geometry: &Geometry,
+) -> Result<(Devices<FileDisk>, Target<TinyLfu>), Refusal> {
     let Disks {
         metadata,
         cache,
         origin,
     } = disks;
-    let ended = match Engine::new(alloc, geometry, origin) {
-        Ok(mut engine) => play_all(alloc, &mut engine, reader, writer),
-        Err(refusal) => Ended::new(
-            refuse(alloc, refusal, writer),
-            Some(Reason::Refused(refusal)),
-        ),
+    let devices = Devices {
+        metadata,
+        cache,
+        origin,
     };
-    drop((metadata, cache));
-    ended
+    let block = u64::from(geometry.block);
+    let (devices, opened) = Target::open(alloc, devices, block, Mode::Writeback, &[]);
+    Ok((devices, opened?))
+}
+
+/// Plays a script with one client.
+fn serve<'a, R: Wait, D: Disk + Drop, P: Policy, I: BufRead, W: Write>(
+    rt: &R,
+    alloc: Global,
+    target: &Target<P>,
+    devices: Devices<D>,
+    reader: &mut I,
+    writer: &mut W,
+) -> Ended<'a> {
+    match target.client(rt, devices) {
+        Ok(mut client) => play_all(rt, alloc, &mut client, reader, writer),
+        Err((_, refusal)) => refused(alloc, refusal, writer),
+    }
+}
+
+/// Prints a refusal after which no script is played.
+fn refused<'a, W: Write>(alloc: Global, refusal: Refusal, writer: &mut W) -> Ended<'a> {
+    Ended::new(
+        refuse(alloc, refusal, writer),
+        Some(Reason::Refused(refusal)),
+    )
 }
 
 /// Plays a script, and gives the refused lines as its reason.
-fn play_all<'a, D: Disk + Drop, I: BufRead, W: Write>(
+fn play_all<'a, R: Wait, D: Disk + Drop, P: Policy, I: BufRead, W: Write>(
+    rt: &R,
     alloc: Global,
-    engine: &mut Engine<D>,
+    client: &mut Client<'_, D, P>,
     reader: &mut I,
     writer: &mut W,
 ) -> Ended<'a> {
     let mut tally = Tally::new();
-    let played = play(alloc, engine, reader, writer, &mut tally);
+    let played = play(rt, alloc, client, reader, writer, &mut tally);
     let reason = if tally.first.is_some() {
         Some(Reason::Lines(tally))
     } else {
@@ -74,10 +113,11 @@ fn play_all<'a, D: Disk + Drop, I: BufRead, W: Write>(
     Ended::new(played, reason)
 }
 
-/// Plays the lines of a script on an engine, and counts those that are refused.
-pub fn play<D: Disk + Drop, I: BufRead, W: Write>(
+/// Plays the lines of a script with a client, and counts those that are refused.
+fn play<R: Wait, D: Disk + Drop, P: Policy, I: BufRead, W: Write>(
+    rt: &R,
     alloc: Global,
-    engine: &mut Engine<D>,
+    client: &mut Client<'_, D, P>,
     reader: &mut I,
     writer: &mut W,
     tally: &mut Tally,
@@ -90,7 +130,7 @@ pub fn play<D: Disk + Drop, I: BufRead, W: Write>(
     for number in 1..u64::MAX {
         text.clear();
         let answered = match next_input(reader, &mut line)? {
-            Input::Asks(asked) => engine.answer(asked, &mut text),
+            Input::Asks(asked) => answer(rt, alloc, client, asked, &mut text),
             Input::TooLong => Err(Refusal::Memory),
             Input::Bad => {
                 tally.note(number, Said::BadLine);

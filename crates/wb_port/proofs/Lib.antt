@@ -1,0 +1,9 @@
+pub mod Letting
+pub mod Paths
+pub mod Routes
+pub mod Passing
+pub mod Moved
+pub mod Served
+pub mod Readying
+pub mod Ranging
+pub mod Serves

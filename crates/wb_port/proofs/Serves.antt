@@ -1,0 +1,154 @@
+-- A stage of a request is ready for each of its steps; and from its run to what is told of it.
+use Rattle.std.proofs.Common.{◌≡◌, ◌≤◌, ◌<◌, ◌+◌, ◌%◌, ℕ, List, [], ◌∷◌, Result, Ok, Err, length, sym, ap, ◌∙◌, subst}
+use Rattle.std.specs.Prelude.{OnOk, IfErr}
+use Rattle.wb_types.specs.declared.extent.Extent.{Extent}
+use Rattle.wb_types.specs.declared.number.OBlock.{OBlock}
+use Rattle.wb_types.specs.declared.refusal.Refusal.{Refusal}
+use Rattle.wb_disk.specs.Device.{History}
+use Rattle.wb_words.specs.declared.card.Hold.TheVariants.{Nothing}
+use Rattle.wb_tasks.specs.Tables.{BlockRange, BlockJob, OnBlock, Reading, Writing}
+use Rattle.wb_tasks.specs.Ready.{AreFirst, MayTake, IsOwnStep, left_by}
+use Rattle.wb_tasks.specs.Plan.{Plan, table, want}
+use Rattle.wb_tasks.specs.Run.{IsRunOf, Leads}
+use Rattle.wb_tasks.specs.declared.step.Answer.{Answer}
+use Rattle.wb_tasks.specs.declared.step.Answer.TheVariants.{Done as Finished, Refused as Refuses}
+use Rattle.wb_tasks.specs.declared.step.DeviceStep.TheVariants.{Read, Write, Sync, ReadMetadata, WriteNode, WriteRoot}
+use Rattle.wb_tasks.specs.declared.step.Want.{Want}
+use Rattle.wb_tasks.specs.declared.step.Want.TheVariants.{Cell, Device, Desk, End}
+use Rattle.wb_tasks.specs.declared.step.Got.{Got}
+use Rattle.wb_tasks.proofs.Causing.{refuses_for_cause}
+use Rattle.wb_port.specs.Hands.{IsReads, IsWrites, IsReadyToRead, IsReadyToWrite, ReadsInto, ReadState, WriteState, ReadStep, WriteStep, ReadLed, WriteLed}
+use Rattle.wb_port.specs.Requests.{part_of, WasRead, WasWritten, WasRefused, ReadRefused, WriteRefused}
+use Rattle.wb_port.specs.declared.moving.ReadStage.{ReadStage}
+use Rattle.wb_port.specs.declared.moving.WriteStage.{WriteStage}
+use Rattle.wb_port.proofs.Passing.{made_by_pass, same_table}
+use Rattle.wb_port.proofs.Readying.{kept_by, ready_there, idle_again}
+use Rattle.wb_port.proofs.Served.{read_whole, write_whole}
+
+own_reads : (part : BlockRange) (w : Want) → IsOwnStep (OnBlock (Reading part)) w → IsReads w
+own_reads part (Cell step) o = tt
+own_reads part (End answer) o = tt
+own_reads part (Device (Read device e)) o = tt
+own_reads part (Device step) o = o
+own_reads part (Desk step) o = o
+
+own_writes : (part : BlockRange) (w : Want) → IsOwnStep (OnBlock (Writing part)) w → IsWrites w
+own_writes part (Cell step) o = tt
+own_writes part (End answer) o = tt
+own_writes part (Device (Write device e)) o = tt
+own_writes part (Device step) o = o
+own_writes part (Desk step) o = o
+
+-- a run that refuses has a cause
+was_refused : {S : Type 0} {A : Type 0} (led : S → Want → Got → S → Type 0) (job : BlockJob) (s : Plan) (steps : List (Want × Got)) (answer : Answer) (r : Result A Refusal) (old new : S) → s ≡ table (OnBlock job) → IsRunOf s steps answer → Leads led old steps new
+    → IfErr r (λ refusal. answer ≡ Refuses refusal) → IfErr r (λ refusal. WasRefused led job old refusal new)
+was_refused led job s steps answer (Ok x) old new begun run leads is = tt
+was_refused led job s steps answer (Err x) old new begun run leads is =
+    let whole : IsRunOf (table (OnBlock job)) steps (Refuses x) = subst (λ (a : Answer). IsRunOf (table (OnBlock job)) steps a) is (subst (λ (t : Plan). IsRunOf t steps answer) begun run) in
+    record { steps = steps; run = whole; leads = leads; cause = refuses_for_cause (OnBlock job) steps x whole }
+
+-- what a stage is at
+abbrev pub reading_at : {D : Type 0} → ReadStage D → ReadState D
+reading_at x = record { hand = x.hand.now; out = x.out.now; moved = x.moved }
+
+abbrev pub writing_at : {D : Type 0} → WriteStage D → WriteState D
+writing_at x = record { hand = x.hand.now; moved = x.moved }
+
+module _ {D : Type 0} (tells : Type 0) (size : D → ℕ) (contents : D → List History) (faults : D → ℕ) (block_sectors : ℕ) (block : OBlock) (sectors : Extent) (s : Plan) (steps : List (Want × Got)) where
+  module _ (old new : ReadStage D) (begun : s ≡ table (OnBlock (Reading (part_of block_sectors block sectors)))) (leads : Leads (ReadLed tells size contents faults) old steps new) where
+    pub read_same_hand : new.hand.ghost_name ≡ old.hand.ghost_name
+    read_same_hand = kept_by (ReadLed tells size contents faults) (λ x. x.hand.ghost_name) (λ x w g y h. h.same_hand) old steps new leads
+
+    pub read_same_slice : new.out.ghost_name ≡ old.out.ghost_name
+    read_same_slice = kept_by (ReadLed tells size contents faults) (λ x. x.out.ghost_name) (λ x w g y h. h.same_slice) old steps new leads
+
+    pub read_cells : new.cells ≡ old.cells
+    read_cells = kept_by (ReadLed tells size contents faults) (λ x. x.cells) (λ x w g y h. h.cells) old steps new leads
+
+    pub read_at : new.hand.now.pass.table ≡ old.hand.now.pass.table
+    read_at = kept_by (ReadLed tells size contents faults) (λ x. x.hand.now.pass.table) (λ x w g y h. same_table x.cells.now.blocks x.hand.now.pass y.hand.now.pass w g h.by_pass) old steps new leads
+
+    pub read_many : length new.out.now ≡ length old.out.now
+    read_many = kept_by (ReadLed tells size contents faults) (λ x. length x.out.now) (λ x w g y h. many_read x y w g h.into) old steps new leads
+      where
+        many_read : (x y : ReadStage D) (w : Want) (g : Got) → ReadsInto tells size contents faults x.hand.now.devices x.out.now x.moved w g y.hand.now.devices y.out.now y.moved → length y.out.now ≡ length x.out.now
+        many_read x y (Device (Read d e)) g h = h.many
+        many_read x y (Device (Write d e)) g h = ap length h.1
+        many_read x y (Device (Sync d)) g h = ap length h.1
+        many_read x y (Device (ReadMetadata left)) g h = ap length h.1
+        many_read x y (Device (WriteNode number)) g h = ap length h.1
+        many_read x y (Device WriteRoot) g h = ap length h.1
+        many_read x y (Cell step) g h = ap length h.1
+        many_read x y (Desk step) g h = ap length h.1
+        many_read x y (End answer) g h = ap length h.1
+
+    pub read_ready : block.0 < old.cells.now.blocks → old.hand.now.pass.table ≡ old.cells.now.table → old.hand.now.pass.card.hold ≡ Nothing → AreFirst s steps → IsReadyToRead new (want (left_by s steps))
+    read_ready there at idle f =
+        let both = ready_there (ReadLed tells size contents faults) (λ x. x.hand.now.pass.card) (λ x w g y h. made_by_pass x.cells.now.blocks x.hand.now.pass y.hand.now.pass w g h.by_pass) old.cells.now.blocks s (Reading (part_of block_sectors block sectors)) old begun there idle steps new f leads in
+        ((read_at ∙ (at ∙ ap (λ x. x.now.table) (sym read_cells)), subst (λ x. MayTake x.now.blocks new.hand.now.pass.card (want (left_by s steps))) (sym read_cells) both.0), own_reads (part_of block_sectors block sectors) (want (left_by s steps)) both.1)
+
+    pub read_idle : (answer : Answer) → block.0 < old.cells.now.blocks → old.hand.now.pass.card.hold ≡ Nothing → IsRunOf s steps answer → new.hand.now.pass.card.hold ≡ Nothing
+    read_idle answer there idle run = idle_again (ReadLed tells size contents faults) (λ x. x.hand.now.pass.card) (λ x w g y h. made_by_pass x.cells.now.blocks x.hand.now.pass y.hand.now.pass w g h.by_pass) old.cells.now.blocks s (Reading (part_of block_sectors block sectors)) old begun there idle steps answer new run leads
+
+    read_stopped : {A : Type 0} (answer : Answer) (r : Result A Refusal) → IsRunOf s steps answer → IfErr r (λ refusal. answer ≡ Refuses refusal)
+        → IfErr r (λ refusal. WasRefused (ReadStep tells size contents faults old.cells.now.blocks) (Reading (part_of block_sectors block sectors)) (reading_at old) refusal (reading_at new))
+    read_stopped answer r run is = was_refused (ReadStep tells size contents faults old.cells.now.blocks) (Reading (part_of block_sectors block sectors)) s steps answer r (reading_at old) (reading_at new) begun run (plainly old steps leads) is
+      where
+        plainly : (x : ReadStage D) (done : List (Want × Got)) → Leads (ReadLed tells size contents faults) x done new → Leads (ReadStep tells size contents faults x.cells.now.blocks) (reading_at x) done (reading_at new)
+        plainly x [] e = ap (λ (y : ReadStage D). reading_at y) e
+        plainly x (step ∷ done) l = (reading_at l.0, (l.1.by_pass, l.1.into), subst (λ c. Leads (ReadStep tells size contents faults c.now.blocks) (reading_at l.0) done (reading_at new)) l.1.cells (plainly l.0 done l.2))
+
+    pub read_err : {A : Type 0} (answer : Answer) (r : Result A Refusal) → IsRunOf s steps answer → IfErr r (λ refusal. answer ≡ Refuses refusal)
+        → old.moved ≡ 0 → IfErr r (λ refusal. ReadRefused tells size contents faults old.cells.now.blocks block_sectors block sectors old.hand.now old.out.now refusal new.hand.now new.out.now)
+    read_err {A} answer (Ok x) run is unmoved = tt
+    read_err {A} answer (Err x) run is unmoved = record { moved = new.moved; was = subst (λ (n : ℕ). WasRefused (ReadStep tells size contents faults old.cells.now.blocks) (Reading (part_of block_sectors block sectors)) (record { hand = old.hand.now; out = old.out.now; moved = n }) x (reading_at new)) unmoved (read_stopped {A = A} answer (Err x) run is) }
+
+    pub read_ok : {A : Type 0} (answer : Answer) (r : Result A Refusal) → old.moved ≡ 0 → length old.out.now ≡ sectors.count → sectors.first % block_sectors + sectors.count ≤ block_sectors → IsRunOf s steps answer → OnOk r (answer ≡ Finished)
+        → OnOk r (WasRead tells size contents faults block_sectors block sectors new.out.now old.hand.now new.hand.now)
+    read_ok answer (Err x) unmoved fits inside run is = tt
+    read_ok answer (Ok x) unmoved fits inside run is =
+        read_whole tells size contents faults block_sectors block sectors steps old new unmoved fits inside
+        (subst (λ (a : Answer). IsRunOf (table (OnBlock (Reading (part_of block_sectors block sectors)))) steps a) is (subst (λ (t : Plan). IsRunOf t steps answer) begun run)) leads
+
+  module _ (old new : WriteStage D) (begun : s ≡ table (OnBlock (Writing (part_of block_sectors block sectors)))) (leads : Leads (WriteLed tells size contents faults) old steps new) where
+    pub write_same_hand : new.hand.ghost_name ≡ old.hand.ghost_name
+    write_same_hand = kept_by (WriteLed tells size contents faults) (λ x. x.hand.ghost_name) (λ x w g y h. h.same_hand) old steps new leads
+
+    pub write_cells : new.cells ≡ old.cells
+    write_cells = kept_by (WriteLed tells size contents faults) (λ x. x.cells) (λ x w g y h. h.cells) old steps new leads
+
+    pub write_at : new.hand.now.pass.table ≡ old.hand.now.pass.table
+    write_at = kept_by (WriteLed tells size contents faults) (λ x. x.hand.now.pass.table) (λ x w g y h. same_table x.cells.now.blocks x.hand.now.pass y.hand.now.pass w g h.by_pass) old steps new leads
+
+    pub write_ready : block.0 < old.cells.now.blocks → old.hand.now.pass.table ≡ old.cells.now.table → old.hand.now.pass.card.hold ≡ Nothing → AreFirst s steps → IsReadyToWrite new (want (left_by s steps))
+    write_ready there at idle f =
+        let both = ready_there (WriteLed tells size contents faults) (λ x. x.hand.now.pass.card) (λ x w g y h. made_by_pass x.cells.now.blocks x.hand.now.pass y.hand.now.pass w g h.by_pass) old.cells.now.blocks s (Writing (part_of block_sectors block sectors)) old begun there idle steps new f leads in
+        ((write_at ∙ (at ∙ ap (λ x. x.now.table) (sym write_cells)), subst (λ x. MayTake x.now.blocks new.hand.now.pass.card (want (left_by s steps))) (sym write_cells) both.0), own_writes (part_of block_sectors block sectors) (want (left_by s steps)) both.1)
+
+    pub write_idle : (answer : Answer) → block.0 < old.cells.now.blocks → old.hand.now.pass.card.hold ≡ Nothing → IsRunOf s steps answer → new.hand.now.pass.card.hold ≡ Nothing
+    write_idle answer there idle run = idle_again (WriteLed tells size contents faults) (λ x. x.hand.now.pass.card) (λ x w g y h. made_by_pass x.cells.now.blocks x.hand.now.pass y.hand.now.pass w g h.by_pass) old.cells.now.blocks s (Writing (part_of block_sectors block sectors)) old begun there idle steps answer new run leads
+
+    write_stopped : {A : Type 0} (answer : Answer) (r : Result A Refusal) → IsRunOf s steps answer → IfErr r (λ refusal. answer ≡ Refuses refusal)
+        → IfErr r (λ refusal. WasRefused (WriteStep tells size contents faults old.cells.now.blocks old.from.now) (Writing (part_of block_sectors block sectors)) (writing_at old) refusal (writing_at new))
+    write_stopped answer r run is = was_refused (WriteStep tells size contents faults old.cells.now.blocks old.from.now) (Writing (part_of block_sectors block sectors)) s steps answer r (writing_at old) (writing_at new) begun run (plainly old steps leads) is
+      where
+        plainly : (x : WriteStage D) (done : List (Want × Got)) → Leads (WriteLed tells size contents faults) x done new → Leads (WriteStep tells size contents faults x.cells.now.blocks x.from.now) (writing_at x) done (writing_at new)
+        plainly x [] e = ap (λ (y : WriteStage D). writing_at y) e
+        plainly x (step ∷ done) l = (
+          writing_at l.0,
+          (l.1.by_pass, l.1.from),
+          subst (λ f. Leads (WriteStep tells size contents faults x.cells.now.blocks f.now) (writing_at l.0) done (writing_at new)) l.1.same_slice
+              (subst (λ c. Leads (WriteStep tells size contents faults c.now.blocks l.0.from.now) (writing_at l.0) done (writing_at new)) l.1.cells (plainly l.0 done l.2)),
+        )
+
+    pub write_err : {A : Type 0} (answer : Answer) (r : Result A Refusal) → IsRunOf s steps answer → IfErr r (λ refusal. answer ≡ Refuses refusal)
+        → old.moved ≡ 0 → IfErr r (λ refusal. WriteRefused tells size contents faults old.cells.now.blocks block_sectors block sectors old.from.now old.hand.now refusal new.hand.now)
+    write_err {A} answer (Ok x) run is unmoved = tt
+    write_err {A} answer (Err x) run is unmoved = record { moved = new.moved; was = subst (λ (n : ℕ). WasRefused (WriteStep tells size contents faults old.cells.now.blocks old.from.now) (Writing (part_of block_sectors block sectors)) (record { hand = old.hand.now; moved = n }) x (writing_at new)) unmoved (write_stopped {A = A} answer (Err x) run is) }
+
+    pub write_ok : {A : Type 0} (answer : Answer) (r : Result A Refusal) → old.moved ≡ 0 → length old.from.now ≡ sectors.count → sectors.first % block_sectors + sectors.count ≤ block_sectors → IsRunOf s steps answer → OnOk r (answer ≡ Finished)
+        → OnOk r (WasWritten tells size contents faults block_sectors block sectors old.from.now old.hand.now new.hand.now)
+    write_ok answer (Err x) unmoved fits inside run is = tt
+    write_ok answer (Ok x) unmoved fits inside run is =
+        write_whole tells size contents faults block_sectors block sectors steps old new unmoved fits inside
+        (subst (λ (a : Answer). IsRunOf (table (OnBlock (Writing (part_of block_sectors block sectors)))) steps a) is (subst (λ (t : Plan). IsRunOf t steps answer) begun run)) leads

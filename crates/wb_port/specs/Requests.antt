@@ -1,0 +1,132 @@
+-- What a read or write of sectors of one block did to a client's hand.
+use Rattle.std.specs.Prelude.{◌≡◌, ◌<◌, ◌+◌, ◌*◌, ◌%◌, ◌⊎◌, ℕ, Bool, true, false, List, Option, Some, None}
+use Rattle.wb_types.specs.declared.extent.Extent.{Extent}
+use Rattle.wb_types.specs.declared.number.OBlock.{OBlock}
+use Rattle.wb_types.specs.declared.number.CBlock.{CBlock}
+use Rattle.wb_types.specs.declared.refusal.Refusal.{Refusal}
+use Rattle.wb_types.specs.Extents.{pieces}
+use Rattle.wb_types.specs.declared.geometry.Geometry.{Geometry}
+use Rattle.wb_disk.specs.Device.{History, Content as Bytes}
+use Rattle.wb_disk.specs.Extents.{GivesEach, written_each}
+use Rattle.wb_words.specs.declared.word.Access.{Access}
+use Rattle.wb_words.specs.declared.word.Access.TheVariants.{Shared, Owned}
+use Rattle.wb_words.specs.declared.word.Kind.{Kind}
+use Rattle.wb_words.specs.declared.word.Kind.TheVariants.{ReadHit, ReadMiss, WriteHit, WriteMiss}
+use Rattle.wb_words.specs.declared.word.Word.TheVariants.{Cell as LockWord, Seal as SealWord, Number, Fail}
+use Rattle.wb_words.specs.declared.card.Hold.TheVariants.{Nothing, Held}
+use Rattle.wb_words.specs.declared.card.Card.{Card}
+use Rattle.wb_words.specs.SharedWords.{place_in, dirty_in, seal_word}
+use Rattle.wb_words.specs.Cards.{looked, holding, sealing, finishing, counting}
+use Rattle.wb_words.specs.Looks.{SawAtMost}
+use Rattle.wb_tasks.specs.Tables.{BlockRange, BlockJob, Reading, Writing, OnBlock, device_at}
+use Rattle.wb_tasks.specs.Plan.{table}
+use Rattle.wb_tasks.specs.Run.{IsRunOf, Leads}
+use Rattle.wb_tasks.specs.Causes.{GaveCause}
+use Rattle.wb_tasks.specs.declared.step.Answer.TheVariants.{Refused as Refuses}
+use Rattle.wb_tasks.specs.declared.step.Want.{Want}
+use Rattle.wb_tasks.specs.declared.step.Got.{Got}
+use Rattle.wb_devices.specs.Moving.{OthersStay, device_in}
+use Rattle.wb_port.specs.declared.moving.TheConstants.{LONGEST}
+use Rattle.wb_port.specs.declared.hand.Hand.{Hand}
+use Rattle.wb_port.specs.Hands.{ReadStep, WriteStep}
+
+-- a read or write, which asks nothing of a desk
+abbrev pub IsRequest : BlockJob → Type 0
+IsRequest (Reading part) = Unit {0}
+IsRequest (Writing part) = Unit {0}
+IsRequest job = ⊥
+
+-- sectors of one block, cut into extents of at most the longest that a step takes
+abbrev pub part_of : ℕ → OBlock → Extent → BlockRange
+part_of block_sectors block sectors = record { block_sectors = block_sectors; block = block; extents = pieces LONGEST sectors }
+
+-- A block that stands at this place has this sector of the origin from here on, on the device of the place.
+abbrev pub first_at : ℕ → Option CBlock → ℕ → ℕ
+first_at block_sectors None first = first
+first_at block_sectors (Some c) first = c.0 * block_sectors + first % block_sectors
+
+abbrev pub read_kind : Option CBlock → Kind
+read_kind None = ReadMiss
+read_kind (Some c) = ReadHit
+
+abbrev pub write_kind : Option CBlock → Kind
+write_kind None = WriteMiss
+write_kind (Some c) = WriteHit
+
+-- ---- the card
+
+-- A card that took a block: it saw the fail word clear, then the words of the block.
+abbrev pub taking_card : Access → OBlock → ℕ → ℕ → ℕ → Card → Card
+taking_card access block lock seal number card =
+    looked (Number block) number (looked (SealWord block) seal (holding (Held access block) (looked (LockWord block) lock (looked Fail 0 card))))
+
+-- a read counts, and gives its block back
+abbrev pub read_card : OBlock → ℕ → ℕ → ℕ → Card → Card
+read_card block lock seal number card = holding Nothing (counting (read_kind (place_in seal)) (taking_card Shared block lock seal number card))
+
+-- before the first write to a clean copy its block is sealed dirty
+abbrev pub dirtied : OBlock → Option CBlock → Bool → Card → Card
+dirtied block (Some c) false card = sealing block (seal_word (Some c) true) card
+dirtied block place dirty card = card
+
+-- A write finishes one write more on its block, counts, and gives its block back.
+abbrev pub write_card : OBlock → ℕ → ℕ → ℕ → Card → Card
+write_card block lock seal number card =
+    holding Nothing (counting (write_kind (place_in seal)) (finishing block (dirtied block (place_in seal) (dirty_in seal) (taking_card Owned block lock seal number card))))
+
+-- ---- what was done
+
+-- A read: what the slice has is what the device gave on which the block stood, by the seal that was seen; no device changed,
+-- and none failed. The block's number is no less than any that the pass has seen of it.
+pub record WasRead {D : Type 0} (tells : Type 0) (size : D → ℕ) (contents : D → List History) (faults : D → ℕ) (block_sectors : ℕ) (block : OBlock) (sectors : Extent) (out : List Bytes) (old new : Hand D) : Type 0 where
+  pub lock : ℕ
+  pub seal : ℕ
+  pub number : ℕ
+  pub pass_is : new.pass ≡ record old.pass { card = read_card block lock seal number old.pass.card }
+  pub least : SawAtMost block number old.pass.card.saw
+  pub others : OthersStay (device_at (place_in seal)) old.devices new.devices
+  pub sized : size (device_in (device_at (place_in seal)) new.devices) ≡ size (device_in (device_at (place_in seal)) old.devices)
+  pub given : tells → GivesEach (contents (device_in (device_at (place_in seal)) old.devices)) (first_at block_sectors (place_in seal) sectors.first) out
+  pub same : tells → contents (device_in (device_at (place_in seal)) new.devices) ≡ contents (device_in (device_at (place_in seal)) old.devices)
+  pub no_fault : tells → faults (device_in (device_at (place_in seal)) new.devices) ≡ faults (device_in (device_at (place_in seal)) old.devices)
+
+-- A write: the device on which the block stood, by the seal that was seen, was written the slice, and did not fail; no other
+-- device changed.
+pub record WasWritten {D : Type 0} (tells : Type 0) (size : D → ℕ) (contents : D → List History) (faults : D → ℕ) (block_sectors : ℕ) (block : OBlock) (sectors : Extent) (from : List Bytes) (old new : Hand D) : Type 0 where
+  pub lock : ℕ
+  pub seal : ℕ
+  pub number : ℕ
+  pub pass_is : new.pass ≡ record old.pass { card = write_card block lock seal number old.pass.card }
+  pub least : SawAtMost block number old.pass.card.saw
+  pub others : OthersStay (device_at (place_in seal)) old.devices new.devices
+  pub sized : size (device_in (device_at (place_in seal)) new.devices) ≡ size (device_in (device_at (place_in seal)) old.devices)
+  pub written : tells → contents (device_in (device_at (place_in seal)) new.devices) ≡ written_each (contents (device_in (device_at (place_in seal)) old.devices)) (first_at block_sectors (place_in seal) sectors.first) from
+  pub no_fault : tells → faults (device_in (device_at (place_in seal)) new.devices) ≡ faults (device_in (device_at (place_in seal)) old.devices)
+
+-- A request was refused: its steps were a run of its table that refuses so, they led from the stage before to the one after, and
+-- one of them gave the cause.
+pub record WasRefused {S : Type 0} (led : S → Want → Got → S → Type 0) (job : BlockJob) (old : S) (refusal : Refusal) (new : S) : Type 0 where
+  pub steps : List (Want × Got)
+  pub run : IsRunOf (table (OnBlock job)) steps (Refuses refusal)
+  pub leads : Leads led old steps new
+  pub cause : GaveCause (OnBlock job) refusal steps
+
+-- A read of sectors of one block was refused, by words of so many blocks.
+pub record ReadRefused {D : Type 0} (tells : Type 0) (size : D → ℕ) (contents : D → List History) (faults : D → ℕ) (blocks block_sectors : ℕ) (block : OBlock) (sectors : Extent) (old : Hand D) (out : List Bytes) (refusal : Refusal) (new : Hand D) (out' : List Bytes) : Type 0 where
+  pub moved : ℕ
+  pub was : WasRefused (ReadStep tells size contents faults blocks) (Reading (part_of block_sectors block sectors)) (record { hand = old; out = out; moved = 0 }) refusal (record { hand = new; out = out'; moved = moved })
+
+-- And a write of this slice.
+pub record WriteRefused {D : Type 0} (tells : Type 0) (size : D → ℕ) (contents : D → List History) (faults : D → ℕ) (blocks block_sectors : ℕ) (block : OBlock) (sectors : Extent) (from : List Bytes) (old : Hand D) (refusal : Refusal) (new : Hand D) : Type 0 where
+  pub moved : ℕ
+  pub was : WasRefused (WriteStep tells size contents faults blocks from) (Writing (part_of block_sectors block sectors)) (record { hand = old; moved = 0 }) refusal (record { hand = new; moved = moved })
+
+-- ---- requests that are refused before any step
+
+-- no sector, or one outside the origin
+abbrev pub IsOutside : Geometry → ℕ → ℕ → Type 0
+IsOutside geometry first count = (count ≡ 0) ⊎ (geometry.block * geometry.origin_blocks < first + count)
+
+-- sectors of more than one block
+abbrev pub Crosses : Geometry → ℕ → ℕ → Type 0
+Crosses geometry first count = geometry.block < first % geometry.block + count

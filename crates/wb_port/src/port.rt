@@ -1,0 +1,97 @@
+//! What a client reads and writes by: no lock, no memory, no waiting.
+
+ghost use Rattle.std.specs.Prelude.{◌≡◌, ◌≤◌, ◌<◌, ◌+◌, ◌/◌, ◌++◌, [], ◌∷◌, OnOk, OnErr, IfOk, IfErr, length, vec_capacity};
+ghost use Rattle.wb_words.specs.declared.card.Hold.TheVariants.{Nothing};
+ghost use Rattle.wb_port.specs.declared.port.TheConstants.{UNSETTLED as MostUnsettled};
+
+use crate::hand::Hand;
+use crate::seat::Seat;
+use std::alloc::Global;
+use std::sync::Arc;
+use wb_cells::{Cells, Word};
+use wb_devices::{Devices, RunningCommit};
+use wb_disk::Disk;
+use wb_types::{Content, Geometry, OBlock};
+
+/// How many accesses a client has unsettled at most.
+pub const UNSETTLED: usize = 32;
+
+/// A hand between two requests, the shared words that its pass is of, and the accesses that are to be settled, one block for
+/// each part that was counted, in order.
+#[derive(Drop)]
+pub struct Port<D> {
+    pub geometry: Geometry,
+    pub cells: Arc<Cells, Global>,
+    pub hand: Hand<D>,
+    pub accesses: Vec<OBlock>,
+    /// What the steps of its migrations move, once it has carried out an order.
+    pub buffer: Vec<Content>,
+    /// The commit that it runs, if any.
+    pub commit: Option<RunningCommit>,
+    ghost at: { hand.pass.table ≡ cells.value.table },
+    ghost sized: { cells.value.blocks ≡ geometry.origin_blocks },
+    ghost idle: { hand.pass.card.hold ≡ Nothing },
+    ghost few: { length accesses.items ≤ MostUnsettled },
+    ghost room: { MostUnsettled ≤ vec_capacity accesses },
+}
+
+impl<D: Disk + Drop> Port<D> {
+    /// A port with a seat and devices of its own; both are handed back where there is no memory.
+    pub fn new(
+        alloc: Global,
+        seat: Seat,
+        devices: Devices<D>,
+    ) -> Result<Port<D>, (Seat, Devices<D>)>
+        ensures hand { IfOk result (λ port. port.hand ≡ record { pass = seat.pass; devices = devices }) }
+        ensures geometry { IfOk result (λ port. port.geometry ≡ seat.geometry) }
+        ensures unsettled { IfOk result (λ port. port.accesses.items ≡ []) }
+        ensures back { IfErr result (λ back. (back.0 ≡ seat) × (back.1 ≡ devices)) }
+    {
+        let Ok(accesses) = Vec::with_capacity(alloc, UNSETTLED) else {
+            return Err((seat, devices));
+        };
+        let Seat {
+            geometry,
+            cells,
+            pass,
+        } = seat;
+        Ok(Port {
+            geometry,
+            cells,
+            hand: Hand { pass, devices },
+            accesses,
+            buffer: Vec::new(alloc),
+            commit: None,
+        })
+    }
+
+    /// The seat and the devices.
+    pub fn leave(self) -> (Seat, Devices<D>)
+        ensures { result.1 ≡ self.hand.devices }
+    {
+        let Port {
+            geometry,
+            cells,
+            hand,
+            accesses: _,
+            buffer: _,
+            commit: _,
+        } = self;
+        let Hand { pass, devices } = hand;
+        (
+            Seat {
+                geometry,
+                cells,
+                pass,
+            },
+            devices,
+        )
+    }
+
+    /// Whether the fail word is set.
+    pub fn has_failed(&mut self) -> bool
+        ensures geometry { self.new.geometry ≡ self.old.geometry }
+    {
+        self.cells.look(&mut self.hand.pass, Word::Fail) != 0
+    }
+}

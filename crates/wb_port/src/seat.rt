@@ -1,0 +1,57 @@
+//! The right to step on a target's words, for one client.
+
+ghost use Rattle.std.specs.Prelude.{◌≡◌, IfOk};
+ghost use Rattle.wb_words.specs.declared.card.Hold.TheVariants.{Nothing};
+
+use std::alloc::Global;
+use std::sync::Arc;
+use wb_cells::{Cells, Pass};
+use wb_types::{Geometry, Refusal};
+
+/// The shared words of a target of these sizes, and a pass of them that has no block.
+#[derive(Drop)]
+pub struct Seat {
+    pub geometry: Geometry,
+    pub cells: Arc<Cells, Global>,
+    pub pass: Pass,
+    ghost at: { pass.table ≡ cells.value.table },
+    ghost sized: { cells.value.blocks ≡ geometry.origin_blocks },
+    ghost idle: { pass.card.hold ≡ Nothing },
+}
+
+impl Seat {
+    /// The one seat of a cache of these sizes, of which no block is cached. `Memory` where there is no room for the words.
+    pub fn new(alloc: Global, geometry: Geometry) -> Result<Seat, Refusal>
+        ensures geometry { IfOk result (λ seat. seat.geometry ≡ geometry) }
+    {
+        let (cells, pass) = Cells::new(alloc, geometry.origin_blocks)?;
+        Ok(Seat {
+            geometry,
+            cells: Arc::new(alloc, cells).map_err(|_| Refusal::Memory)?,
+            pass,
+        })
+    }
+
+    /// Two seats of one; `Memory` where the words have as many owners as can be counted, and then the seat is lost.
+    pub fn split(self) -> Result<(Seat, Seat), Refusal> {
+        let Seat {
+            geometry,
+            cells,
+            pass,
+        } = self;
+        let theirs = Arc::try_clone(&cells).map_err(|_| Refusal::Memory)?;
+        let (one, other) = cells.split(pass);
+        Ok((
+            Seat {
+                geometry,
+                cells,
+                pass: one,
+            },
+            Seat {
+                geometry,
+                cells: theirs,
+                pass: other,
+            },
+        ))
+    }
+}

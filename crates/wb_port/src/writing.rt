@@ -1,0 +1,45 @@
+//! The steps of a write.
+
+ghost use Rattle.std.specs.Prelude.{◌≡◌};
+ghost use Rattle.wb_tasks.specs.Plan.{Fits};
+ghost use Rattle.wb_tasks.specs.declared.step.Want.TheVariants.{Device};
+ghost use Rattle.wb_tasks.specs.declared.step.DeviceStep.TheVariants.{Write};
+ghost use Rattle.wb_port.specs.Hands.{IsReadyToWrite, DidWriteFrom, WriteLed};
+
+use crate::moving::WriteStage;
+use wb_disk::Disk;
+use wb_tasks::{DeviceStep, Got, Stage, Want};
+use wb_types::{Dev, Extent};
+
+impl<'a, D: Disk> WriteStage<'a, D> {
+    /// Writes an extent by one call, from behind what was written before it.
+    fn write(&mut self, device: Dev, extent: Extent) -> Got
+        ensures kind { Fits (Device (Write device extent)) result }
+        ensures cells { self.new.cells ≡ self.old.cells }
+        ensures hand { self.new.hand.ghost_name ≡ self.old.hand.ghost_name }
+        ensures from { self.new.from ≡ self.old.from }
+        ensures pass { self.new.hand.now.pass ≡ self.old.hand.now.pass }
+        ensures did { DidWriteFrom D.tells D.size D.contents D.faults device extent result self.old.from.now self.old.hand.now.devices self.old.moved self.new.hand.now.devices self.new.moved }
+    {
+        let rest = &self.from[self.moved..];
+        let got = self.hand.devices.write(device, extent, rest);
+        if let Got::Done = got {
+            self.moved += (extent.count as usize).min(rest.len());
+        }
+        got
+    }
+}
+
+impl<'a, D: Disk> Stage for WriteStage<'a, D> {
+    ghost ready = { IsReadyToWrite };
+
+    ghost led = { WriteLed D.tells D.size D.contents D.faults };
+
+    fn perform(&mut self, want: &Want) -> Got {
+        match want {
+            Want::Cell(step) => Got::from(self.cells.step(&mut self.hand.pass, *step)),
+            Want::Device(DeviceStep::Write(device, extent)) => self.write(*device, *extent),
+            _ => unreachable!(),
+        }
+    }
+}

@@ -1,8 +1,0 @@
-use Rattle.std.proofs.Common.{◌≡◌, ◌≤◌, ◌*◌, ◌-◌}
-use Rattle.wbcache.proofs.engine.Engine.read.Given as goal
-
-abbrev pub invariant-loop-first : goal.invariant-loop-first
-invariant-loop-first g l = (l.first ≤ l.end) × (l.end ≤ l.self.geometry.block * l.self.geometry.origin_blocks) × (l.self.geometry ≡ l.initial.self.geometry)
-
-abbrev pub decreases-loop-first : goal.decreases-loop-first
-decreases-loop-first g l = l.end - l.first

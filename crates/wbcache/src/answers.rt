@@ -1,0 +1,204 @@
+//! What a client answers to the lines of a script.
+
+ghost use Rattle.std.specs.Prelude.{◌≡◌, ◌<◌, ◌≤◌, ◌+◌, ◌*◌, IfOk, IfErr, OnErr, IsErrOf, replicate};
+ghost use Rattle.wbcache.specs.Request.{IsInside, IsRequest, AsksInside};
+
+use crate::fill::Fill;
+use crate::line::Line;
+use crate::part::first_part;
+use std::alloc::Global;
+use std::fmt::Write;
+use std::sync::Wait;
+use wb_disk::Disk;
+use wb_policy::{Order, Policy};
+use wb_target::Client;
+use wb_types::{CBlock, Content, Geometry, OBlock, Refusal, SECTOR_BYTES, Sector};
+
+/// Does what a line asks, and adds what it is answered to the text. After a refusal the text may have what was read so far;
+/// finished blocks of a write stay.
+///
+/// `Range` for no sector, or one outside the origin; `Crosses` for sectors of more than one block, where one alone may be asked
+/// for; `Defer` where too many accesses are unsettled; `Busy` where a block is in use; `Io` where a step failed, `Failed` after a
+/// write or sync that failed so, `Memory` where there is none, and `GenerationEnd` where no further commit can be.
+pub fn answer<R: Wait, D: Disk + Drop, P: Policy>(
+    rt: &R,
+    alloc: Global,
+    client: &mut Client<'_, D, P>,
+    asked: Line,
+    text: &mut String,
+) -> Result<(), Refusal>
+    ensures outside { IsRequest asked → ¬ AsksInside asked (client.old.port.geometry.block * client.old.port.geometry.origin_blocks) → IsErrOf result Refusal.Range }
+    ensures inside { IsRequest asked → IsErrOf result Refusal.Range → ¬ AsksInside asked (client.old.port.geometry.block * client.old.port.geometry.origin_blocks) }
+{
+    match asked {
+        Line::Nothing => return Ok(()),
+        Line::Read { at, count } => return read(rt, alloc, client, at, count, text),
+        Line::TryRead { at, count } => return try_read(alloc, client, at, count, text),
+        Line::Work => return work(rt, client, text),
+        Line::Write { at, count, fill } => write(rt, alloc, client, at, count, fill)?,
+        Line::TryWrite { at, count, fill } => try_write(alloc, client, at, count, fill)?,
+        Line::Settle => client.settle(rt),
+        Line::Flush => {
+            client.flush(rt)?;
+        }
+    }
+    text.push_str("ok\n")?;
+    Ok(())
+}
+
+/// Reads block by block.
+fn read<R: Wait, D: Disk + Drop, P: Policy>(
+    rt: &R,
+    alloc: Global,
+    client: &mut Client<'_, D, P>,
+    at: Sector,
+    count: u64,
+    text: &mut String,
+) -> Result<(), Refusal>
+    ensures outside { ¬ IsInside at.0 count (client.old.port.geometry.block * client.old.port.geometry.origin_blocks) → IsErrOf result Refusal.Range }
+    ensures inside { IsErrOf result Refusal.Range → ¬ IsInside at.0 count (client.old.port.geometry.block * client.old.port.geometry.origin_blocks) }
+{
+    let end = end_of(&client.port.geometry, at, count)?;
+    let Sector(mut first) = at;
+    while first < end {
+        let part = first_part(client.port.geometry.block, first, end);
+        let mut contents = filled(alloc, part.count, 0)?;
+        client
+            .read(rt, Sector(first), contents.as_mut_slice())
+            .map_err(|stopped| stopped.refusal)?;
+        show(first, contents.as_slice(), text)?;
+        first += part.count;
+    }
+    Ok(())
+}
+
+/// Writes block by block.
+fn write<R: Wait, D: Disk + Drop, P: Policy>(
+    rt: &R,
+    alloc: Global,
+    client: &mut Client<'_, D, P>,
+    at: Sector,
+    count: u64,
+    fill: u8,
+) -> Result<(), Refusal>
+    ensures outside { ¬ IsInside at.0 count (client.old.port.geometry.block * client.old.port.geometry.origin_blocks) → IsErrOf result Refusal.Range }
+    ensures inside { IsErrOf result Refusal.Range → ¬ IsInside at.0 count (client.old.port.geometry.block * client.old.port.geometry.origin_blocks) }
+{
+    let end = end_of(&client.port.geometry, at, count)?;
+    let Sector(mut first) = at;
+    while first < end {
+        let part = first_part(client.port.geometry.block, first, end);
+        let contents = filled(alloc, part.count, fill)?;
+        client
+            .write(rt, Sector(first), contents.as_slice())
+            .map_err(|stopped| stopped.refusal)?;
+        first += part.count;
+    }
+    Ok(())
+}
+
+/// Reads sectors of one block, if that can be had without waiting.
+fn try_read<D: Disk + Drop, P: Policy>(
+    alloc: Global,
+    client: &mut Client<'_, D, P>,
+    at: Sector,
+    count: u64,
+    text: &mut String,
+) -> Result<(), Refusal>
+    ensures outside { ¬ IsInside at.0 count (client.old.port.geometry.block * client.old.port.geometry.origin_blocks) → IsErrOf result Refusal.Range }
+    ensures inside { IsErrOf result Refusal.Range → ¬ IsInside at.0 count (client.old.port.geometry.block * client.old.port.geometry.origin_blocks) }
+{
+    in_one_block(&client.port.geometry, at, count)?;
+    let mut contents = filled(alloc, count, 0)?;
+    client.port.try_read(at, contents.as_mut_slice())?;
+    let Sector(first) = at;
+    show(first, contents.as_slice(), text)
+}
+
+/// Writes sectors of one block, if that can be done without waiting.
+fn try_write<D: Disk + Drop, P: Policy>(
+    alloc: Global,
+    client: &mut Client<'_, D, P>,
+    at: Sector,
+    count: u64,
+    fill: u8,
+) -> Result<(), Refusal>
+    ensures outside { ¬ IsInside at.0 count (client.old.port.geometry.block * client.old.port.geometry.origin_blocks) → IsErrOf result Refusal.Range }
+    ensures inside { IsErrOf result Refusal.Range → ¬ IsInside at.0 count (client.old.port.geometry.block * client.old.port.geometry.origin_blocks) }
+{
+    in_one_block(&client.port.geometry, at, count)?;
+    let contents = filled(alloc, count, fill)?;
+    client.port.try_write(at, contents.as_slice())
+}
+
+/// Carries out an order, if any waits, and says which.
+fn work<R: Wait, D: Disk + Drop, P: Policy>(
+    rt: &R,
+    client: &mut Client<'_, D, P>,
+    text: &mut String,
+) -> Result<(), Refusal> {
+    let Some(order) = client.work_one(rt)? else {
+        text.push_str("idle\n")?;
+        return Ok(());
+    };
+    match order {
+        Order::Promote(OBlock(b), CBlock(c)) => writeln!(text, "promoted {b} to {c}")?,
+        Order::Replace(OBlock(v), OBlock(x), CBlock(c)) => {
+            writeln!(text, "replaced {v} by {x} at {c}")?
+        }
+        Order::Demote(OBlock(b)) => writeln!(text, "demoted {b}")?,
+        Order::Clean(OBlock(b)) => writeln!(text, "cleaned {b}")?,
+    }
+    Ok(())
+}
+
+/// So many sectors that are filled with this byte.
+fn filled(alloc: Global, count: u64, fill: u8) -> Result<Vec<Content>, Refusal>
+    ensures filled { IfOk result (λ contents. contents.items ≡ replicate count (replicate 512 fill)) }
+    ensures refused { IfErr result (λ refusal. refusal ≡ Refusal.Memory) }
+{
+    Ok(vec![in alloc; [fill; SECTOR_BYTES]; count as usize]?)
+}
+
+/// Adds a line `<sector> <fill>` for each of these sectors, from `first` on.
+fn show(first: u64, contents: &[Content], text: &mut String) -> Result<(), Refusal>
+    ensures refused { IfErr result (λ refusal. refusal ≡ Refusal.Memory) }
+{
+    let mut sector = first;
+    for content in contents {
+        let fill = Fill::of(content);
+        writeln!(text, "{sector} {fill}")?;
+        sector = sector.saturating_add(1);
+    }
+    Ok(())
+}
+
+/// The sector after the last of a request; `Range` for no sector, or one outside the origin.
+fn end_of(geometry: &Geometry, at: Sector, count: u64) -> Result<u64, Refusal>
+    ensures end { IfOk result (λ end. end ≡ at.0 + count) }
+    ensures some { IfOk result (λ end. at.0 < end) }
+    ensures inside { IfOk result (λ end. end ≤ geometry.now.block * geometry.now.origin_blocks) }
+    ensures refused { IfErr result (λ refusal. refusal ≡ Refusal.Range) }
+    ensures outside { OnErr result (¬ IsInside at.0 count (geometry.now.block * geometry.now.origin_blocks)) }
+{
+    let Sector(first) = at;
+    let sectors = geometry.origin_sectors();
+    if count == 0 || first >= sectors || count > sectors - first {
+        return Err(Refusal::Range);
+    }
+    Ok(first + count)
+}
+
+/// `Range` as `end_of`, and `Crosses` for sectors of more than one block: before there is a buffer for them.
+fn in_one_block(geometry: &Geometry, at: Sector, count: u64) -> Result<(), Refusal>
+    ensures outside { ¬ IsInside at.0 count (geometry.now.block * geometry.now.origin_blocks) → IsErrOf result Refusal.Range }
+    ensures inside { IsErrOf result Refusal.Range → ¬ IsInside at.0 count (geometry.now.block * geometry.now.origin_blocks) }
+{
+    end_of(geometry, at, count)?;
+    let Sector(first) = at;
+    let size = u64::from(geometry.block);
+    if first % size + count > size {
+        return Err(Refusal::Crosses);
+    }
+    Ok(())
+}
