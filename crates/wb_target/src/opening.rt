@@ -91,7 +91,8 @@ fn over<P: Policy>(
     let entries = entries_of(alloc, &state.tree, &geometry)?;
     let policy = P::new(alloc, &geometry, entries.as_slice())?;
     let mut seat = Seat::new(alloc, geometry)?;
-    seal_all(&seat.cells, &mut seat.pass, &geometry, entries.as_slice(), clean)?;
+    let lent = &mut seat;
+    seal_all(&lent.cells, &mut lent.pass, &geometry, entries.as_slice(), clean)?;
     let desk = Desk::new(alloc, state, mode, policy, keys)?;
     let seats = seats_of(alloc, seat)?;
     Ok(Target {

@@ -4,6 +4,7 @@ use Rattle.wb_target.proofs.client.Client.read.Given as goal
 abbrev pub invariant-loop-from : goal.invariant-loop-from
 invariant-loop-from g l = record {
   target : l.self.target ≡ l.fn.self.target;
+  geometry : l.self.port.geometry ≡ l.fn.self.port.geometry;
   many : length l.out ≡ length l.fn.out;
   within : l.from ≤ length l.fn.out;
   done : l.done ≤ l.from;

@@ -4,6 +4,7 @@ use Rattle.wb_target.proofs.client.Client.write.Given as goal
 abbrev pub invariant-loop-sent : goal.invariant-loop-sent
 invariant-loop-sent g l = record {
   target : l.self.target ≡ l.fn.self.target;
+  geometry : l.self.port.geometry ≡ l.fn.self.port.geometry;
   within : l.sent ≤ length l.from;
   done : l.done ≤ l.sent;
 }
