@@ -25,6 +25,7 @@ impl<'t, D: Disk + Drop, P: Policy> Client<'t, D, P> {
         ensures range { IfErr result (λ stopped. stopped.refusal ≡ Refusal.Range → IsOutside self.old.port.geometry at.0 (length out.old)) }
         ensures inside { OnOk result ((0 < length out.old) × (at.0 + length out.old ≤ self.old.port.geometry.block * self.old.port.geometry.origin_blocks)) }
         ensures target { self.new.target ≡ self.old.target }
+        ensures geometry { self.new.port.geometry ≡ self.old.port.geometry }
         ensures many { length out.new ≡ length out.old }
     {
         let count = out.len() as u64;
@@ -52,6 +53,7 @@ impl<'t, D: Disk + Drop, P: Policy> Client<'t, D, P> {
         ensures range { IfErr result (λ stopped. stopped.refusal ≡ Refusal.Range → IsOutside self.old.port.geometry at.0 (length from.now)) }
         ensures inside { OnOk result ((0 < length from.now) × (at.0 + length from.now ≤ self.old.port.geometry.block * self.old.port.geometry.origin_blocks)) }
         ensures target { self.new.target ≡ self.old.target }
+        ensures geometry { self.new.port.geometry ≡ self.old.port.geometry }
     {
         let count = from.len() as u64;
         self.in_range(at, count)?;

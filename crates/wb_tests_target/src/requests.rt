@@ -2,7 +2,7 @@
 
 use crate::fixture::{begun_with, client_of, formatted, open};
 use std::test::Fail;
-use wb_target::UNSETTLED;
+use wb_port::UNSETTLED;
 use wb_types::{Refusal, SECTOR_BYTES, Sector};
 
 #[test]

@@ -1,6 +1,6 @@
 //! What a client answers to the lines of a script.
 
-ghost use Rattle.std.specs.Prelude.{◌≡◌, ◌<◌, ◌≤◌, ◌+◌, ◌*◌, IfOk, IfErr, OnErr, IsErrOf, replicate};
+ghost use Rattle.std.specs.Prelude.{◌≡◌, ◌<◌, ◌≤◌, ◌+◌, ◌*◌, IfOk, IfErr, OnErr, IsErrOf, length, replicate};
 ghost use Rattle.wbcache.specs.Request.{IsInside, IsRequest, AsksInside};
 
 use crate::fill::Fill;
@@ -47,6 +47,7 @@ pub fn answer<R: Wait, D: Disk + Drop, P: Policy>(
 }
 
 /// Reads block by block.
+#[tactic(auto, using(crate::proofs::Ranges::not_outside))]
 fn read<R: Wait, D: Disk + Drop, P: Policy>(
     rt: &R,
     alloc: Global,
@@ -63,9 +64,9 @@ fn read<R: Wait, D: Disk + Drop, P: Policy>(
     while first < end {
         let part = first_part(client.port.geometry.block, first, end);
         let mut contents = filled(alloc, part.count, 0)?;
-        client
-            .read(rt, Sector(first), contents.as_mut_slice())
-            .map_err(|stopped| stopped.refusal)?;
+        if let Err(stopped) = client.read(rt, Sector(first), contents.as_mut_slice()) {
+            return Err(stopped.refusal);
+        }
         show(first, contents.as_slice(), text)?;
         first += part.count;
     }
@@ -73,6 +74,7 @@ fn read<R: Wait, D: Disk + Drop, P: Policy>(
 }
 
 /// Writes block by block.
+#[tactic(auto, using(crate::proofs::Ranges::not_outside))]
 fn write<R: Wait, D: Disk + Drop, P: Policy>(
     rt: &R,
     alloc: Global,
@@ -89,15 +91,16 @@ fn write<R: Wait, D: Disk + Drop, P: Policy>(
     while first < end {
         let part = first_part(client.port.geometry.block, first, end);
         let contents = filled(alloc, part.count, fill)?;
-        client
-            .write(rt, Sector(first), contents.as_slice())
-            .map_err(|stopped| stopped.refusal)?;
+        if let Err(stopped) = client.write(rt, Sector(first), contents.as_slice()) {
+            return Err(stopped.refusal);
+        }
         first += part.count;
     }
     Ok(())
 }
 
 /// Reads sectors of one block, if that can be had without waiting.
+#[tactic(auto, using(crate::proofs::Ranges::not_outside))]
 fn try_read<D: Disk + Drop, P: Policy>(
     alloc: Global,
     client: &mut Client<'_, D, P>,
@@ -110,12 +113,15 @@ fn try_read<D: Disk + Drop, P: Policy>(
 {
     in_one_block(&client.port.geometry, at, count)?;
     let mut contents = filled(alloc, count, 0)?;
-    client.port.try_read(at, contents.as_mut_slice())?;
+    if let Err(refusal) = client.port.try_read(at, contents.as_mut_slice()) {
+        return Err(refusal);
+    }
     let Sector(first) = at;
     show(first, contents.as_slice(), text)
 }
 
 /// Writes sectors of one block, if that can be done without waiting.
+#[tactic(auto, using(crate::proofs::Ranges::not_outside))]
 fn try_write<D: Disk + Drop, P: Policy>(
     alloc: Global,
     client: &mut Client<'_, D, P>,
@@ -128,7 +134,10 @@ fn try_write<D: Disk + Drop, P: Policy>(
 {
     in_one_block(&client.port.geometry, at, count)?;
     let contents = filled(alloc, count, fill)?;
-    client.port.try_write(at, contents.as_slice())
+    if let Err(refusal) = client.port.try_write(at, contents.as_slice()) {
+        return Err(refusal);
+    }
+    Ok(())
 }
 
 /// Carries out an order, if any waits, and says which.
@@ -155,9 +164,12 @@ fn work<R: Wait, D: Disk + Drop, P: Policy>(
 /// So many sectors that are filled with this byte.
 fn filled(alloc: Global, count: u64, fill: u8) -> Result<Vec<Content>, Refusal>
     ensures filled { IfOk result (λ contents. contents.items ≡ replicate count (replicate 512 fill)) }
+    ensures many { IfOk result (λ contents. length contents.items ≡ count) }
     ensures refused { IfErr result (λ refusal. refusal ≡ Refusal.Memory) }
 {
-    Ok(vec![in alloc; [fill; SECTOR_BYTES]; count as usize]?)
+    let mut contents = Vec::new(alloc);
+    contents.resize(count as usize, [fill; SECTOR_BYTES])?;
+    Ok(contents)
 }
 
 /// Adds a line `<sector> <fill>` for each of these sectors, from `first` on.

@@ -26,6 +26,7 @@ use crate::arguments::{Asked, read_arguments};
 use crate::ended::Ended;
 use std::io::{BufReader, IsTerminal};
 use std::process::ExitCode;
+use std::sync::Wait;
 use std::{env, io};
 use wb_streams::hold_streams;
 use wb_types::Refusal;
@@ -39,13 +40,13 @@ const STREAM_FAILED: u8 = 4;
 fn main(rt: HostRuntime) -> ExitCode {
     // Before any file is opened.
     match hold_streams(&rt) {
-        Ok(_held) => ExitCode::from(serve(&rt)),
+        Ok(_held) => ExitCode::from(serve(&rt, &rt)),
         Err(_) => ExitCode::from(STREAM_FAILED),
     }
 }
 
-/// Does what the arguments ask, and gives the exit status.
-fn serve(rt: &HostRuntime) -> u8 {
+/// Does what the arguments ask, and gives the exit status. Who waits does so by the second handle.
+fn serve<T: Wait>(rt: &HostRuntime, waits: &T) -> u8 {
     let alloc = rt.alloc();
     let Ok(words) = env::args(rt) else {
         return usage(rt);
@@ -61,7 +62,9 @@ fn serve(rt: &HostRuntime) -> u8 {
     let ended = match asked {
         Asked::Format(table) => format::format_files(rt, alloc, table, &mut io::writer(rt)),
         Asked::Run(table) => match BufReader::new(alloc, rt.reader()) {
-            Ok(mut reader) => script::run(rt, alloc, table, &mut reader, &mut io::writer(rt)),
+            Ok(mut reader) => {
+                script::run(rt, waits, alloc, table, &mut reader, &mut io::writer(rt))
+            }
             Err(_) => return no_memory(rt),
         },
     };

@@ -31,8 +31,9 @@ const MOST_OF_A_LINE: u64 = 1_048_576;
 ///
 /// 0 where each line was answered, 1 where the opening or a line was refused or one was no line of a script, 3 where a device
 /// failed, 4 where the reader or the writer did.
-pub fn run<'a, R: Files<File = File> + Wait, I: BufRead, W: Write>(
+pub fn run<'a, R: Files<File = File>, T: Wait, I: BufRead, W: Write>(
     rt: &R,
+    waits: &T,
     alloc: Global,
     table: &'a str,
     reader: &mut I,
@@ -46,7 +47,7 @@ pub fn run<'a, R: Files<File = File> + Wait, I: BufRead, W: Write>(
         }
     };
     match open_target(alloc, disks, &geometry) {
-        Ok((devices, target)) => serve(rt, alloc, &target, devices, reader, writer),
+        Ok((devices, target)) => serve(waits, alloc, &target, devices, reader, writer),
         Err(refusal) => refused(alloc, refusal, writer),
     }
 }

@@ -1,0 +1,12 @@
+use Rattle.std.proofs.Common.{◌≡◌, ◌≤◌, ◌*◌, ◌-◌}
+use Rattle.wbcache.proofs.answers.read.Given as goal
+
+abbrev pub invariant-loop-first : goal.invariant-loop-first
+invariant-loop-first g l = record {
+  within : l.first ≤ l.end;
+  inside : l.end ≤ l.client.port.geometry.block * l.client.port.geometry.origin_blocks;
+  geometry : l.client.port.geometry ≡ l.initial.client.port.geometry;
+}
+
+abbrev pub decreases-loop-first : goal.decreases-loop-first
+decreases-loop-first g l = l.end - l.first
