@@ -1,8 +1,7 @@
 //! Round and round: formatting, reading, a change, an image and its commit, with a stop after any step.
 
-ghost use Rattle.std.specs.Prelude.{◌≡◌, Contains, IfOk, OnOk, length};
-ghost use Rattle.wb_types.specs.declared.number.Place.{Place as PlaceValue};
-ghost use Rattle.wb_tree.specs.Mapping.{AreInside, IsPlaceOf};
+ghost use Rattle.std.specs.Prelude.{◌≡◌, IfOk, OnOk, length};
+ghost use Rattle.wb_tree.specs.Mapping.{AreInside};
 ghost use Rattle.wb_meta.specs.Placing.{HavePlaces};
 
 use super::rounds::{change, entry_of, plan_at};
