@@ -2,4 +2,5 @@ pub mod States
 pub mod Noted
 pub mod Suffices
 pub mod Held
+pub mod Differing
 mod Listing

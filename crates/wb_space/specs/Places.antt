@@ -18,6 +18,21 @@ abbrev pub noted : List Place → List Bool → List Bool
 noted [] uses = uses
 noted (p ∷ ps) uses = noted ps (slice_set uses p.0 true)
 
+-- without the places of the first list
+abbrev pub without : List Bool → List Bool → List Bool
+without [] uses = uses
+without (l ∷ left) [] = []
+without (l ∷ left) (u ∷ uses) = (u && not l) ∷ without left uses
+
+-- the places in use, and whether a commit runs
+pub record PlacesNow : Type 0 where
+  pub in_use : PlacesInUse
+  pub committing : Bool
+
+-- the running image has other places
+abbrev pub with_running : PlacesNow → List Bool → PlacesNow
+with_running places running = record places { in_use = record places.in_use { running = running } }
+
 -- no image uses it
 abbrev pub is_free_place : PlacesInUse → ℕ → Bool
 is_free_place places at = not (get_or places.committed at false) && not (get_or places.running at false)
