@@ -3,4 +3,5 @@ pub mod Noted
 pub mod Suffices
 pub mod Held
 pub mod Differing
+pub mod Changing
 mod Listing

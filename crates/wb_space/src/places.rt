@@ -1,10 +1,10 @@
 //! Which metadata places the images use.
 
-ghost use Rattle.std.specs.Prelude.{◌≡◌, ◌<◌, ◌≤◌, ◌+◌, ◌*◌, ◌^◌, ℕ, List, length, map, take, true, false, IfOk, slice_set, get_or};
+ghost use Rattle.std.specs.Prelude.{◌≡◌, ◌<◌, ◌≤◌, ◌+◌, ◌*◌, ◌^◌, ℕ, List, [], ◌∷◌, length, map, take, true, false, IfOk, slice_set, get_or};
 ghost use Rattle.std.specs.List.{position};
 ghost use Rattle.std.specs.Option.{IfSome};
 ghost use Rattle.std.specs.Bool.{OnTrue, OnFalse};
-ghost use Rattle.wb_space.specs.Places.{unused, noted, without, with_running, is_free_place, free_places, place, AreUsedFrom};
+ghost use Rattle.wb_space.specs.Places.{unused, noted, noted_known, without, with_running, is_free_place, free_places, place, AreUsedFrom};
 
 use std::alloc::{AllocError, Global};
 use std::marker::Model;
@@ -220,6 +220,23 @@ pub fn free_places_suffice()
         }))
         + length committed + length running }
 {}
+
+/// These places left too, where one is told; those from the bound of the set on are passed over.
+pub fn leave(left: &mut BitSet, places: &[Option<Place>])
+    ensures { left.new ≡ noted_known places.now left.old }
+{
+    for place in places {
+        leave_one(left, *place);
+    }
+}
+
+fn leave_one(left: &mut BitSet, place: Option<Place>)
+    ensures { left.new ≡ noted_known (place ∷ []) left.old }
+{
+    if let Some(place) = place {
+        note_one(left, place);
+    }
+}
 
 /// The set of these places below a bound.
 fn set_of(alloc: Global, bound: usize, used: &[Place]) -> Result<BitSet, AllocError>
