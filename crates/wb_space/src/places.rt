@@ -4,7 +4,7 @@ ghost use Rattle.std.specs.Prelude.{◌≡◌, ◌<◌, ◌≤◌, ◌+◌, ◌*
 ghost use Rattle.std.specs.List.{position};
 ghost use Rattle.std.specs.Option.{IfSome};
 ghost use Rattle.std.specs.Bool.{OnTrue, OnFalse};
-ghost use Rattle.wb_space.specs.Places.{unused, noted, noted_known, without, with_running, is_free_place, free_places, place, AreUsedFrom};
+ghost use Rattle.wb_space.specs.Places.{unused, noted, noted_known, cleared, without, with_running, is_free_place, free_places, place, AreUsedFrom};
 
 use std::alloc::{AllocError, Global};
 use std::marker::Model;
@@ -221,16 +221,43 @@ pub fn free_places_suffice()
         + length committed + length running }
 {}
 
-/// These places left too, where one is told; those from the bound of the set on are passed over.
-pub fn leave(left: &mut BitSet, places: &[Option<Place>])
-    ensures { left.new ≡ noted_known places.now left.old }
+/// The set of the places below a bound that are used, but for those where something is known to stand.
+pub fn left_of(
+    alloc: Global,
+    bound: usize,
+    used: &[Place],
+    known: &[Place],
+) -> Result<BitSet, AllocError>
+    requires { bound < 2 ^ 32 }
+    ensures { IfOk result (λ left. left ≡ cleared known.now (noted used.now (unused bound))) }
 {
-    for place in places {
-        leave_one(left, *place);
+    let mut left = set_of(alloc, bound, used)?;
+    for place in known {
+        clear_one(&mut left, *place);
+    }
+    Ok(left)
+}
+
+fn clear_one(uses: &mut BitSet, place: Place)
+    ensures { uses.new ≡ slice_set uses.old place.0 false }
+{
+    let Place(at) = place;
+    let at = at as usize;
+    if at < uses.size() {
+        uses.remove(at);
     }
 }
 
-fn leave_one(left: &mut BitSet, place: Option<Place>)
+/// These places left too, where one is told; those from the bound of the set on are passed over.
+pub fn note_left(left: &mut BitSet, places: &[Option<Place>])
+    ensures { left.new ≡ noted_known places.now left.old }
+{
+    for place in places {
+        note_one_left(left, *place);
+    }
+}
+
+fn note_one_left(left: &mut BitSet, place: Option<Place>)
     ensures { left.new ≡ noted_known (place ∷ []) left.old }
 {
     if let Some(place) = place {

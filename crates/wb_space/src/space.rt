@@ -53,8 +53,7 @@ impl Space {
         }) }
         ensures err { IfErr result (λ refusal. refusal ≡ Refusal.Memory) }
     {
-        let sizes = *geometry;
-        let places = 2 + 2 * sizes.node_count() as usize;
+        let places = place_count(geometry);
         Ok(Space {
             blocks: Blocks::new(alloc, mapped)?,
             places: Places::new(alloc, places, used)?,
@@ -66,14 +65,6 @@ impl Space {
         ensures { result ≡ length self.now.blocks }
     {
         self.blocks.count()
-    }
-
-    /// How many metadata places it keeps track of: the two slots, and twice the nodes of a full mapping.
-    pub fn place_count(&self) -> usize
-        ensures count { result ≡ length self.now.places.committed }
-        ensures small { result < 2 ^ 32 }
-    {
-        self.places.count()
     }
 
     /// Whether a commit runs: one that has commit_begun and has not commit_ended.
@@ -210,4 +201,13 @@ impl Space {
         let places = self.places.free(alloc, n)?;
         Ok(places)
     }
+}
+
+/// How many metadata places can ever be handed out: the two slots, and twice the nodes of a full mapping.
+pub fn place_count(geometry: &Geometry) -> usize
+    ensures count { result ≡ place_count geometry.now.cache_blocks }
+    ensures small { result < 2 ^ 32 }
+{
+    let sizes = *geometry;
+    2 + 2 * sizes.node_count() as usize
 }
