@@ -6,7 +6,7 @@ use Rattle.std.proofs.Math.ListN.{get_or-map}
 use Rattle.wb_types.specs.declared.entry.Entry.{Entry}
 use Rattle.wb_types.specs.declared.number.CBlock.{CBlock}
 use Rattle.wb_types.specs.declared.number.Place.{Place}
-use Rattle.wb_tree.specs.Mapping.{Mapping, IsMapping, IsSound, AreInside}
+use Rattle.wb_tree.specs.Mapping.{Mapping, IsMapping, IsSound, AreInside, used_places}
 use Rattle.wb_tree.specs.Edits.{IsEdited}
 use Rattle.wb_tree.specs.Images.{AreFree, IsImage}
 use Rattle.wb_tree.specs.declared.image.Image.{Image}
@@ -182,7 +182,7 @@ module _ {P : Type 0} (knows : P → Holdings → Type 0) where
       }) is
 
   pub begun_kept : (d : DeskState P) (tree : Mapping) (image : Image) → DeskInvariant knows d → MayBegin d → ImageFacts d.tree tree d.geometry.cache_blocks image
-      → IsMapping d.geometry.cache_blocks d.geometry.origin_blocks tree.entries → AreInside d.geometry.meta_sectors tree → DeskInvariant knows (commit_begun d tree image.used.items)
+      → IsMapping d.geometry.cache_blocks d.geometry.origin_blocks tree.entries → AreInside d.geometry.meta_sectors tree → DeskInvariant knows (commit_begun d tree)
   begun_kept d tree image i may is mapping inside = record {
     mapping = mapping;
     blocks = length-map d.space.blocks block_begun ∙ i.blocks;
@@ -192,8 +192,8 @@ module _ {P : Type 0} (knows : P → Holdings → Type 0) where
       room = i.places.room;
       inside = inside;
       committed = i.places.committed;
-      running = record { used = image.used.items; are = refl; many = refl; few = is.used_few };
-      known = λ p at. (is.used_are p).1 at;
+      running = record { used = used_places tree; are = refl; many = refl; few = is.used.few };
+      known = λ p at. (is.used.are p).1 at;
       idle = λ e. absurd cc;
     };
     next = λ e. may.next;
@@ -206,7 +206,7 @@ module _ {P : Type 0} (knows : P → Holdings → Type 0) where
 
   pub begun_parts : (d : DeskState P) (tree : Mapping) (image : Image) (cached : List (Option CBlock)) (mapped : ℕ) → AreParts knows d cached mapped → MayBegin d
       → ImageFacts d.tree tree d.geometry.cache_blocks image → IsMapping d.geometry.cache_blocks d.geometry.origin_blocks tree.entries
-      → AreInside d.geometry.meta_sectors tree → AreParts knows (commit_begun d tree image.used.items) cached mapped
+      → AreInside d.geometry.meta_sectors tree → AreParts knows (commit_begun d tree) cached mapped
   begun_parts d tree image cached mapped parts may is mapping inside = record {
     desk = begun_kept d tree image parts.desk may is mapping inside;
     index = subst (λ (m : Holdings). IsIndex d.geometry.origin_blocks m cached) (sym is.origins) parts.index;

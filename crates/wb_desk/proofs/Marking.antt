@@ -12,7 +12,7 @@ use Rattle.wb_types.specs.declared.number.Place.{Place}
 use Rattle.wb_format.specs.declared.node.Node.{Node}
 use Rattle.wb_tree.specs.Mapping.{Mapping, IsMapping, NodeName, IsSound, IsOnPath, IsPlaceOf, changed, changed_of, nodes_of, place_of}
 use Rattle.wb_tree.specs.Edits.{IsEdited}
-use Rattle.wb_tree.specs.Images.{IsImage, ImagePlan, name_of}
+use Rattle.wb_tree.specs.Images.{AreUsed, IsImage, ImagePlan, name_of}
 use Rattle.wb_tree.specs.declared.image.Image.{Image}
 use Rattle.wb_tree.proofs.Images.Changes.{few_changed}
 use Rattle.wb_tree.proofs.Stored.Edited.{edited-none, edited-more}
@@ -208,20 +208,17 @@ module _ (hint : ℕ → ℕ) (dirty : List Bool) (old : Mapping) (n : ℕ) (m :
 -- what an image leads to, whether it is clean or not
 pub record ImageFacts (old tree : Mapping) (cache_blocks : ℕ) (image : Image) : Type 0 where
   pub origins : origins tree.entries ≡ origins old.entries
-  pub used_are : (place : Place) → Contains image.used.items place ↔ IsPlaceOf tree place
-  pub used_few : length image.used.items ≤ node_count cache_blocks
+  pub used : AreUsed cache_blocks tree
 
 pub image_facts : (hint : ℕ → ℕ) (clean : Option (List Bool)) (old tree : Mapping) (n : ℕ) (plan : Mapping → ImagePlan) (image : Image) → ((m : Mapping) → (plan m).geometry.cache_blocks ≡ n)
     → OfImaged hint clean old (λ imaged. IsImage imaged tree (plan imaged) image) → ImageFacts old tree n image
 image_facts hint None old tree n plan image sizes is = record {
   origins = ap (λ (es : List (Option Entry)). origins es) is.same_entries;
-  used_are = is.used_are;
-  used_few = subst (λ (k : ℕ). length image.used.items ≤ node_count k) (sizes old) is.used_few;
+  used = subst (λ (k : ℕ). AreUsed k tree) (sizes old) is.used;
 }
 image_facts hint (Some dirty) old tree n plan image sizes is = record {
   origins = ap (λ (es : List (Option Entry)). origins es) (is.2.same_entries ∙ is.1.entries) ∙ origins-marked hint dirty old.entries;
-  used_are = is.2.used_are;
-  used_few = subst (λ (k : ℕ). length image.used.items ≤ node_count k) (sizes is.0) is.2.used_few;
+  used = subst (λ (k : ℕ). AreUsed k tree) (sizes is.0) is.2.used;
 }
 
 -- what follows of each tree that an image may be made of is so of the one that it is made of

@@ -139,8 +139,8 @@ module _ {P : Type 0} where
             (omega (arith, within, i.blocks, i.mapping.size, length-map d.tree.entries (option_map (λ x. x.origin.0)))) within safe.each);
         idle = still new (unmapped d cache new.tree new.policy) images does.3 safe.idle;
       }
-  call_safe knows d new (BeginCommit used) images i does safe = record {
-    each = with_blocks new (map block_begun d.space.blocks) (holdings d) (record { committed = images.committed; running = holdings d }) (blocks_of new (commit_begun d new.tree used) does.2)
+  call_safe knows d new BeginCommit images i does safe = record {
+    each = with_blocks new (map block_begun d.space.blocks) (holdings d) (record { committed = images.committed; running = holdings d }) (blocks_of new (commit_begun d new.tree) does.2)
         does.1 (begun_safe d.space.blocks (holdings d) images safe.each);
     idle = λ f. absurd (differs (sym (ap (λ (x : DeskState P). x.space.committing) does.2) ∙ f));
   }
@@ -217,8 +217,8 @@ module _ {P : Type 0} where
       stays_by _ _ d new (set d.space.blocks cache.0 (Quarantined keep false)) c (ap (λ (x : DeskState P). x.space.blocks) does.3)
       (set_stays _ _ d.space.blocks cache.0 (Quarantined keep false) c
       (mapped_leaves _ _ (state d.space.blocks cache.0) keep ((i.each cache.0 within).filled ∙ ap is_some entry.there)))
-  quarantine_stays knows d new (BeginCommit used) i does c = stays_by _ _ d new (map block_begun d.space.blocks) c (ap (λ (x : DeskState P). x.space.blocks) does.2)
-      (subst (λ (x : Block). StaysQuarantined (Unit {0}) (ends (BeginCommit used)) (state d.space.blocks c) x) (sym (get_or-map block_begun d.space.blocks c Free)) (stays_begun (Unit {0}) (ends (BeginCommit used)) (state d.space.blocks c) tt))
+  quarantine_stays knows d new BeginCommit i does c = stays_by _ _ d new (map block_begun d.space.blocks) c (ap (λ (x : DeskState P). x.space.blocks) does.2)
+      (subst (λ (x : Block). StaysQuarantined (Unit {0}) (ends BeginCommit) (state d.space.blocks c) x) (sym (get_or-map block_begun d.space.blocks c Free)) (stays_begun (Unit {0}) (ends BeginCommit) (state d.space.blocks c) tt))
   quarantine_stays knows d new EndCommit i does c = stays_by _ _ d new (map block_ended d.space.blocks) c (ap (λ (x : DeskState P). x.space.blocks) does.1)
       (subst (λ (x : Block). StaysQuarantined ⊥ (EndCommit ≡ EndCommit) (state d.space.blocks c) x) (sym (get_or-map block_ended d.space.blocks c Free)) (stays_ended ⊥ (EndCommit ≡ EndCommit) (state d.space.blocks c) refl))
 

@@ -66,7 +66,7 @@ acts_of a d (GiveOrder c order waits) new = Give (spoken_of c.0 order (sectors_a
 acts_of a d (Release c) new = Over (rank_in a.orders c.0) ∷ []
 acts_of a d (Map b c) new = MapBlock b.0 c.0 ∷ Over (rank_in a.orders c.0) ∷ []
 acts_of a d (Unmap b c) new = acts_removing (order_at d.orders.slots c.0) c.0 (rank_in a.orders c.0)
-acts_of a d (BeginCommit used) new = Begin ∷ []
+acts_of a d BeginCommit new = Begin ∷ []
 acts_of a d EndCommit new = End ∷ []
 
 -- what these calls are, one after the other

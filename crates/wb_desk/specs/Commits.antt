@@ -3,7 +3,7 @@ use Rattle.std.specs.Prelude.{◌≡◌, ◌<◌, ◌+◌, ◌^◌, Bool, true, 
 use Rattle.wb_types.specs.declared.number.Place.{Place}
 use Rattle.wb_types.specs.declared.refusal.Refusal.{Refusal}
 use Rattle.wb_types.specs.declared.refusal.Refusal.TheVariants.{Busy, Memory, GenerationEnd}
-use Rattle.wb_tree.specs.Mapping.{Mapping}
+use Rattle.wb_tree.specs.Mapping.{Mapping, used_places}
 use Rattle.wb_tree.specs.Images.{ImagePlan}
 use Rattle.wb_tree.specs.declared.image.Image.{Image}
 use Rattle.wb_space.specs.Blocks.{commit_begun as block_begun, commit_ended as block_ended}
@@ -34,16 +34,16 @@ next_plan d imaged clean = record {
   free = places_for imaged d.geometry d.space.places;
 }
 
--- A commit begins, whose image leads to this tree and uses these places: what is quarantined was removed before.
-abbrev pub commit_begun : {P : Type 0} → DeskState P → Mapping → List Place → DeskState P
-commit_begun d tree used = record d {
+-- A commit begins, whose image leads to this tree and uses its places: what is quarantined was removed before.
+abbrev pub commit_begun : {P : Type 0} → DeskState P → Mapping → DeskState P
+commit_begun d tree = record d {
   tree = tree;
   space = record {
     blocks = map block_begun d.space.blocks;
-    places = record d.space.places { running = noted used (unused (place_count d.geometry.cache_blocks)) };
+    places = record d.space.places { running = noted (used_places tree) (unused (place_count d.geometry.cache_blocks)) };
     committing = true;
   };
-  coming = length used;
+  coming = length (used_places tree);
 }
 
 -- The image leads from the one tree to the other on places that the committed image does not use, whatever list of its

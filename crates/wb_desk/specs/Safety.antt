@@ -42,7 +42,7 @@ pub data Call : Type 0 where
   Release : (cache : CBlock) → Call
   Map : (block : OBlock) (cache : CBlock) → Call
   Unmap : (block : OBlock) (cache : CBlock) → Call
-  BeginCommit : (used : List Place) → Call
+  BeginCommit : Call
   EndCommit : Call
 
 -- A call may be made of a desk, and makes this one of it: as the contracts of the calls say.
@@ -53,7 +53,7 @@ Does d (GiveOrder cache order waits) new = MayReserve d cache order × (new ≡ 
 Does d (Release cache) new = IsTaken (order_at d.orders.slots cache.0) × (new ≡ released d cache)
 Does d (Map b cache) new = MayMap d b cache × (new.tree.entries ≡ slice_set d.tree.entries cache.0 (Some (entry_of b))) × (new ≡ mapped d cache new.tree new.policy)
 Does d (Unmap b cache) new = IsMappedAt (holdings d) b.0 cache.0 × IsRemoved (order_at d.orders.slots cache.0) × (new.tree.entries ≡ slice_set d.tree.entries cache.0 None) × (new ≡ unmapped d cache new.tree new.policy)
-Does d (BeginCommit used) new = MayBegin d × (holdings new ≡ holdings d) × (new ≡ commit_begun d new.tree used)
+Does d BeginCommit new = MayBegin d × (holdings new ≡ holdings d) × (new ≡ commit_begun d new.tree)
 Does d EndCommit new = (d.space.committing ≡ true) × (new ≡ commit_ended d)
 
 -- A commit that begins has the entries of now in its image; one that ends leaves its image alone.
@@ -64,7 +64,7 @@ images_after d images (GiveOrder cache order waits) = images
 images_after d images (Release cache) = images
 images_after d images (Map b cache) = images
 images_after d images (Unmap b cache) = images
-images_after d images (BeginCommit used) = record { committed = images.committed; running = holdings d }
+images_after d images BeginCommit = record { committed = images.committed; running = holdings d }
 images_after d images EndCommit = record { committed = images.running; running = images.running }
 
 -- calls, each with the desk that it made, one after the other
@@ -90,7 +90,7 @@ IsDecision (GiveOrder cache order waits) = waits ≡ true
 IsDecision (Release cache) = ⊥
 IsDecision (Map b cache) = ⊥
 IsDecision (Unmap b cache) = ⊥
-IsDecision (BeginCommit used) = ⊥
+IsDecision BeginCommit = ⊥
 IsDecision EndCommit = ⊥
 
 abbrev pub AreDecisions : {P : Type 0} → List (Call × DeskState P) → Type 0
@@ -121,7 +121,7 @@ IsBeginning (GiveOrder cache order waits) = ⊥
 IsBeginning (Release cache) = ⊥
 IsBeginning (Map b cache) = ⊥
 IsBeginning (Unmap b cache) = ⊥
-IsBeginning (BeginCommit used) = Unit {0}
+IsBeginning BeginCommit = Unit {0}
 IsBeginning EndCommit = ⊥
 
 abbrev pub QuarantineStays : (P : Type 0) → (P → Holdings → Type 0) → Type 0
@@ -131,8 +131,8 @@ QuarantineStays P knows = (d new : DeskState P) (call : Call) → DeskInvariant 
 -- What the contracts of the calls say is that they do so.
 abbrev pub BeginningDoes : (P : Type 0) → (P → ℕ → ℕ) → Type 0
 BeginningDoes P hint_of = (d new : DeskState P) (clean : Option (List Bool)) (image : Image) → MayBegin d
-    → OfImaged (hint_of d.policy) clean d.tree (λ imaged. IsImage imaged new.tree (next_plan d imaged (is_some clean)) image) → new ≡ commit_begun d new.tree image.used.items
-    → Does d (BeginCommit image.used.items) new
+    → OfImaged (hint_of d.policy) clean d.tree (λ imaged. IsImage imaged new.tree (next_plan d imaged (is_some clean)) image) → new ≡ commit_begun d new.tree
+    → Does d BeginCommit new
 
 abbrev pub MappingDoes : (P : Type 0) → (P → ℕ → ℕ → P) → Type 0
 MappingDoes P with_entry = (d new : DeskState P) (b : OBlock) (c : CBlock) → MayMap d b c → HasEntered with_entry d b c new → Does d (Map b c) new

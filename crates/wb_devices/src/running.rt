@@ -44,7 +44,7 @@ impl RunningCommit {
         ensures generation { IfOk result (λ commit. commit.image.root.generation < 2 ^ 64) }
         ensures refused { IfErr result (λ refusal. (refusal ≡ NoNextGeneration) × (root.now.generation + 1 ≡ 2 ^ 64)) }
     {
-        let image = opening_image(global, root, Vec::new(global))?;
+        let image = opening_image(global, root)?;
         let _two_slots = image.root.geometry.node_count();
         let _spelled = image.root.generation;
         Ok(RunningCommit {

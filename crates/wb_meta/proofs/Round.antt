@@ -8,7 +8,7 @@ use Rattle.wb_types.specs.declared.number.Place.{Place}
 use Rattle.wb_disk.specs.Device.{Content, History, newest}
 use Rattle.wb_format.specs.declared.root.Root.{Root}
 use Rattle.wb_tree.specs.declared.placed.PlacedNode.{PlacedNode}
-use Rattle.wb_tree.specs.Mapping.{Mapping, IsSound, IsPlaceOf, AreInside, empty_mapping}
+use Rattle.wb_tree.specs.Mapping.{Mapping, IsSound, IsPlaceOf, AreInside, empty_mapping, used_places}
 use Rattle.wb_tree.specs.Images.{AreFree, ImagePlan, Stores}
 use Rattle.wb_tree.specs.declared.image.Image.{Image}
 use Rattle.wb_tree.specs.Reading.{Found, is_reached, nothing_found}
@@ -175,7 +175,7 @@ next_planned m n plan image device old used stores planned follows = record {
 }
 
 pub stored_committed : (m n : Mapping) (plan : ImagePlan) (image : Image) (before now : List History) (old : Stored) → IsNextImage m n plan image before old → length now ≡ length before
-    → AfterEveryCrash (λ sectors. RepresentsTree sectors image.root n) now → DeviceStores n now (record { root = image.root; found = found_of image.root n }) image.used.items
+    → AfterEveryCrash (λ sectors. RepresentsTree sectors image.root n) now → DeviceStores n now (record { root = image.root; found = found_of image.root n }) (used_places n)
 stored_committed m n plan image before now old next same stands =
     let geometry : image.root.geometry ≡ plan.geometry = next.image_is.root_geometry in
     let inside : AreInside image.root.geometry.meta_sectors n = subst (λ (g : Geometry). AreInside g.meta_sectors n) (sym geometry) next.inside in
@@ -185,8 +185,8 @@ stored_committed m n plan image before now old next same stands =
       size = same ∙ (next.size ∙ ap (λ (g : Geometry). g.meta_sectors) (sym geometry));
       represents = λ sectors left. (stands sectors left).represents;
       stores = λ sectors left. (stands sectors left).stores;
-      reached_used = λ place h. (next.image_is.used_are place).1 (place_of-reached image.root n place h);
-      known_used = λ place known. (next.image_is.used_are place).1 known;
-      used_inside = λ place has. inside place ((next.image_is.used_are place).0 has);
-      used_few = subst (λ (g : Geometry). length image.used.items ≤ node_count g.cache_blocks) (sym geometry) next.image_is.used_few;
+      reached_used = λ place h. (next.image_is.used.are place).1 (place_of-reached image.root n place h);
+      known_used = λ place known. (next.image_is.used.are place).1 known;
+      used_inside = λ place has. inside place ((next.image_is.used.are place).0 has);
+      used_few = subst (λ (g : Geometry). length (used_places n) ≤ node_count g.cache_blocks) (sym geometry) next.image_is.used.few;
     }

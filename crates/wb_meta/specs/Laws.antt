@@ -7,7 +7,7 @@ use Rattle.wb_disk.specs.Device.{Content, History, newest}
 use Rattle.wb_disk.specs.Crashes.{MayLeave, AfterEveryCrash}
 use Rattle.wb_format.specs.declared.root.Root.{Root}
 use Rattle.wb_tree.specs.declared.image.Image.{Image}
-use Rattle.wb_tree.specs.Mapping.{Mapping, IsSound, empty_mapping}
+use Rattle.wb_tree.specs.Mapping.{Mapping, IsSound, empty_mapping, used_places}
 use Rattle.wb_tree.specs.Edits.{IsEdited}
 use Rattle.wb_tree.specs.Images.{AreFree, ImagePlan, IsImage}
 use Rattle.wb_tree.specs.Reading.{Found, Reading, Nodes, AreNodes, IsNewestRoot, nothing_found, tree_read}
@@ -159,7 +159,7 @@ PlannedIsNext = (m n : Mapping) (plan : ImagePlan) (image : Image) (device : Lis
 abbrev pub CommittedStores : Type 0
 CommittedStores = (m n : Mapping) (plan : ImagePlan) (image : Image) (before now : List History) (old : Stored) → IsNextImage m n plan image before old
     → length now ≡ length before → AfterEveryCrash (λ sectors. RepresentsTree sectors image.root n) now
-    → DeviceStores n now (record { root = image.root; found = found_of image.root n }) image.used.items
+    → DeviceStores n now (record { root = image.root; found = found_of image.root n }) (used_places n)
 
 -- ---- openings
 

@@ -7,15 +7,14 @@ ghost use Rattle.wb_meta.specs.Openings.{IsOpening};
 use crate::Image;
 use std::alloc::Global;
 use wb_format::Root;
-use wb_types::{Place, Refusal};
+use wb_types::Refusal;
 
 /// The image that an opening commits: a root of the next generation, not clean, over the same tree, and no node, whatever
-/// nodes the tree has. The places of the tree's nodes stay used. `GenerationEnd` where there is no next generation.
+/// nodes the tree has. `GenerationEnd` where there is no next generation.
 ///
 /// It takes no memory, and `CommitSteps::root_alone` begins its commit at the root.
-pub fn opening_image(global: Global, root: &Root, used: Vec<Place>) -> Result<Image, Refusal>
+pub fn opening_image(global: Global, root: &Root) -> Result<Image, Refusal>
     ensures image { IfOk result (λ image. IsOpening image root.now) }
-    ensures used { IfOk result (λ image. image.used.items ≡ used.items) }
     ensures refused { IfErr result (λ refusal. (refusal ≡ NoNextGeneration) × (root.now.generation + 1 ≡ 2 ^ 64)) }
 {
     let Some(generation) = root.generation.checked_add(1) else {
@@ -31,6 +30,5 @@ pub fn opening_image(global: Global, root: &Root, used: Vec<Place>) -> Result<Im
     Ok(Image {
         root,
         nodes: Vec::new(global),
-        used,
     })
 }

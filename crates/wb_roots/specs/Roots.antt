@@ -6,7 +6,7 @@ use Rattle.wb_types.specs.declared.number.Place.{Place}
 use Rattle.wb_disk.specs.Device.{Content, History, newest}
 use Rattle.wb_disk.specs.Crashes.{MayLeave, AfterEveryCrash}
 use Rattle.wb_tree.specs.declared.image.Image.{Image}
-use Rattle.wb_tree.specs.Mapping.{Mapping}
+use Rattle.wb_tree.specs.Mapping.{Mapping, used_places}
 use Rattle.wb_tree.specs.Whole.{found_of}
 use Rattle.wb_meta.specs.Representing.{Represents, Stored}
 use Rattle.wb_meta.specs.Placing.{HavePlaces, MayCommit}
@@ -63,7 +63,7 @@ commit_of image n old device = record {
   old = old;
   new = record { root = image.root; found = found_of image.root n };
   tree = n;
-  used = image.used.items;
+  used = used_places n;
   image = image;
   before = device;
 }

@@ -1,10 +1,11 @@
 -- Where a desk may begin a commit there is an image to begin it with: the tree has no node, and the image none to write.
-use Rattle.std.proofs.Common.{Global, ◌≡◌, ◌∙◌, ◌≤◌, ◌+◌, inl, inr, ℕ, zero, suc, false, List, [], Option, Some, None, refl, sym, ap, subst, arith, length, slice_index_or, replicate}
-use Rattle.std.proofs.lemmas.List.{length-replicate}
+use Rattle.std.proofs.Common.{Global, ◌≡◌, ◌∙◌, ◌≤◌, ◌+◌, inl, inr, ℕ, zero, suc, false, List, [], ◌∷◌, Option, Some, None, refl, sym, ap, subst, arith, length, map, slice_index_or, slice_get, replicate}
+use Rattle.std.proofs.lemmas.List.{length-map, length-replicate}
 use Rattle.std.proofs.lemmas.List.Elements.{All-nil}
 use Rattle.wb_types.specs.declared.entry.Entry.{Entry}
 use Rattle.wb_types.specs.declared.geometry.Geometry.{Geometry}
 use Rattle.wb_types.specs.declared.number.Place.{Place}
+use Rattle.wb_types.proofs.Truth.{yes}
 use Rattle.wb_disk.specs.Device.{History}
 use Rattle.wb_format.specs.declared.root.Root.{Root}
 use Rattle.wb_format.specs.declared.version.Version.TheVariants.{One}
@@ -12,8 +13,9 @@ use Rattle.wb_format.specs.Sizes.{IsTop}
 use Rattle.wb_meta.specs.Placing.{HavePlaces}
 use Rattle.wb_space.specs.Places.{noted, unused, place_count}
 use Rattle.wb_tree.specs.declared.image.Image.{Image}
-use Rattle.wb_tree.specs.Mapping.{Mapping, IsMapping, IsSound, IsPlaceOf, AreInside, place_of}
-use Rattle.wb_tree.specs.Images.{ImagePlan, IsImage, levels_of}
+use Rattle.wb_tree.specs.declared.placed.PlacedNode.{PlacedNode}
+use Rattle.wb_tree.specs.Mapping.{Mapping, IsMapping, IsSound, place_in, place_of, used_places}
+use Rattle.wb_tree.specs.Images.{AreUsed, ImagePlan, IsImage, levels_of}
 use Rattle.wb_meta.specs.declared.commit_steps.CommitSteps.TheVariants.{NodesWritten}
 use Rattle.wb_types.specs.Limits.{node_count}
 use Rattle.wb_desk.specs.InUse.{AreFlagged}
@@ -39,6 +41,18 @@ no_place : (g : Geometry) (m : Mapping) → m.entries ≡ no_entries g → IsSou
 no_place g m e sound level index place h = absurd (let there = sound.known_exist level index place h in
     let none = subst (λ (es : List (Option Entry)). Rattle.wb_tree.specs.Mapping.exists es level index ≡ false) (sym e) (nothing_exists g.cache_blocks level index) in cc)
 
+-- nor a used place
+none_used : (m : Mapping) (known : List PlacedNode) → m.known ≡ known → (cache_blocks : ℕ) → ((level index : ℕ) (place : Place) → place_of m level index ≡ Some place → ⊥) → AreUsed cache_blocks m
+none_used m [] same cache_blocks none = record {
+  are = λ place. ((λ has. absurd (let e = ap (λ (ks : List PlacedNode). length ks) same in omega (arith, has.1, length-map m.known (λ (n : PlacedNode). n.place), e))), (λ at. absurd (none at.level at.index place at.known)));
+  few = omega (arith, length-map m.known (λ (n : PlacedNode). n.place), ap (λ (ks : List PlacedNode). length ks) same);
+  once = λ i j place f h. absurd (let e : used_places m ≡ [] = ap (λ (ks : List PlacedNode). map (λ (n : PlacedNode). n.place) ks) same in
+      let g : slice_get (used_places m) i ≡ None = ap (λ (ps : List Place). slice_get ps i) e in cc);
+}
+none_used m (node ∷ known) same cache_blocks none =
+    let here : place_in (node ∷ known) node.level node.index ≡ Some node.place = rw (yes node.level, yes node.index) refl in
+    absurd (none node.level node.index node.place (ap (λ (ks : List PlacedNode). place_in ks node.level node.index) same ∙ here))
+
 pub no_top : (sectors : ℕ) → IsTop sectors None
 no_top sectors p e = absurd (cc)
 
@@ -54,7 +68,6 @@ module _ (heap : Global) where
   bare_image root = record {
     root = root;
     nodes = record { ptr = null_ptr; len = 0; cap = 0; alloc = heap; items = []; ok = (refl, omega arith); small = omega arith };
-    used = record { ptr = null_ptr; len = 0; cap = 0; alloc = heap; items = []; ok = (refl, omega arith); small = omega arith };
   }
 
   abbrev pub bare_commit : Geometry → ℕ → RunningCommit
@@ -74,9 +87,9 @@ module _ (heap : Global) where
     stands = All-nil _;
     generations = All-nil _;
     words = All-nil _;
-    used_are = λ place. ((λ c. absurd (omega (arith, c.1))), (λ at. absurd (no_place g m e sound at.level at.index place at.known)));
-    used_few = omega arith;
-    used_once = λ i j place f h. absurd (cc);
+    used = none_used m m.known refl plan.geometry.cache_blocks (no_place g m e sound);
+    comes = λ place at. inl at;
+    used_more = omega arith;
     root_generation = refl;
     root_version = refl;
     root_clean = sym unclean;

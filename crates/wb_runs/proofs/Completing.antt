@@ -131,7 +131,6 @@ module _ (A : Type 0) (heap : Global) (g : Geometry) (device : List History) (ba
     image = record {
       root = reopened root;
       nodes = record { ptr = null_ptr; len = 0; cap = 0; alloc = heap; items = []; ok = (refl, omega arith); small = omega arith };
-      used = record { ptr = null_ptr; len = 0; cap = 0; alloc = heap; items = []; ok = (refl, omega arith); small = omega arith };
     };
     steps = NodesSynced;
     placed = no_node root.geometry.meta_sectors (omega (arith, root.geometry.within.meta_from));

@@ -5,7 +5,7 @@ use Rattle.wb_types.specs.declared.geometry.Geometry.{Geometry}
 use Rattle.wb_types.specs.declared.mode.Mode.{Mode}
 use Rattle.wb_types.specs.declared.number.Place.{Place}
 use Rattle.wb_disk.specs.Device.{History, newest}
-use Rattle.wb_tree.specs.Mapping.{Mapping}
+use Rattle.wb_tree.specs.Mapping.{Mapping, used_places}
 use Rattle.wb_space.specs.Places.{noted, unused, place_count}
 use Rattle.wb_format.specs.declared.root.Root.{Root}
 use Rattle.wb_meta.specs.declared.read_steps.ReadSteps.{ReadSteps}
@@ -133,7 +133,7 @@ kept_readable P A g (Opens mode reading) commit device k = opening_readable A g 
 module _ (P : Type 0) (g : Geometry) (desk : DeskState P) (device : List History) where
   -- one begins over a device that stores the desk's tree
   pub begins_over : (commit : RunningCommit) (tree : Mapping) → AtDesk g desk None device → Quiet g desk device → commit.steps ≡ NodesWritten 0
-      → HasBegun desk commit.image (commit_begun desk tree commit.image.used.items) → AtDesk g (commit_begun desk tree commit.image.used.items) (Some commit) device
+      → HasBegun desk commit.image (commit_begun desk tree) → AtDesk g (commit_begun desk tree) (Some commit) device
   begins_over commit tree k q steps begun =
       let image = commit.image in
       let places = subst (λ (x : Geometry). desk.space.places.committed ≡ noted q.used (unused (place_count x.cache_blocks))) (sym k.geometry) q.places in
@@ -154,7 +154,7 @@ module _ (P : Type 0) (g : Geometry) (desk : DeskState P) (device : List History
             bare_new = entries;
           };
           tree = refl;
-          places = ap (λ (x : Geometry). noted image.used.items (unused (place_count x.cache_blocks))) k.geometry;
+          places = ap (λ (x : Geometry). noted (used_places tree) (unused (place_count x.cache_blocks))) k.geometry;
           generation = begun.image_is.root_generation;
           busy = refl;
         };

@@ -168,7 +168,7 @@ module _ (P A : Type 0) (shape : Shape) where
       K (phase_then shape phase (Desk (BeginCommit clean most)) got chosen) (commit_then phase commit (Desk (BeginCommit clean most)) got chosen) m
   begin_commit (Stands t) commit m clean most (Began nodes) (Commits c tree) k s = by_commit commit k
     where
-      by_commit : (commit : Option RunningCommit) → AtDesk shape.geometry t.desk commit m → AtDesk shape.geometry (Rattle.wb_desk.specs.Commits.commit_begun t.desk tree c.image.used.items) (Some c) m
+      by_commit : (commit : Option RunningCommit) → AtDesk shape.geometry t.desk commit m → AtDesk shape.geometry (Rattle.wb_desk.specs.Commits.commit_begun t.desk tree) (Some c) m
       by_commit (Some d) k = absurd (let a = k.stands.busy in let b = s.3.may.idle in cc)
       by_commit None k = elim k.stands [
         | inl q ↦ begins_over P shape.geometry t.desk m c tree k q s.2 s.3

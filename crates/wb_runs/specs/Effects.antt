@@ -109,7 +109,7 @@ commit_then phase old next got chosen = old
 -- ---- the target
 
 abbrev pub begun_desk : {P A : Type 0} → Chosen P A → DeskState P → DeskState P
-begun_desk (Commits commit tree) desk = commit_begun desk tree commit.image.used.items
+begun_desk (Commits commit tree) desk = commit_begun desk tree
 begun_desk chosen desk = desk
 
 abbrev pub desk_then : {P A : Type 0} → DeskState P → Want → Chosen P A → DeskState P

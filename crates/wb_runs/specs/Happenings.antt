@@ -193,7 +193,7 @@ DoesRead geometry left was device commit got chosen = ⊥
 -- A commit begins, of an image of the desk's tree, with at most so many nodes; or the desk refuses it.
 abbrev pub DoesBegin : {P A : Type 0} → ℕ → DeskState P → Got → Chosen P A → Type 0
 DoesBegin most desk (Began nodes) (Commits commit tree) = (nodes ≤ most) × (nodes ≡ length commit.image.nodes.items) × (commit.steps ≡ NodesWritten 0)
-    × HasBegun desk commit.image (commit_begun desk tree commit.image.used.items)
+    × HasBegun desk commit.image (commit_begun desk tree)
 DoesBegin most desk (GotRefused refusal) Plain = IsBeginRefused desk refusal
 DoesBegin most desk got chosen = ⊥
 

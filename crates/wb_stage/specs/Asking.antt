@@ -49,7 +49,7 @@ DidRelease held b d d' = IsGivenUp (order_of b held) d d'
 -- A commit of this image began.
 pub record HasBegun {P : Type 0} (d : DeskState P) (image : Image) (d' : DeskState P) : Type 0 where
   pub may : MayBegin d
-  pub state : d' ≡ commit_begun d d'.tree image.used.items
+  pub state : d' ≡ commit_begun d d'.tree
   pub image_is : IsImage d.tree d'.tree (next_plan d d.tree false) image
   pub unused : IsOnUnused d d.tree d'.tree false image
 

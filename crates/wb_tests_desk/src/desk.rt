@@ -126,7 +126,7 @@ enum Call {
     Begin,
     /// A commit begins, with these dirty bits where they are given: the image's generation, how many nodes it writes, where
     /// the top of its tree stands, and how many places it uses.
-    Image(Option<[bool; 4]>, (u64, usize, Option<Place>, usize)),
+    Image(Option<[bool; 4]>, (u64, usize, Option<Place>)),
     /// No commit begins, for this reason.
     Refused(Refusal),
     /// The running commit ends.

@@ -89,9 +89,7 @@ fn formatted(rt: &(impl Abort + AllocGlobal)) -> Result<(MemDisk, Image), Fail> 
     let leaf = Node::read(&sector_of(&LEAF)).ok_or("a leaf")?;
     let mut nodes = Vec::new(rt.alloc());
     nodes.push((Place(2), leaf))?;
-    let mut used = Vec::new(rt.alloc());
-    used.push(Place(2))?;
-    Ok((disk, Image { root, nodes, used }))
+    Ok((disk, Image { root, nodes }))
 }
 
 #[test]

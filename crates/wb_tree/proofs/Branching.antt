@@ -5,3 +5,4 @@ pub mod Looks
 pub mod Settled
 pub mod Filling
 pub mod Copied
+pub mod Known

@@ -8,3 +8,5 @@ pub mod Names
 pub mod Parts
 pub mod Placing
 pub mod Alike
+pub mod Above
+pub mod Few

@@ -117,3 +117,8 @@ pub record AreBoxes {A : Type 0} (cache_blocks depth : ℕ) (root : Option (Box 
   pub once : AreApart (known_in root)
   -- no entry lies past the last cache block
   pub ends : drop cache_blocks (entries_in (32 ^ depth) root) ≡ replicate (32 ^ depth - cache_blocks) None
+
+-- and of which so many nodes are known
+pub record IsTree {A : Type 0} (cache_blocks depth known : ℕ) (root : Option (Box Branch A)) : Type 0 where
+  pub boxes : AreBoxes cache_blocks depth root
+  pub many : known ≡ length (known_in root)

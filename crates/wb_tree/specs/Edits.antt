@@ -1,8 +1,8 @@
 -- What edits of a tree leave of it.
-use Rattle.std.specs.Prelude.{◌≡◌, ◌≤◌, ◌<◌, ℕ, Option, Some, None, List, slice_index_or, slice_set}
+use Rattle.std.specs.Prelude.{◌≡◌, ◌↔◌, ◌≤◌, ◌<◌, ℕ, Option, Some, None, List, slice_index_or, slice_set, Contains}
 use Rattle.wb_types.specs.declared.entry.Entry.{Entry}
 use Rattle.wb_types.specs.declared.number.Place.{Place}
-use Rattle.wb_tree.specs.Mapping.{Mapping, IsMapping, IsSound, IsPlaceOf, IsOnPath, Forgets, place_of}
+use Rattle.wb_tree.specs.Mapping.{Mapping, IsMapping, IsSound, IsPlaceOf, IsOnPath, Forgets, place_of, places_above}
 use Rattle.wb_tree.specs.Images.{Stores, word_at}
 
 -- Edits of one entry each, one after the other and any number of them, lead from the one tree to the other: a node that
@@ -46,6 +46,12 @@ EditsAreStored = (old new : Mapping) (sectors : List (List ℕ)) (generation : �
 -- after edits nodes stand at no place at which none stood
 abbrev pub EditsTakeNoPlace : Type 0
 EditsTakeNoPlace = (old new : Mapping) (place : Place) → IsEdited old new → IsPlaceOf new place → IsPlaceOf old place
+
+-- after a change of the entry of a cache block nodes stand where they stood, but for those above it
+abbrev pub LeavesAbove : Type 0
+LeavesAbove = (old new : Mapping) (block : ℕ) → IsSound old → Forgets old new block
+    → ((level index : ℕ) → (IsOnPath block level index → ⊥) → place_of new level index ≡ place_of old level index)
+    → (place : Place) → IsPlaceOf new place ↔ (IsPlaceOf old place × (Contains (places_above old block) (Some place) → ⊥))
 
 -- a mapping with one entry more, which may come in there, is one
 abbrev pub SetIsMapping : Type 0

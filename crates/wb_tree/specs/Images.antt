@@ -1,5 +1,5 @@
 -- What an image of a tree is, and how sectors of a device store what is known of a tree.
-use Rattle.std.specs.Prelude.{◌≡◌, ◌↔◌, ◌≤◌, ◌<◌, ◌+◌, ◌*◌, ℕ, zero, suc, Bool, Option, Some, None, All, List, [], length, map, take, slice_get, slice_index, Contains}
+use Rattle.std.specs.Prelude.{◌≡◌, ◌↔◌, ◌⊎◌, ◌≤◌, ◌<◌, ◌+◌, ◌*◌, ℕ, zero, suc, Bool, Option, Some, None, All, List, [], length, map, take, slice_get, slice_index, Contains}
 use Rattle.wb_types.specs.declared.number.Place.{Place}
 use Rattle.wb_types.specs.declared.geometry.Geometry.{Geometry}
 use Rattle.wb_types.specs.Limits.{depth_of, node_count}
@@ -8,7 +8,7 @@ use Rattle.wb_format.specs.declared.version.Version.TheVariants.{One}
 use Rattle.wb_format.specs.Layout.{SpellsNode}
 use Rattle.wb_format.specs.NodeWords.{entry_word}
 use Rattle.wb_tree.specs.declared.image.Image.{Image}
-use Rattle.wb_tree.specs.Mapping.{Mapping, NodeName, IsPlaceOf, entry_at, place_of, changed}
+use Rattle.wb_tree.specs.Mapping.{Mapping, NodeName, IsPlaceOf, entry_at, place_of, used_places, changed}
 use Rattle.wb_tree.specs.Reading.{Nodes}
 
 -- the number of a place that a word holds, 0 for none
@@ -38,6 +38,13 @@ pub record AreFree (m : Mapping) (geometry : Geometry) (free : List Place) : Typ
   pub apart : (i j : ℕ) (place : Place) → slice_get free i ≡ Some place → slice_get free j ≡ Some place → i ≡ j
   pub unused : (i : ℕ) (place : Place) → slice_get free i ≡ Some place → IsPlaceOf m place → ⊥
 
+-- The used places of a tree of so many cache blocks are those of its known nodes, each once, and as many at most as it can
+-- have nodes.
+pub record AreUsed (cache_blocks : ℕ) (m : Mapping) : Type 0 where
+  pub are : (place : Place) → Contains (used_places m) place ↔ IsPlaceOf m place
+  pub few : length (used_places m) ≤ node_count cache_blocks
+  pub once : (i j : ℕ) (place : Place) → slice_get (used_places m) i ≡ Some place → slice_get (used_places m) j ≡ Some place → i ≡ j
+
 -- What an image is asked for with: the sizes, the generation and the clean flag of its root, and the free places.
 pub record ImagePlan : Type 0 where
   pub geometry : Geometry
@@ -63,9 +70,10 @@ pub record IsImage (m n : Mapping) (plan : ImagePlan) (image : Image) : Type 0 w
   pub generations : All (λ node. node.1.generation ≡ plan.generation) image.nodes.items
   pub words : All (λ node. HasWordsOf n node.1) image.nodes.items
   -- the used places are those of all nodes, each once, and as many at most as a tree of this size can have nodes
-  pub used_are : (place : Place) → Contains image.used.items place ↔ IsPlaceOf n place
-  pub used_few : length image.used.items ≤ node_count plan.geometry.cache_blocks
-  pub used_once : (i j : ℕ) (place : Place) → slice_get image.used.items i ≡ Some place → slice_get image.used.items j ≡ Some place → i ≡ j
+  pub used : AreUsed plan.geometry.cache_blocks n
+  -- a node that was not known before is one of those that are written
+  pub comes : (place : Place) → IsPlaceOf n place → IsPlaceOf m place ⊎ Contains (map (λ node. node.0) image.nodes.items) place
+  pub used_more : length (used_places n) ≡ length (used_places m) + length image.nodes.items
   pub root_generation : image.root.generation ≡ plan.generation
   pub root_version : image.root.version ≡ One
   pub root_clean : image.root.clean ≡ plan.clean

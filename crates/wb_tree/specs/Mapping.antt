@@ -1,6 +1,6 @@
 -- What a tree is to its callers, whatever holds it: the entries of the cache blocks, and which nodes are known to
 -- stand where. A node that is not known was changed since the last image.
-use Rattle.std.specs.Prelude.{◌≡◌, ◌≤◌, ◌<◌, ◌+◌, ◌*◌, ◌/◌, ◌^◌, ◌&&◌, ◌==◌, ℕ, zero, suc, Bool, true, if◌then◌else◌, Option, Some, None, IsSome, is_some, List, [], ◌∷◌, ◌++◌, length, take, drop, replicate, slice_index_or}
+use Rattle.std.specs.Prelude.{◌≡◌, ◌≤◌, ◌<◌, ◌+◌, ◌*◌, ◌/◌, ◌^◌, ◌&&◌, ◌==◌, ℕ, zero, suc, Bool, true, if◌then◌else◌, Option, Some, None, IsSome, is_some, List, [], ◌∷◌, ◌++◌, length, map, take, drop, replicate, slice_index_or}
 use Rattle.std.specs.List.{list_any}
 use Rattle.wb_types.specs.declared.entry.Entry.{Entry}
 use Rattle.wb_types.specs.declared.number.Place.{Place}
@@ -26,6 +26,15 @@ place_in (node ∷ nodes) level index = if (node.level == level) && (node.index 
 
 abbrev pub place_of : Mapping → ℕ → ℕ → Option Place
 place_of m level index = place_in m.known level index
+
+-- the places at which the known nodes of a tree stand
+abbrev pub used_places : Mapping → List Place
+used_places m = map (λ node. node.place) m.known
+
+-- where the nodes above a cache block are known to stand, from the leaf up; a tree has four levels at most
+abbrev pub places_above : Mapping → ℕ → List (Option Place)
+places_above m block =
+    place_of m 1 (block / 32 ^ 1) ∷ place_of m 2 (block / 32 ^ 2) ∷ place_of m 3 (block / 32 ^ 3) ∷ place_of m 4 (block / 32 ^ 4) ∷ []
 
 -- a node exists exactly where an entry lies below it
 unfoldable pub exists : List (Option Entry) → ℕ → ℕ → Bool

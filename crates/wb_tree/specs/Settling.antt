@@ -1,5 +1,5 @@
 -- Nodes of a tree of boxes that become known.
-use Rattle.std.specs.Prelude.{◌≡◌, ◌≤◌, ◌<◌, ◌-◌, ◌^◌, ℕ, true, Option, Some, None, List, ◌∷◌, ◌++◌, slice_get}
+use Rattle.std.specs.Prelude.{◌≡◌, ◌≤◌, ◌<◌, ◌-◌, ◌^◌, ◌+◌, ℕ, true, Option, Some, None, List, ◌∷◌, ◌++◌, length, slice_get}
 use Rattle.wb_types.specs.declared.number.Place.{Place}
 use Rattle.wb_tree.specs.declared.placed.PlacedNode.{PlacedNode}
 use Rattle.wb_tree.specs.Mapping.{exists, place_in}
@@ -45,4 +45,5 @@ pub record IsSettled (old new : Branch) (nodes : List PlacedNode) : Type 0 where
   pub entries_same : new.entries ≡ old.entries
   pub places : (level index : ℕ) → place_in new.known level index ≡ place_in (old.known ++ nodes) level index
   pub once : AreApart new.known
+  pub more : length new.known ≡ length old.known + length nodes
   pub branch : IsBranch old → IsBranch new

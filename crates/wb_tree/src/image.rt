@@ -8,13 +8,12 @@ use std::alloc::Global;
 use wb_format::{Node, Root};
 use wb_types::{Place, Refusal};
 
-/// The nodes that changed since the last image, each with the place that it goes to, a child before its parent;
-/// the root that names the tree; and the places of all nodes of the tree.
+/// The nodes that changed since the last image, each with the place that it goes to, a child before its parent; and
+/// the root that names the tree.
 #[derive(Drop)]
 pub struct Image {
     pub root: Root,
     pub nodes: Vec<(Place, Node)>,
-    pub used: Vec<Place>,
 }
 
 /// Where nodes stand that are written. `Memory` where there is no room to say so.

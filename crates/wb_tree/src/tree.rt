@@ -1,12 +1,14 @@
 //! The mapping as a radix tree of boxes: 32 children or entries a node, and each node knows its place or that it
 //! changed.
 
-ghost use Rattle.std.specs.Prelude.{◌≡◌, ◌≢◌, ◌<◌, ◌≤◌, ◌-◌, ◌^◌, ◌++◌, [], ℕ, Some, None, IsSome, is_some, IfOk, IfErr, OnOk, OnErr, length, map, replicate, slice_set};
+ghost use Rattle.std.specs.Prelude.{◌≡◌, ◌≢◌, ◌<◌, ◌≤◌, ◌+◌, ◌-◌, ◌/◌, ◌^◌, ◌++◌, [], ℕ, Some, None, IsSome, is_some, IfOk, IfErr, OnOk, OnErr, length, replicate, slice_set};
+ghost use Rattle.std.specs.List.{count_by};
 ghost use Rattle.wb_types.specs.Limits.{depth_of};
 ghost use Rattle.wb_types.specs.declared.refusal.Refusal.TheVariants.{Memory as OutOfMemory};
-ghost use Rattle.wb_tree.specs.Mapping.{changed, entry_at, exists, place_in, place_of, AreInside, Forgets, IsMapping, IsOnPath, IsSound};
+ghost use Rattle.wb_tree.specs.Mapping.{changed, entry_at, exists, place_in, place_of, places_above, used_places, AreInside, Forgets, IsMapping, IsOnPath, IsSound};
 ghost use Rattle.wb_tree.specs.Edits.{IsEdited};
-ghost use Rattle.wb_tree.specs.Images.{AreFree, IsImage};
+ghost use Rattle.wb_tree.specs.Images.{AreFree, AreUsed, IsImage};
+ghost use Rattle.wb_tree.specs.Branches.{forget};
 ghost use Rattle.wb_tree.specs.Fields.{AreApart};
 ghost use Rattle.wb_tree.specs.Settling.{place_told};
 
@@ -16,7 +18,7 @@ use crate::counting::count_changed;
 use crate::image::known_of;
 use crate::planning::{Planning, plan_node};
 use crate::{Image, PlacedNode};
-use node::{Node, boxed, filled, settle_all};
+use node::{Node, boxed, filled, settle_all, span_of};
 use std::alloc::{Allocator, Global};
 use std::marker::Model;
 use wb_format::{Root, Version};
@@ -32,18 +34,20 @@ pub struct Tree<A: Allocator> {
     cache_blocks: u32,
     /// The levels of the tree.
     depth: u32,
+    /// How many of its nodes are known.
+    known: u32,
     root: Option<Box<Node<A>, A>>,
 }
 
 impl<A: Allocator> Model for Tree<A> {
     ghost use Rattle.wb_tree.specs.Mapping.{Mapping};
-    ghost use Rattle.wb_tree.specs.Branches.{boxes_of, AreBoxes};
+    ghost use Rattle.wb_tree.specs.Branches.{boxes_of, IsTree};
 
     ghost Value = { Mapping };
 
     ghost view = { λ b. boxes_of b.cache_blocks b.depth b.root };
 
-    ghost invariant = { λ b. AreBoxes b.cache_blocks b.depth b.root };
+    ghost invariant = { λ b. IsTree b.cache_blocks b.depth b.known b.root };
 }
 
 impl<A: Allocator + Clone> Tree<A> {
@@ -58,6 +62,7 @@ impl<A: Allocator + Clone> Tree<A> {
             alloc,
             cache_blocks,
             depth: depth_for(cache_blocks),
+            known: 0,
             root: None,
         }
     }
@@ -76,6 +81,7 @@ impl<A: Allocator + Clone> Tree<A> {
             alloc: self.alloc.clone()?,
             cache_blocks: self.cache_blocks,
             depth: self.depth,
+            known: self.known,
             root,
         })
     }
@@ -112,11 +118,13 @@ impl<A: Allocator + Clone> Tree<A> {
             return Ok(());
         }
         let CBlock(block) = c;
+        let above = self.known_above(c);
         match self.root.take() {
             Some(mut root) => {
                 let done = root.set(&self.alloc, block, entry);
                 self.root = Some(root);
                 done?;
+                self.known -= above;
                 Ok(())
             }
             None => {
@@ -143,13 +151,52 @@ impl<A: Allocator + Clone> Tree<A> {
             return;
         }
         let CBlock(block) = c;
+        let above = self.known_above(c);
         let Some(mut root) = self.root.take() else {
             return;
         };
+        self.known -= above;
         if !root.clear(block) {
             return;
         }
         self.root = Some(root);
+    }
+
+    /// How many nodes are known to stand somewhere, in constant time.
+    pub fn known_nodes(&self) -> u32
+        ensures known { result ≡ length self.now.known }
+        ensures used { AreUsed (length self.now.entries) self.now }
+    {
+        self.known
+    }
+
+    /// The places of the known nodes: a look at each of them, for openings and tests. `Memory` where there is no room
+    /// for them.
+    pub fn places(&self, global: Global) -> Result<Vec<Place>, Refusal>
+        ensures places { IfOk result (λ places. places.items ≡ used_places self.now) }
+        ensures used { AreUsed (length self.now.entries) self.now }
+        ensures refused { IfErr result (λ refusal. refusal ≡ OutOfMemory) }
+    {
+        let mut places = Vec::new(global);
+        if let Some(root) = &self.root {
+            root.collect(&mut places)?;
+        }
+        Ok(places)
+    }
+
+    /// Where the nodes above a cache block, which is one of the tree's, are known to stand, from the leaf up: these
+    /// places `set` and `clear` leave where the entry changes, and no others. Four looks, and no memory.
+    pub fn places_above(&self, c: CBlock) -> [Option<Place>; 4]
+        requires { c.0 < length self.now.entries }
+        ensures { result ≡ places_above self.now c.0 }
+    {
+        let CBlock(block) = c;
+        [
+            self.place_above(1, block),
+            self.place_above(2, block),
+            self.place_above(3, block),
+            self.place_above(4, block),
+        ]
     }
 
     /// How many nodes changed since the last image: so many the next one writes. It visits those and their children.
@@ -161,7 +208,7 @@ impl<A: Allocator + Clone> Tree<A> {
 
     /// The image of this generation: the nodes that changed since the last one, on the first of the free places, and
     /// a root with this `clean` flag. After it no node counts as changed. It is on the caller to write it. Of the
-    /// nodes it visits those that changed and their children; the list of used places takes a look at every node.
+    /// nodes it visits those that changed and their children.
     ///
     /// `Memory` where there is no room for the image or for what the nodes are remembered by; the tree is then as it
     /// was.
@@ -191,7 +238,6 @@ impl<A: Allocator + Clone> Tree<A> {
         let mut nodes = Vec::new(global);
         let top = plan_node(&plan, self.depth, 0, &mut nodes)?;
         let settled = known_of(global, &nodes)?;
-        let used = self.places(global, &settled)?;
         self.settle(&settled);
         let root = Root {
             generation,
@@ -200,7 +246,7 @@ impl<A: Allocator + Clone> Tree<A> {
             geometry: *geometry,
             top,
         };
-        Ok(Image { root, nodes, used })
+        Ok(Image { root, nodes })
     }
 
     /// A tree of these entries, one for each cache block, of which these nodes are known. `Memory` where there is no
@@ -227,6 +273,7 @@ impl<A: Allocator + Clone> Tree<A> {
             alloc,
             cache_blocks,
             depth,
+            known: 0,
             root,
         };
         tree.settle(known);
@@ -254,21 +301,27 @@ impl<A: Allocator + Clone> Tree<A> {
         }
     }
 
-    /// The places of the known nodes, and then those of these. `Memory` where there is no room for them.
-    fn places(&self, global: Global, more: &[PlacedNode]) -> Result<Vec<Place>, Refusal>
-        ensures places { IfOk result (λ places. places.items
-            ≡ map (λ node. node.place) (self.now.known ++ more.now)) }
-        ensures refused { IfErr result (λ refusal. refusal ≡ OutOfMemory) }
+    /// Where the node of this level above a cache block is known to stand; none above the top.
+    fn place_above(&self, level: u32, block: u32) -> Option<Place>
+        requires from { 1 ≤ level }
+        requires to { level ≤ 4 }
+        requires block { block < length self.now.entries }
+        ensures { result ≡ place_of self.now level (block / 32 ^ level) }
     {
-        let mut places = Vec::new(global);
-        if let Some(root) = &self.root {
-            root.collect(&mut places)?;
+        if level > self.depth {
+            return None;
         }
-        places.reserve(more.len())?;
-        for node in more {
-            places.push_reserved(node.place);
-        }
-        Ok(places)
+        self.look(level, block / span_of(level)).flatten()
+    }
+
+    /// How many of the nodes above a cache block are known.
+    fn known_above(&self, c: CBlock) -> u32
+        requires { c.0 < length self.now.entries }
+        ensures forgotten { length (forget c.0 self.now.known) + result ≡ length self.now.known }
+    {
+        let _ = &self.root;
+        let places = self.places_above(c);
+        count_known(&places)
     }
 
     /// These nodes, none of which was known, are known from now on.
@@ -278,6 +331,8 @@ impl<A: Allocator + Clone> Tree<A> {
         ensures entries { self.new.entries ≡ self.old.entries }
         ensures places { (level index : ℕ)
             → place_of self.new level index ≡ place_in (self.old.known ++ nodes.now) level index }
+        ensures more { length self.new.known ≡ length self.old.known + length nodes.now }
+        ensures once { AreApart self.new.known }
         ensures sound { IsSound self.new }
     {
         let Some(mut root) = self.root.take() else {
@@ -285,7 +340,16 @@ impl<A: Allocator + Clone> Tree<A> {
         };
         settle_all(&mut root, nodes);
         self.root = Some(root);
+        self.known += nodes.len() as u32;
     }
+}
+
+/// How many of these places are known.
+fn count_known(places: &[Option<Place>]) -> u32
+    requires { length places.now < 2 ^ 32 }
+    ensures { result ≡ count_by is_some places.now }
+{
+    places.iter().filter(|place| place.is_some()).count() as u32
 }
 
 /// The levels of a tree of so many cache blocks.

@@ -2,7 +2,7 @@
 //! after the other. Tests and benchmarks meet by it what `Tree::plan` asks.
 #![tactic(auto)]
 
-ghost use Rattle.std.specs.Prelude.{◌≡◌, ◌≤◌, ◌<◌, ◌+◌, Contains, IfOk, IsTrue, OnErr, OnOk, All, length, map};
+ghost use Rattle.std.specs.Prelude.{◌≡◌, ◌≤◌, ◌<◌, ◌+◌, IfOk, IsTrue, OnErr, OnOk, All, length, map};
 ghost use Rattle.std.specs.List.{range_with_len};
 ghost use Rattle.wb_types.specs.declared.number.Place.{Place as PlaceValue};
 ghost use Rattle.wb_tree.specs.Mapping.{AreInside, IsPlaceOf};
@@ -38,25 +38,22 @@ pub fn change(tree: &mut Tree<Global>, block: u32, hint: Option<u8>) -> Result<(
 }
 
 /// The image of a generation whose nodes go to this place, which is 2 at least, and those behind it. `Busy` where they do
-/// not lie on the metadata device, or one of them is used, `Memory` where there is no room for them or the image; the tree
+/// not lie on the metadata device, or a node of the tree stands at one of them, `Memory` where there is no room for them or the image; the tree
 /// is then as it was.
 pub fn plan_at(
     global: Global,
     tree: &mut Tree<Global>,
     geometry: &Geometry,
     generation: u64,
-    used: &[Place],
     first: u32,
 ) -> Result<Image, Refusal>
     requires first { 2 ≤ first }
     requires size { length tree.old.entries ≡ geometry.now.cache_blocks }
     requires origin { geometry.now.cache_blocks ≤ geometry.now.origin_blocks }
     requires own { AreOwn tree.old.entries }
-    requires used { (place : PlaceValue) → IsPlaceOf tree.old place → Contains used.now place }
     requires inside { AreInside geometry.now.meta_sectors tree.old }
     ensures entries { OnOk result (tree.new.entries ≡ tree.old.entries) }
     ensures geometry { IfOk result (λ image. image.root.geometry ≡ geometry.now) }
-    ensures used { IfOk result (λ image. (place : PlaceValue) → IsPlaceOf tree.new place → Contains image.used.items place) }
     ensures inside { OnOk result (AreInside geometry.now.meta_sectors tree.new) }
     ensures err { OnErr result (tree.new ≡ tree.old) }
 {
@@ -64,7 +61,8 @@ pub fn plan_at(
     if geometry.meta_sectors < count || geometry.meta_sectors - count < first {
         return Err(Refusal::Busy);
     }
-    if !are_outside(used, first, first + count) {
+    let used = tree.places(global)?;
+    if !are_outside(&used, first, first + count) {
         return Err(Refusal::Busy);
     }
     let places = places_from(global, first, count)?;

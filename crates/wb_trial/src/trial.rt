@@ -3,8 +3,8 @@
 use crate::{change, plan_at};
 use std::alloc::Global;
 use std::marker::Model;
-use wb_tree::{Image, Tree};
-use wb_types::{CBlock, Geometry, Place, Refusal};
+use wb_tree::Tree;
+use wb_types::{CBlock, Geometry, Refusal};
 
 /// A tree of which each cache block holds the origin block of its own number or none, and each image goes behind the one
 /// before.
@@ -12,8 +12,6 @@ use wb_types::{CBlock, Geometry, Place, Refusal};
 pub struct Trial {
     geometry: Geometry,
     tree: Tree<Global>,
-    /// Where the nodes of the last image stand.
-    used: Vec<Place>,
     next: u32,
 }
 
@@ -25,7 +23,7 @@ impl Model for Trial {
 
     ghost view = { λ t. t.tree };
 
-    ghost invariant = { λ t. IsTrial t.geometry t.tree t.used.items t.next };
+    ghost invariant = { λ t. IsTrial t.geometry t.tree t.next };
 }
 
 impl Trial {
@@ -35,7 +33,6 @@ impl Trial {
         Ok(Trial {
             geometry,
             tree: Tree::new(alloc, geometry.cache_blocks),
-            used: Vec::new(alloc),
             next: 2,
         })
     }
@@ -63,17 +60,8 @@ impl Trial {
     /// The next image, behind the one before; gives how many nodes it writes. `Busy` where the places are at their end,
     /// `Memory` where there is no room.
     pub fn plan(&mut self, alloc: Global) -> Result<u32, Refusal> {
-        let image = plan_at(
-            alloc,
-            &mut self.tree,
-            &self.geometry,
-            1,
-            &self.used,
-            self.next,
-        )?;
-        let Image { nodes, used, .. } = image;
-        let count = nodes.len().min(4_294_967_295) as u32;
-        self.used = used;
+        let image = plan_at(alloc, &mut self.tree, &self.geometry, 1, self.next)?;
+        let count = image.nodes.len().min(4_294_967_295) as u32;
         self.next = self.next.wrapping_add(count).max(2);
         Ok(count)
     }

@@ -29,7 +29,7 @@ impl<P: Policy> Desk<P> {
     pub fn begin_commit(&mut self, alloc: Global, clean: Option<&[bool]>) -> Result<Image, Refusal>
         requires { IfSome clean (λ dirty. length dirty.now ≡ self.old.geometry.cache_blocks) }
         ensures may { IfOk result (λ _. MayBegin self.old) }
-        ensures state { IfOk result (λ image. self.new ≡ commit_begun self.old self.new.tree image.used.items) }
+        ensures state { IfOk result (λ _. self.new ≡ commit_begun self.old self.new.tree) }
         ensures image { IfOk result (λ image. OfImaged (P.hint_of self.old.policy) (option_map (λ dirty. dirty.now) clean.entry) self.old.tree (λ imaged.
             IsImage imaged self.new.tree (next_plan self.old imaged (is_some clean.entry)) image)) }
         ensures unused { IfOk result (λ image. OfImaged (P.hint_of self.old.policy) (option_map (λ dirty. dirty.now) clean.entry) self.old.tree (λ imaged.
@@ -46,7 +46,7 @@ impl<P: Policy> Desk<P> {
             return Err(Refusal::GenerationEnd);
         };
         let geometry = self.geometry;
-        let image = plan(
+        let (image, used) = plan(
             alloc,
             &mut self.tree,
             &self.policy,
@@ -56,8 +56,8 @@ impl<P: Policy> Desk<P> {
             clean,
         )?;
         image_law();
-        self.space.begin(&image.used);
-        self.coming = image.used.len() as u32;
+        self.space.begin(&used);
+        self.coming = self.tree.known_nodes();
         Ok(image)
     }
 

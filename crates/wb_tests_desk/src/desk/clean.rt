@@ -13,15 +13,12 @@ const UNCHANGED: [(Call, bool); 6] = [
     (Call::Begin, true),
     (Call::End, true),
     (
-        Call::Image(Some([true, false, true, true]), (9, 0, Some(Place(2)), 1)),
+        Call::Image(Some([true, false, true, true]), (9, 0, Some(Place(2)))),
         true,
     ),
     (Call::End, true),
     (
-        Call::Image(
-            Some([false, true, false, false]),
-            (10, 1, Some(Place(3)), 1),
-        ),
+        Call::Image(Some([false, true, false, false]), (10, 1, Some(Place(3)))),
         true,
     ),
     (Call::Entry(1, Some((3, true, 0))), true),
@@ -40,13 +37,13 @@ const MARKED: [(Call, bool); 9] = [
     (Call::End, true),
     (Call::Entry(1, Some((3, false, 0))), true),
     (
-        Call::Image(Some([true, true, false, true]), (9, 1, Some(Place(3)), 1)),
+        Call::Image(Some([true, true, false, true]), (9, 1, Some(Place(3)))),
         true,
     ),
     (Call::Entry(1, Some((3, true, 0))), true),
     (Call::Entry(0, None), true),
     (Call::End, true),
-    (Call::Image(None, (10, 0, Some(Place(3)), 1)), true),
+    (Call::Image(None, (10, 0, Some(Place(3)))), true),
     (Call::Entry(1, Some((3, true, 0))), true),
 ];
 
@@ -63,10 +60,7 @@ const HINTED: [(Call, bool); 9] = [
     (Call::Map(7, 0), true),
     (Call::Settle(7, None), true),
     (
-        Call::Image(
-            Some([false, false, false, false]),
-            (1, 1, Some(Place(2)), 1),
-        ),
+        Call::Image(Some([false, false, false, false]), (1, 1, Some(Place(2)))),
         true,
     ),
     (Call::Entry(0, Some((7, false, 3))), true),

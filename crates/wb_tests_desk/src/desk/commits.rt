@@ -7,13 +7,13 @@ use wb_desk::Desk;
 use wb_policy::{Order, Policy};
 use wb_types::{CBlock, Mode, OBlock, Place, Refusal};
 
-/// Whether a commit begins, with these dirty bits where they are given, whose image has this generation, so many nodes, the
-/// top of its tree here, and so many places in use.
+/// Whether a commit begins, with these dirty bits where they are given, whose image has this generation, so many nodes, and
+/// the top of its tree here.
 pub(super) fn has_image<P: Policy>(
     desk: &mut Desk<P>,
     alloc: Global,
     dirty: Option<[bool; 4]>,
-    wanted: (u64, usize, Option<Place>, usize),
+    wanted: (u64, usize, Option<Place>),
 ) -> Result<bool, Refusal> {
     if desk.geometry().cache_blocks != 4 {
         return Ok(false);
@@ -24,8 +24,7 @@ pub(super) fn has_image<P: Policy>(
     };
     let root = image.root;
     let nodes = image.nodes.len();
-    let used = image.used.len();
-    Ok(root.clean == dirty.is_some() && (root.generation, nodes, root.top, used) == wanted)
+    Ok(root.clean == dirty.is_some() && (root.generation, nodes, root.top) == wanted)
 }
 
 /// Whether no commit begins, for this reason.
@@ -39,22 +38,22 @@ pub(super) fn is_refused<P: Policy>(desk: &mut Desk<P>, alloc: Global, wanted: R
 /// The one leaf is written to the least free place, and has it from then on. After block 5 has come in it goes to the other
 /// place, and after both went there is no node.
 const FOLLOWING: [(Call, bool); 19] = [
-    (Call::Image(None, (8, 1, Some(Place(2)), 1)), true),
+    (Call::Image(None, (8, 1, Some(Place(2)))), true),
     (Call::Refused(Refusal::Busy), true),
     (Call::Commits(7, 2), true),
     (Call::End, true),
     (Call::Commits(8, 3), true),
-    (Call::Image(None, (9, 0, Some(Place(2)), 1)), true),
+    (Call::Image(None, (9, 0, Some(Place(2)))), true),
     (Call::End, true),
     (Call::Commits(9, 3), true),
     (Call::Reserve(Order::Promote(OBlock(5), CBlock(0))), true),
     (Call::Map(5, 0), true),
-    (Call::Image(None, (10, 1, Some(Place(3)), 1)), true),
+    (Call::Image(None, (10, 1, Some(Place(3)))), true),
     (Call::End, true),
     (Call::Commits(10, 3), true),
     (Call::Unmap(5), true),
     (Call::Unmap(3), true),
-    (Call::Image(None, (11, 0, None, 0)), true),
+    (Call::Image(None, (11, 0, None)), true),
     (Call::Commits(10, 3), true),
     (Call::End, true),
     (Call::Commits(11, 2), true),

@@ -15,10 +15,10 @@ const CALLS: [(Call, bool); 12] = [
     (Call::Unanswered(6, 1), true),
     (Call::Promoted(6, 1), true),
     (Call::Map(6, 1), true),
-    (Call::Image(None, (1, 1, Some(Place(2)), 1)), true),
+    (Call::Image(None, (1, 1, Some(Place(2)))), true),
     (Call::End, true),
     (
-        Call::Image(Some([false, true, false, false]), (2, 1, Some(Place(3)), 1)),
+        Call::Image(Some([false, true, false, false]), (2, 1, Some(Place(3)))),
         true,
     ),
     (Call::End, true),

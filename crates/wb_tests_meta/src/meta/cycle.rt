@@ -1,8 +1,7 @@
 //! Round and round: formatting, reading, a change, an image and its commit, with a stop after any step.
 
-ghost use Rattle.std.specs.Prelude.{◌≡◌, Contains, IfOk, OnOk, length};
-ghost use Rattle.wb_types.specs.declared.number.Place.{Place as PlaceValue};
-ghost use Rattle.wb_tree.specs.Mapping.{AreInside, IsPlaceOf};
+ghost use Rattle.std.specs.Prelude.{◌≡◌, IfOk, OnOk, length};
+ghost use Rattle.wb_tree.specs.Mapping.{AreInside};
 ghost use Rattle.wb_meta.specs.Placing.{HavePlaces};
 
 use super::rounds::{change, entry_of, plan_at};
@@ -52,8 +51,6 @@ fn change_and_plan(
     ensures fits { IfOk result (λ planned. HavePlaces planned.1.nodes.items (length disk.old.contents)) }
     ensures sectors { IfOk result (λ planned. planned.1.root.geometry.meta_sectors ≡ length disk.old.contents) }
     ensures tree { IfOk result (λ planned. length planned.0.entries ≡ planned.1.root.geometry.cache_blocks) }
-    ensures used { IfOk result (λ planned. (place : PlaceValue) → IsPlaceOf planned.0 place
-        → Contains planned.1.used.items place) }
     ensures inside { IfOk result (λ planned. AreInside planned.1.root.geometry.meta_sectors planned.0) }
 {
     let State {
@@ -84,9 +81,9 @@ pub(super) fn is_read(
     Ok((state.root.generation, are_there))
 }
 
-/// Whether an image has its top at a place, and uses these and no others, in this order.
-fn has_places(image: &Image, top: u32, used: &[Place]) -> bool {
-    image.root.top == Some(Place(top)) && image.used.as_slice() == used
+/// Whether an image has its top at this place, and these are the places of its tree, from the top down.
+fn has_places(image: &Image, used: &[Place], top: u32, wanted: &[Place]) -> bool {
+    image.root.top == Some(Place(top)) && used == wanted
 }
 
 /// The generation that is read after a crash behind so many steps of the first commit, which has two leaves. What is
@@ -135,14 +132,18 @@ fn a_second_commit_goes_to_the_places_that_are_left(rt: HostRuntime) -> Result<(
     let alloc = rt.alloc();
     let mut disk = formatted(alloc)?;
     let (mut tree, first) = change_and_plan(alloc, &mut disk, &[(0, 1), (33, 2)], (2, 6))?;
-    assert!(rt; has_places(&first, 4, &[Place(2), Place(3), Place(4)]));
+    let used = tree.places(alloc)?;
+    assert!(rt; has_places(&first, &used, 4, &[Place(4), Place(2), Place(3)]));
     commit(&mut disk, &first)?;
     assert!(rt; is_read(alloc, &mut disk, &[(0, 1), (33, 2)])? == (1, true));
 
     let geometry = first.root.geometry;
     change(&mut tree, &geometry, 33, 5)?;
-    let second = plan_at(alloc, &mut tree, &geometry, 2, &first.used, (5, 3))?;
-    assert!(rt; second.nodes.len() == 2 && has_places(&second, 6, &[Place(2), Place(5), Place(6)]));
+    let second = plan_at(alloc, &mut tree, &geometry, 2, &used, (5, 3))?;
+    let left = tree.places(alloc)?;
+    assert!(rt;
+        second.nodes.len() == 2 && has_places(&second, &left, 6, &[Place(6), Place(2), Place(5)])
+    );
     commit(&mut disk, &second)?;
     assert!(rt; is_read(alloc, &mut disk, &[(0, 1), (33, 5)])? == (2, true));
     let state = read_state(alloc, alloc, &mut disk)?;

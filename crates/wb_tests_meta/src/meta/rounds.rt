@@ -99,8 +99,6 @@ pub(super) fn plan_at(
     ensures planned { IfOk result (λ image. (plan : ImagePlan) × (plan.geometry ≡ geometry.now)
         × (plan.generation ≡ generation) × IsPlanned tree.old tree.new plan image used.now) }
     ensures size { OnOk result (length tree.new.entries ≡ geometry.now.cache_blocks) }
-    ensures used { IfOk result (λ image. (place : PlaceValue) → IsPlaceOf tree.new place
-        → Contains image.used.items place) }
     ensures inside { AreInside geometry.now.meta_sectors tree.new }
     ensures fits { IfOk result (λ image. HavePlaces image.nodes.items geometry.now.meta_sectors) }
     ensures geometry { IfOk result (λ image. image.root.geometry ≡ geometry.now) }
@@ -137,9 +135,10 @@ fn two_rounds<D: Disk>(
     let mut tree = Tree::new(alloc, geometry.cache_blocks);
     change(&mut tree, geometry, 0, 1)?;
     let image = plan_at(alloc, &mut tree, geometry, 1, &[], first)?;
+    let used = tree.places(alloc)?;
     change(&mut tree, geometry, 0, 2)?;
     commit(disk, &image)?;
-    let next = plan_at(alloc, &mut tree, geometry, 2, &image.used, second)?;
+    let next = plan_at(alloc, &mut tree, geometry, 2, &used, second)?;
     commit(disk, &next)?;
     Ok(tree)
 }
@@ -159,8 +158,8 @@ fn reopened<D: Disk>(alloc: Global, disk: &mut D) -> Result<Tree<Global>, Refusa
         × DeviceStores tree (D.contents disk.new) old used × (old.root.clean ≡ false)) }
 {
     sync(disk)?;
-    let State { root, tree, used } = read_state(alloc, alloc, disk)?;
-    let image = opening_image(alloc, &root, used)?;
+    let State { root, tree, .. } = read_state(alloc, alloc, disk)?;
+    let image = opening_image(alloc, &root)?;
     let mut steps = CommitSteps::root_alone();
     steps.next(disk, &image)?;
     steps.next(disk, &image)?;

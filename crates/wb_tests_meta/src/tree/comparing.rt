@@ -83,7 +83,6 @@ fn agree(global: Global, cache_blocks: u32, edits: u32) -> Result<bool, Refusal>
     let mut sectors = Vec::new(global);
     sectors.resize(SECTORS, None)?;
     let mut tree = Tree::new(global, cache_blocks);
-    let mut used = Vec::new(global);
     let mut state: u32 = 1;
     for round in 0..6 {
         let mut changed = Vec::new(global);
@@ -100,7 +99,7 @@ fn agree(global: Global, cache_blocks: u32, edits: u32) -> Result<bool, Refusal>
         let count = count_changed(&hints, &changed, geometry.depth());
         let first = 2 + PLACES * round;
         let generation = u64::from(round) + 1;
-        let image = plan_at(global, &mut tree, &geometry, generation, &used, first)?;
+        let image = plan_at(global, &mut tree, &geometry, generation, first)?;
         for (Place(place), node) in image.nodes.iter() {
             if (*place as usize) < sectors.len() {
                 sectors[*place as usize] = Some(*node);
@@ -110,8 +109,6 @@ fn agree(global: Global, cache_blocks: u32, edits: u32) -> Result<bool, Refusal>
         if image.nodes.len() != count || !holds(&tree, &hints) || !holds(&again, &hints) {
             return Ok(false);
         }
-        let Image { used: places, .. } = image;
-        used = places;
     }
     Ok(true)
 }

@@ -8,10 +8,10 @@ fn a_leaf_alone_is_planned(rt: HostRuntime) -> Result<(), Fail> {
     let geometry = Geometry::new(64, 4, 10, 4)?;
     let mut tree = Tree::new(rt.alloc(), 4);
     change(&mut tree, 0, Some(0))?;
-    let image = plan_at(rt.alloc(), &mut tree, &geometry, 1, &[], 2)?;
+    let image = plan_at(rt.alloc(), &mut tree, &geometry, 1, 2)?;
     assert_eq!(rt; image.root.generation, 1);
     assert!(rt; image.root.top == Some(Place(2)));
-    assert!(rt; image.used.as_slice() == [Place(2)].as_slice());
+    assert!(rt; tree.places(rt.alloc())?.as_slice() == [Place(2)].as_slice());
     assert_eq!(rt; image.nodes.len(), 1);
     for (place, leaf) in image.nodes.iter() {
         assert_eq!(rt; place.0, 2);
@@ -22,7 +22,7 @@ fn a_leaf_alone_is_planned(rt: HostRuntime) -> Result<(), Fail> {
 }
 
 /// What an image is to be: the hints at cache blocks 0 and 33, the first of the free places, and then the nodes by level,
-/// index and place, the place of the top, and how many places are used.
+/// index and place, the place of the top, and how many places are then used.
 #[derive(Clone, Copy)]
 struct Row {
     hints: (Option<u8>, Option<u8>),
@@ -87,22 +87,21 @@ fn is_as(image: &Image, row: &Row) -> bool {
         Some(Place(number)) => Some(number),
         None => None,
     };
-    image.nodes.len() == row.written && top == row.top && image.used.len() == row.used
+    image.nodes.len() == row.written && top == row.top
 }
 
 #[test]
 fn an_image_writes_the_nodes_that_changed(rt: HostRuntime) -> Result<(), Fail> {
     let geometry = Geometry::new(64, 40, 40, 8)?;
     let mut tree = Tree::new(rt.alloc(), 40);
-    let mut used = Vec::new(rt.alloc());
     for row in ROWS {
         change(&mut tree, 0, row.hints.0)?;
         change(&mut tree, 33, row.hints.1)?;
         assert!(rt; tree.changed_nodes() as usize == row.written);
-        let image = plan_at(rt.alloc(), &mut tree, &geometry, 1, &used, row.first)?;
+        let image = plan_at(rt.alloc(), &mut tree, &geometry, 1, row.first)?;
         assert!(rt; is_as(&image, &row));
-        let Image { used: places, .. } = image;
-        used = places;
+        assert_eq!(rt; tree.known_nodes() as usize, row.used);
+        assert_eq!(rt; tree.places(rt.alloc())?.len(), row.used);
     }
     Ok(())
 }

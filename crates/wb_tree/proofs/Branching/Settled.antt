@@ -3,7 +3,7 @@ use Rattle.std.proofs.Common.{◌≡◌, ◌≤◌, ◌<◌, ◌+◌, ◌-◌, �
 use Rattle.std.specs.Prelude.{is_some, slice_get}
 use Rattle.std.specs.List.{list_any}
 use Rattle.std.proofs.lemmas.Bool.{cases_Bool}
-use Rattle.std.proofs.lemmas.List.{append-nil, length-take, take-append-drop, take_more}
+use Rattle.std.proofs.lemmas.List.{append-nil, length-append, length-take, take-append-drop, take_more}
 use Rattle.std.proofs.lemmas.Option.{slice_get-get_or}
 use Rattle.std.proofs.Math.Nat.{lt_of_mul-lt-mul_right}
 use Rattle.wb_types.specs.Limits.{depth_of}
@@ -97,6 +97,7 @@ settled_none top apart = record {
   entries_same = refl;
   places = λ level index. ap (λ ks. place_in ks level index) (sym (append-nil top.known));
   once = apart;
+  more = omega arith;
   branch = λ is. is;
 }
 
@@ -125,6 +126,16 @@ settled_more old mid new nodes more node first was named none at e =
           ∙ (place_more mid.known (old.known ++ nodes) node level index (was.places level index)
           ∙ ap (λ ks. place_in ks level index) (append_assoc old.known nodes (node ∷ []) ∙ ap (λ (ns : List PlacedNode). old.known ++ ns) (sym e)))));
       once = subst AreApart (sym own) (apart_insert k.front k.back node (subst AreApart k.was was.once) none');
+      more = omega (
+        arith,
+        ap (λ (ks : List PlacedNode). length ks) own,
+        length-append k.front (node ∷ k.back),
+        ap (λ (ks : List PlacedNode). length ks) k.was,
+        length-append k.front k.back,
+        was.more,
+        ap (λ (ks : List PlacedNode). length ks) e,
+        length-append nodes (node ∷ []),
+      );
       branch = λ is.
           branch_settled mid new node.level node.index node.place (was.branch is) (omega (arith, to, level)) (subst (λ n. node.index < 32 ^ (n - node.level)) (sym level) named.inside) at;
     }
@@ -264,3 +275,12 @@ nothing_boxed {A} cache_blocks depth root m nodes none are view sound = record {
         let there : exists m.entries level index ≡ true = sound.known_exist level index place e in
         let empty : exists m.entries level index ≡ false = nothing_there_at_all cache_blocks depth level index root m none are view in
         absurd cc
+
+pub nothing_settled : {A : Type 0} (cache_blocks depth : ℕ) (root : Option (Box Branch A)) (m : Mapping) (nodes : List PlacedNode) → root ≡ None → AreBoxes cache_blocks depth root → boxes_of cache_blocks depth root ≡ m
+    → IsSound (record { entries = m.entries; known = m.known ++ nodes }) → nodes ≡ []
+nothing_settled cache_blocks depth root m [] none are view sound = refl
+nothing_settled {A} cache_blocks depth root m (node ∷ nodes) none are view sound =
+    let alike = nothing_boxed cache_blocks depth root m (node ∷ nodes) none are view sound in
+    let unknown : place_in m.known node.level node.index ≡ None =
+    ap (λ (n : Mapping). place_in n.known node.level node.index) (sym view) ∙ ap (λ (o : Option (Box Branch A)). place_in (known_in o) node.level node.index) none in
+    absurd (listed_some m.known nodes node (sym (alike.places node.level node.index) ∙ unknown))

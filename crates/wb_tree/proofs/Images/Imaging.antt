@@ -1,18 +1,18 @@
 -- When a root and nodes are the image of a tree.
-use Rattle.std.proofs.Common.{◌≡◌, sym, ap, subst, ℕ, Bool, List, Some, map, take, length, arith}
-use Rattle.std.specs.Prelude.{◌↔◌, All, Contains, slice_get}
+use Rattle.std.proofs.Common.{◌≡◌, ◌≤◌, ◌+◌, ◌∙◌, sym, ap, subst, ℕ, Bool, List, [], Some, map, take, length, arith}
+use Rattle.std.specs.Prelude.{◌⊎◌, All, Contains}
 use Rattle.std.proofs.lemmas.List.{length-map}
-use Rattle.wb_types.specs.Limits.{depth_of}
+use Rattle.wb_types.specs.Limits.{depth_of, node_count}
 use Rattle.wb_types.specs.declared.geometry.Geometry.{Geometry}
 use Rattle.wb_types.specs.declared.number.Place.{Place}
 use Rattle.wb_format.specs.declared.node.Node.{Node}
 use Rattle.wb_format.specs.declared.version.Version.TheVariants.{One}
 use Rattle.wb_tree.specs.declared.image.Image.{Image}
 use Rattle.wb_tree.specs.declared.placed.PlacedNode.{PlacedNode}
-use Rattle.wb_tree.specs.Mapping.{Mapping, IsSound, IsPlaceOf, place_of, changed}
-use Rattle.wb_tree.specs.Images.{HasWordsOf, IsImage, name_of}
-use Rattle.wb_tree.specs.Fields.{IsComplete}
-use Rattle.wb_tree.proofs.Nodes.Knowing.{places, used-are, used-once}
+use Rattle.wb_tree.specs.Mapping.{Mapping, IsSound, IsPlaceOf, place_of, used_places, changed}
+use Rattle.wb_tree.specs.Images.{AreUsed, HasWordsOf, IsImage, name_of}
+use Rattle.wb_tree.specs.Fields.{AreApart}
+use Rattle.wb_tree.proofs.Nodes.Knowing.{used-are, used-once}
 
 -- what the nodes of an image are, before their places are told
 pub record WritesChanged (m n : Mapping) (geometry : Geometry) (generation : ℕ) (free : List Place) (nodes : List (Place × Node)) : Type 0 where
@@ -24,23 +24,32 @@ pub record WritesChanged (m n : Mapping) (geometry : Geometry) (generation : ℕ
   pub generations : All (λ node. node.1.generation ≡ generation) nodes
   pub words : All (λ node. HasWordsOf n node.1) nodes
 
+-- the places of a sound tree of which no node comes twice
+pub used-places : (m : Mapping) (cache_blocks : ℕ) → IsSound m → AreApart m.known → length m.known ≤ node_count cache_blocks → AreUsed cache_blocks m
+used-places m cache_blocks sound once few = record {
+  are = used-are m once;
+  few = omega (arith, few, length-map m.known (λ (node : PlacedNode). node.place));
+  once = used-once m once sound;
+}
+
 -- what was made is the image
 pub image-is : (m n : Mapping) (geometry : Geometry) (generation : ℕ) (clean : Bool) (free : List Place) (image : Image)
-    → WritesChanged m n geometry generation free image.nodes.items → IsSound n → IsComplete geometry.cache_blocks n → image.used.items ≡ places n.known → image.root.generation ≡ generation → image.root.version ≡ One
+    → WritesChanged m n geometry generation free image.nodes.items → changed n (depth_of geometry.cache_blocks) ≡ [] → AreUsed geometry.cache_blocks n
+    → ((place : Place) → IsPlaceOf n place → IsPlaceOf m place ⊎ Contains (map (λ node. node.0) image.nodes.items) place) → length (used_places n) ≡ length (used_places m) + length image.nodes.items → image.root.generation ≡ generation → image.root.version ≡ One
     → image.root.clean ≡ clean → image.root.geometry ≡ geometry → image.root.top ≡ place_of n (depth_of geometry.cache_blocks) 0
     → IsImage m n (record { geometry = geometry; generation = generation; clean = clean; free = free }) image
-image-is m n geometry generation clean free image written sound complete used g v c s t = record {
+image-is m n geometry generation clean free image written none used comes more g v c s t = record {
   same_entries = written.same_entries;
   stays = written.stays;
-  none_changed = complete.all;
+  none_changed = none;
   nodes_are = written.nodes_are;
   places_are = written.places_are;
   stands = written.stands;
   generations = written.generations;
   words = written.words;
-  used_are = subst (λ (ps : List Place). (place : Place) → Contains ps place ↔ IsPlaceOf n place) (sym used) (used-are n complete.once);
-  used_few = omega (arith, complete.few, length-map n.known (λ (node : PlacedNode). node.place), ap length used);
-  used_once = subst (λ (ps : List Place). (i j : ℕ) (place : Place) → slice_get ps i ≡ Some place → slice_get ps j ≡ Some place → i ≡ j) (sym used) (used-once n complete.once sound);
+  used = used;
+  comes = comes;
+  used_more = more;
   root_generation = g;
   root_version = v;
   root_clean = c;

@@ -1,9 +1,10 @@
 -- The tree whose changed nodes all stand at the first of some free places.
-use Rattle.std.proofs.Common.{◌≡◌, ◌≤◌, ◌+◌, ◌∙◌, ◌&&◌, ◌==◌, sym, ap, subst, refl, ℕ, true, false, is_some, List, [], ◌∷◌, ◌++◌, Option, Some, None, map, take, length, inl, inr, arith}
-use Rattle.std.specs.Prelude.{◌⊎◌, IsSome, slice_get, if◌then◌else◌}
+use Rattle.std.proofs.Common.{◌≡◌, ◌≤◌, ◌<◌, ◌+◌, ◌∙◌, ◌&&◌, ◌==◌, sym, ap, subst, refl, ℕ, zero, suc, true, false, is_some, List, [], ◌∷◌, ◌++◌, Option, Some, None, map, take, length, inl, inr, arith}
+use Rattle.std.specs.Prelude.{◌⊎◌, Contains, IsSome, slice_get, if◌then◌else◌}
 use Rattle.std.specs.List.{AllByRecursion}
 use Rattle.std.proofs.lemmas.Bool.{cases_Bool}
-use Rattle.std.proofs.lemmas.List.{length-map}
+use Rattle.std.proofs.lemmas.Option.{get_or_from_slice_get, slice_get_within}
+use Rattle.std.proofs.lemmas.List.{length-append, length-map}
 use Rattle.std.proofs.lemmas.List.Elements.{All-weaker}
 use Rattle.wb_types.specs.Limits.{depth_of, node_count}
 use Rattle.wb_types.specs.declared.geometry.Geometry.{Geometry}
@@ -11,12 +12,12 @@ use Rattle.wb_types.specs.declared.entry.Entry.{Entry}
 use Rattle.wb_types.specs.declared.number.Place.{Place}
 use Rattle.wb_format.specs.declared.node.Node.{Node}
 use Rattle.wb_tree.specs.declared.placed.PlacedNode.{PlacedNode}
-use Rattle.wb_tree.specs.Mapping.{Mapping, NodeName, IsMapping, IsSound, AreInside, exists, nodes_of, place_in, place_of, changed, changed_of}
+use Rattle.wb_tree.specs.Mapping.{Mapping, NodeName, IsMapping, IsSound, IsPlaceOf, AreInside, exists, nodes_of, place_in, place_of, used_places, changed, changed_of}
 use Rattle.wb_tree.specs.Images.{AreFree, HasWordsOf, name_of}
 use Rattle.wb_tree.specs.Planning.{placed, planned, levels, names, IsWritten, AreWritten, MayPlan}
 use Rattle.wb_tree.specs.Fields.{AreApart, IsComplete}
 use Rattle.wb_tree.proofs.Nodes.Alike.{AreAlike}
-use Rattle.wb_tree.proofs.Nodes.Counting.{count-nodes}
+use Rattle.wb_tree.proofs.Nodes.Few.{known-few}
 use Rattle.wb_tree.proofs.Nodes.Names.{IsBelow, has, same_name, nodes_below-below, nodes_below-exist}
 use Rattle.wb_tree.proofs.Nodes.Placing.{IsPlaced, placed-apart, placed-some, placed-had, placed-is, placed-none, placed-take}
 use Rattle.wb_tree.proofs.Nodes.Listed.{exists_listed, unknown_changed}
@@ -176,55 +177,6 @@ unfolding planned
 planned-once m geometry free can =
     apart_both m.known (placed (changed m (levels m)) free) can.once (placed-apart (changed m (levels m)) free (changed-apart m)) (λ level index place h. known_not_new m free level index place h)
 
--- the names without the first of one name
-without : List NodeName → ℕ → ℕ → List NodeName
-without [] level index = []
-without (node ∷ nodes) level index = if (node.level == level) && (node.index == index) then nodes else node ∷ without nodes level index
-
-without-fewer : (nodes : List NodeName) (level index : ℕ) → has nodes level index ≡ true → length (without nodes level index) + 1 ≤ length nodes
-unfolding without
-without-fewer [] level index h = absurd cc
-without-fewer (node ∷ nodes) level index h = elim (cases_Bool ((node.level == level) && (node.index == index))) [
-  | inl same ↦ rw same (omega arith)
-  | inr other ↦ rw other (omega (arith, without-fewer nodes level index (rw (← h) (rw other refl))))
-]
-
-without-has : (nodes : List NodeName) (level index l i : ℕ) → ((level == l) && (index == i)) ≡ false → has nodes l i ≡ true → has (without nodes level index) l i ≡ true
-unfolding without
-without-has [] level index l i off h = h
-without-has (node ∷ nodes) level index l i off h = elim (cases_Bool ((node.level == level) && (node.index == index))) [
-  | inl same ↦
-      let e = same_names node.level level node.index index same in
-      let other : ((node.level == l) && (node.index == i)) ≡ false = ap (λ n. (n == l) && (node.index == i)) e.0 ∙ (ap (λ n. (level == l) && (n == i)) e.1 ∙ off) in
-      rw same (rw (← h) (rw other refl))
-  | inr differs ↦ elim (cases_Bool ((node.level == l) && (node.index == i))) [
-    | inl here ↦ rw differs (rw here refl)
-    | inr later ↦ rw differs (rw later (without-has nodes level index l i off (rw (← h) (rw later refl))))
-  ]
-]
-
-some_or_none : (o : Option Place) (place : Place) → o ≡ None → o ≡ Some place → ⊥
-some_or_none o place a b = absurd cc
-
--- nodes of which none comes twice are no more than the names among which they are
-few_known : (known : List PlacedNode) (nodes : List NodeName) → AreApart known → ((level index : ℕ) (place : Place) → place_in known level index ≡ Some place → has nodes level index ≡ true) → length known ≤ length nodes
-few_known [] nodes apart among = omega arith
-few_known (x ∷ known) nodes apart among =
-    let here : place_in (x ∷ known) x.level x.index ≡ Some x.place = rw (yes x.level, yes x.index) refl in
-    let fewer = without-fewer nodes x.level x.index (among x.level x.index x.place here) in
-    let rest = few_known known (without nodes x.level x.index) apart.1 (λ level index place h.
-    without-has nodes x.level x.index level index
-    (differ x known level index place apart.0 h) (among level index place (known-behind x known level index place apart.0 h))) in
-    omega (arith, fewer, rest)
-  where
-    differ : (x : PlacedNode) (known : List PlacedNode) (level index : ℕ) (place : Place) → place_in known x.level x.index ≡ None → place_in known level index ≡ Some place → ((x.level == level) && (x.index == index)) ≡ false
-    differ x known level index place none h = elim (cases_Bool ((x.level == level) && (x.index == index))) [
-      | inl same ↦
-          let e = same_names x.level level x.index index same in
-          absurd (some_or_none (place_in known x.level x.index) place none (ap (λ l. place_in known l x.index) e.0 ∙ (ap (λ i. place_in known level i) e.1 ∙ h)))
-      | inr other ↦ other
-    ]
-
 -- where each of these nodes has a place none counts as changed
 nothing_new : (m : Mapping) (nodes : List NodeName) → AllByRecursion (λ node. IsSome (place_of m node.level node.index)) nodes → changed_of m nodes ≡ []
 nothing_new m [] each = refl
@@ -244,12 +196,8 @@ planned-complete m geometry free can =
     let deep : levels m ≡ depth_of geometry.cache_blocks = ap depth_of size in
     record {
       once = planned-once m geometry free can;
-      few =
-          let among = few_known n.known (nodes_of m.entries (depth_of (length m.entries))) (planned-once m geometry free can) (λ level index place h.
-          let there = there_is m geometry free level index place can h in
-          exists_listed m.entries (length m.entries) level index refl (omega arith) there.0.0 there.0.1 there.1) in
-          let most = count-nodes m.entries (length m.entries) (omega arith) in
-          omega (arith, among, most, ap node_count size);
+      few = let most = known-few n (planned-sound m geometry free can) (planned-once m geometry free can) (omega (arith, ap (λ (es : List (Option Entry)). length es) same)) in
+          omega (arith, most, ap (λ (es : List (Option Entry)). node_count (length es)) same, ap node_count size);
       all =
           ap (λ (es : List (Option Entry)). changed_of n (nodes_of es (depth_of geometry.cache_blocks))) same
           ∙ (ap (λ d. changed_of n (nodes_of m.entries d)) (sym deep)
@@ -310,3 +258,36 @@ planned-alike m n free known e entries places = record {
   entries = entries ∙ sym (planned_entries m free);
   places = λ level index. places level index ∙ ap (λ (ks : List PlacedNode). place_in ks level index) e;
 }
+
+-- ---- the places that it uses
+
+taken_at : (count : ℕ) (places : List Place) (i : ℕ) (place : Place) → i < count → slice_get places i ≡ Some place → slice_get (take count places) i ≡ Some place
+taken_at zero places i place below h = absurd (omega arith)
+taken_at (suc count) [] i place below h = absurd cc
+taken_at (suc count) (p ∷ places) zero place below h = h
+taken_at (suc count) (p ∷ places) (suc i) place below h = taken_at count places i place (omega arith) h
+
+-- a node that was not known before is one of those that are written
+pub planned-comes : (m : Mapping) (free : List Place) (nodes : List (Place × Node)) → names nodes ≡ changed m (levels m) → map (λ node. node.0) nodes ≡ take (length nodes) free
+    → (place : Place) → IsPlaceOf (planned m free) place → IsPlaceOf m place ⊎ Contains (map (λ node. node.0) nodes) place
+planned-comes m free nodes ns are place is = elim (planned-either m free is.level is.index place is.known) [
+  | inl old ↦ inl (record { level = is.level; index = is.index; known = old })
+  | inr new ↦
+      let at = new.placed_at in
+      let long : length nodes ≡ length (changed m (levels m)) = sym (length-map nodes (λ (n : Place × Node). name_of n.1)) ∙ ap (λ (xs : List NodeName). length xs) ns in
+      inr (subst (λ (ps : List Place). Contains ps place) (sym are) (let t = taken_at (length nodes) free at.at place (omega (arith, long, slice_get_within (changed m (levels m)) at.at _ at.node)) at.there in
+      (at.at, slice_get_within (take (length nodes) free) at.at place t, get_or_from_slice_get (take (length nodes) free) at.at place place t)))
+]
+
+pub planned-more : (m : Mapping) (generation : ℕ) (free : List Place) (nodes : List (Place × Node)) → names nodes ≡ changed m (levels m) → AreWritten (planned m free) generation free nodes
+    → length (used_places (planned m free)) ≡ length (used_places m) + length nodes
+planned-more m generation free nodes ns written =
+    let own = known-planned m generation free nodes ns written in
+    omega (
+      arith,
+      ap (λ (ks : List PlacedNode). length ks) own,
+      length-append m.known (map known_node nodes),
+      length-map nodes known_node,
+      length-map m.known (λ (node : PlacedNode). node.place),
+      length-map (planned m free).known (λ (node : PlacedNode). node.place),
+    )

@@ -9,8 +9,8 @@ use Rattle.wb_format.specs.NodeWords.{entry_word}
 use Rattle.wb_format.specs.declared.node.Node.{Node}
 use Rattle.wb_format.specs.declared.root.Root.{Root}
 use Rattle.wb_tree.specs.declared.image.Image.{Image}
-use Rattle.wb_tree.specs.Mapping.{Mapping, NodeName, IsSound, IsPlaceOf, AreInside, exists, nodes_of, changed, changed_of, place_of}
-use Rattle.wb_tree.specs.Images.{HasWordsOf, ImagePlan, IsImage, levels_of, place_word, word_at}
+use Rattle.wb_tree.specs.Mapping.{Mapping, NodeName, IsSound, IsPlaceOf, AreInside, exists, nodes_of, changed, changed_of, place_of, used_places}
+use Rattle.wb_tree.specs.Images.{AreUsed, HasWordsOf, ImagePlan, IsImage, levels_of, place_word, word_at}
 use Rattle.wb_tree.specs.Reading.{Found}
 use Rattle.wb_tree.specs.Loaded.{IsLoaded}
 
@@ -31,9 +31,6 @@ sound-alike m n alike sound = record {
 there-alike : (m n : Mapping) → AreAlike m n → (place : Place) → IsPlaceOf n place → IsPlaceOf m place
 there-alike m n alike place h = record { level = h.level; index = h.index; known = sym (alike.places h.level h.index) ∙ h.known }
 
-back-alike : (m n : Mapping) → AreAlike m n → (place : Place) → IsPlaceOf m place → IsPlaceOf n place
-back-alike m n alike place h = record { level = h.level; index = h.index; known = alike.places h.level h.index ∙ h.known }
-
 pub inside-alike : (meta_sectors : ℕ) (m n : Mapping) → AreAlike m n → AreInside meta_sectors m → AreInside meta_sectors n
 inside-alike meta_sectors m n alike inside place h = inside place (there-alike m n alike place h)
 
@@ -52,8 +49,9 @@ word-alike m n alike (suc (suc level)) index j = ap place_word (alike.places (su
 words-alike : (m n : Mapping) → AreAlike m n → (node : Node) → HasWordsOf m node → HasWordsOf n node
 words-alike m n alike node h j below = h j below ∙ sym (word-alike m n alike node.level node.index j)
 
-pub image-alike : (m n k : Mapping) (plan : ImagePlan) (image : Image) → AreAlike n k → IsImage m n plan image → IsImage m k plan image
-image-alike m n k plan image alike is = record {
+-- the image leads to the tree in another order as well, whose used places are told of it
+pub image-alike : (m n k : Mapping) (plan : ImagePlan) (image : Image) → AreAlike n k → AreUsed plan.geometry.cache_blocks k → length (used_places k) ≡ length (used_places n) → IsImage m n plan image → IsImage m k plan image
+image-alike m n k plan image alike used long is = record {
   same_entries = alike.entries ∙ is.same_entries;
   stays = λ level index place h. alike.places level index ∙ is.stays level index place h;
   none_changed = changed-alike n k alike (levels_of plan) ∙ is.none_changed;
@@ -62,9 +60,9 @@ image-alike m n k plan image alike is = record {
   stands = All-weaker (λ (node : Place × Node). place_of n node.1.level node.1.index ≡ Some node.0) (λ (node : Place × Node). place_of k node.1.level node.1.index ≡ Some node.0) (λ node w. alike.places node.1.level node.1.index ∙ w) image.nodes.items is.stands;
   generations = is.generations;
   words = All-weaker (λ (node : Place × Node). HasWordsOf n node.1) (λ (node : Place × Node). HasWordsOf k node.1) (λ node w. words-alike n k alike node.1 w) image.nodes.items is.words;
-  used_are = λ place. (λ h. back-alike n k alike place ((is.used_are place).0 h), λ h. (is.used_are place).1 (there-alike n k alike place h));
-  used_few = is.used_few;
-  used_once = is.used_once;
+  used = used;
+  comes = λ place h. is.comes place (there-alike n k alike place h);
+  used_more = long ∙ is.used_more;
   root_generation = is.root_generation;
   root_version = is.root_version;
   root_clean = is.root_clean;

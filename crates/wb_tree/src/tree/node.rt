@@ -309,7 +309,7 @@ fn rest_of(level: u32, offset: u32) -> u32
 }
 
 /// How many cache blocks lie below a node of this level.
-fn span_of(level: u32) -> u32
+pub(crate) fn span_of(level: u32) -> u32
     requires { level ≤ 4 }
     ensures value { result ≡ 32 ^ level }
     ensures from { 1 ≤ result }

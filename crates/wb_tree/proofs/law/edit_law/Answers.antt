@@ -1,4 +1,5 @@
 use Rattle.wb_tree.proofs.Stored.Edited.{edited-once, edited-none, edited-more, stored-edited, places-edited}
+use Rattle.wb_tree.proofs.Nodes.Above.{leaves-above}
 use Rattle.wb_tree.proofs.law.edit_law.Goals as goal
 
 pub returns-clause-once : goal.returns-clause-once
@@ -12,3 +13,6 @@ returns-clause-stored c = stored-edited
 
 pub returns-clause-places : goal.returns-clause-places
 returns-clause-places c = places-edited
+
+pub returns-clause-leaves : goal.returns-clause-leaves
+returns-clause-leaves c = leaves-above

@@ -19,9 +19,6 @@ plan-requires-clause-free c =
     (places-unused c.args.geometry.now (length (changed c.args.tree.now (depth_of c.args.geometry.now.cache_blocks))) c.from-first.result c.from-count.result c.deref.result.now (c.deref.ensures.value ∙ c.in_ok-places.ensures)
     c.args.used.now (c.are_outside.ensures c.if-not-are_outside.false) (omega arith) (enough_for c.args.tree.now c.args.geometry.now.cache_blocks c.changed_nodes.result c.from-count.result c.requires.size c.changed_nodes.ensures (omega arith)) (omega arith))
 
-pub returns-clause-used : goal.returns-clause-used
-returns-clause-used c = IfOk-weaker c.plan.result _ _ (λ image h place is. (h.used_are place).1 is) c.plan.ensures.image
-
 pub returns-clause-planned : goal.returns-clause-planned
 returns-clause-planned c =
     IfOk-weaker c.plan.result _ _ (λ image h. (

@@ -4,7 +4,7 @@ use Rattle.wb_types.specs.declared.entry.Entry.{Entry}
 use Rattle.wb_types.specs.declared.number.Place.{Place}
 use Rattle.wb_disk.specs.Device.{History}
 use Rattle.wb_tree.specs.declared.placed.PlacedNode.{PlacedNode}
-use Rattle.wb_tree.specs.Mapping.{Mapping, empty_mapping}
+use Rattle.wb_tree.specs.Mapping.{Mapping, empty_mapping, used_places}
 use Rattle.wb_tree.specs.Whole.{found_of}
 use Rattle.wb_tree.proofs.Stored.Edited.{places-edited}
 use Rattle.wb_meta.specs.Imaging.{DeviceStores, IsPlanned, Follows}
@@ -19,7 +19,7 @@ is_empty m blocks e k =
     ap (λ es. made es m.known) e ∙ ap (λ ks. made (replicate blocks None) ks) k
 
 pub plan_at-requires-2-clause-used : goal.plan_at-requires-2-clause-used
-plan_at-requires-2-clause-used g c place is = subst (λ (places : List Place). Contains places place) (sym c.deref.ensures.value) (c.in_ok-image.ensures.used place (places-edited _ _ place c.change-2.ensures.edited is))
+plan_at-requires-2-clause-used g c place is = subst (λ (places : List Place). Contains places place) (sym (c.deref.ensures.value ∙ c.in_ok-used.ensures.places)) ((c.places.ensures.used.are place).1 (places-edited _ _ place c.change-2.ensures.edited is))
 
 pub plan_at-requires-2-clause-inside : goal.plan_at-requires-2-clause-inside
 plan_at-requires-2-clause-inside g c place is = c.plan_at.ensures.inside place (places-edited _ _ place c.change-2.ensures.edited is)
@@ -46,19 +46,19 @@ returns g c tells =
     let size2 : length d2 ≡ length d1 = whole c.commit.new.disk tells ∙ (c.commit.ensures.size ∙ sym (whole c.format.new.disk tells)) in
     let stored2 = stored_committed c.change.new.tree c.plan_at.new.tree p.0 image d1 d2 (of_first root0) next1 size2 tree1 in
     let old : Stored = record { root = image.root; found = found_of image.root c.plan_at.new.tree } in
-    let stored3 = stored_edited c.plan_at.new.tree c.change-2.new.tree d2 old image.used.items stored2 c.change-2.ensures.edited c.in_ok-change-2.ensures.sound in
+    let stored3 = stored_edited c.plan_at.new.tree c.change-2.new.tree d2 old (used_places c.plan_at.new.tree) stored2 c.change-2.ensures.edited c.in_ok-change-2.ensures.sound in
     let second = c.in_ok-next.next in
     let q = c.in_ok-next.ensures.planned in
-    let planned2 : IsPlanned c.change-2.new.tree c.plan_at-2.new.tree q.0 second image.used.items = subst (λ (used : List Place). IsPlanned c.change-2.new.tree c.plan_at-2.new.tree q.0 second used) c.deref.ensures.value q.3 in
+    let planned2 : IsPlanned c.change-2.new.tree c.plan_at-2.new.tree q.0 second (used_places c.plan_at.new.tree) = subst (λ (used : List Place). IsPlanned c.change-2.new.tree c.plan_at-2.new.tree q.0 second used) (c.deref.ensures.value ∙ c.in_ok-used.ensures.places) q.3 in
     let follows2 : Follows q.0 old = record {
       same_geometry = p.3.image_is.root_geometry ∙ (p.1 ∙ sym q.1);
       next = q.2 ∙ sym (ap (λ (n : ℕ). n + 1) (p.3.image_is.root_generation ∙ p.2));
     } in
-    let next2 = next_planned c.change-2.new.tree c.plan_at-2.new.tree q.0 second d2 old image.used.items stored3 planned2 follows2 in
+    let next2 = next_planned c.change-2.new.tree c.plan_at-2.new.tree q.0 second d2 old (used_places c.plan_at.new.tree) stored3 planned2 follows2 in
     let tree2 = c.in_ok-commit-2.ensures.tree tells c.change-2.new.tree c.plan_at-2.new.tree q.0 old next2 in
     let size3 : length d3 ≡ length d2 = whole c.commit-2.new.disk tells ∙ (c.commit-2.ensures.size ∙ sym (whole c.commit.new.disk tells)) in (
       record { root = second.root; found = found_of second.root c.plan_at-2.new.tree },
-      second.used.items,
+      used_places c.plan_at-2.new.tree,
       planned2.image_is.root_generation ∙ q.2,
       stored_committed c.change-2.new.tree c.plan_at-2.new.tree q.0 second d2 d3 old next2 size3 tree2,
       tree2,

@@ -1,7 +1,5 @@
 use Rattle.std.proofs.Common.{◌≡◌, length}
-use Rattle.std.specs.Prelude.{Contains}
-use Rattle.wb_types.specs.declared.number.Place.{Place}
-use Rattle.wb_tree.specs.Mapping.{AreInside, IsPlaceOf}
+use Rattle.wb_tree.specs.Mapping.{AreInside}
 use Rattle.wb_trial.specs.Own.{AreOwn}
 use Rattle.wb_tests_meta.proofs.tree.comparing.agree.Given as goal
 
@@ -10,7 +8,6 @@ invariant-loop-round l = record {
   size : length l.tree.entries ≡ l.cache_blocks;
   hints_size : length l.hints.items ≡ l.cache_blocks;
   own : AreOwn l.tree.entries;
-  used : (place : Place) → IsPlaceOf l.tree place → Contains l.used.items place;
   inside : AreInside l.geometry.meta_sectors l.tree;
 }
 
@@ -20,6 +17,5 @@ invariant-loop l = record {
   hints_size : length l.hints.items ≡ l.cache_blocks;
   changed_size : length l.changed.items ≡ l.cache_blocks;
   own : AreOwn l.tree.entries;
-  used : (place : Place) → IsPlaceOf l.tree place → Contains l.used.items place;
   inside : AreInside l.geometry.meta_sectors l.tree;
 }

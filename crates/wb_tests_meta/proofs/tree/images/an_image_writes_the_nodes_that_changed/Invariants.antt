@@ -1,7 +1,5 @@
 use Rattle.std.proofs.Common.{◌≡◌, length}
-use Rattle.std.specs.Prelude.{Contains}
-use Rattle.wb_types.specs.declared.number.Place.{Place}
-use Rattle.wb_tree.specs.Mapping.{AreInside, IsPlaceOf}
+use Rattle.wb_tree.specs.Mapping.{AreInside}
 use Rattle.wb_trial.specs.Own.{AreOwn}
 use Rattle.wb_tests_meta.proofs.tree.images.an_image_writes_the_nodes_that_changed.Given as goal
 
@@ -9,6 +7,5 @@ abbrev pub invariant-loop-row : goal.invariant-loop-row
 invariant-loop-row g l = record {
   size : length l.tree.entries ≡ 40;
   own : AreOwn l.tree.entries;
-  used : (place : Place) → IsPlaceOf l.tree place → Contains l.used.items place;
   inside : AreInside l.geometry.meta_sectors l.tree;
 }

@@ -10,9 +10,9 @@ returns-in-Some-clause-there g c =
     c.look.ensures.there
     ∙ (ap (λ (v : Branch). exists v.entries c.args.level c.args.index) c.deref.ensures
     ∙ (ap (λ o. exists (entries_in (32 ^ b.depth) o) c.args.level c.args.index) (sym c.in-Some.is)
-    ∙ (sym (exists-boxes b.cache_blocks b.depth c.args.level c.args.index b.root c.self.invariant) ∙ ap (λ (m : Mapping). exists m.entries c.args.level c.args.index) c.self.view_is)))
+    ∙ (sym (exists-boxes b.cache_blocks b.depth c.args.level c.args.index b.root c.self.invariant.boxes) ∙ ap (λ (m : Mapping). exists m.entries c.args.level c.args.index) c.self.view_is)))
 
 pub returns-in-None-clause-there : goal.returns-in-None-clause-there
 returns-in-None-clause-there g c =
     let b = c.self.inside in
-    sym (nothing_there_at_all b.cache_blocks b.depth c.args.level c.args.index b.root c.args.self.now c.in-None.is c.self.invariant c.self.view_is)
+    sym (nothing_there_at_all b.cache_blocks b.depth c.args.level c.args.index b.root c.args.self.now c.in-None.is c.self.invariant.boxes c.self.view_is)

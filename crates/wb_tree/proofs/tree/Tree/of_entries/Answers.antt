@@ -1,4 +1,4 @@
-use Rattle.std.proofs.Common.{◌++◌, ◌∙◌, sym, ap, subst, List, Option}
+use Rattle.std.proofs.Common.{◌++◌, ◌∙◌, sym, ap, subst, List, Option, length}
 use Rattle.wb_types.specs.declared.entry.Entry.{Entry}
 use Rattle.wb_tree.specs.declared.placed.PlacedNode.{PlacedNode}
 use Rattle.wb_tree.specs.Mapping.{IsSound, place_in}
@@ -14,7 +14,10 @@ filled-requires-clause-index g c = first_fits c.depth_for-depth.result c.depth_f
 pub invariant_of-tree : goal.invariant_of-tree
 invariant_of-tree g c =
     let d = c.depth_for-depth in
-    boxes_filled c.args.entries.now c.args.cache_blocks d.result c.in_ok-root.root c.in_ok-root.ensures c.requires.size d.ensures.value c.requires.few d.ensures.from d.ensures.to d.ensures.enough
+    record {
+      boxes = boxes_filled c.args.entries.now c.args.cache_blocks d.result c.in_ok-root.root c.in_ok-root.ensures c.requires.size d.ensures.value c.requires.few d.ensures.from d.ensures.to d.ensures.enough;
+      many = sym (ap (λ (ks : List PlacedNode). length ks) c.in_ok-root.ensures.unknown);
+    }
 
 pub settle-requires-clause-apart : goal.settle-requires-clause-apart
 settle-requires-clause-apart g c = subst (λ (ks : List PlacedNode). AreApart (ks ++ c.args.known.now)) (sym c.in_ok-root.ensures.unknown) c.requires.apart
