@@ -1,14 +1,18 @@
 -- What holds of every desk holds after a commit has begun, and after it has ended.
-use Rattle.std.proofs.Common.{◌≡◌, ◌<◌, ◌^◌, ℕ, Bool, true, false, if◌then◌else◌, List, [], ◌∷◌, Option, Some, None, length, map, get_or, is_some, inl, inr, ◌+◌, ◌%◌, refl, sym, ap, subst, ◌∙◌, arith}
-use Rattle.std.specs.Prelude.{Contains}
-use Rattle.std.proofs.lemmas.List.{length-map}
+use Rattle.std.proofs.Common.{◌≡◌, ◌<◌, ◌^◌, ℕ, Bool, true, false, if◌then◌else◌, List, [], ◌∷◌, Vec, Option, Some, None, length, map, get_or, is_some, inl, inr, ◌+◌, ◌%◌, refl, sym, ap, subst, ◌∙◌, arith}
+use Rattle.std.specs.Prelude.{All, Contains}
+use Rattle.std.specs.Global.{Global}
+use Rattle.std.specs.Option.{IfNone, IfSome, option_map}
+use Rattle.std.proofs.lemmas.List.{length-map, length-replicate}
+use Rattle.std.proofs.lemmas.List.Elements.{All-contains, All-map, All-weaker}
 use Rattle.std.proofs.Math.ListN.{get_or-map}
 use Rattle.wb_types.specs.declared.entry.Entry.{Entry}
 use Rattle.wb_types.specs.declared.number.CBlock.{CBlock}
 use Rattle.wb_types.specs.declared.number.Place.{Place}
-use Rattle.wb_tree.specs.Mapping.{Mapping, IsMapping, IsSound, AreInside, used_places}
+use Rattle.wb_format.specs.declared.node.Node.{Node}
+use Rattle.wb_tree.specs.Mapping.{Mapping, IsMapping, IsPlaceOf, IsSound, AreInside, place_of, used_places}
 use Rattle.wb_tree.specs.Edits.{IsEdited}
-use Rattle.wb_tree.specs.Images.{AreFree, IsImage}
+use Rattle.wb_tree.specs.Images.{AreFree, ImagePlan, IsImage}
 use Rattle.wb_tree.specs.declared.image.Image.{Image}
 use Rattle.wb_policy.specs.declared.order.Order.{Order}
 use Rattle.wb_policy.specs.declared.order.Order.TheVariants.{Promote, Replace, Demote, Clean}
@@ -16,8 +20,10 @@ use Rattle.wb_policy.specs.Law.{Holdings, origins}
 use Rattle.wb_space.specs.declared.block.Block.{Block}
 use Rattle.wb_space.specs.declared.block.Block.TheVariants.{Free, Mapped, Reserved, Quarantined}
 use Rattle.wb_space.specs.Blocks.{state, IsClaimed, commit_begun as block_begun, commit_ended as block_ended}
-use Rattle.wb_space.specs.Places.{noted, unused, place_count}
-use Rattle.wb_space.proofs.Noted.{length-noted_alone}
+use Rattle.wb_space.specs.Spaces.{Spaces}
+use Rattle.wb_space.specs.Places.{HaveLeft, noted, unused, place_count, without}
+use Rattle.wb_space.proofs.Noted.{flagged, length-noted_alone}
+use Rattle.wb_space.proofs.Changing.{changed_places, none_left_of}
 use Rattle.wb_orders.specs.declared.live_order.LiveOrder.{LiveOrder}
 use Rattle.wb_orders.specs.Orders.{order_at}
 use Rattle.wb_tree.proofs.Stored.Edited.{places-edited}
@@ -25,10 +31,10 @@ use Rattle.wb_meta.specs.Imaging.{AreUnusedFor}
 use Rattle.wb_meta.proofs.Round.{free_of_unused}
 use Rattle.wb_desk.specs.InUse.{AreFlagged, places_for}
 use Rattle.wb_desk.specs.Desks.{DeskState, DeskInvariant, IsRight, NamesWhatIs, Names, holdings, is_mapped}
-use Rattle.wb_desk.specs.Fields.{IsIndex, AreParts}
+use Rattle.wb_desk.specs.Fields.{IsIndex, AreParts, newest_places}
 use Rattle.wb_desk.specs.Marks.{OfImaged}
 use Rattle.wb_desk.proofs.Marking.{ImageFacts, of_imaged, same_some, same_count}
-use Rattle.wb_desk.specs.Commits.{MayBegin, IsOnUnused, next_plan, commit_begun, commit_ended}
+use Rattle.wb_desk.specs.Commits.{MayBegin, IsOnUnused, next_plan, space_begun, commit_begun, commit_ended}
 use Rattle.wb_desk.proofs.Acts.{kept_begun, kept_ended}
 use Rattle.wb_desk.proofs.FreePlaces.{unused_places}
 
@@ -142,6 +148,14 @@ none_used (p ∷ ps) e = absurd (omega arith)
 pub length_flags : (cache_blocks nodes : ℕ) (flags : List Bool) → AreFlagged cache_blocks nodes flags → length flags ≡ place_count cache_blocks
 length_flags cache_blocks nodes flags f = ap (λ (xs : List Bool). length xs) f.are ∙ length-noted_alone f.used (place_count cache_blocks)
 
+pub still_some : {A B : Type 0} (f : A → B) (o : Option A) → is_some o ≡ is_some (option_map f o)
+still_some f None = refl
+still_some f (Some x) = refl
+
+-- where no commit runs, places of the committed image may have left
+pub left_size : (tree : Mapping) (space : Spaces) (left : List Bool) → space.committing ≡ false → HaveLeft (IsPlaceOf tree) (newest_places space) left → length left ≡ length space.places.committed
+left_size tree space left idle have = (subst (λ (b : Bool). HaveLeft (IsPlaceOf tree) (if b then space.places.running else space.places.committed) left) idle have).size
+
 -- ---- desks
 
 module _ {P : Type 0} (knows : P → Holdings → Type 0) where
@@ -204,14 +218,55 @@ module _ {P : Type 0} (knows : P → Holdings → Type 0) where
     known = subst (λ (m : Holdings). knows d.policy m) (sym is.origins) i.known;
   }
 
-  pub begun_parts : (d : DeskState P) (tree : Mapping) (image : Image) (cached : List (Option CBlock)) (mapped : ℕ) → AreParts knows d cached mapped → MayBegin d
+  pub begun_parts : (d : DeskState P) (tree : Mapping) (image : Image) (cached : List (Option CBlock)) (left : List Bool) (mapped : ℕ) → AreParts knows d cached left mapped → MayBegin d
       → ImageFacts d.tree tree d.geometry.cache_blocks image → IsMapping d.geometry.cache_blocks d.geometry.origin_blocks tree.entries
-      → AreInside d.geometry.meta_sectors tree → AreParts knows (commit_begun d tree) cached mapped
-  begun_parts d tree image cached mapped parts may is mapping inside = record {
+      → IsSound tree → AreInside d.geometry.meta_sectors tree → AreParts knows (commit_begun d tree) cached (unused (place_count d.geometry.cache_blocks)) mapped
+  begun_parts d tree image cached left mapped parts may is mapping sound inside = record {
     desk = begun_kept d tree image parts.desk may is mapping inside;
+    sound = sound;
+    have_left = none_left_of (IsPlaceOf tree) (used_places tree) (place_count d.geometry.cache_blocks) (λ p. (is.used.are p).0);
     index = subst (λ (m : Holdings). IsIndex d.geometry.origin_blocks m cached) (sym is.origins) parts.index;
     count = parts.count ∙ sym (same_count tree.entries d.tree.entries is.origins);
   }
+
+  -- the running image has the places of the committed one, but those that have left, and those of the nodes that it writes
+  pub begun_running : (d : DeskState P) (tree : Mapping) (plan : ImagePlan) (image : Image) (left : List Bool) → DeskInvariant knows d → d.space.committing ≡ false → HaveLeft (IsPlaceOf d.tree) (newest_places d.space) left
+      → IsImage d.tree tree plan image
+      → noted (map (λ node. node.0) image.nodes.items) (without left d.space.places.committed) ≡ noted (used_places tree) (unused (place_count d.geometry.cache_blocks))
+  begun_running d tree plan image left i idle have is =
+      changed_places (IsPlaceOf d.tree) (IsPlaceOf tree) (map (λ node. node.0) image.nodes.items) (used_places tree) d.space.places.committed left
+      (subst (λ (b : Bool). HaveLeft (IsPlaceOf d.tree) (if b then d.space.places.running else d.space.places.committed) left) idle have)
+      (λ p at within.
+      ap (λ (flags : List Bool). get_or flags p.0 false) i.places.committed.are
+      ∙ flagged i.places.committed.used (unused (place_count d.geometry.cache_blocks)) p
+      (subst (λ (b : Bool). Contains (if b then i.places.running.used else i.places.committed.used) p) idle (i.places.known p at))
+      (omega (arith, within, size, length-replicate {A = Bool} (place_count d.geometry.cache_blocks) false)))
+      is.used.are
+      (λ p at. record { level = at.level; index = at.index; known = is.stays at.level at.index p at.known })
+      (λ p has. All-contains (IsPlaceOf tree) (map (λ node. node.0) image.nodes.items) p (All-map (IsPlaceOf tree) (λ (node : Place × Node). node.0) image.nodes.items stand) has)
+      is.comes
+      ∙ ap (λ (count : ℕ). noted (used_places tree) (unused count)) size
+    where
+      size : length d.space.places.committed ≡ place_count d.geometry.cache_blocks
+      size = length_flags d.geometry.cache_blocks d.nodes d.space.places.committed i.places.committed
+
+      stand : All (λ node. IsPlaceOf tree node.0) image.nodes.items
+      stand = All-weaker (λ (node : Place × Node). place_of tree node.1.level node.1.index ≡ Some node.0) (λ (node : Place × Node). IsPlaceOf tree node.0)
+          (λ node at. record { level = node.1.level; index = node.1.index; known = at }) image.nodes.items is.stands
+
+  -- and so it has where its places are listed
+  pub begun_space : (d : DeskState P) (tree : Mapping) (plan : Mapping → ImagePlan) (image : Image) (left : List Bool) (hint : ℕ → ℕ) (clean : Option (List Bool)) (used : Option (Vec Place Global)) (new : Spaces)
+      → DeskInvariant knows d → d.space.committing ≡ false → HaveLeft (IsPlaceOf d.tree) (newest_places d.space) left → OfImaged hint clean d.tree (λ m. IsImage m tree (plan m) image)
+      → is_some used ≡ is_some clean → IfSome used (λ used. used.items ≡ used_places tree)
+      → IfSome used (λ used. new ≡ space_begun d.space (noted used.items (unused (length d.space.places.running))))
+      → IfNone used (new ≡ space_begun d.space (noted (map (λ node. node.0) image.nodes.items) (without left d.space.places.committed)))
+      → new ≡ space_begun d.space (noted (used_places tree) (unused (place_count d.geometry.cache_blocks)))
+  begun_space d tree plan image left hint None None new i idle have is marked are listed changed =
+      changed ∙ ap (space_begun d.space) (begun_running d tree (plan d.tree) image left i idle have is)
+  begun_space d tree plan image left hint (Some dirty) None new i idle have is marked are listed changed = absurd cc
+  begun_space d tree plan image left hint clean (Some used) new i idle have is marked are listed changed =
+      listed ∙ ap (space_begun d.space) (ap (λ (ps : List Place). noted ps (unused (length d.space.places.running))) are
+      ∙ ap (λ (n : ℕ). noted (used_places tree) (unused n)) (length_flags d.geometry.cache_blocks d.coming d.space.places.running i.places.running))
 
   pub ended_kept : (d : DeskState P) → DeskInvariant knows d → d.space.committing ≡ true → DeskInvariant knows (commit_ended d)
   ended_kept d i runs = record {

@@ -11,9 +11,10 @@ use Rattle.wb_types.specs.declared.entry.Entry.{Entry}
 use Rattle.wb_types.specs.declared.geometry.Geometry.{Geometry}
 use Rattle.wb_types.specs.declared.number.CBlock.{CBlock}
 use Rattle.wb_types.specs.declared.number.OBlock.{OBlock}
-use Rattle.wb_tree.specs.Mapping.{Mapping, IsMapping}
+use Rattle.wb_tree.specs.Mapping.{Mapping, IsMapping, IsPlaceOf, IsSound, places_above}
 use Rattle.wb_tree.specs.Edits.{IsEdited}
 use Rattle.wb_tree.proofs.Stored.Edited.{places-edited}
+use Rattle.wb_tree.proofs.Nodes.Above.{leaves-above}
 use Rattle.wb_tree.proofs.Stored.EntryChanges.{set-mapping}
 use Rattle.wb_policy.specs.declared.order.Order.{Order}
 use Rattle.wb_policy.specs.declared.order.Order.TheVariants.{Promote, Replace, Demote, Clean}
@@ -21,7 +22,8 @@ use Rattle.wb_policy.specs.Law.{Holdings, origins, IsMappedAt, IsUnmapped}
 use Rattle.wb_policy.proofs.Laws.{slice_get-set_same, slice_get-set_other}
 use Rattle.wb_space.specs.declared.block.Block.{Block}
 use Rattle.wb_space.specs.declared.block.Block.TheVariants.{Free, Mapped, Reserved}
-use Rattle.wb_space.specs.Places.{PlacesInUse}
+use Rattle.wb_space.specs.Places.{HaveLeft, PlacesInUse, noted_known}
+use Rattle.wb_space.proofs.Changing.{more_left}
 use Rattle.wb_space.specs.Blocks.{state}
 use Rattle.wb_orders.specs.declared.live_order.LiveOrder.{LiveOrder}
 use Rattle.wb_orders.specs.Named.{IsNamed}
@@ -29,7 +31,7 @@ use Rattle.wb_orders.specs.Orders.{AreOrders, order_at}
 use Rattle.wb_orders.proofs.Kept.{within_of}
 use Rattle.wb_desk.specs.InUse.{PlacesInvariant}
 use Rattle.wb_desk.specs.Desks.{DeskState, DeskInvariant, IsRight, NamesWhatIs, Names, holdings, is_mapped, mapped_now}
-use Rattle.wb_desk.specs.Fields.{IsIndex, AreParts}
+use Rattle.wb_desk.specs.Fields.{IsIndex, AreParts, newest_places}
 use Rattle.wb_desk.specs.Entries.{MayMap, Brings, entry_of, mapped}
 use Rattle.wb_tree.specs.Edits.{IsChangedAt}
 use Rattle.wb_desk.proofs.Index.{mapped_there}
@@ -133,6 +135,12 @@ places_edited geometry old new places committing nodes coming edited i = record 
   known = λ p at. i.known p (places-edited old new p edited at);
   idle = i.idle;
 }
+
+-- what stands above a changed entry has left
+pub left_above : (old new : Mapping) (newest left : List Bool) (block : ℕ) (entry : Option Entry) → IsSound old → IsChangedAt old new block entry → HaveLeft (IsPlaceOf old) newest left
+    → HaveLeft (IsPlaceOf new) newest (noted_known (places_above old block) left)
+left_above old new newest left block entry sound changed have = more_left (IsPlaceOf old) (IsPlaceOf new) (places_above old block) newest left
+    (leaves-above old new block sound changed.forgets changed.others) have
 
 -- ---- counting
 
@@ -273,19 +281,21 @@ module _ {P : Type 0} (knows : P → Holdings → Type 0) where
           (names_after (holdings d) b.0 c.0 k (state d.space.blocks k) o.order way.vacant other
           (λ named. other (orders.apart k c.0 b.0 o way.live is way.there named way.named)) names)
 
-  pub mapped_parts : (d : DeskState P) (b : OBlock) (c : CBlock) (tree : Mapping) (policy : P) (cached : List (Option CBlock)) (count : ℕ) → AreParts knows d cached count → AreOrders d.orders → MayMap d b c
-      → IsChangedAt d.tree tree c.0 (Some (entry_of b)) → knows policy (origins tree.entries) → AreParts knows (mapped d c tree policy) (set cached b.0 (Some c)) (count + 1)
-  mapped_parts d b c tree policy cached count p orders may changed known =
+  pub mapped_parts : (d : DeskState P) (b : OBlock) (c : CBlock) (tree : Mapping) (policy : P) (cached : List (Option CBlock)) (left : List Bool) (count : ℕ) → AreParts knows d cached left count → AreOrders d.orders → MayMap d b c
+      → IsChangedAt d.tree tree c.0 (Some (entry_of b)) → knows policy (origins tree.entries) → AreParts knows (mapped d c tree policy) (set cached b.0 (Some c)) (noted_known (places_above d.tree c.0) left) (count + 1)
+  mapped_parts d b c tree policy cached left count p orders may changed known =
       let way = entrance d b c p.desk may in
       record {
         desk = mapped_kept d b c tree policy p.desk orders may changed known;
+        sound = changed.sound;
+        have_left = left_above d.tree tree (newest_places d.space) left c.0 (Some (entry_of b)) p.sound changed p.have_left;
         index = subst (λ (m : Holdings). IsIndex d.geometry.origin_blocks m (set cached b.0 (Some c)))
             (sym (ap origins changed.entries ∙ set_origin d.tree.entries c.0 (Some (entry_of b))))
             (index_mapped d.geometry.origin_blocks (holdings d) cached b.0 c p.index (named_inside d c.0 b.0 way.live p.desk orders way.there way.named) way.vacant);
         count = ap (λ (n : ℕ). n + 1) p.count ∙ sym (count_after d b c tree p.desk may changed);
       }
 
-  pub mapped_inside : (d : DeskState P) (b : OBlock) (c : CBlock) (cached : List (Option CBlock)) (count : ℕ) → AreParts knows d cached count → AreOrders d.orders → MayMap d b c → b.0 < length cached
-  mapped_inside d b c cached count p orders may =
+  pub mapped_inside : (d : DeskState P) (b : OBlock) (c : CBlock) (cached : List (Option CBlock)) (left : List Bool) (count : ℕ) → AreParts knows d cached left count → AreOrders d.orders → MayMap d b c → b.0 < length cached
+  mapped_inside d b c cached left count p orders may =
       let way = entrance d b c p.desk may in
       omega (arith, named_inside d c.0 b.0 way.live p.desk orders way.there way.named, p.index.size)

@@ -1,9 +1,8 @@
 -- The free places that an image is given are enough, and used by no image.
-use Rattle.std.proofs.Common.{◌≡◌, ◌≤◌, ◌<◌, ◌+◌, ◌-◌, ◌*◌, ◌&&◌, inl, inr, ℕ, zero, suc, Bool, true, false, not, cond, List, [], ◌∷◌, Some, length, map, take, get_or, set, refl, sym, ap, subst, ◌∙◌, arith, get_or-set_same, get_or-set_other, slice_get}
-use Rattle.std.specs.Prelude.{filter, Contains, slice_index_or}
+use Rattle.std.proofs.Common.{◌≡◌, ◌≤◌, ◌<◌, ◌+◌, ◌-◌, ◌*◌, ◌&&◌, ℕ, zero, suc, Bool, true, false, not, cond, List, [], ◌∷◌, Some, length, map, take, get_or, refl, sym, ap, subst, ◌∙◌, arith, slice_get}
+use Rattle.std.specs.Prelude.{filter}
 use Rattle.std.specs.List.{range_with_len}
-use Rattle.std.proofs.lemmas.Bool.{cases_eq, cases_lt}
-use Rattle.std.proofs.lemmas.List.{length-set, length-map, length-take-le, set_past}
+use Rattle.std.proofs.lemmas.List.{length-map, length-take-le}
 use Rattle.wb_types.specs.Limits.{depth_of, node_count}
 use Rattle.wb_types.specs.declared.geometry.Geometry.{Geometry}
 use Rattle.wb_types.specs.declared.number.Place.{Place}
@@ -11,35 +10,10 @@ use Rattle.wb_types.proofs.Lists.{map_there}
 use Rattle.wb_tree.specs.Mapping.{Mapping, changed}
 use Rattle.wb_tree.proofs.Images.Changes.{few_changed}
 use Rattle.wb_space.specs.Places.{PlacesInUse, noted, unused, place_count, is_free_place, free_places, place}
-use Rattle.wb_space.proofs.Noted.{length-noted_alone}
+use Rattle.wb_space.proofs.Noted.{flagged, length-noted_alone}
 use Rattle.wb_space.proofs.Suffices.{places_suffice}
 use Rattle.wb_meta.specs.Imaging.{AreUnusedFor}
 use Rattle.wb_desk.specs.InUse.{AreFlagged, places_for}
-
--- ---- flags
-
-flag_stays : (flags : List Bool) (p at : ℕ) → get_or flags at false ≡ true → get_or (set flags p true) at false ≡ true
-flag_stays flags p at e = elim (cases_eq at p) [
-  | inl q ↦ elim (cases_lt p (length flags)) [
-    | inl l ↦ ap (λ (k : ℕ). get_or (set flags p true) k false) q ∙ get_or-set_same flags p true false l
-    | inr past ↦ ap (λ (xs : List Bool). get_or xs at false) (set_past flags p true past) ∙ e
-  ]
-  | inr n ↦ get_or-set_other flags p at true false n ∙ e
-]
-
-flags_stay : (ps : List Place) (flags : List Bool) (at : ℕ) → get_or flags at false ≡ true → get_or (noted ps flags) at false ≡ true
-flags_stay [] flags at e = e
-flags_stay (p ∷ ps) flags at e = flags_stay ps (set flags p.0 true) at (flag_stays flags p.0 at e)
-
-flagged_at : (ps : List Place) (flags : List Bool) (p : Place) (k : ℕ) → k < length ps → slice_index_or ps k p ≡ p → p.0 < length flags → get_or (noted ps flags) p.0 false ≡ true
-flagged_at [] flags p k l e within = absurd (omega arith)
-flagged_at (q ∷ ps) flags p zero l e within = flags_stay ps (set flags q.0 true) p.0
-    (ap (λ (x : Place). get_or (set flags x.0 true) p.0 false) e ∙ get_or-set_same flags p.0 true false within)
-flagged_at (q ∷ ps) flags p (suc k) l e within = flagged_at ps (set flags q.0 true) p k (omega arith) e (omega (arith, length-set flags q.0 true))
-
--- a place that was noted is flagged
-pub flagged : (ps : List Place) (flags : List Bool) (p : Place) → Contains ps p → p.0 < length flags → get_or (noted ps flags) p.0 false ≡ true
-flagged ps flags p has within = flagged_at ps flags p has.0 has.1 has.2 within
 
 -- ---- the free places, rising
 

@@ -10,7 +10,7 @@ use Rattle.std.proofs.lemmas.Option.{slice_get_within, slice_get-get_or}
 use Rattle.wb_types.specs.declared.entry.Entry.{Entry}
 use Rattle.wb_types.specs.declared.number.CBlock.{CBlock}
 use Rattle.wb_types.specs.declared.number.OBlock.{OBlock}
-use Rattle.wb_tree.specs.Mapping.{Mapping, IsMapping}
+use Rattle.wb_tree.specs.Mapping.{Mapping, IsMapping, places_above}
 use Rattle.wb_tree.proofs.Stored.EntryChanges.{clear-mapping}
 use Rattle.wb_policy.specs.declared.order.Order.{Order}
 use Rattle.wb_policy.specs.declared.order.Order.TheVariants.{Promote, Replace, Demote, Clean}
@@ -19,15 +19,16 @@ use Rattle.wb_policy.proofs.Laws.{slice_get-set_same, slice_get-set_other}
 use Rattle.wb_space.specs.declared.block.Block.{Block}
 use Rattle.wb_space.specs.declared.block.Block.TheVariants.{Free, Mapped, Reserved, Quarantined}
 use Rattle.wb_space.specs.Blocks.{state, IsClaimed}
+use Rattle.wb_space.specs.Places.{noted_known}
 use Rattle.wb_orders.specs.declared.live_order.LiveOrder.{LiveOrder}
 use Rattle.wb_orders.specs.Orders.{Orders, order_at, without_order}
 use Rattle.wb_desk.specs.Desks.{DeskState, DeskInvariant, IsRight, NamesWhatIs, Names, holdings, is_mapped, mapped_now}
-use Rattle.wb_desk.specs.Fields.{IsIndex, AreParts}
+use Rattle.wb_desk.specs.Fields.{IsIndex, AreParts, newest_places}
 use Rattle.wb_desk.specs.Entries.{MayUnmap, IsRemoved, Removes, keeps, is_replacement, orders_past, orders_left, unmapped}
 use Rattle.wb_tree.specs.Edits.{IsChangedAt}
 use Rattle.wb_desk.proofs.Index.{entry_for, mapped_once, same_cache}
 use Rattle.wb_desk.proofs.Kept.{Each, length_unmarked}
-use Rattle.wb_desk.proofs.Entering.{one_entry_changes, mapped_elsewhere, set_origin, set_there, places_edited}
+use Rattle.wb_desk.proofs.Entering.{one_entry_changes, mapped_elsewhere, set_origin, set_there, places_edited, left_above}
 
 pub entry_there : (entries : List (Option Entry)) (b c : ℕ) → IsMappedAt (origins entries) b c → IsSome (get_or entries c None)
 entry_there entries b c at = subst (λ (x : Option Entry). IsSome x) (sym (entry_for entries b c at).there) refl
@@ -230,17 +231,19 @@ module _ {P : Type 0} (knows : P → Holdings → Type 0) where
       quarantined : Block
       quarantined = Quarantined (keeps (order_at d.orders.slots c.0)) false
 
-  pub unmapped_parts : (d : DeskState P) (b : OBlock) (c : CBlock) (tree : Mapping) (policy : P) (cached : List (Option CBlock)) (count : ℕ) → AreParts knows d cached count
+  pub unmapped_parts : (d : DeskState P) (b : OBlock) (c : CBlock) (tree : Mapping) (policy : P) (cached : List (Option CBlock)) (left : List Bool) (count : ℕ) → AreParts knows d cached left count
       → IsMappedAt (holdings d) b.0 c.0 → IsRemoved (order_at d.orders.slots c.0) → IsChangedAt d.tree tree c.0 None → knows policy (origins tree.entries)
-      → AreParts knows (unmapped d c tree policy) (set cached b.0 None) (count - 1)
-  unmapped_parts d b c tree policy cached count p at removed changed known = record {
+      → AreParts knows (unmapped d c tree policy) (set cached b.0 None) (noted_known (places_above d.tree c.0) left) (count - 1)
+  unmapped_parts d b c tree policy cached left count p at removed changed known = record {
     desk = unmapped_kept d b c tree policy p.desk at removed changed known;
+    sound = changed.sound;
+    have_left = left_above d.tree tree (newest_places d.space) left c.0 None p.sound changed p.have_left;
     index = subst (λ (m : Holdings). IsIndex d.geometry.origin_blocks m (set cached b.0 None)) (sym (ap origins changed.entries ∙ set_origin d.tree.entries c.0 None))
         (index_unmapped d.geometry.origin_blocks (holdings d) cached b.0 c.0 p.index (mapped_within d b.0 c.0 p.desk at).1 at (stands_once d b.0 c.0 p.desk at));
     count = omega (arith, p.count, count_less d b.0 c.0 tree p.desk at changed);
   }
 
   -- some block is mapped
-  pub some_mapped : (d : DeskState P) (b : OBlock) (c : CBlock) (tree : Mapping) (cached : List (Option CBlock)) (count : ℕ) → AreParts knows d cached count → IsMappedAt (holdings d) b.0 c.0
+  pub some_mapped : (d : DeskState P) (b : OBlock) (c : CBlock) (tree : Mapping) (cached : List (Option CBlock)) (left : List Bool) (count : ℕ) → AreParts knows d cached left count → IsMappedAt (holdings d) b.0 c.0
       → IsChangedAt d.tree tree c.0 None → 1 ≤ count
-  some_mapped d b c tree cached count p at changed = omega (arith, p.count, count_less d b.0 c.0 tree p.desk at changed)
+  some_mapped d b c tree cached left count p at changed = omega (arith, p.count, count_less d b.0 c.0 tree p.desk at changed)

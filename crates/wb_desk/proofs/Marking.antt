@@ -1,6 +1,5 @@
 -- Entries that are marked with dirty bits and hints, and what an image of them is made of.
-use Rattle.std.proofs.Common.{◌≡◌, ◌<◌, ◌≤◌, ◌+◌, ◌/◌, ◌^◌, ◌↔◌, inl, inr, ℕ, zero, suc, Bool, false, List, [], ◌∷◌, Option, Some, None, length, get_or, set, cond, if◌then◌else◌, is_some, get_or-set_same, get_or-set_other, refl, sym, ap, subst, ◌∙◌, arith}
-use Rattle.std.specs.Prelude.{Contains}
+use Rattle.std.proofs.Common.{◌≡◌, ◌<◌, ◌≤◌, ◌+◌, ◌/◌, ◌^◌, inl, inr, ℕ, zero, suc, Bool, false, List, [], ◌∷◌, Option, Some, None, length, get_or, set, cond, if◌then◌else◌, is_some, get_or-set_same, get_or-set_other, refl, sym, ap, subst, ◌∙◌, arith}
 use Rattle.std.specs.List.{count_by}
 use Rattle.std.specs.Option.{option_map}
 use Rattle.std.proofs.lemmas.Bool.{cases_eq, cases_lt}
@@ -10,7 +9,7 @@ use Rattle.wb_types.specs.Limits.{node_count}
 use Rattle.wb_types.specs.declared.entry.Entry.{Entry}
 use Rattle.wb_types.specs.declared.number.Place.{Place}
 use Rattle.wb_format.specs.declared.node.Node.{Node}
-use Rattle.wb_tree.specs.Mapping.{Mapping, IsMapping, NodeName, IsSound, IsOnPath, IsPlaceOf, changed, changed_of, nodes_of, place_of}
+use Rattle.wb_tree.specs.Mapping.{Mapping, IsMapping, NodeName, IsSound, IsOnPath, changed, changed_of, nodes_of, place_of}
 use Rattle.wb_tree.specs.Edits.{IsEdited}
 use Rattle.wb_tree.specs.Images.{AreUsed, IsImage, ImagePlan, name_of}
 use Rattle.wb_tree.specs.declared.image.Image.{Image}

@@ -8,7 +8,7 @@ use Rattle.wb_types.specs.declared.geometry.Geometry.{Geometry}
 use Rattle.wb_types.specs.declared.mode.Mode.{Mode}
 use Rattle.wb_types.specs.declared.number.Place.{Place}
 use Rattle.wb_format.specs.declared.root.Root.{Root}
-use Rattle.wb_tree.specs.Mapping.{Mapping}
+use Rattle.wb_tree.specs.Mapping.{Mapping, IsPlaceOf}
 use Rattle.wb_meta.specs.Reads.{FitsDevice}
 use Rattle.wb_policy.specs.Law.{Holdings, origins}
 use Rattle.wb_space.specs.declared.block.Block.{Block}
@@ -16,6 +16,9 @@ use Rattle.wb_space.specs.declared.block.Block.TheVariants.{Free}
 use Rattle.wb_space.specs.Blocks.{state, opened_block}
 use Rattle.wb_orders.specs.declared.live_order.LiveOrder.{LiveOrder}
 use Rattle.wb_desk.specs.Desks.{DeskInvariant, IsRight}
+use Rattle.wb_types.specs.declared.number.CBlock.{CBlock}
+use Rattle.wb_space.specs.Places.{HaveLeft, noted, place_count, unused}
+use Rattle.wb_desk.specs.Fields.{AreParts, IsIndex}
 use Rattle.wb_desk.specs.Opening.{opened}
 
 opened_right : (mapping : Holdings) (c : ℕ) (entry : Option Entry) → IsRight mapping c entry (opened_block (is_some entry)) None
@@ -54,3 +57,16 @@ opened_kept knows root tree used mode policy threshold mapped room fits known co
     block : (c : ℕ) → c < geometry.cache_blocks → state (map opened_block (map is_some tree.entries)) c ≡ opened_block (is_some (get_or tree.entries c None))
     block c l = get_or-map opened_block (map is_some tree.entries) c false Free (omega (arith, length-map tree.entries is_some, fits.mapping.size))
         ∙ ap opened_block (get_or-map is_some tree.entries c None false (omega (arith, fits.mapping.size)))
+
+pub opened_parts : {P : Type 0} (knows : P → Holdings → Type 0) (root : Root) (tree : Mapping) (used : List Place) (mode : Mode) (policy : P) (threshold mapped : ℕ) (cached : List (Option CBlock)) (left : List Bool)
+    → 2 + 2 * node_count root.geometry.cache_blocks ≤ root.geometry.meta_sectors → FitsDevice root.geometry.meta_sectors root tree used → knows policy (origins tree.entries)
+    → mapped ≡ count_by is_some tree.entries → IsIndex root.geometry.origin_blocks (origins tree.entries) cached
+    → HaveLeft (IsPlaceOf tree) (noted used (unused (place_count root.geometry.cache_blocks))) left
+    → AreParts knows (opened root.geometry root.generation tree used mode policy threshold mapped) cached left mapped
+opened_parts knows root tree used mode policy threshold mapped cached left room fits known count index have = record {
+  desk = opened_kept knows root tree used mode policy threshold mapped room fits known count;
+  sound = fits.sound;
+  index = index;
+  have_left = have;
+  count = count;
+}

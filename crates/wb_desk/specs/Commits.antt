@@ -7,6 +7,7 @@ use Rattle.wb_tree.specs.Mapping.{Mapping, used_places}
 use Rattle.wb_tree.specs.Images.{ImagePlan}
 use Rattle.wb_tree.specs.declared.image.Image.{Image}
 use Rattle.wb_space.specs.Blocks.{commit_begun as block_begun, commit_ended as block_ended}
+use Rattle.wb_space.specs.Spaces.{Spaces}
 use Rattle.wb_space.specs.Places.{noted, unused, place_count}
 use Rattle.wb_meta.specs.Imaging.{IsPlanned}
 use Rattle.wb_desk.specs.Desks.{DeskState}
@@ -34,15 +35,19 @@ next_plan d imaged clean = record {
   free = places_for imaged d.geometry d.space.places;
 }
 
--- A commit begins, whose image leads to this tree and uses its places: what is quarantined was removed before.
+-- a commit begins, whose image uses these places: what is quarantined was removed before
+abbrev pub space_begun : Spaces → List Bool → Spaces
+space_begun space running = record {
+  blocks = map block_begun space.blocks;
+  places = record space.places { running = running };
+  committing = true;
+}
+
+-- A commit begins, whose image leads to this tree and uses its places.
 abbrev pub commit_begun : {P : Type 0} → DeskState P → Mapping → DeskState P
 commit_begun d tree = record d {
   tree = tree;
-  space = record {
-    blocks = map block_begun d.space.blocks;
-    places = record d.space.places { running = noted (used_places tree) (unused (place_count d.geometry.cache_blocks)) };
-    committing = true;
-  };
+  space = space_begun d.space (noted (used_places tree) (unused (place_count d.geometry.cache_blocks)));
   coming = length (used_places tree);
 }
 

@@ -20,9 +20,12 @@ mod mapping;
 mod settling;
 
 use crate::Counts;
-use crate::opening::{cached_blocks, count_mapped, last_value, mapped_blocks, set_policy};
+use crate::opening::{
+    cached_blocks, count_mapped, last_value, left_places, mapped_blocks, set_policy,
+};
 use std::alloc::Global;
 use std::marker::Model;
+use wb_bits::BitSet;
 use wb_meta::State;
 use wb_orders::LiveOrders;
 use wb_policy::{Order, Policy};
@@ -41,6 +44,8 @@ pub struct Desk<P: Policy> {
     tree: Tree<Global>,
     /// Where each origin block is cached.
     cached: Vec<Option<CBlock>>,
+    /// The places of the newest image at which no node of the tree is known to stand any more.
+    left: BitSet,
     space: Space,
     orders: LiveOrders,
     policy: P,
@@ -91,7 +96,7 @@ impl<P: Policy> Model for Desk<P> {
       at_opening = d.at_opening;
       promotions = d.promotions;
       demotions = d.demotions;
-    }) d.cached.items d.mapped };
+    }) d.cached.items d.left d.mapped };
 }
 
 impl<P: Policy> Desk<P> {
@@ -133,6 +138,7 @@ impl<P: Policy> Desk<P> {
             mode,
             space: Space::new(alloc, &geometry, &mapped, &used)?,
             orders: LiveOrders::new(alloc, geometry.cache_blocks, geometry.origin_blocks)?,
+            left: left_places(alloc, &tree, &geometry, &used)?,
             tree,
             cached,
             policy,

@@ -2,15 +2,18 @@
 
 ghost use Rattle.std.specs.Prelude.{◌≡◌, ◌≤◌, ◌<◌, ◌^◌, IfOk, IfErr, OnOk, OnErr, is_some, length, map};
 ghost use Rattle.std.specs.List.{count_by};
-ghost use Rattle.wb_tree.specs.Mapping.{IsMapping};
+ghost use Rattle.wb_tree.specs.Mapping.{IsMapping, IsPlaceOf};
+ghost use Rattle.wb_space.specs.Places.{HaveLeft, noted, place_count, unused};
 ghost use Rattle.wb_policy.specs.Law.{Holdings, origins};
 ghost use Rattle.wb_desk.specs.Fields.{IsIndex};
 ghost use Rattle.wb_desk.specs.Opening.{is_key, last_value as value_of, IsSet, IsBad};
 
 use std::alloc::{AllocError, Global};
+use wb_bits::BitSet;
 use wb_policy::Policy;
+use wb_space::{left_of, place_count};
 use wb_tree::Tree;
-use wb_types::{CBlock, Geometry, Key, OBlock, Refusal};
+use wb_types::{CBlock, Geometry, Key, OBlock, Place, Refusal};
 
 /// Whether each cache block has an entry.
 pub(crate) fn mapped_blocks(
@@ -53,6 +56,21 @@ pub(crate) fn cached_blocks(
         }
     }
     Ok(cached)
+}
+
+/// The places that are used, of those that can ever be handed out, but for those where a node of the tree is known to stand.
+pub(crate) fn left_places(
+    alloc: Global,
+    tree: &Tree<Global>,
+    geometry: &Geometry,
+    used: &[Place],
+) -> Result<BitSet, Refusal>
+    ensures left { IfOk result (λ left. HaveLeft (IsPlaceOf tree.now) (noted used.now (unused (place_count geometry.now.cache_blocks))) left) }
+    ensures refused { IfErr result (λ e. e ≡ Refusal.Memory) }
+{
+    let known = tree.places(alloc)?;
+    let left = left_of(alloc, place_count(geometry), used, &known)?;
+    Ok(left)
 }
 
 /// The last value that a key is given, if any.

@@ -2,4 +2,6 @@ pub mod States
 pub mod Noted
 pub mod Suffices
 pub mod Held
+pub mod Differing
+pub mod Changing
 mod Listing

@@ -1,7 +1,19 @@
-use Rattle.std.specs.Prelude.{◌≡◌, ◌<◌, ◌^◌, length}
+use Rattle.std.specs.Prelude.{◌≡◌, ◌<◌, ◌^◌, ℕ, false, if◌then◌else◌, length, get_or}
+use Rattle.wb_space.specs.Places.{PlacesNow, unused}
 use Rattle.wb_space.specs.declared.places.Places.TheInside.{Inside}
 
--- both lists go as far, and a place is a number of 32 bits
+-- All lists go as far, and a place is a number of 32 bits. The newest image has the places of the committed one, but for
+-- those that are marked, and none is where no commit runs.
 pub record AreEven (p : Inside) : Type 0 where
-  pub even : length p.running ≡ length p.committed
   pub small : length p.committed < 2 ^ 32
+  pub even : length p.newest ≡ length p.committed
+  pub marks : length p.changed ≡ length p.committed
+  pub elsewhere : (k : ℕ) → get_or p.changed k false ≡ false → get_or p.newest k false ≡ get_or p.committed k false
+  pub idle : p.committing ≡ false → p.changed ≡ unused (length p.committed)
+
+-- where no commit runs the newest image is the committed one, and none is running
+abbrev pub shown_places : Inside → PlacesNow
+shown_places p = record {
+  in_use = record { committed = p.committed; running = if p.committing then p.newest else unused (length p.committed) };
+  committing = p.committing;
+}

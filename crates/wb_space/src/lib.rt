@@ -12,5 +12,5 @@ mod space;
 pub use block::Block;
 pub use blocks::Blocks;
 pub use holding::Holding;
-pub use places::{Places, free_places_suffice};
-pub use space::Space;
+pub use places::{Places, free_places_suffice, left_of, note_left};
+pub use space::{Space, place_count};

@@ -1,8 +1,10 @@
 //! Which metadata places the images use.
 
-ghost use Rattle.std.specs.Prelude.{◌≡◌, ◌<◌, ◌≤◌, ◌+◌, ◌*◌, ◌^◌, ℕ, List, length, map, take, true, IfOk, slice_set};
+ghost use Rattle.std.specs.Prelude.{◌≡◌, ◌<◌, ◌≤◌, ◌+◌, ◌*◌, ◌^◌, ℕ, List, [], ◌∷◌, length, map, take, true, false, IfOk, slice_set, get_or};
+ghost use Rattle.std.specs.List.{position};
+ghost use Rattle.std.specs.Option.{IfSome};
 ghost use Rattle.std.specs.Bool.{OnTrue, OnFalse};
-ghost use Rattle.wb_space.specs.Places.{unused, noted, is_free_place, free_places, place, AreUsedFrom};
+ghost use Rattle.wb_space.specs.Places.{unused, noted, noted_known, cleared, without, with_running, is_free_place, free_places, place, AreUsedFrom};
 
 use std::alloc::{AllocError, Global};
 use std::marker::Model;
@@ -11,19 +13,24 @@ use wb_bits::BitSet;
 use wb_types::Place;
 
 /// The metadata places below a bound that the committed and the running image use.
+///
+/// The newest image is the running one, or where none runs, the committed one again. `changed` marks where it differs from
+/// the committed one, so that a commit begins and ends in a few words' work for each of these places.
 #[derive(Drop)]
 pub struct Places {
     committed: BitSet,
-    running: BitSet,
+    newest: BitSet,
+    changed: BitSet,
+    committing: bool,
 }
 
 impl Model for Places {
-    ghost use Rattle.wb_space.specs.Places.{PlacesInUse};
-    ghost use Rattle.wb_space.specs.Bounds.{AreEven};
+    ghost use Rattle.wb_space.specs.Places.{PlacesNow};
+    ghost use Rattle.wb_space.specs.Bounds.{AreEven, shown_places};
 
-    ghost Value = { PlacesInUse };
+    ghost Value = { PlacesNow };
 
-    ghost view = { λ p. record { committed = p.committed; running = p.running } };
+    ghost view = { shown_places };
 
     ghost invariant = { AreEven };
 }
@@ -32,38 +39,90 @@ impl Places {
     /// The committed image uses these; those from the bound on are passed over.
     pub fn new(alloc: Global, bound: usize, used: &[Place]) -> Result<Places, AllocError>
         requires { bound < 2 ^ 32 }
-        ensures { IfOk result (λ places. places ≡ record { committed = noted used.now (unused bound); running = unused bound }) }
+        ensures { IfOk result (λ places. places ≡ record {
+          in_use = record { committed = noted used.now (unused bound); running = unused bound };
+          committing = false;
+        }) }
     {
-        let mut committed = BitSet::new(alloc, bound)?;
-        note(&mut committed, used);
+        let committed = set_of(alloc, bound, used)?;
+        let newest = set_of(alloc, bound, used)?;
+        let changed = BitSet::new(alloc, bound)?;
         Ok(Places {
             committed,
-            running: BitSet::new(alloc, bound)?,
+            newest,
+            changed,
+            committing: false,
         })
     }
 
-    /// The running image uses these, and no others; those from the bound on are passed over.
-    pub fn begin(&mut self, used: &[Place])
-        ensures { self.new ≡ record self.old { running = noted used.now (unused (length self.old.running)) } }
+    /// The bound.
+    pub fn count(&self) -> usize
+        ensures count { result ≡ length self.now.in_use.committed }
+        ensures small { result < 2 ^ 32 }
     {
-        self.running.clear();
-        note(&mut self.running, used);
+        self.committed.size()
     }
 
-    /// The running image is the committed one: a few words' work for each place of the one before.
-    pub fn end(&mut self)
-        ensures { self.new ≡ record { committed = self.old.running; running = unused (length self.old.committed) } }
+    /// Whether a commit runs.
+    pub fn is_committing(&self) -> bool
+        ensures { result ≡ self.now.committing }
     {
-        mem::swap(&mut self.committed, &mut self.running);
-        self.running.clear();
+        self.committing
+    }
+
+    /// The running image uses these, and no others; those from the bound on are passed over. A few words' work for each of
+    /// them, and for each place of the committed image.
+    pub fn begin(&mut self, used: &[Place])
+        requires { self.old.committing ≡ false }
+        ensures { self.new ≡ record {
+          in_use = record self.old.in_use { running = noted used.now (unused (length self.old.in_use.running)) };
+          committing = true;
+        } }
+    {
+        self.committing = true;
+        self.leave_all();
+        for place in used {
+            self.add(*place);
+        }
+    }
+
+    /// The running image uses the places of the committed one, but those that left it, and these; those from the bound on
+    /// are passed over. A few words' work for each of both. None is left then.
+    pub fn begin_changed<T>(&mut self, left: &mut BitSet, added: &[(Place, T)])
+        requires idle { self.old.committing ≡ false }
+        requires size { length left.old ≡ length self.old.in_use.committed }
+        ensures places { self.new ≡ record {
+          in_use = record self.old.in_use { running = noted (map (λ node. node.0) added.now) (without left.old self.old.in_use.committed) };
+          committing = true;
+        } }
+        ensures left { left.new ≡ unused (length left.old) }
+    {
+        self.committing = true;
+        self.leave(left);
+        for node in added {
+            self.add(node.0);
+        }
+    }
+
+    /// The running image is the committed one: a few words' work for each place by which they differ.
+    pub fn end(&mut self)
+        requires { self.old.committing ≡ true }
+        ensures { self.new ≡ record {
+          in_use = record { committed = self.old.in_use.running; running = unused (length self.old.in_use.committed) };
+          committing = false;
+        } }
+    {
+        mem::swap(&mut self.committed, &mut self.newest);
+        follow(&mut self.newest, &self.committed, &mut self.changed);
+        self.committing = false;
     }
 
     /// The so many least free places from 2 on, rising. A look at each place up to the last of them, but one look for 64
     /// that are all in use.
     pub fn free(&self, alloc: Global, n: usize) -> Result<Vec<Place>, AllocError>
-        ensures { IfOk result (λ v. v.items ≡ map place (take n (free_places self.now))) }
+        ensures { IfOk result (λ v. v.items ≡ map place (take n (free_places self.now.in_use))) }
     {
-        let bound = self.bound();
+        let bound = self.count() as u32;
         let mut places = Vec::new(alloc);
         let mut at = 2;
         while at < bound && places.len() < n {
@@ -79,28 +138,75 @@ impl Places {
         Ok(places)
     }
 
+    /// These places leave the running image, and none is left then.
+    fn leave(&mut self, left: &mut BitSet)
+        requires running { self.old.committing ≡ true }
+        requires size { length left.old ≡ length self.old.in_use.committed }
+        ensures places { self.new ≡ with_running self.old (without left.old self.old.in_use.running) }
+        ensures left { left.new ≡ unused (length left.old) }
+    {
+        while let Some(at) = left.least() {
+            left.remove(at);
+            self.put(at, false);
+        }
+    }
+
+    /// All places leave the running image.
+    fn leave_all(&mut self)
+        requires { self.old.committing ≡ true }
+        ensures { self.new ≡ with_running self.old (unused (length self.old.in_use.running)) }
+    {
+        while let Some(at) = self.least_running() {
+            self.put(at, false);
+        }
+    }
+
+    fn least_running(&self) -> Option<usize>
+        requires { self.now.committing ≡ true }
+        ensures least { result ≡ position (λ b. b) self.now.in_use.running }
+        ensures inside { IfSome result (λ at. at < length self.now.in_use.committed) }
+    {
+        self.newest.least()
+    }
+
+    /// The running image uses this place too; one from the bound on is passed over.
+    fn add(&mut self, place: Place)
+        requires { self.old.committing ≡ true }
+        ensures { self.new ≡ with_running self.old (slice_set self.old.in_use.running place.0 true) }
+    {
+        let Place(at) = place;
+        let at = at as usize;
+        if at < self.newest.size() {
+            self.put(at, true);
+        }
+    }
+
+    /// The running image uses this place, or no more.
+    fn put(&mut self, at: usize, used: bool)
+        requires running { self.old.committing ≡ true }
+        requires within { at < length self.old.in_use.committed }
+        ensures { self.new ≡ with_running self.old (slice_set self.old.in_use.running at used) }
+    {
+        self.newest.set(at, used);
+        self.changed.insert(at);
+    }
+
     /// Whether a whole word of places begins here, and an image uses each of them.
     fn are_used(&self, at: u32) -> bool
-        ensures used { OnTrue result (AreUsedFrom self.now at) }
-        ensures other { OnFalse result (¬ AreUsedFrom self.now at) }
+        ensures used { OnTrue result (AreUsedFrom self.now.in_use at) }
+        ensures other { OnFalse result (¬ AreUsedFrom self.now.in_use at) }
     {
         let at = at as usize;
         if at % 64 != 0 || self.committed.size() < at + 64 {
             return false;
         }
-        self.committed.fills_with(&self.running, at / 64)
-    }
-
-    fn bound(&self) -> u32
-        ensures { result ≡ length self.now.committed }
-    {
-        self.committed.size() as u32
+        self.committed.fills_with(&self.newest, at / 64)
     }
 
     fn is_free(&self, at: u32) -> bool
-        ensures { result ≡ is_free_place self.now at }
+        ensures { result ≡ is_free_place self.now.in_use at }
     {
-        !self.committed.has(at as usize) && !self.running.has(at as usize)
+        !self.committed.has(at as usize) && !self.newest.has(at as usize)
     }
 }
 
@@ -114,6 +220,60 @@ pub fn free_places_suffice()
         }))
         + length committed + length running }
 {}
+
+/// The set of the places below a bound that are used, but for those where something is known to stand.
+pub fn left_of(
+    alloc: Global,
+    bound: usize,
+    used: &[Place],
+    known: &[Place],
+) -> Result<BitSet, AllocError>
+    requires { bound < 2 ^ 32 }
+    ensures { IfOk result (λ left. left ≡ cleared known.now (noted used.now (unused bound))) }
+{
+    let mut left = set_of(alloc, bound, used)?;
+    for place in known {
+        clear_one(&mut left, *place);
+    }
+    Ok(left)
+}
+
+fn clear_one(uses: &mut BitSet, place: Place)
+    ensures { uses.new ≡ slice_set uses.old place.0 false }
+{
+    let Place(at) = place;
+    let at = at as usize;
+    if at < uses.size() {
+        uses.remove(at);
+    }
+}
+
+/// These places left too, where one is told; those from the bound of the set on are passed over.
+pub fn note_left(left: &mut BitSet, places: &[Option<Place>])
+    ensures { left.new ≡ noted_known places.now left.old }
+{
+    for place in places {
+        note_one_left(left, *place);
+    }
+}
+
+fn note_one_left(left: &mut BitSet, place: Option<Place>)
+    ensures { left.new ≡ noted_known (place ∷ []) left.old }
+{
+    if let Some(place) = place {
+        note_one(left, place);
+    }
+}
+
+/// The set of these places below a bound.
+fn set_of(alloc: Global, bound: usize, used: &[Place]) -> Result<BitSet, AllocError>
+    requires { bound < 2 ^ 32 }
+    ensures { IfOk result (λ set. set ≡ noted used.now (unused bound)) }
+{
+    let mut uses = BitSet::new(alloc, bound)?;
+    note(&mut uses, used);
+    Ok(uses)
+}
 
 fn note(uses: &mut BitSet, used: &[Place])
     ensures { uses.new ≡ noted used.now uses.old }
@@ -130,5 +290,19 @@ fn note_one(uses: &mut BitSet, place: Place)
     let at = at as usize;
     if at < uses.size() {
         uses.insert(at);
+    }
+}
+
+/// Has the one set follow the other where they may differ, and no mark is left: a few words' work for each.
+fn follow(follower: &mut BitSet, followed: &BitSet, changed: &mut BitSet)
+    requires even { length follower.old ≡ length followed.now }
+    requires marks { length changed.old ≡ length followed.now }
+    requires elsewhere { (k : ℕ) → get_or changed.old k false ≡ false → get_or follower.old k false ≡ get_or followed.now k false }
+    ensures follower { follower.new ≡ followed.now }
+    ensures changed { changed.new ≡ unused (length followed.now) }
+{
+    while let Some(at) = changed.least() {
+        changed.remove(at);
+        follower.set(at, followed.contains(at));
     }
 }

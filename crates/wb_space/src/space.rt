@@ -1,15 +1,16 @@
 //! The states of the cache blocks and of the metadata places.
 
-ghost use Rattle.std.specs.Prelude.{◌≡◌, ◌<◌, ℕ, true, false, length, map, take, IfOk, IfErr, slice_set, slice_get, Some};
+ghost use Rattle.std.specs.Prelude.{◌≡◌, ◌<◌, ◌^◌, ℕ, true, false, length, map, take, IfOk, IfErr, slice_set, slice_get, Some};
 ghost use Rattle.std.specs.List.{position};
 ghost use Rattle.std.specs.Bool.{OnTrue, OnFalse};
 ghost use Rattle.std.specs.Option.{option_map};
 ghost use Rattle.wb_space.specs.Blocks.{shown, is_free, released, state, IsClaimed, commit_begun, commit_ended, opened_block};
-ghost use Rattle.wb_space.specs.Places.{unused, noted, free_places, place, place_count};
+ghost use Rattle.wb_space.specs.Places.{unused, noted, without, free_places, place, place_count};
 
 use crate::{Block, Blocks, Holding, Places};
 use std::alloc::Global;
 use std::marker::Model;
+use wb_bits::BitSet;
 use wb_types::{CBlock, Geometry, Place, Refusal};
 
 /// What each cache block is held for, and which metadata places are free.
@@ -22,7 +23,6 @@ use wb_types::{CBlock, Geometry, Place, Refusal};
 pub struct Space {
     blocks: Blocks,
     places: Places,
-    committing: bool,
 }
 
 impl Model for Space {
@@ -30,7 +30,7 @@ impl Model for Space {
 
     ghost Value = { Spaces };
 
-    ghost view = { λ s. record { blocks = s.blocks; places = s.places; committing = s.committing } };
+    ghost view = { λ s. record { blocks = s.blocks; places = s.places.in_use; committing = s.places.committing } };
 }
 
 impl Space {
@@ -53,12 +53,10 @@ impl Space {
         }) }
         ensures err { IfErr result (λ refusal. refusal ≡ Refusal.Memory) }
     {
-        let sizes = *geometry;
-        let places = 2 + 2 * sizes.node_count() as usize;
+        let places = place_count(geometry);
         Ok(Space {
             blocks: Blocks::new(alloc, mapped)?,
             places: Places::new(alloc, places, used)?,
-            committing: false,
         })
     }
 
@@ -73,7 +71,7 @@ impl Space {
     pub fn is_committing(&self) -> bool
         ensures { result ≡ self.now.committing }
     {
-        self.committing
+        self.places.is_committing()
     }
 
     /// Whether an order keeps this block: it is reserved, or will be at the end of its quarantine.
@@ -161,11 +159,27 @@ impl Space {
     {
         self.blocks.begin();
         self.places.begin(used);
-        self.committing = true;
+    }
+
+    /// A commit begins, whose image uses the places of the committed one, but those that left it, and those with which these
+    /// begin; none is left then. A few words' work for each of both, and for each block that was removed since the last commit
+    /// began.
+    pub fn begin_changed<T>(&mut self, left: &mut BitSet, added: &[(Place, T)])
+        requires idle { self.old.committing ≡ false }
+        requires size { length left.old ≡ length self.old.places.committed }
+        ensures space { self.new ≡ record {
+          blocks = map commit_begun self.old.blocks;
+          places = record self.old.places { running = noted (map (λ node. node.0) added.now) (without left.old self.old.places.committed) };
+          committing = true;
+        } }
+        ensures left { left.new ≡ unused (length left.old) }
+    {
+        self.blocks.begin();
+        self.places.begin_changed(left, added);
     }
 
     /// The running commit ends: what was removed before it began is free, or reserved where it is claimed. A few
-    /// words' work for each of these blocks, and for each place of the image that is replaced.
+    /// words' work for each of these blocks, and for each place by which its image differs from the one that it replaces.
     pub fn end(&mut self)
         requires { self.old.committing ≡ true }
         ensures { self.new ≡ record {
@@ -176,7 +190,6 @@ impl Space {
     {
         self.blocks.end();
         self.places.end();
-        self.committing = false;
     }
 
     /// The so many least free places from 2 on, rising; fewer where there are no more. `Memory` where there is
@@ -188,4 +201,13 @@ impl Space {
         let places = self.places.free(alloc, n)?;
         Ok(places)
     }
+}
+
+/// How many metadata places can ever be handed out: the two slots, and twice the nodes of a full mapping.
+pub fn place_count(geometry: &Geometry) -> usize
+    ensures count { result ≡ place_count geometry.now.cache_blocks }
+    ensures small { result < 2 ^ 32 }
+{
+    let sizes = *geometry;
+    2 + 2 * sizes.node_count() as usize
 }

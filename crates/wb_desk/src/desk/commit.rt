@@ -1,19 +1,23 @@
 //! The commits of a desk.
 
-ghost use Rattle.std.specs.Prelude.{◌≡◌, ◌<◌, ◌≤◌, ◌+◌, ◌^◌, true, IfOk, IfErr, OnErr, is_some, length};
-ghost use Rattle.std.specs.Option.{IfSome, option_map};
+ghost use Rattle.std.specs.Prelude.{◌≡◌, ◌<◌, ◌≤◌, ◌+◌, ◌^◌, true, false, IfOk, IfErr, OnErr, is_some, length, map};
+ghost use Rattle.std.specs.Option.{IfSome, IfNone, option_map};
 ghost use Rattle.wb_types.specs.Limits.{node_count};
 ghost use Rattle.wb_meta.specs.Placing.{HavePlaces};
 ghost use Rattle.wb_tree.specs.Images.{IsImage};
 ghost use Rattle.wb_desk.specs.Marks.{OfImaged};
-ghost use Rattle.wb_desk.specs.Commits.{MayBegin, IsBeginRefused, IsOnUnused, next_plan, commit_begun, commit_ended};
+ghost use Rattle.wb_desk.specs.Commits.{MayBegin, IsBeginRefused, IsOnUnused, next_plan, space_begun, commit_begun, commit_ended};
+ghost use Rattle.wb_space.specs.Places.{noted, unused, without};
 
 use super::Desk;
 use super::imaging::plan;
 use std::alloc::Global;
+use wb_bits::BitSet;
+use wb_format::Node;
 use wb_meta::{Image, image_law};
 use wb_policy::Policy;
-use wb_types::Refusal;
+use wb_space::Space;
+use wb_types::{Place, Refusal};
 
 impl<P: Policy> Desk<P> {
     /// Begins a commit, and gives the image that it writes: the nodes that changed since the last one, each with a free
@@ -26,6 +30,9 @@ impl<P: Policy> Desk<P> {
     ///
     /// `Busy` where a commit runs, `GenerationEnd` where there is no next generation, `Memory` where there is none for the
     /// image. Then nothing changed.
+    ///
+    /// It takes time by the nodes that changed, the places that they left, and the blocks that were removed; a clean image, by
+    /// the cache blocks.
     pub fn begin_commit(&mut self, alloc: Global, clean: Option<&[bool]>) -> Result<Image, Refusal>
         requires { IfSome clean (λ dirty. length dirty.now ≡ self.old.geometry.cache_blocks) }
         ensures may { IfOk result (λ _. MayBegin self.old) }
@@ -56,7 +63,7 @@ impl<P: Policy> Desk<P> {
             clean,
         )?;
         image_law();
-        self.space.begin(&used);
+        begin_space(&mut self.space, &mut self.left, &image.nodes, &used);
         self.coming = self.tree.known_nodes();
         Ok(image)
     }
@@ -85,6 +92,29 @@ impl<P: Policy> Desk<P> {
         self.generation = next(self.generation);
         self.nodes = self.coming;
         self.coming = 0;
+    }
+}
+
+/// A commit begins whose image writes these nodes, by what changed, or where all its places are listed, by these. No place has
+/// left its image.
+fn begin_space(
+    space: &mut Space,
+    left: &mut BitSet,
+    nodes: &[(Place, Node)],
+    used: &Option<Vec<Place>>,
+)
+    requires idle { space.old.committing ≡ false }
+    requires size { length left.old ≡ length space.old.places.committed }
+    ensures listed { IfSome used.now (λ used. space.new ≡ space_begun space.old (noted used.items (unused (length space.old.places.running)))) }
+    ensures changed { IfNone used.now (space.new ≡ space_begun space.old (noted (map (λ node. node.0) nodes.now) (without left.old space.old.places.committed))) }
+    ensures left { left.new ≡ unused (length left.old) }
+{
+    match used {
+        None => space.begin_changed(left, nodes),
+        Some(used) => {
+            space.begin(used);
+            left.clear();
+        }
     }
 }
 

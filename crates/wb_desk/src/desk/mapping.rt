@@ -11,7 +11,7 @@ use super::Desk;
 use std::alloc::Global;
 use wb_orders::{LiveOrder, LiveOrders};
 use wb_policy::{Order, Policy};
-use wb_space::Holding;
+use wb_space::{Holding, note_left};
 use wb_tree::Tree;
 use wb_types::{CBlock, Entry, OBlock, Refusal};
 
@@ -25,7 +25,9 @@ impl<P: Policy> Desk<P> {
         ensures err { OnErr result (self.new ≡ self.old) }
         ensures refused { IfErr result (λ e. e ≡ Refusal.Memory) }
     {
+        let above = self.tree.places_above(c);
         enter(&mut self.policy, &mut self.tree, b, c)?;
+        note_left(&mut self.left, &above);
         self.orders.end(c);
         self.space.map(c);
         let OBlock(at) = b;
@@ -44,7 +46,9 @@ impl<P: Policy> Desk<P> {
         let Some(c) = self.place(b) else {
             return;
         };
+        let above = self.tree.places_above(c);
         leave(&mut self.policy, &mut self.tree, b, c);
+        note_left(&mut self.left, &above);
         let kept = end_removal(&mut self.orders, c);
         self.space.remove(c, kept);
         let OBlock(at) = b;

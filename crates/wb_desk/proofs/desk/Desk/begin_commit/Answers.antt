@@ -1,44 +1,42 @@
-use Rattle.std.proofs.Common.{◌≡◌, ◌≤◌, ◌∙◌, length, is_some, ap, refl, subst, sym, arith, rules}
+use Rattle.std.proofs.Common.{◌≡◌, ◌≤◌, ◌∙◌, length, is_some, refl, ap, subst, sym, arith}
 use Rattle.std.specs.Option.{option_map}
 use Rattle.wb_types.specs.Limits.{node_count}
+use Rattle.std.proofs.lemmas.List.{length-map}
+use Rattle.wb_tree.specs.Mapping.{used_places}
 use Rattle.wb_tree.specs.Images.{IsImage}
+use Rattle.wb_space.specs.Places.{unused}
 use Rattle.wb_meta.specs.Placing.{HavePlaces}
 use Rattle.wb_desk.specs.Desks.{DeskState}
-use Rattle.wb_space.specs.Places.{noted, unused, place_count}
-use Rattle.wb_tree.specs.declared.placed.PlacedNode.{PlacedNode}
-use Rattle.wb_tree.specs.Mapping.{used_places}
-use Rattle.wb_desk.proofs.UsedPlaces.{noted-same}
-use Rattle.std.proofs.lemmas.List.{length-map}
 use Rattle.wb_desk.specs.Marks.{OfImaged}
 use Rattle.wb_desk.specs.Commits.{IsOnUnused, commit_begun, next_plan}
 use Rattle.wb_desk.proofs.Marking.{by_imaged, few_nodes, image_facts}
-use Rattle.wb_desk.proofs.Committing.{begun_parts, free_for, image_for, length_flags, on_unused}
+use Rattle.wb_desk.proofs.Committing.{begun_parts, begun_space, free_for, image_for, left_size, length_flags, on_unused, still_some}
 use Rattle.wb_desk.proofs.desk.Desk.begin_commit.Goals as goal
 
 pub plan-requires-clause-free : goal.plan-requires-clause-free
 plan-requires-clause-free g c = free_for g.P.Policy.knows _ c.self.invariant.desk (sym c.is_committing.ensures ∙ c.if-is_committing.false)
 
+pub begin_space-requires-clause-size : goal.begin_space-requires-clause-size
+begin_space-requires-clause-size g c = left_size c.self.inside.tree c.self.inside.space c.self.inside.left (sym c.is_committing.ensures ∙ c.if-is_committing.false) c.self.invariant.have_left
+
 pub invariant_of-self-2 : goal.invariant_of-self-2
 invariant_of-self-2 g c =
     let idle = sym c.is_committing.ensures ∙ c.if-is_committing.false in
-    let facts = image_facts _ _ c.self.inside.tree c.plan.new.tree _ _ c.in_ok-image.image (λ m. refl) c.in_ok-image.ensures.image in
-    let same : noted c.in_ok-image.used.items (unused (place_count c.self.inside.geometry.cache_blocks)) ≡ noted (used_places c.plan.new.tree) (unused (place_count c.self.inside.geometry.cache_blocks)) =
-    noted-same c.in_ok-image.used.items (used_places c.plan.new.tree) (place_count c.self.inside.geometry.cache_blocks)
-    (λ x. (λ has. (facts.used.are x).1 ((c.in_ok-image.ensures.used x).0 has), λ has. (c.in_ok-image.ensures.used x).1 ((facts.used.are x).0 has))) in
-    let many : length c.plan.new.tree.known ≡ length (used_places c.plan.new.tree) = sym (length-map c.plan.new.tree.known (λ (node : PlacedNode). node.place)) in
-    rw (c.begin.ensures, c.deref.ensures.value, c.known_nodes-self-inside.ensures.known, many, length_flags _ _ _ c.self.invariant.desk.places.running, same) (begun_parts g.P.Policy.knows _ c.plan.new.tree c.in_ok-image.image c.self.inside.cached.items c.self.inside.mapped
-    (record { desk = c.self.invariant.desk; index = c.self.invariant.index; count = c.self.invariant.count }) (record { idle = idle; next = omega arith })
-    facts c.in_ok-image.ensures.mapping c.in_ok-image.ensures.inside)
+    let many : c.known_nodes-self-inside.result ≡ length (used_places c.plan.new.tree) = c.known_nodes-self-inside.ensures.known ∙ sym (length-map c.plan.new.tree.known (λ node. node.place)) in
+    let none = c.begin_space.ensures.left ∙ ap unused (left_size c.self.inside.tree c.self.inside.space c.self.inside.left idle c.self.invariant.have_left ∙ length_flags _ _ _ c.self.invariant.desk.places.committed) in
+    let space = begun_space g.P.Policy.knows _ c.plan.new.tree _ c.in_ok-image.image c.self.inside.left _ _ c.in_ok-image.used c.begin_space.new.space c.self.invariant.desk idle c.self.invariant.have_left c.in_ok-image.ensures.image
+    (c.in_ok-image.ensures.marked ∙ still_some (λ dirty. dirty.now) c.args.clean) c.in_ok-image.ensures.used c.begin_space.ensures.listed (rw (← c.deref.ensures.value) c.begin_space.ensures.changed) in
+    rw (space, many, none) (begun_parts g.P.Policy.knows _ c.plan.new.tree c.in_ok-image.image c.self.inside.cached.items c.self.inside.left c.self.inside.mapped
+    c.self.invariant (record { idle = idle; next = omega arith })
+    (image_facts _ _ c.self.inside.tree c.plan.new.tree _ _ c.in_ok-image.image (λ m. refl) c.in_ok-image.ensures.image) c.in_ok-image.ensures.mapping c.in_ok-image.ensures.sound c.in_ok-image.ensures.inside)
 
 pub returns-clause-state : goal.returns-clause-state
 returns-clause-state g c =
-    let facts = image_facts _ _ c.self.inside.tree c.plan.new.tree _ _ c.in_ok-image.image (λ m. refl) c.in_ok-image.ensures.image in
-    let same : noted c.in_ok-image.used.items (unused (place_count c.self.inside.geometry.cache_blocks)) ≡ noted (used_places c.plan.new.tree) (unused (place_count c.self.inside.geometry.cache_blocks)) =
-    noted-same c.in_ok-image.used.items (used_places c.plan.new.tree) (place_count c.self.inside.geometry.cache_blocks)
-    (λ x. (λ has. (facts.used.are x).1 ((c.in_ok-image.ensures.used x).0 has), λ has. (c.in_ok-image.ensures.used x).1 ((facts.used.are x).0 has))) in
-    let many : length c.plan.new.tree.known ≡ length (used_places c.plan.new.tree) = sym (length-map c.plan.new.tree.known (λ (node : PlacedNode). node.place)) in
-    rw (c.begin.ensures, c.deref.ensures.value, c.known_nodes-self-inside.ensures.known, many, length_flags _ _ _ c.self.invariant.desk.places.running, same)
-    (ap (λ (d : DeskState _). commit_begun d c.plan.new.tree) c.self.view_is)
+    let idle = sym c.is_committing.ensures ∙ c.if-is_committing.false in
+    let many : c.known_nodes-self-inside.result ≡ length (used_places c.plan.new.tree) = c.known_nodes-self-inside.ensures.known ∙ sym (length-map c.plan.new.tree.known (λ node. node.place)) in
+    let space = begun_space g.P.Policy.knows _ c.plan.new.tree _ c.in_ok-image.image c.self.inside.left _ _ c.in_ok-image.used c.begin_space.new.space c.self.invariant.desk idle c.self.invariant.have_left c.in_ok-image.ensures.image
+    (c.in_ok-image.ensures.marked ∙ still_some (λ dirty. dirty.now) c.args.clean) c.in_ok-image.ensures.used c.begin_space.ensures.listed (rw (← c.deref.ensures.value) c.begin_space.ensures.changed) in
+    rw (space, many) (ap (λ (d : DeskState _). commit_begun d c.plan.new.tree) c.self.view_is)
 
 pub returns-clause-image : goal.returns-clause-image
 returns-clause-image g c =

@@ -1,9 +1,11 @@
-use Rattle.std.proofs.Common.{◌≡◌, ◌∙◌, refl, Bool, false, List, rules, length, is_some, map, ap}
+use Rattle.std.proofs.Common.{◌≡◌, ◌∙◌, subst, refl, Bool, false, List, rules, length, is_some, map, ap}
 use Rattle.std.specs.List.{count_by}
 use Rattle.wb_space.specs.Blocks.{opened_block}
-use Rattle.wb_space.specs.Places.{noted, unused, place_count}
+use Rattle.wb_tree.specs.Mapping.{IsPlaceOf}
+use Rattle.wb_space.specs.Places.{HaveLeft, noted, unused, place_count}
+use Rattle.wb_types.specs.declared.number.Place.{Place}
 use Rattle.wb_desk.proofs.Index.{count_list}
-use Rattle.wb_desk.proofs.Opened.{opened_kept}
+use Rattle.wb_desk.proofs.Opened.{opened_parts}
 use Rattle.wb_desk.proofs.desk.Desk.new.Goals as goal
 
 pub invariant_of-result : goal.invariant_of-result
@@ -19,9 +21,7 @@ invariant_of-result g c =
       };
       committing = false;
     } = c.in_ok-new.ensures.ok ∙ rw (c.deref-2.ensures.value ∙ c.in_ok-mapped.ensures, c.deref-3.ensures.value) refl in
-    record {
-      desk = rw (s, c.in_ok-new-2.ensures.ok, n) (opened_kept g.P.Policy.knows c.args.state.root c.args.state.tree c.args.state.used.items c.args.mode c.set_policy.new.policy c.unwrap_or-threshold.result
-          c.count_mapped-count.result c.args.state.root.geometry.within.meta_from c.requires.fits (c.set_policy.ensures.knows _ c.requires.knows) k);
-      index = c.in_ok-cached.ensures;
-      count = k;
-    }
+    let have : HaveLeft (IsPlaceOf c.args.state.tree) (noted c.args.state.used.items (unused (place_count c.args.state.root.geometry.cache_blocks))) c.in_ok-left_places.field-0 =
+    subst (λ (used : List Place). HaveLeft (IsPlaceOf c.args.state.tree) (noted used (unused (place_count c.args.state.root.geometry.cache_blocks))) c.in_ok-left_places.field-0) c.deref-4.ensures.value c.in_ok-left_places.ensures.left in
+    rw (s, c.in_ok-new-2.ensures.ok, n) (opened_parts g.P.Policy.knows c.args.state.root c.args.state.tree c.args.state.used.items c.args.mode c.set_policy.new.policy c.unwrap_or-threshold.result
+    c.count_mapped-count.result c.in_ok-cached.cached.items c.in_ok-left_places.field-0 c.args.state.root.geometry.within.meta_from c.requires.fits (c.set_policy.ensures.knows _ c.requires.knows) k c.in_ok-cached.ensures have)

@@ -25,7 +25,9 @@ end-requires g c =
 pub invariant_of-self : goal.invariant_of-self
 invariant_of-self g c = rw (c.release_block.ensures, c.end.ensures.state) (record {
   desk = released_kept g.P.Policy.knows _ c.in-Some.c c.self.invariant.desk;
+  sound = c.self.invariant.sound;
   index = c.self.invariant.index;
+  have_left = c.self.invariant.have_left;
   count = c.self.invariant.count;
 })
 
