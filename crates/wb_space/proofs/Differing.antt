@@ -1,9 +1,9 @@
 -- Lists of places that differ where they are marked.
-use Rattle.std.proofs.Common.{◌≡◌, ◌<◌, ◌&&◌, if◌then◌else◌, ℕ, zero, suc, List, [], ◌∷◌, Bool, true, false, not, length, get_or, set, refl, sym, ap, ◌∙◌, arith, inl, inr, get_or-set_same, get_or-set_other}
+use Rattle.std.proofs.Common.{◌≡◌, ◌<◌, ◌&&◌, ℕ, zero, suc, List, [], ◌∷◌, Bool, true, false, not, length, get_or, set, refl, sym, ap, ◌∙◌, arith, inl, inr, get_or-set_same, get_or-set_other}
 use Rattle.std.proofs.lemmas.Bool.{cases_eq, cases_lt}
 use Rattle.std.proofs.lemmas.List.{ext_get_or, get_or-replicate, get_or_past, length-replicate}
-use Rattle.wb_space.specs.Places.{unused, without, is_free_place}
-use Rattle.wb_space.specs.Bounds.{AreEven, shown_places}
+use Rattle.wb_space.specs.Places.{unused, without}
+use Rattle.wb_space.specs.Bounds.{AreEven}
 use Rattle.wb_space.specs.declared.places.Places.TheInside.{Inside}
 
 pub get_or-unused : (count k : ℕ) → get_or (unused count) k false ≡ false
@@ -56,14 +56,6 @@ DifferAt marks xs ys = (k : ℕ) → get_or marks k false ≡ false → get_or x
 pub same_unmarked : (marks xs ys : List Bool) → length xs ≡ length ys → ((k : ℕ) → get_or marks k false ≡ false) → DifferAt marks xs ys → xs ≡ ys
 same_unmarked marks xs ys even none d = ext_get_or false xs ys even (λ k l. d k (none k))
 
--- a place is marked, and the one list has there what it may
-pub differ_marked : (marks xs ys : List Bool) (at : ℕ) (b : Bool) → at < length marks → DifferAt marks xs ys → DifferAt (set marks at true) (set xs at b) ys
-differ_marked marks xs ys at b l d k none = elim (cases_eq k at) [
-  | inl e ↦ let is : get_or (set marks at true) k false ≡ true = ap (λ k. get_or (set marks at true) k false) e ∙ get_or-set_same marks at true false l in
-      let both : true ≡ false = sym is ∙ none in absurd cc
-  | inr n ↦ get_or-set_other xs at k b false n ∙ d k (sym (get_or-set_other marks at k true false n) ∙ none)
-]
-
 -- a place is no longer marked, where the one list has what the other has
 pub differ_less : (marks xs ys : List Bool) (at : ℕ) (b : Bool) → at < length xs → b ≡ get_or ys at false → DifferAt marks xs ys → DifferAt (set marks at false) (set xs at b) ys
 differ_less marks xs ys at b l same d k none = elim (cases_eq k at) [
@@ -74,18 +66,3 @@ differ_less marks xs ys at b l same d k none = elim (cases_eq k at) [
 -- where no commit runs the newest image is the committed one
 pub idle_same : (p : Inside) → AreEven p → p.committing ≡ false → p.newest ≡ p.committed
 idle_same p h idle = same_unmarked p.changed p.newest p.committed h.even (λ k. ap (λ marks. get_or marks k false) (h.idle idle) ∙ get_or-unused (length p.committed) k) h.elsewhere
-
-no_other : (b : Bool) → (not b && not b) ≡ (not b && true)
-no_other true = refl
-no_other false = refl
-
--- a place is free where neither set has it
-pub free_here : (p : Inside) (k : ℕ) → AreEven p → (not (get_or p.committed k false) && not (get_or p.newest k false)) ≡ is_free_place (shown_places p).in_use k
-free_here p k h = go p.committing refl
-  where
-    go : (b : Bool) → p.committing ≡ b → (not (get_or p.committed k false) && not (get_or p.newest k false)) ≡ is_free_place (shown_places p).in_use k
-    go true e = ap (λ (b : Bool). not (get_or p.committed k false) && not (get_or (if b then p.newest else unused (length p.committed)) k false)) (sym e)
-    go false e = ap (λ (uses : List Bool). not (get_or p.committed k false) && not (get_or uses k false)) (idle_same p h e)
-        ∙ no_other (get_or p.committed k false)
-        ∙ ap (λ (b : Bool). not (get_or p.committed k false) && not b) (sym (get_or-unused (length p.committed) k))
-        ∙ ap (λ (b : Bool). not (get_or p.committed k false) && not (get_or (if b then p.newest else unused (length p.committed)) k false)) (sym e)

@@ -161,8 +161,11 @@ fn a_tree_that_was_read_and_not_changed_writes_no_node(rt: HostRuntime) -> Resul
     let (_, first) = change_and_plan(alloc, &mut disk, &[(0, 1), (33, 2)], (2, 6))?;
     commit(&mut disk, &first)?;
     for changes in [[].as_slice(), [(33, 2)].as_slice()] {
-        let (_, same) = change_and_plan(alloc, &mut disk, changes, (5, 3))?;
-        assert!(rt; same.nodes.len() == 0 && has_places(&same, 4, &[Place(4), Place(2), Place(3)]));
+        let (tree, same) = change_and_plan(alloc, &mut disk, changes, (5, 3))?;
+        let used = tree.places(alloc)?;
+        assert!(rt;
+            same.nodes.len() == 0 && has_places(&same, &used, 4, &[Place(4), Place(2), Place(3)])
+        );
     }
     let (_, same) = change_and_plan(alloc, &mut disk, &[], (5, 3))?;
     commit(&mut disk, &same)?;

@@ -5,7 +5,7 @@ use Rattle.wb_tree.proofs.Stored.Edited.{places-edited}
 use Rattle.wb_tests_meta.proofs.meta.cycle.a_second_commit_goes_to_the_places_that_are_left.Goals as goal
 
 pub plan_at-requires-clause-used : goal.plan_at-requires-clause-used
-plan_at-requires-clause-used g c place is = subst (λ (places : List Place). Contains places place) (sym c.deref.ensures.value) (subst (λ (places : List Place). Contains places place) (sym c.in_ok-used.ensures.places) ((c.places.ensures.used.are place).1 (places-edited _ _ place c.change.ensures.edited is)))
+plan_at-requires-clause-used g c place is = subst (λ (places : List Place). Contains places place) (sym c.deref-2.ensures.value) (subst (λ (places : List Place). Contains places place) (sym c.in_ok-used.ensures.places) ((c.places.ensures.used.are place).1 (places-edited _ _ place c.change.ensures.edited is)))
 
 pub plan_at-requires-clause-inside : goal.plan_at-requires-clause-inside
 plan_at-requires-clause-inside g c place is = c.in_ok-tree.ensures.inside place (places-edited _ _ place c.change.ensures.edited is)
