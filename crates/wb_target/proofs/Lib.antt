@@ -12,3 +12,4 @@ pub mod Tasks
 pub mod Carried
 pub mod Knowing
 pub mod Opened
+pub mod Sending
