@@ -3,3 +3,4 @@ pub mod Tasks
 pub mod Carried
 pub mod Knowing
 pub mod Opened
+pub mod Sending
