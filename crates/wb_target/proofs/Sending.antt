@@ -28,7 +28,7 @@ space_sent : IsSend Space.the_row
 space_sent = search (sendable, crosses, bit_set) depth 20
 
 tree_fields_sent : IsSend (TreeInside.the_row Heap.the_row ghosts)
-tree_fields_sent = declared_send (TreeInside.the_type Heap.the_row ghosts) (search (sendable, as_row_send, crosses), (search (sendable, as_row_send), (search (sendable, as_row_send), (search (sendable, as_row_send, crosses, node, option.the_send) depth 20, tt))))
+tree_fields_sent = declared_send (TreeInside.the_type Heap.the_row ghosts) (search (sendable, as_row_send, crosses), (search (sendable, as_row_send), (search (sendable, as_row_send), (search (sendable, as_row_send), (search (sendable, as_row_send, crosses, node, option.the_send) depth 20, tt)))))
 
 tree_sent : IsSend (Tree.the_row Heap.the_row ghosts)
 tree_sent = search (sendable, tree_fields_sent) depth 20
@@ -38,6 +38,7 @@ desk_fields_sent P g s = declared_send (DeskInside.the_type P g) (geometry.the_s
     (mode.the_send,
     (tree_sent,
     (Vec-send _ (option.the_send _ cache_block.the_send),
+    (search (sendable, crosses, bit_set) depth 20,
     (space_sent,
     (orders.the_send,
     (search (sendable, as_row_send, s),
@@ -49,7 +50,7 @@ desk_fields_sent P g s = declared_send (DeskInside.the_type P g) (geometry.the_s
     (search (sendable, as_row_send, s),
     (search (sendable, as_row_send, s),
     (search (sendable, as_row_send, s),
-    tt)))))))))))))))
+    tt))))))))))))))))
 
 desk_sent : (P : RattleType) (g : Ghosts P.Denot) → IsSend P → IsSend (Desk.the_row P g)
 desk_sent P g s = search (sendable, desk_fields_sent P g s) depth 20
