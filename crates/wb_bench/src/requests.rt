@@ -45,10 +45,7 @@ pub fn port_over<R: Files<File = File> + AllocGlobal>(
     }
 }
 
-fn opened<R: Files<File = File>>(
-    rt: &R,
-    asked: &Requests<'_>,
-) -> Result<FileDisk, &'static str> {
+fn opened<R: Files<File = File>>(rt: &R, asked: &Requests<'_>) -> Result<FileDisk, &'static str> {
     FileDisk::open(rt, asked.file).map_err(|_| "the file cannot be opened")
 }
 

@@ -34,23 +34,55 @@ tree_sent : IsSend (Tree.the_row Heap.the_row ghosts)
 tree_sent = search (sendable, tree_fields_sent) depth 20
 
 desk_fields_sent : (P : RattleType) (g : Ghosts P.Denot) → IsSend P → IsSend (DeskInside.the_row P g)
-desk_fields_sent P g s = declared_send (DeskInside.the_type P g) (geometry.the_send,
-    (mode.the_send,
-    (tree_sent,
-    (Vec-send _ (option.the_send _ cache_block.the_send),
-    (search (sendable, crosses, bit_set) depth 20,
-    (space_sent,
-    (orders.the_send,
-    (search (sendable, as_row_send, s),
-    (search (sendable, as_row_send, s),
-    (search (sendable, as_row_send, s),
-    (search (sendable, as_row_send, s),
-    (search (sendable, as_row_send, s),
-    (search (sendable, as_row_send, s),
-    (search (sendable, as_row_send, s),
-    (search (sendable, as_row_send, s),
-    (search (sendable, as_row_send, s),
-    tt))))))))))))))))
+desk_fields_sent P g s = declared_send (DeskInside.the_type P g) (
+  geometry.the_send,
+  (
+    mode.the_send,
+    (
+      tree_sent,
+      (
+        Vec-send _ (option.the_send _ cache_block.the_send),
+        (
+          search (sendable, crosses, bit_set) depth 20,
+          (
+            space_sent,
+            (
+              orders.the_send,
+              (
+                search (sendable, as_row_send, s),
+                (
+                  search (sendable, as_row_send, s),
+                  (
+                    search (sendable, as_row_send, s),
+                    (
+                      search (sendable, as_row_send, s),
+                      (
+                        search (sendable, as_row_send, s),
+                        (
+                          search (sendable, as_row_send, s),
+                          (
+                            search (sendable, as_row_send, s),
+                            (
+                              search (sendable, as_row_send, s),
+                              (
+                                search (sendable, as_row_send, s),
+                                tt,
+                              ),
+                            ),
+                          ),
+                        ),
+                      ),
+                    ),
+                  ),
+                ),
+              ),
+            ),
+          ),
+        ),
+      ),
+    ),
+  ),
+)
 
 desk_sent : (P : RattleType) (g : Ghosts P.Denot) → IsSend P → IsSend (Desk.the_row P g)
 desk_sent P g s = search (sendable, desk_fields_sent P g s) depth 20

@@ -92,7 +92,13 @@ fn over<P: Policy>(
     let policy = P::new(alloc, &geometry, entries.as_slice())?;
     let mut seat = Seat::new(alloc, geometry)?;
     let lent = &mut seat;
-    seal_all(&lent.cells, &mut lent.pass, &geometry, entries.as_slice(), clean)?;
+    seal_all(
+        &lent.cells,
+        &mut lent.pass,
+        &geometry,
+        entries.as_slice(),
+        clean,
+    )?;
     let desk = Desk::new(alloc, state, mode, policy, keys)?;
     let seats = seats_of(alloc, seat)?;
     Ok(Target {

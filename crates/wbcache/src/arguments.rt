@@ -1,7 +1,7 @@
 //! The arguments of the program.
 
-use clap::{Arg, ArgAction, Command, Error};
 use crate::help::{ABOUT, TEXTS, VERSION};
+use clap::{Arg, ArgAction, Command, Error};
 use std::alloc::Global;
 
 /// What the program is asked to do.

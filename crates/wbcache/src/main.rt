@@ -20,10 +20,10 @@ mod table;
 mod tally;
 mod words;
 
-use clap::Error;
-use clap::error::ErrorKind;
 use crate::arguments::{Asked, read_arguments};
 use crate::ended::Ended;
+use clap::Error;
+use clap::error::ErrorKind;
 use std::io::{BufReader, IsTerminal};
 use std::process::ExitCode;
 use std::sync::Wait;

@@ -108,8 +108,7 @@ above_at m block place has = at has.0 has.1 has.2
 pub leaves-above : LeavesAbove
 leaves-above old new block sound forgets others place = (
   λ is.
-      let was = forgets.stays is.level is.index place is.known in
-      (
+      let was = forgets.stays is.level is.index place is.known in (
         record { level = is.level; index = is.index; known = was },
         λ above.
             let a = above_at old block place above in
@@ -121,6 +120,6 @@ leaves-above old new block sound forgets others place = (
       let was = both.0 in
       let level = sound.known_level was.level was.index place was.known in
       let off : IsOnPath block was.level was.index → ⊥ = λ on.
-          both.1 (on_path old block was.level place level.0 (omega (arith, level.1, levels_four (length old.entries))) (ap (λ i. place_of old was.level i) on ∙ was.known)) in
+      both.1 (on_path old block was.level place level.0 (omega (arith, level.1, levels_four (length old.entries))) (ap (λ i. place_of old was.level i) on ∙ was.known)) in
       record { level = was.level; index = was.index; known = others was.level was.index off ∙ was.known },
 )
