@@ -160,6 +160,21 @@ impl<P: Policy> Desk<P> {
         self.geometry
     }
 
+    /// Where a client's writes go.
+    pub fn mode(&self) -> Mode
+        ensures { result ≡ self.now.mode }
+    {
+        self.mode
+    }
+
+    /// The policy's name, and the value of `promote_min` where it has one.
+    pub fn shown(&self) -> (&'static str, Option<u64>)
+        ensures name { result.0.now ≡ P.name }
+        ensures value { result.1 ≡ P.promote_min self.now.policy }
+    {
+        self.policy.shown()
+    }
+
     /// The entry of a cache block.
     pub fn entry(&self, c: CBlock) -> Option<Entry>
         requires { c.0 < self.now.geometry.cache_blocks }

@@ -2,10 +2,12 @@
 
 ghost use Rattle.std.specs.Prelude.{◌≡◌, IfOk};
 ghost use Rattle.wb_words.specs.declared.card.Hold.TheVariants.{Nothing};
+ghost use Rattle.wb_words.specs.SharedWords.{IsWord};
+ghost use Rattle.wb_words.specs.Cards.{looked};
 
 use std::alloc::Global;
 use std::sync::Arc;
-use wb_cells::{Cells, Pass};
+use wb_cells::{Cells, Pass, Word};
 use wb_types::{Geometry, Refusal};
 
 /// The shared words of a target of these sizes, and a pass of them that has no block.
@@ -30,6 +32,16 @@ impl Seat {
             cells: Arc::new(alloc, cells).map_err(|_| Refusal::Memory)?,
             pass,
         })
+    }
+
+    /// One look at a word.
+    pub fn look(&mut self, word: Word) -> u64
+        requires { IsWord self.old.geometry.origin_blocks word }
+        ensures geometry { self.new.geometry ≡ self.old.geometry }
+        ensures cells { self.new.cells ≡ self.old.cells }
+        ensures pass { self.new.pass ≡ record self.old.pass { card = looked word result self.old.pass.card } }
+    {
+        self.cells.look(&mut self.pass, word)
     }
 
     /// Two seats of one; `Memory` where the words have as many owners as can be counted, and then the seat is lost.

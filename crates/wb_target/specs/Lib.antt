@@ -1,2 +1,3 @@
 pub mod Works
 pub mod Carried
+pub mod Making

@@ -224,4 +224,21 @@ impl<'t, D: Disk + Drop, P: Policy> Client<'t, D, P> {
         flush(rt, target, &mut self.port, &[], None)?;
         Ok(Flushed::Led)
     }
+
+    /// The policy's tick, over the blocks that are dirty now, and then a flush: orders that the policy gives wait to be taken. It
+    /// looks at each cache block, under the lock.
+    ///
+    /// `Failed` where the target has failed, and `Memory` where there is none for the list of dirty blocks: then the policy was
+    /// told nothing. Else as `flush`, and then the orders stay.
+    pub fn tick<R: Wait>(&mut self, rt: &R) -> Result<Flushed, Refusal>
+        ensures flushed { OnOk result ((served : _) × HasDone D.tells D.size D.contents D.faults (Flushing served (node_count self.old.port.geometry.cache_blocks)) self.new.port) }
+    {
+        if self.port.has_failed() {
+            return Err(Refusal::Failed);
+        }
+        let target = self.target;
+        target.tick(rt)?;
+        flush(rt, target, &mut self.port, &[], None)?;
+        Ok(Flushed::Led)
+    }
 }

@@ -22,6 +22,13 @@ impl<'t, D: Disk + Drop, P: Policy> Client<'t, D, P> {
         Client { target, port }
     }
 
+    /// The target that it is of.
+    pub fn target(&self) -> &'t Target<P>
+        ensures { result ≡ self.now.target }
+    {
+        self.target
+    }
+
     /// Settles its accesses: the policy is told of each, in order, and orders that it gives wait to be taken.
     pub fn settle<R: Wait>(&mut self, rt: &R)
         ensures target { self.new.target ≡ self.old.target }

@@ -4,6 +4,7 @@
 mod blocking;
 mod carrying;
 mod client;
+mod making;
 mod office;
 mod opening;
 mod orders;

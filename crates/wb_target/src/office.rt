@@ -1,14 +1,24 @@
 //! What lies under a target's lock.
 
+ghost use Rattle.std.specs.Prelude.{◌≡◌, ◌<◌, IfOk, IfSome};
+ghost use Rattle.wb_desk.specs.Desks.{holdings};
+ghost use Rattle.wb_desk.proofs.Seen.{AreSeen};
+ghost use Rattle.wb_policy.specs.Law.{IsMappedAt};
+
+use std::alloc::Global;
 use wb_desk::Desk;
 use wb_policy::Policy;
 use wb_port::Seat;
+use wb_table::Fields;
+use wb_types::{CBlock, OBlock, Refusal};
+use wb_words::{Kind, Word, is_dirty};
 
-/// The desk, and the seats that no client has.
+/// The desk, the seats that no client has, and the one by which the office itself looks at the words.
 #[derive(Drop)]
 pub(crate) struct Office<P: Policy> {
     pub(crate) desk: Desk<P>,
     pub(crate) seats: Vec<Seat>,
+    pub(crate) watch: Seat,
     /// Whether a client met a failed write or sync: the commit that runs then never ends.
     pub(crate) failed: bool,
 }
@@ -18,6 +28,93 @@ impl<P: Policy> Office<P> {
     pub(crate) fn give_back(&mut self, seat: Seat) {
         if self.seats.len() < self.seats.capacity() {
             self.seats.push_reserved(seat);
+        }
+    }
+
+    /// What the status line tells, as the words and the desk are now.
+    pub(crate) fn fields(&mut self) -> Fields<'static> {
+        let counts = self.desk.counts();
+        let geometry = self.desk.geometry();
+        let mode = self.desk.mode();
+        let (policy, promote_min) = self.desk.shown();
+        Fields {
+            failed: self.watch.look(Word::Fail) != 0,
+            used_metadata: counts.used,
+            metadata: geometry.meta_sectors,
+            block: geometry.block,
+            mapped: counts.mapped,
+            cache_blocks: geometry.cache_blocks,
+            read_hits: self.count(Kind::ReadHit),
+            read_misses: self.count(Kind::ReadMiss),
+            write_hits: self.count(Kind::WriteHit),
+            write_misses: self.count(Kind::WriteMiss),
+            demotions: counts.demotions,
+            promotions: counts.promotions,
+            dirty: self.count_dirty(),
+            mode,
+            threshold: counts.threshold,
+            policy,
+            promote_min,
+        }
+    }
+
+    /// The policy's tick, over the mapped blocks whose seals are dirty now. `Memory` where there is none for the list of them,
+    /// and then the policy was told nothing.
+    pub(crate) fn tick(&mut self, alloc: Global) -> Result<(), Refusal> {
+        let dirty = self.dirty_blocks(alloc)?;
+        self.desk.tick(dirty.as_slice());
+        Ok(())
+    }
+
+    /// How many parts of requests counted as this kind.
+    fn count(&mut self, kind: Kind) -> u64
+        ensures { self.new.desk ≡ self.old.desk }
+    {
+        self.watch.look(Word::Count(kind))
+    }
+
+    /// How many mapped blocks have a dirty seal.
+    fn count_dirty(&mut self) -> u32 {
+        let mut dirty = 0;
+        for c in 0..self.desk.geometry().cache_blocks {
+            if self.dirty_at(CBlock(c)).is_some() {
+                dirty += 1;
+            }
+        }
+        dirty
+    }
+
+    /// The mapped blocks that have a dirty seal, by rising cache block.
+    fn dirty_blocks(&mut self, alloc: Global) -> Result<Vec<(CBlock, OBlock)>, Refusal>
+        ensures desk { self.new.desk ≡ self.old.desk }
+        ensures seen { IfOk result (λ dirty. AreSeen (holdings self.old.desk) self.old.desk.geometry.cache_blocks dirty.items) }
+    {
+        let mut dirty = Vec::new(alloc);
+        for c in 0..self.desk.geometry().cache_blocks {
+            if let Some(block) = self.dirty_at(CBlock(c)) {
+                dirty
+                    .push((CBlock(c), block))
+                    .map_err(|_| Refusal::Memory)?;
+            }
+        }
+        Ok(dirty)
+    }
+
+    /// The block in this cache block, if its seal is dirty.
+    fn dirty_at(&mut self, place: CBlock) -> Option<OBlock>
+        requires { place.0 < self.old.desk.geometry.cache_blocks }
+        ensures desk { self.new.desk ≡ self.old.desk }
+        ensures mapped { IfSome result (λ block. IsMappedAt (holdings self.old.desk) block.0 place.0) }
+    {
+        let block = self.desk.entry(place)?.origin;
+        // All are there; the lock cannot say that its desk and its words are of one cache.
+        if block.0 >= self.watch.geometry.origin_blocks {
+            return None;
+        }
+        if is_dirty(self.watch.look(Word::Seal(block))) {
+            Some(block)
+        } else {
+            None
         }
     }
 }

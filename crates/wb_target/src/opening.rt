@@ -5,29 +5,30 @@ ghost use Rattle.wb_words.specs.declared.card.Hold.TheVariants.{Nothing};
 ghost use Rattle.wb_tree.specs.Mapping.{IsMapping};
 ghost use Rattle.wb_meta.specs.Reads.{FitsDevice};
 
+use crate::making::MakingStage;
 use crate::office::Office;
 use crate::target::{CLIENTS, Target};
 use std::alloc::Global;
 use std::sync::{Condvar, Mutex};
 use wb_cells::{Cells, Pass};
 use wb_desk::Desk;
-use wb_devices::{Devices, Opening, OpeningStage};
+use wb_devices::Devices;
 use wb_disk::Disk;
 use wb_flow::OpenTask;
-use wb_meta::{ReadSteps, State};
+use wb_meta::State;
 use wb_policy::Policy;
 use wb_port::Seat;
-use wb_tasks::Answer;
 use wb_tree::Tree;
 use wb_types::{CBlock, Entry, Geometry, Key, Mode, Refusal};
 
 impl<P: Policy> Target<P> {
-    /// Opens a cache over three devices, which are handed back: all three are synced, the newest root and its tree are read, and a
-    /// root of the next generation without the clean flag is durable before the target is there. Without the clean flag each
-    /// mapped block counts as dirty (the kernel's device-mapper/cache.rst).
+    /// Opens a cache over three devices, which are handed back: all three are synced, the newest root and its tree are read, the
+    /// policy is made and told its keys, and a root of the next generation without the clean flag is durable before the target is
+    /// there. Without the clean flag each mapped block counts as dirty (the kernel's device-mapper/cache.rst).
     ///
     /// `Geometry` for sizes outside the limits; `NotFormatted`, `Mismatch`, `Damaged`, `GenerationEnd` and `Memory` as the
-    /// metadata are read; `BadMessage` for a key's value that is out of its range; `Io` where a step failed.
+    /// metadata are read; then `Memory` where there is none for the target, and `BadMessage` for a key's value that is out of its
+    /// range: up to there nothing was written. `Io` where a step failed; after that of the root it may be written.
     pub fn open<D: Disk + Drop>(
         alloc: Global,
         devices: Devices<D>,
@@ -39,17 +40,10 @@ impl<P: Policy> Target<P> {
             Ok(geometry) => geometry,
             Err(refusal) => return (devices, Err(refusal)),
         };
-        let mut stage = OpeningStage::new(alloc, devices, geometry);
+        let mut stage = MakingStage::new(alloc, devices, geometry, mode, keys);
         let mut task = OpenTask::new(geometry.meta_sectors);
         let answer = stage.run(&mut task);
-        let clean = was_clean(&stage.opening);
-        let (devices, state) = stage.finish();
-        let opened = match (answer, state) {
-            (Answer::Done, Some(state)) => over(alloc, state, clean, mode, keys),
-            (Answer::Refused(refusal), _) => Err(refusal),
-            (Answer::Done, None) => Err(Refusal::Memory),
-        };
-        (devices, opened)
+        stage.finish(answer)
     }
 }
 
@@ -69,16 +63,8 @@ fn measure<D: Disk>(devices: &Devices<D>, block: u64) -> Result<Geometry, Refusa
     )
 }
 
-/// Whether the root that was read has the clean flag.
-fn was_clean(opening: &Opening) -> bool {
-    match &opening.reading {
-        Some(ReadSteps::Done(state)) => state.root.clean,
-        _ => false,
-    }
-}
-
-/// A target over what was read.
-fn over<P: Policy>(
+/// A target over what was read, by the root that is to be written.
+pub(crate) fn over<P: Policy>(
     alloc: Global,
     state: State<Global>,
     clean: bool,
@@ -100,13 +86,14 @@ fn over<P: Policy>(
         clean,
     )?;
     let desk = Desk::new(alloc, state, mode, policy, keys)?;
-    let seats = seats_of(alloc, seat)?;
+    let (seats, watch) = seats_of(alloc, seat)?;
     Ok(Target {
         alloc,
         geometry,
         office: Mutex::new(Office {
             desk,
             seats,
+            watch,
             failed: false,
         }),
         bell: Condvar::new(),
@@ -154,15 +141,14 @@ fn seal_all(
     Ok(())
 }
 
-/// As many seats as there may be clients, of one.
-fn seats_of(alloc: Global, seat: Seat) -> Result<Vec<Seat>, Refusal> {
+/// As many seats as there may be clients, and one more, of one.
+fn seats_of(alloc: Global, seat: Seat) -> Result<(Vec<Seat>, Seat), Refusal> {
     let mut seats = Vec::with_capacity(alloc, CLIENTS)?;
     let mut last = seat;
-    for _ in 1..CLIENTS {
+    for _ in 0..CLIENTS {
         let (one, other) = last.split()?;
         seats.push(one).map_err(|_| Refusal::Memory)?;
         last = other;
     }
-    seats.push(last).map_err(|_| Refusal::Memory)?;
-    Ok(seats)
+    Ok((seats, last))
 }

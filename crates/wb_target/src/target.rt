@@ -1,5 +1,9 @@
 //! A target: what its clients share.
 
+ghost use Rattle.std.specs.Prelude.{◌≡◌, ◌++◌, OnOk, OnErr, IfErr, string_bytes};
+ghost use Rattle.wb_table.specs.Status.{status_line};
+ghost use Rattle.wb_table.specs.declared.status.Fields.{Fields as Told};
+
 use crate::client::Client;
 use crate::office::Office;
 use std::alloc::Global;
@@ -9,6 +13,7 @@ use wb_devices::Devices;
 use wb_disk::Disk;
 use wb_policy::{Order, Policy};
 use wb_port::Port;
+use wb_table::status_text;
 use wb_types::{Geometry, OBlock, Refusal};
 
 /// How many clients a target has at most.
@@ -60,6 +65,25 @@ impl<P: Policy> Target<P> {
     /// What the desk counts.
     pub fn counts<R: Wait>(&self, rt: &R) -> Counts {
         self.office.lock(rt).desk.counts()
+    }
+
+    /// Adds the status line, with no end of line (the kernel's device-mapper/cache.rst, "Status"): what the desk counts, what the
+    /// words count of requests, and how many mapped blocks are dirty, or `Fail` alone once the target has failed. A look at each
+    /// cache block, under the lock. `Memory` where there is none, and then nothing is added.
+    pub fn status<R: Wait>(&self, rt: &R, text: &mut String) -> Result<(), Refusal>
+        ensures line { OnOk result ((told : Told) × (string_bytes text.new ≡ string_bytes text.old ++ status_line told)) }
+        ensures refused { IfErr result (λ refusal. refusal ≡ Refusal.Memory) }
+        ensures unchanged { OnErr result (string_bytes text.new ≡ string_bytes text.old) }
+    {
+        let fields = self.office.lock(rt).fields();
+        status_text(&fields, text)
+    }
+
+    /// The policy's tick; whoever waits for an order is woken. `Memory` where there is none, and then no order was given.
+    pub(crate) fn tick<R: Wait>(&self, rt: &R) -> Result<(), Refusal> {
+        self.office.lock(rt).tick(self.alloc)?;
+        self.bell.notify_all();
+        Ok(())
     }
 
     /// Tells the policy of accesses, in order; whoever waits for an order is woken.

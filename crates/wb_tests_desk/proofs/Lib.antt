@@ -1,2 +1,1 @@
-mod Seen
 mod States

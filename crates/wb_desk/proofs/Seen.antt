@@ -23,7 +23,7 @@ none_seen mapping c = record { mapped = λ at b k. absurd (omega (arith, k.1)); 
 pub seen_later : (mapping : Holdings) (c : ℕ) (seen : List (CBlock × OBlock)) → AreSeen mapping c seen → AreSeen mapping (c + 1) seen
 seen_later mapping c seen s = record { mapped = s.mapped; rising = s.rising; below = λ d i l. omega (arith, s.below d i l) }
 
-there : (entries : List (Option Entry)) (c : ℕ) (e : Entry) → get_or entries c None ≡ Some e → slice_get (origins entries) c ≡ Some (Some e.origin.0)
+pub there : (entries : List (Option Entry)) (c : ℕ) (e : Entry) → get_or entries c None ≡ Some e → slice_get (origins entries) c ≡ Some (Some e.origin.0)
 there [] c e q = absurd cc
 there (x ∷ xs) zero e q = ap (λ (o : Option Entry). Some (option_map (λ (y : Entry). y.origin.0) o)) q
 there (x ∷ xs) (suc c) e q = there xs c e q
@@ -37,21 +37,20 @@ before_last [] y d i l = absurd (omega (arith, l))
 before_last (x ∷ xs) y d zero l = cc
 before_last (x ∷ xs) y d (suc i) l = before_last xs y d i (omega (arith, l))
 
-pub seen_one : (entries : List (Option Entry)) (c : CBlock) (e : Entry) (seen : List (CBlock × OBlock)) → get_or entries c.0 None ≡ Some e → AreSeen (origins entries) c.0 seen
-    → AreSeen (origins entries) (c.0 + 1) (seen ++ (c, e.origin) ∷ [])
-seen_one entries c e seen at s = record { mapped = mapped; rising = IsNonDecreasingBy-push (λ (x : CBlock × OBlock). x.0.0) seen (c, e.origin) s.rising (λ d l. omega (arith, s.below d (length seen - 1) (omega (arith, l)))); below = below }
+pub seen_one : (mapping : Holdings) (c : CBlock) (b : OBlock) (seen : List (CBlock × OBlock)) → IsMappedAt mapping b.0 c.0 → AreSeen mapping c.0 seen → AreSeen mapping (c.0 + 1) (seen ++ (c, b) ∷ [])
+seen_one mapping c o seen at s = record { mapped = mapped; rising = IsNonDecreasingBy-push (λ (x : CBlock × OBlock). x.0.0) seen (c, o) s.rising (λ d l. omega (arith, s.below d (length seen - 1) (omega (arith, l)))); below = below }
   where
-    mapped : AreMapped (origins entries) (seen ++ (c, e.origin) ∷ [])
-    mapped k b has = elim (Contains-push_cases seen (c, e.origin) (k, b) has) [
+    mapped : AreMapped mapping (seen ++ (c, o) ∷ [])
+    mapped k b has = elim (Contains-push_cases seen (c, o) (k, b) has) [
       | inl h ↦ s.mapped k b h
-      | inr q ↦ subst (λ (x : CBlock × OBlock). IsMappedAt (origins entries) x.1.0 x.0.0) q (there entries c.0 e at)
+      | inr q ↦ subst (λ (x : CBlock × OBlock). IsMappedAt mapping x.1.0 x.0.0) q at
     ]
 
-    below : (d : CBlock × OBlock) (i : ℕ) → i < length (seen ++ (c, e.origin) ∷ []) → (get_or (seen ++ (c, e.origin) ∷ []) i d).0.0 < c.0 + 1
+    below : (d : CBlock × OBlock) (i : ℕ) → i < length (seen ++ (c, o) ∷ []) → (get_or (seen ++ (c, o) ∷ []) i d).0.0 < c.0 + 1
     below d i l = elim (cases_lt i (length seen)) [
-      | inl h ↦ omega (arith, ap (λ (x : CBlock × OBlock). x.0.0) (before_last seen (c, e.origin) d i h), s.below d i h)
-      | inr h ↦ omega (arith, ap (λ (x : CBlock × OBlock). x.0.0) (ap (λ (n : ℕ). get_or (seen ++ (c, e.origin) ∷ []) n d) (same h) ∙ last_of seen (c, e.origin) d))
+      | inl h ↦ omega (arith, ap (λ (x : CBlock × OBlock). x.0.0) (before_last seen (c, o) d i h), s.below d i h)
+      | inr h ↦ omega (arith, ap (λ (x : CBlock × OBlock). x.0.0) (ap (λ (n : ℕ). get_or (seen ++ (c, o) ∷ []) n d) (same h) ∙ last_of seen (c, o) d))
     ]
       where
         same : length seen ≤ i → i ≡ length seen
-        same h = omega (arith, h, l, length_push seen (let x : CBlock × OBlock = (c, e.origin) in x))
+        same h = omega (arith, h, l, length_push seen (let x : CBlock × OBlock = (c, o) in x))

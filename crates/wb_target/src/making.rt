@@ -1,0 +1,113 @@
+//! Where a target is opened: an opening of its devices that makes the target of what was read before it writes the root.
+
+ghost use Rattle.std.specs.Prelude.{◌≡◌, ℕ};
+ghost use Rattle.wb_tasks.specs.Tables.{Opening as OpeningJob};
+ghost use Rattle.wb_tasks.specs.Plan.{table};
+ghost use Rattle.wb_devices.specs.Openings.{MayGoOn};
+ghost use Rattle.wb_target.specs.Making.{IsReadyToMake, GoesOn};
+
+use crate::opening::over;
+use crate::target::Target;
+use std::alloc::Global;
+use wb_devices::{Devices, OpeningStage};
+use wb_disk::Disk;
+use wb_format::Root;
+use wb_meta::{ReadSteps, State};
+use wb_policy::Policy;
+use wb_tasks::{Answer, DeviceStep, Got, Stage, Task, Want, drive};
+use wb_types::{Geometry, Key, Mode, Refusal};
+
+/// The stage of an opening of a target. What can be refused for want of memory, or for a key's value, is refused before the
+/// root is written: then the devices are as they were, but synced.
+pub(crate) struct MakingStage<'k, D, P: Policy> {
+    pub(crate) stage: OpeningStage<D>,
+    alloc: Global,
+    mode: Mode,
+    keys: &'k [(Key, u64)],
+    /// The target, once it was to be made.
+    made: Option<Result<Target<P>, Refusal>>,
+}
+
+impl<'k, D: Disk, P: Policy> MakingStage<'k, D, P> {
+    /// A stage over devices of which nothing was read.
+    pub(crate) fn new(
+        alloc: Global,
+        devices: Devices<D>,
+        geometry: Geometry,
+        mode: Mode,
+        keys: &'k [(Key, u64)],
+    ) -> MakingStage<'k, D, P>
+        ensures { MayGoOn (D.size result.stage.devices.metadata) result.stage.opening }
+    {
+        MakingStage {
+            stage: OpeningStage::new(alloc, devices, geometry),
+            alloc,
+            mode,
+            keys,
+            made: None,
+        }
+    }
+
+    /// Performs an opening that has not begun, up to its answer.
+    pub(crate) fn run<T: Task>(&mut self, task: &mut T) -> Answer
+        requires begun { (left : ℕ) × (T.plan task.old ≡ table (OpeningJob left)) }
+        requires goes_on { MayGoOn (D.size self.old.stage.devices.metadata) self.old.stage.opening }
+    {
+        drive(task, self)
+    }
+
+    /// The devices, and the target, or why there is none: why it could not be made, else why the opening was refused.
+    pub(crate) fn finish(self, answer: Answer) -> (Devices<D>, Result<Target<P>, Refusal>) {
+        let MakingStage { stage, made, .. } = self;
+        let (devices, _) = stage.finish();
+        let opened = match (made, answer) {
+            (Some(Err(refusal)), _) => Err(refusal),
+            (_, Answer::Refused(refusal)) => Err(refusal),
+            (Some(Ok(target)), Answer::Done) => Ok(target),
+            (None, Answer::Done) => Err(Refusal::Memory),
+        };
+        (devices, opened)
+    }
+
+    /// Makes the target of what was read, by the root that comes next, and says whether it is there.
+    fn make(&mut self) -> bool
+        requires { MayGoOn (D.size self.old.stage.devices.metadata) self.old.stage.opening }
+        ensures devices { self.new.stage.devices ≡ self.old.stage.devices }
+        ensures goes_on { MayGoOn (D.size self.new.stage.devices.metadata) self.new.stage.opening }
+    {
+        let Some(commit) = &self.stage.opening.commit else {
+            return false;
+        };
+        let generation = commit.image.root.generation;
+        let Some(ReadSteps::Done(state)) = self.stage.opening.reading.take() else {
+            return false;
+        };
+        let State { root, tree, used } = state;
+        let was_clean = root.clean;
+        let root = Root {
+            generation,
+            clean: false,
+            ..root
+        };
+        let state = State { root, tree, used };
+        let made = over(self.alloc, state, was_clean, self.mode, self.keys);
+        let is_made = made.is_ok();
+        self.made = Some(made);
+        is_made
+    }
+}
+
+impl<'k, D: Disk, P: Policy> Stage for MakingStage<'k, D, P> {
+    ghost ready = { IsReadyToMake D.size };
+
+    ghost led = { GoesOn D.size };
+
+    fn perform(&mut self, want: &Want) -> Got {
+        if let Want::Device(DeviceStep::WriteRoot) = want {
+            if !self.make() {
+                return Got::Fault;
+            }
+        }
+        self.stage.perform(want)
+    }
+}
