@@ -2,5 +2,5 @@ pub mod Readying
 pub mod Tasks
 pub mod Carried
 pub mod Knowing
-pub mod Opened
+pub mod Written
 pub mod Sending

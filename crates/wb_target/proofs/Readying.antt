@@ -1,16 +1,16 @@
 -- Who begins a task without a block is ready for each of its steps, and has none after the answer.
-use Rattle.std.proofs.Common.{◌≡◌, ◌∙◌, ◌<◌, ℕ, ap, List, [], ◌∷◌, refl, sym, subst}
+use Rattle.std.proofs.Common.{◌≡◌, ◌∙◌, ℕ, ap, List, sym, subst}
 use Rattle.wb_words.specs.declared.card.Card.{Card}
 use Rattle.wb_words.specs.declared.card.Hold.TheVariants.{Nothing}
-use Rattle.wb_tasks.specs.Tables.{BlockJob, TaskJob, OnBlock}
-use Rattle.wb_tasks.specs.Ready.{AreFirst, MayTake, MayMake, IsOwnStep, Suits, left_by, block_of}
-use Rattle.wb_tasks.specs.Plan.{Plan, table, want, after, Fits}
+use Rattle.wb_tasks.specs.Tables.{TaskJob}
+use Rattle.wb_tasks.specs.Ready.{AreFirst, MayTake, MayMake, IsOwnStep, Suits, left_by}
+use Rattle.wb_tasks.specs.Plan.{Plan, table, want}
 use Rattle.wb_tasks.specs.Run.{IsRunOf, Leads}
 use Rattle.wb_tasks.specs.declared.step.Answer.{Answer}
 use Rattle.wb_tasks.specs.declared.step.Want.{Want}
 use Rattle.wb_tasks.specs.declared.step.Got.{Got}
 use Rattle.wb_tasks.proofs.Driving.{run_first}
-use Rattle.wb_tasks.proofs.Readiness.{begins_ready, keeps_ready, is_ready, is_own_step, ends_holding_nothing}
+use Rattle.wb_tasks.proofs.Readiness.{is_ready, is_own_step, ends_holding_nothing}
 use Rattle.wb_port.proofs.Readying.{suits_there}
 use Rattle.wb_stage.specs.Jobs.{MayRun}
 use Rattle.wb_stage.specs.Stages.{IsServed}

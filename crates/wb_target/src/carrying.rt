@@ -236,9 +236,7 @@ impl<'t, D: Disk + Drop, P: Policy> Client<'t, D, P> {
         if self.port.has_failed() {
             return Err(Refusal::Failed);
         }
-        let target = self.target;
-        target.tick(rt)?;
-        flush(rt, target, &mut self.port, &[], None)?;
-        Ok(Flushed::Led)
+        self.target.tick(rt)?;
+        self.flush(rt)
     }
 }

@@ -19,6 +19,7 @@ use wb_types::{Geometry, Key, Mode, Refusal};
 
 /// The stage of an opening of a target. What can be refused for want of memory, or for a key's value, is refused before the
 /// root is written: then the devices are as they were, but synced.
+#[derive(Drop)]
 pub(crate) struct MakingStage<'k, D, P: Policy> {
     pub(crate) stage: OpeningStage<D>,
     alloc: Global,
@@ -28,7 +29,7 @@ pub(crate) struct MakingStage<'k, D, P: Policy> {
     made: Option<Result<Target<P>, Refusal>>,
 }
 
-impl<'k, D: Disk, P: Policy> MakingStage<'k, D, P> {
+impl<'k, D: Disk + Drop, P: Policy> MakingStage<'k, D, P> {
     /// A stage over devices of which nothing was read.
     pub(crate) fn new(
         alloc: Global,
@@ -39,8 +40,9 @@ impl<'k, D: Disk, P: Policy> MakingStage<'k, D, P> {
     ) -> MakingStage<'k, D, P>
         ensures { MayGoOn (D.size result.stage.devices.metadata) result.stage.opening }
     {
+        let stage = OpeningStage::new(alloc, devices, geometry);
         MakingStage {
-            stage: OpeningStage::new(alloc, devices, geometry),
+            stage,
             alloc,
             mode,
             keys,
@@ -60,11 +62,16 @@ impl<'k, D: Disk, P: Policy> MakingStage<'k, D, P> {
     pub(crate) fn finish(self, answer: Answer) -> (Devices<D>, Result<Target<P>, Refusal>) {
         let MakingStage { stage, made, .. } = self;
         let (devices, _) = stage.finish();
-        let opened = match (made, answer) {
-            (Some(Err(refusal)), _) => Err(refusal),
-            (_, Answer::Refused(refusal)) => Err(refusal),
-            (Some(Ok(target)), Answer::Done) => Ok(target),
-            (None, Answer::Done) => Err(Refusal::Memory),
+        let opened = match made {
+            Some(Err(refusal)) => Err(refusal),
+            Some(Ok(target)) => match answer {
+                Answer::Done => Ok(target),
+                Answer::Refused(refusal) => Err(refusal),
+            },
+            None => match answer {
+                Answer::Done => Err(Refusal::Memory),
+                Answer::Refused(refusal) => Err(refusal),
+            },
         };
         (devices, opened)
     }
@@ -86,8 +93,10 @@ impl<'k, D: Disk, P: Policy> MakingStage<'k, D, P> {
         let was_clean = root.clean;
         let root = Root {
             generation,
+            version: root.version,
             clean: false,
-            ..root
+            geometry: root.geometry,
+            top: root.top,
         };
         let state = State { root, tree, used };
         let made = over(self.alloc, state, was_clean, self.mode, self.keys);
@@ -97,7 +106,7 @@ impl<'k, D: Disk, P: Policy> MakingStage<'k, D, P> {
     }
 }
 
-impl<'k, D: Disk, P: Policy> Stage for MakingStage<'k, D, P> {
+impl<'k, D: Disk + Drop, P: Policy> Stage for MakingStage<'k, D, P> {
     ghost ready = { IsReadyToMake D.size };
 
     ghost led = { GoesOn D.size };

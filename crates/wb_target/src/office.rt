@@ -5,7 +5,7 @@ ghost use Rattle.wb_desk.specs.Desks.{holdings};
 ghost use Rattle.wb_desk.proofs.Seen.{AreSeen};
 ghost use Rattle.wb_policy.specs.Law.{IsMappedAt};
 
-use std::alloc::Global;
+use std::alloc::{AllocError, Global};
 use wb_desk::Desk;
 use wb_policy::Policy;
 use wb_port::Seat;
@@ -85,16 +85,14 @@ impl<P: Policy> Office<P> {
     }
 
     /// The mapped blocks that have a dirty seal, by rising cache block.
-    fn dirty_blocks(&mut self, alloc: Global) -> Result<Vec<(CBlock, OBlock)>, Refusal>
+    fn dirty_blocks(&mut self, alloc: Global) -> Result<Vec<(CBlock, OBlock)>, AllocError>
         ensures desk { self.new.desk ≡ self.old.desk }
         ensures seen { IfOk result (λ dirty. AreSeen (holdings self.old.desk) self.old.desk.geometry.cache_blocks dirty.items) }
     {
         let mut dirty = Vec::new(alloc);
         for c in 0..self.desk.geometry().cache_blocks {
             if let Some(block) = self.dirty_at(CBlock(c)) {
-                dirty
-                    .push((CBlock(c), block))
-                    .map_err(|_| Refusal::Memory)?;
+                dirty.push((CBlock(c), block))?;
             }
         }
         Ok(dirty)
@@ -106,7 +104,8 @@ impl<P: Policy> Office<P> {
         ensures desk { self.new.desk ≡ self.old.desk }
         ensures mapped { IfSome result (λ block. IsMappedAt (holdings self.old.desk) block.0 place.0) }
     {
-        let block = self.desk.entry(place)?.origin;
+        let entry = self.desk.entry(place)?;
+        let block = entry.origin;
         // All are there; the lock cannot say that its desk and its words are of one cache.
         if block.0 >= self.watch.geometry.origin_blocks {
             return None;

@@ -3,7 +3,7 @@ use Rattle.std.specs.Str.{IsUtf8}
 use Rattle.wbcache.specs.Words.{words_of}
 use Rattle.wbcache.specs.Numbers.{SpellsNumber, SpellsByte}
 use Rattle.wbcache.specs.declared.line.Line.{Line}
-use Rattle.wbcache.specs.declared.line.Line.TheVariants.{Nothing, Read, Write, TryRead, TryWrite, Flush, Settle, Work}
+use Rattle.wbcache.specs.declared.line.Line.TheVariants.{Nothing, Read, Write, TryRead, TryWrite, Flush, Settle, Work, Tick, Status}
 
 -- the first byte other than a space
 abbrev pub first_byte_of : List ℕ → Option ℕ
@@ -33,6 +33,8 @@ Asks (name ∷ words) (TryWrite at count fill) = (name ≡ codes "tw") × Spells
 Asks (name ∷ words) Flush = (name ≡ codes "flush") × (words ≡ [])
 Asks (name ∷ words) Settle = (name ≡ codes "settle") × (words ≡ [])
 Asks (name ∷ words) Work = (name ≡ codes "work") × (words ≡ [])
+Asks (name ∷ words) Tick = (name ≡ codes "tick") × (words ≡ [])
+Asks (name ∷ words) Status = (name ≡ codes "status") × (words ≡ [])
 Asks words line = ⊥
 
 -- A line is a comment, or a text whose words ask this.

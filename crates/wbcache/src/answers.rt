@@ -35,11 +35,15 @@ pub fn answer<R: Wait, D: Disk + Drop, P: Policy>(
         Line::Read { at, count } => return read(rt, alloc, client, at, count, text),
         Line::TryRead { at, count } => return try_read(alloc, client, at, count, text),
         Line::Work => return work(rt, client, text),
+        Line::Status => return status(rt, client, text),
         Line::Write { at, count, fill } => write(rt, alloc, client, at, count, fill)?,
         Line::TryWrite { at, count, fill } => try_write(alloc, client, at, count, fill)?,
         Line::Settle => client.settle(rt),
         Line::Flush => {
             client.flush(rt)?;
+        }
+        Line::Tick => {
+            client.tick(rt)?;
         }
     }
     text.push_str("ok\n")?;
@@ -137,6 +141,17 @@ fn try_write<D: Disk + Drop, P: Policy>(
     if let Err(refusal) = client.port.try_write(at, contents.as_slice()) {
         return Err(refusal);
     }
+    Ok(())
+}
+
+/// Tells how the cache is, on a line.
+fn status<R: Wait, D: Disk + Drop, P: Policy>(
+    rt: &R,
+    client: &Client<'_, D, P>,
+    text: &mut String,
+) -> Result<(), Refusal> {
+    client.target().status(rt, text)?;
+    text.push_str("\n")?;
     Ok(())
 }
 

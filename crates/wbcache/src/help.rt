@@ -20,6 +20,8 @@ A script, one answer a line, is read from standard input:
   tw, tr      the same over sectors of one block, without waiting
   work        carry out an order of the policy, if any: prints which, or 'idle'
   settle      tell the policy of the accesses so far: prints 'ok'
+  tick        let it order write-backs, and flush: prints 'ok'
+  status      tell how the cache is, on a line as the kernel's dm-cache does
   flush       make all that was written durable: prints 'ok'
   # ..        nothing; empty lines too
 What is refused prints 'refused <number> <Name>'. What was written is durable

@@ -29,6 +29,10 @@ pub enum Line {
     Settle,
     /// `work`: carries out the order that waits longest.
     Work,
+    /// `tick`: the policy's tick, and a flush.
+    Tick,
+    /// `status`: tells how the cache is.
+    Status,
 }
 
 /// Reads a line, without its line break. None is a line that asks nothing that a script can ask.
@@ -94,6 +98,8 @@ fn read_word(word: &str, mut words: SplitSpaces<'_>) -> Option<Line>
         "flush" => Some(Line::Flush),
         "settle" => Some(Line::Settle),
         "work" => Some(Line::Work),
+        "tick" => Some(Line::Tick),
+        "status" => Some(Line::Status),
         _ => None,
     }
 }

@@ -1,0 +1,4 @@
+use Rattle.wb_target.proofs.making.MakingStage.new.Goals as goal
+
+pub returns : goal.returns
+returns g c = c.new-stage.ensures.goes_on (g.D.Disk.size c.new-stage.result.devices.metadata)
