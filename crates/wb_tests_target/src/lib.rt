@@ -6,4 +6,8 @@ mod caching;
 #[cfg(test)]
 mod fixture;
 #[cfg(test)]
+mod memory;
+#[cfg(test)]
+mod opening;
+#[cfg(test)]
 mod requests;
