@@ -198,6 +198,13 @@ check 'a block is cached' "$(tr '\n' ' ' <out.txt)" 'ok 70 11 promoted 1 to 0 ok
 check 'and written there alone' "$(tr -d '\0' <c.img | tr -d '\042' | wc -c) $(tr -d '\0' <c.img | wc -c) $(tr -d '\0\021' <o.img | wc -c)" '0 512 0'
 check 'and found again' "$(printf 'r 70 1\nw 70 1 33\nr 70 1\n' | "$cache" run "$table" | tr '\n' ' ')" '70 22 ok 70 33 '
 check 'and once more, without a flush' "$(printf 'r 70 1\nwork\n' | "$cache" run "$table" | tr '\n' ' ')" '70 33 idle '
+# The newest tree is damaged: the older root is not taken, though its tree is whole.
+fresh
+printf 'r 0 1\nr 0 1\nwork\nflush\nr 64 1\nr 64 1\nwork\nflush\n' | "$cache" run "$table" >out.txt
+printf '\001' | dd of=m.img bs=1 seek=1556 conv=notrunc 2>/dev/null
+check 'a tree that is damaged' "$(tr '\n' ' ' <out.txt)$(echo status | "$cache" run "$table"; echo $?)" \
+  '0 00 0 00 promoted 0 to 0 ok 64 00 64 00 promoted 1 to 1 ok refused 11 Damaged 3
+1'
 fresh
 for at in 512 2047 2048; do
   printf '\001' | dd of=o.img bs=1 seek=$at conv=notrunc 2>/dev/null
