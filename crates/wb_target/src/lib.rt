@@ -10,10 +10,12 @@ mod opening;
 mod orders;
 mod performing;
 mod target;
+mod together;
 mod working;
 
 pub use blocking::Stopped;
 pub use carrying::Flushed;
 pub use client::Client;
 pub use target::{CLIENTS, Target};
+pub use together::{Errand, Returned, Sent};
 pub use working::WorkStage;
