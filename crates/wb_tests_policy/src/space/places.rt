@@ -73,7 +73,14 @@ fn a_commit_is_told_what_changed(rt: HostRuntime) -> Result<(), Fail> {
     assert!(rt; left.least() == None);
     assert!(rt; finds(rt.alloc(), &space, 9, &[Place(4), Place(5), Place(7)]));
     assert!(rt; end(&mut space));
-    assert!(rt; finds(rt.alloc(), &space, 9, &[Place(4), Place(5), Place(6), Place(7)]));
+    assert!(rt;
+        finds(
+            rt.alloc(),
+            &space,
+            9,
+            &[Place(4), Place(5), Place(6), Place(7)]
+        )
+    );
     Ok(())
 }
 
