@@ -2,4 +2,4 @@ pub mod Members
 pub mod Least
 pub mod Chosen
 mod Cleared
-mod Filled
+mod Onward

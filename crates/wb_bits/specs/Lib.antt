@@ -1,3 +1,4 @@
 pub mod BitWords
+pub mod Leasts
 pub mod Summary
 pub mod Deeper

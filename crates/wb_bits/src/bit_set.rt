@@ -1,9 +1,9 @@
 //! Sets of numbers below a bound, whose least member is found in a few steps.
 
-ghost use Rattle.std.specs.Prelude.{◌≡◌, ◌≢◌, ◌||◌, ℕ, ◌<◌, ◌≤◌, ◌+◌, ◌*◌, ◌/◌, ◌^◌, Bool, true, false, length, replicate, IfOk, slice_set, slice_get, Some, get_or};
+ghost use Rattle.std.specs.Prelude.{◌≡◌, ◌≢◌, ◌||◌, ℕ, ◌<◌, ◌≤◌, ◌+◌, ◌*◌, ◌/◌, ◌^◌, Bool, true, false, length, replicate, IfOk, slice_set, slice_get, Some, get_or, IfSome, IfNone};
 ghost use Rattle.std.specs.List.{position};
-ghost use Rattle.std.specs.Bool.{OnTrue, OnFalse};
-ghost use Rattle.wb_bits.specs.BitWords.{Differs, least_in};
+ghost use Rattle.wb_bits.specs.BitWords.{Differs, is_member, least_in};
+ghost use Rattle.wb_bits.specs.Leasts.{IsLeastFrom};
 
 use std::alloc::{AllocError, Global};
 use std::marker::Model;
@@ -154,16 +154,6 @@ impl BitSet {
         }
     }
 
-    /// Whether each number that this word stands for is a member of this set or of the other.
-    pub fn fills_with(&self, other: &BitSet, word: usize) -> bool
-        requires here { 64 * word + 64 ≤ length self.now }
-        requires there { 64 * word + 64 ≤ length other.now }
-        ensures full { OnTrue result ((i : ℕ) → i / 64 ≡ word → (get_or self.now i false || get_or other.now i false) ≡ true) }
-        ensures other { OnFalse result ((i : ℕ) × (i / 64 ≡ word) × ((get_or self.now i false || get_or other.now i false) ≡ false)) }
-    {
-        self.words[word] | other.words[word] == u64::MAX
-    }
-
     /// The least member.
     pub fn least(&self) -> Option<usize>
         ensures { result ≡ position (λ b. b) self.now }
@@ -172,6 +162,27 @@ impl BitSet {
             Above::Nothing => least_in(&self.words, 0),
             Above::Summary(above) => match above.least() {
                 Some(word) => least_in(&self.words, word),
+                None => None,
+            },
+        }
+    }
+
+    /// The least member from this number on.
+    pub fn least_from(&self, from: usize) -> Option<usize>
+        ensures found { IfSome result (IsLeastFrom (λ i. get_or self.now i false) from) }
+        ensures none { IfNone result ((i : ℕ) → from ≤ i → get_or self.now i false ≡ false) }
+    {
+        if from >= self.bound {
+            return None;
+        }
+        let here = least_in_from(&self.words, from);
+        if here.is_some() {
+            return here;
+        }
+        match &self.above {
+            Above::Nothing => None,
+            Above::Summary(above) => match above.least_from(from / 64 + 1) {
+                Some(next) => least_in(&self.words, next),
                 None => None,
             },
         }
@@ -208,4 +219,18 @@ fn least_in(words: &[u64], at: usize) -> Option<usize>
         return None;
     }
     Some(64 * at + word.trailing_zeros() as usize)
+}
+
+/// The least member from a number on that the word of this number has.
+fn least_in_from(words: &[u64], from: usize) -> Option<usize>
+    requires small { from < 2 ^ 40 }
+    requires inside { from / 64 < length words.now }
+    ensures found { IfSome result (IsLeastFrom (is_member words.now) from) }
+    ensures none { IfNone result ((i : ℕ) → from ≤ i → i / 64 ≡ from / 64 → is_member words.now i ≡ false) }
+{
+    let word = words[from / 64] >> (from % 64);
+    if word == 0 {
+        return None;
+    }
+    Some(from + word.trailing_zeros() as usize)
 }

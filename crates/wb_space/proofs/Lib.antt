@@ -4,4 +4,5 @@ pub mod Suffices
 pub mod Held
 pub mod Differing
 pub mod Changing
+mod Freeing
 mod Listing

@@ -1,7 +1,9 @@
 -- The free places from some place on.
-use Rattle.std.proofs.Common.{◌≡◌, ◌≤◌, ◌<◌, ◌+◌, ◌-◌, ◌∙◌, ℕ, zero, suc, Bool, true, false, cond, List, [], ◌∷◌, ◌++◌, length, map, take, filter, refl, sym, ap, arith, append_assoc}
+use Rattle.std.proofs.Common.{◌≡◌, ◌≤◌, ◌<◌, ◌+◌, ◌-◌, ◌∙◌, ℕ, zero, suc, Bool, true, false, cond, List, [], ◌∷◌, ◌++◌, length, map, take, filter, refl, sym, ap, arith, append_assoc, inl, inr}
 use Rattle.std.specs.List.{range_with_len}
 use Rattle.std.proofs.lemmas.List.{append-nil, length-append}
+use Rattle.std.proofs.lemmas.Bool.{cases_lt}
+use Rattle.wb_bits.specs.Leasts.{IsLeastFrom}
 use Rattle.wb_types.specs.declared.number.Place.{Place}
 use Rattle.wb_space.specs.Places.{PlacesInUse, is_free_place, place}
 
@@ -32,29 +34,26 @@ pub record AreListed (p : PlacesInUse) (n at : ℕ) (places : List Place) : Type
 pub none_listed : (p : PlacesInUse) (n : ℕ) → AreListed p n 2 []
 none_listed p n = let all : n - 0 ≡ n = omega arith in record { few = omega arith; are = ap (λ m. map place (take m (free_from p 2))) all }
 
-pub listed_past : (p : PlacesInUse) (n at more : ℕ) (places : List Place) → at + more ≤ length p.committed → ((k : ℕ) → at ≤ k → k < at + more → is_free_place p k ≡ false) → AreListed p n at places → AreListed p n (at + more) places
-listed_past p n at more places inside used l = record {
-  few = l.few;
-  are = ap (λ xs. places ++ map place (take (n - length places) xs)) (sym (used_skipped p more at inside used)) ∙ l.are;
-}
-
-pub one_past : (p : PlacesInUse) (n at : ℕ) (places : List Place) → at < length p.committed → is_free_place p at ≡ false → AreListed p n at places → AreListed p n (at + 1) places
-one_past p n at places inside used l = record {
-  few = l.few;
-  are = ap (λ xs. places ++ map place (take (n - length places) xs)) (sym (first p at false inside used)) ∙ l.are;
-}
-
-pub listed_one : (p : PlacesInUse) (n at : ℕ) (places : List Place) → at < length p.committed → length places < n → is_free_place p at ≡ true → AreListed p n at places → AreListed p n (at + 1) (places ++ place at ∷ [])
-listed_one p n at places inside less free l =
+-- the least free one from there on is the next
+pub listed_next : (p : PlacesInUse) (n from at : ℕ) (places : List Place) → at < length p.committed → length places < n → IsLeastFrom (is_free_place p) from at → AreListed p n from places
+    → AreListed p n (at + 1) (places ++ place at ∷ [])
+listed_next p n from at places inside less found l =
     let one : length (places ++ place at ∷ []) ≡ length places + 1 = length-append places (place at ∷ []) in
     let left : n - length places ≡ suc (n - (length places + 1)) = omega arith in
     record {
       few = omega (arith, one);
       are = append_assoc places (place at ∷ []) _
           ∙ ap (λ m. places ++ place at ∷ map place (take (n - m) (free_from p (at + 1)))) one
-          ∙ ap (λ xs. places ++ map place xs) (sym (ap (λ m. take m (free_from p at)) left ∙ ap (λ xs. take (suc (n - (length places + 1))) xs) (first p at true inside free)))
+          ∙ ap (λ xs. places ++ map place xs) (sym (ap (λ m. take m (free_from p from)) left ∙ ap (λ xs. take (suc (n - (length places + 1))) xs) next))
           ∙ l.are;
     }
+  where
+    there : from + (at - from) ≡ at
+    there = omega (arith, found.onward)
+
+    next : free_from p from ≡ at ∷ free_from p (at + 1)
+    next = used_skipped p (at - from) from (omega (arith, inside, found.onward)) (λ k onward before. found.least k onward (omega (arith, before, found.onward)))
+        ∙ ap (free_from p) there ∙ first p at true inside found.holds
 
 -- all are listed where there are enough, or no place is left
 pub all_listed : (p : PlacesInUse) (n at : ℕ) (places : List Place) → n ≤ length places → AreListed p n at places → places ≡ map place (take n (free_from p 2))
@@ -62,11 +61,23 @@ all_listed p n at places enough l =
     let none : n - length places ≡ 0 = omega arith in
     sym (append-nil places) ∙ ap (λ m. places ++ map place (take m (free_from p at))) (sym none) ∙ l.are
 
-pub none_left : (p : PlacesInUse) (n at : ℕ) (places : List Place) → length p.committed ≤ at → AreListed p n at places → places ≡ map place (take n (free_from p 2))
-none_left p n at places past l =
-    let none : length p.committed - at ≡ 0 = omega arith in
+-- no place from there on is free
+none_from : (p : PlacesInUse) (from : ℕ) → ((at : ℕ) → from ≤ at → at < length p.committed → is_free_place p at ≡ false) → free_from p from ≡ []
+none_from p from none = elim (cases_lt from (length p.committed)) [
+  | inl l ↦
+      let all : length p.committed - (from + (length p.committed - from)) ≡ 0 = omega arith in
+      used_skipped p (length p.committed - from) from (omega arith) (λ k onward before. none k onward (omega arith))
+      ∙ ap (λ m. filter (is_free_place p) (range_with_len (from + (length p.committed - from)) m)) all
+  | inr past ↦
+      let all : length p.committed - from ≡ 0 = omega arith in
+      ap (λ m. filter (is_free_place p) (range_with_len from m)) all
+]
+
+pub none_left : (p : PlacesInUse) (n from : ℕ) (places : List Place) → ((at : ℕ) → from ≤ at → at < length p.committed → is_free_place p at ≡ false) → AreListed p n from places
+    → places ≡ map place (take n (free_from p 2))
+none_left p n from places none l =
     sym (append-nil places) ∙ ap (λ xs. places ++ map place xs) (sym (take_none (n - length places)))
-    ∙ ap (λ m. places ++ map place (take (n - length places) (filter (is_free_place p) (range_with_len at m)))) (sym none) ∙ l.are
+    ∙ ap (λ xs. places ++ map place (take (n - length places) xs)) (sym (none_from p from none)) ∙ l.are
   where
     take_none : (m : ℕ) → take {A = ℕ} m [] ≡ []
     take_none zero = refl

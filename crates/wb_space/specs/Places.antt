@@ -1,5 +1,5 @@
 -- Which metadata places the images use.
-use Rattle.std.specs.Prelude.{◌≡◌, ◌≤◌, ◌<◌, ◌%◌, ◌+◌, ◌*◌, ◌-◌, ℕ, Option, Some, None, List, [], ◌∷◌, Bool, true, false, not, ◌&&◌, filter, length, get_or, slice_set, replicate}
+use Rattle.std.specs.Prelude.{◌≡◌, ◌+◌, ◌*◌, ◌-◌, ℕ, Option, Some, None, List, [], ◌∷◌, Bool, true, false, not, ◌&&◌, filter, length, get_or, slice_set, replicate}
 use Rattle.std.specs.List.{range_with_len}
 use Rattle.wb_types.specs.Limits.{node_count}
 use Rattle.wb_types.specs.declared.number.Place.{Place}
@@ -47,12 +47,6 @@ with_running places running = record places { in_use = record places.in_use { ru
 -- no image uses it
 abbrev pub is_free_place : PlacesInUse → ℕ → Bool
 is_free_place places at = not (get_or places.committed at false) && not (get_or places.running at false)
-
--- the 64 places of one word of the sets, from this one on, of which none is free
-pub record AreUsedFrom (places : PlacesInUse) (at : ℕ) : Type 0 where
-  pub begins : at % 64 ≡ 0
-  pub inside : at + 64 ≤ length places.committed
-  pub used : (k : ℕ) → at ≤ k → k < at + 64 → is_free_place places k ≡ false
 
 -- the free places, rising: 0 and 1 are the root slots
 abbrev pub free_places : PlacesInUse → List ℕ

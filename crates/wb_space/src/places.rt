@@ -1,10 +1,10 @@
 //! Which metadata places the images use.
 
-ghost use Rattle.std.specs.Prelude.{◌≡◌, ◌<◌, ◌≤◌, ◌+◌, ◌*◌, ◌^◌, ℕ, List, [], ◌∷◌, length, map, take, true, false, IfOk, slice_set, get_or};
+ghost use Rattle.std.specs.Prelude.{◌≡◌, ◌<◌, ◌≤◌, ◌+◌, ◌*◌, ◌^◌, ℕ, List, [], ◌∷◌, length, map, take, true, false, not, IfOk, slice_set, get_or};
 ghost use Rattle.std.specs.List.{position};
-ghost use Rattle.std.specs.Option.{IfSome};
-ghost use Rattle.std.specs.Bool.{OnTrue, OnFalse};
-ghost use Rattle.wb_space.specs.Places.{unused, noted, noted_known, cleared, without, with_running, is_free_place, free_places, place, AreUsedFrom};
+ghost use Rattle.std.specs.Option.{IfSome, IfNone};
+ghost use Rattle.wb_bits.specs.Leasts.{IsLeastFrom};
+ghost use Rattle.wb_space.specs.Places.{unused, noted, noted_known, cleared, without, with_running, is_free_place, free_places, place};
 
 use std::alloc::{AllocError, Global};
 use std::marker::Model;
@@ -15,12 +15,14 @@ use wb_types::Place;
 /// The metadata places below a bound that the committed and the running image use.
 ///
 /// The newest image is the running one, or where none runs, the committed one again. `changed` marks where it differs from
-/// the committed one, so that a commit begins and ends in a few words' work for each of these places.
+/// the committed one, so that a commit begins and ends in a few words' work for each of these places. `free` has those that
+/// neither of both uses.
 #[derive(Drop)]
 pub struct Places {
     committed: BitSet,
     newest: BitSet,
     changed: BitSet,
+    free: BitSet,
     committing: bool,
 }
 
@@ -47,10 +49,12 @@ impl Places {
         let committed = set_of(alloc, bound, used)?;
         let newest = set_of(alloc, bound, used)?;
         let changed = BitSet::new(alloc, bound)?;
+        let free = others_of(alloc, &committed)?;
         Ok(Places {
             committed,
             newest,
             changed,
+            free,
             committing: false,
         })
     }
@@ -113,29 +117,39 @@ impl Places {
         } }
     {
         mem::swap(&mut self.committed, &mut self.newest);
-        follow(&mut self.newest, &self.committed, &mut self.changed);
+        follow(
+            &mut self.newest,
+            &mut self.free,
+            &self.committed,
+            &mut self.changed,
+        );
         self.committing = false;
     }
 
-    /// The so many least free places from 2 on, rising. A look at each place up to the last of them, but one look for 64
-    /// that are all in use.
+    /// The so many least free places from 2 on, rising: a few words' work for each.
     pub fn free(&self, alloc: Global, n: usize) -> Result<Vec<Place>, AllocError>
         ensures { IfOk result (λ v. v.items ≡ map place (take n (free_places self.now.in_use))) }
     {
-        let bound = self.count() as u32;
         let mut places = Vec::new(alloc);
-        let mut at = 2;
-        while at < bound && places.len() < n {
-            if self.are_used(at) {
-                at += 64;
-            } else {
-                if self.is_free(at) {
-                    places.push(Place(at))?;
-                }
-                at += 1;
-            }
+        let mut from = 2;
+        while places.len() < n {
+            let Some(at) = self.least_free(from) else {
+                return Ok(places);
+            };
+            places.push(Place(at as u32))?;
+            from = at + 1;
         }
         Ok(places)
+    }
+
+    /// The least free place from this one on.
+    fn least_free(&self, from: usize) -> Option<usize>
+        ensures found { IfSome result (IsLeastFrom (is_free_place self.now.in_use) from) }
+        ensures inside { IfSome result (λ at. at < length self.now.in_use.committed) }
+        ensures small { IfSome result (λ at. at < 2 ^ 32) }
+        ensures none { IfNone result ((at : ℕ) → from ≤ at → at < length self.now.in_use.committed → is_free_place self.now.in_use at ≡ false) }
+    {
+        self.free.least_from(from)
     }
 
     /// These places leave the running image, and none is left then.
@@ -189,24 +203,8 @@ impl Places {
     {
         self.newest.set(at, used);
         self.changed.insert(at);
-    }
-
-    /// Whether a whole word of places begins here, and an image uses each of them.
-    fn are_used(&self, at: u32) -> bool
-        ensures used { OnTrue result (AreUsedFrom self.now.in_use at) }
-        ensures other { OnFalse result (¬ AreUsedFrom self.now.in_use at) }
-    {
-        let at = at as usize;
-        if at % 64 != 0 || self.committed.size() < at + 64 {
-            return false;
-        }
-        self.committed.fills_with(&self.newest, at / 64)
-    }
-
-    fn is_free(&self, at: u32) -> bool
-        ensures { result ≡ is_free_place self.now.in_use at }
-    {
-        !self.committed.has(at as usize) && !self.newest.has(at as usize)
+        let free = !self.committed.contains(at) && !used;
+        self.free.set(at, free);
     }
 }
 
@@ -293,16 +291,35 @@ fn note_one(uses: &mut BitSet, place: Place)
     }
 }
 
-/// Has the one set follow the other where they may differ, and no mark is left: a few words' work for each.
-fn follow(follower: &mut BitSet, followed: &BitSet, changed: &mut BitSet)
+/// The set of the places that are not in this one.
+fn others_of(alloc: Global, uses: &BitSet) -> Result<BitSet, AllocError>
+    requires { length uses.now < 2 ^ 32 }
+    ensures { IfOk result (λ others. others ≡ map not uses.now) }
+{
+    let count = uses.size();
+    let mut others = BitSet::new(alloc, count)?;
+    for at in 0..count {
+        others.set(at, !uses.contains(at));
+    }
+    Ok(others)
+}
+
+/// Has one set follow another, and one have what that has not, where they may differ, and no mark is left: a few words' work
+/// for each.
+fn follow(follower: &mut BitSet, others: &mut BitSet, followed: &BitSet, changed: &mut BitSet)
     requires even { length follower.old ≡ length followed.now }
+    requires span { length others.old ≡ length followed.now }
     requires marks { length changed.old ≡ length followed.now }
     requires elsewhere { (k : ℕ) → get_or changed.old k false ≡ false → get_or follower.old k false ≡ get_or followed.now k false }
+    requires opposite { (k : ℕ) → get_or changed.old k false ≡ false → get_or others.old k false ≡ get_or (map not followed.now) k false }
     ensures follower { follower.new ≡ followed.now }
+    ensures others { others.new ≡ map not followed.now }
     ensures changed { changed.new ≡ unused (length followed.now) }
 {
     while let Some(at) = changed.least() {
         changed.remove(at);
-        follower.set(at, followed.contains(at));
+        let used = followed.contains(at);
+        follower.set(at, used);
+        others.set(at, !used);
     }
 }

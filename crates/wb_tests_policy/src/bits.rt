@@ -39,6 +39,17 @@ fn empties(members: &mut BitSet, rising: &[usize]) -> bool {
     members.least() == None
 }
 
+/// Whether the least member from a number on is found, where the members are 0, half the bound and the last number.
+fn finds_onward(members: &BitSet, bound: usize) -> bool
+    requires { 0 < bound }
+{
+    members.least_from(0) == Some(0)
+        && members.least_from(1) == Some(bound / 2)
+        && members.least_from(bound / 2) == Some(bound / 2)
+        && members.least_from(bound / 2 + 1) == Some(bound - 1)
+        && members.least_from(bound) == None
+}
+
 /// Whether a set below a bound serves from its greatest number to its least.
 fn serves(alloc: Global, bound: u32) -> bool
     requires { 0 < bound }
@@ -49,8 +60,9 @@ fn serves(alloc: Global, bound: u32) -> bool
     };
     let size = members.size();
     let filled = fills(&mut members, &[bound - 1, bound / 2, 0]);
+    let found = finds_onward(&members, bound);
     let emptied = empties(&mut members, &[0, bound / 2, bound - 1]);
-    size == bound && filled && emptied && !members.has(bound)
+    size == bound && filled && found && emptied && !members.has(bound)
 }
 
 #[test]

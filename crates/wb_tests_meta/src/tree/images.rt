@@ -105,3 +105,17 @@ fn an_image_writes_the_nodes_that_changed(rt: HostRuntime) -> Result<(), Fail> {
     }
     Ok(())
 }
+
+#[test]
+fn the_places_above_a_block_are_told(rt: HostRuntime) -> Result<(), Fail> {
+    let geometry = Geometry::new(64, 40, 40, 8)?;
+    let mut tree = Tree::new(rt.alloc(), 40);
+    change(&mut tree, 33, Some(0))?;
+    assert!(rt; tree.places_above(CBlock(33)) == [None, None, None, None]);
+    plan_at(rt.alloc(), &mut tree, &geometry, 1, 2)?;
+    let leaf = Some(Place(2));
+    let top = Some(Place(3));
+    assert!(rt; tree.places_above(CBlock(33)) == [leaf, top, None, None]);
+    assert!(rt; tree.places_above(CBlock(0)) == [None, top, None, None]);
+    Ok(())
+}

@@ -3,8 +3,8 @@
 use super::{begin, end, space_of};
 use std::alloc::Global;
 use std::test::Fail;
-use wb_space::Space;
-use wb_types::{Place, Refusal};
+use wb_space::{Space, left_of, place_count};
+use wb_types::{Geometry, Place, Refusal};
 
 /// Whether the so many least free places are these.
 fn finds(alloc: Global, space: &Space, n: usize, want: &[Place]) -> bool {
@@ -58,6 +58,29 @@ fn places_are_free_where_no_image_uses_them(rt: HostRuntime) -> Result<(), Fail>
         assert!(rt; end(&mut space));
         assert!(rt; finds(rt.alloc(), &space, 9, after));
     }
+    Ok(())
+}
+
+// The image that begins is the committed one without place 6, which left it, and with place 2.
+#[test]
+fn a_commit_is_told_what_changed(rt: HostRuntime) -> Result<(), Fail> {
+    let geometry = Geometry::new(64, 33, 1_048_576, 4_294_967_295)?;
+    let used = [Place(3), Place(6)];
+    let mapped = vec![in rt.alloc(); false; 33]?;
+    let mut space = Space::new(rt.alloc(), &geometry, mapped.as_slice(), &used)?;
+    let mut left = left_of(rt.alloc(), place_count(&geometry), &used, &[Place(3)])?;
+    space.begin_changed(&mut left, &[(Place(2), true)]);
+    assert!(rt; left.least() == None);
+    assert!(rt; finds(rt.alloc(), &space, 9, &[Place(4), Place(5), Place(7)]));
+    assert!(rt; end(&mut space));
+    assert!(rt;
+        finds(
+            rt.alloc(),
+            &space,
+            9,
+            &[Place(4), Place(5), Place(6), Place(7)]
+        )
+    );
     Ok(())
 }
 
