@@ -14,11 +14,11 @@ use Rattle.wb_disk.specs.Crash.{Choice, Applies, crashed}
 use Rattle.wb_disk.specs.Failing.{MayFail, lands, synced_where}
 use Rattle.wb_meta.specs.declared.read_steps.ReadSteps.{ReadSteps}
 use Rattle.wb_meta.specs.declared.read_steps.ReadSteps.TheVariants.{Begun}
-use Rattle.wb_tasks.specs.Plan.{Plan, want, after, table}
+use Rattle.wb_tasks.specs.Plan.{Plan, want, after, table, device_of}
 use Rattle.wb_tasks.specs.Tables.{Opening}
 use Rattle.wb_tasks.specs.declared.step.Answer.TheVariants.{Refused as Refuses}
 use Rattle.wb_tasks.specs.declared.step.DeviceStep.{DeviceStep}
-use Rattle.wb_tasks.specs.declared.step.DeviceStep.TheVariants.{Sync}
+use Rattle.wb_tasks.specs.declared.step.DeviceStep.TheVariants.{Sync, ReadMetadata}
 use Rattle.wb_tasks.specs.declared.step.Want.{Want}
 use Rattle.wb_tasks.specs.declared.step.Want.TheVariants.{Device, End}
 use Rattle.wb_tasks.specs.declared.step.Got.{Got}
@@ -35,7 +35,7 @@ use Rattle.wb_runs.specs.States.{Shape, Actor, Gone, Opens, OfTarget, resting, w
 use Rattle.wb_runs.specs.Happenings.{Chosen, Plain, Begins, OfSome, DoesNotApply, MayFailAt, MayStop}
 use Rattle.wb_runs.specs.Effects.{after_what, all_crashed, all_resting, job_of, stepped, with_actor, device_done, device_failed, went}
 use Rattle.wb_machine.specs.declared.opener.Opener.{Opener}
-use Rattle.wb_machine.specs.Life.{Now, Happens, IsThere, is_refusal, sync_of, actors_of, contents_of, is_opening, opening_actor, opens, phase_of, reading_synced, reading_failed, state_of}
+use Rattle.wb_machine.specs.Life.{Now, Happens, IsThere, failed_by, failing_of, is_refusal, sync_of, actors_of, contents_of, is_opening, opening_actor, opens, phase_of, reading_synced, reading_failed, state_of}
 
 -- ---- lists of one actor that opens, beside others that rest
 
@@ -204,23 +204,29 @@ module _ (shape : Shape) (n : ℕ) (devices devices' : Devices Memory) (o new : 
     leads = next_state _ _ _ d r t ∙ sym (leads (Device (Sync Origin)) Done Plain (λ job step. device_done {P = Unit {0}} {A = Global} job step Plain));
   })
 
-  pub fails : (choice : Choice) (device : Dev) (what : What) → want o.task ≡ Device (Sync device) → what ≡ Stepped (Device (Sync device)) Fault → MayFail device choice (length (device_in device (contents_of devices))) → new.task ≡ after o.task Fault → new.reading ≡ reading_failed device o.reading →
-      contents_of devices' ≡ with_device device (contents_of devices) (synced_where (lands device choice) (device_in device (contents_of devices))) → Happens shape w (FaultStep o.actor choice) what [] (state_of n devices' (Some new))
-  fails choice Metadata what next e m t r d = rw e (record {
+  pub fails : (choice : Choice) (step : DeviceStep) (what : What) → failing_of (want o.task) ≡ Some step → want o.task ≡ Device step → what ≡ Stepped (Device step) Fault → MayFail (device_of step) choice (length (device_in (device_of step) (contents_of devices))) → new.task ≡ after o.task Fault → new.reading ≡ reading_failed (device_of step) o.reading →
+      contents_of devices' ≡ failed_by step choice (contents_of devices) → Happens shape w (FaultStep o.actor choice) what [] (state_of n devices' (Some new))
+  fails choice (ReadMetadata left) what kind next e m t r d = rw e (record {
+    chosen = Plain;
+    may = (refl, refl, busy n o _ h (sym next, m, (refl, refl)));
+    leads = next_state _ _ _ d r t ∙ sym (leads (Device (ReadMetadata left)) Fault Plain (λ job step. device_failed {P = Unit {0}} {A = Global} (lands Metadata choice) job step Plain));
+  })
+  fails choice (Sync Metadata) what kind next e m t r d = rw e (record {
     chosen = Plain;
     may = (refl, refl, busy n o _ h (sym next, m, (refl, tt)));
     leads = next_state _ _ _ d r t ∙ sym (leads (Device (Sync Metadata)) Fault Plain (λ job step. device_failed {P = Unit {0}} {A = Global} (lands Metadata choice) job step Plain));
   })
-  fails choice Cache what next e m t r d = rw e (record {
+  fails choice (Sync Cache) what kind next e m t r d = rw e (record {
     chosen = Plain;
     may = (refl, refl, busy n o _ h (sym next, m, refl));
     leads = next_state _ _ _ d r t ∙ sym (leads (Device (Sync Cache)) Fault Plain (λ job step. device_failed {P = Unit {0}} {A = Global} (lands Cache choice) job step Plain));
   })
-  fails choice Origin what next e m t r d = rw e (record {
+  fails choice (Sync Origin) what kind next e m t r d = rw e (record {
     chosen = Plain;
     may = (refl, refl, busy n o _ h (sym next, m, refl));
     leads = next_state _ _ _ d r t ∙ sym (leads (Device (Sync Origin)) Fault Plain (λ job step. device_failed {P = Unit {0}} {A = Global} (lands Origin choice) job step Plain));
   })
+  fails choice step what kind next e m t r d = absurd (cc)
 
 -- its answer, which is a refusal
 pub refused : (shape : Shape) (n : ℕ) (devices : Devices Memory) (o : Opener) → o.actor < n → (refusal : Refusal) (what : What) → want o.task ≡ End (Refuses refusal) → what ≡ Stepped (End (Refuses refusal)) Done →
@@ -256,6 +262,12 @@ crashes device choice d0 d1 d2 b same applies stops crashed_so =
 pub is_sync : (next : Want) (device : Dev) → sync_of next ≡ Some device → next ≡ Device (Sync device)
 is_sync (Device (Sync other)) device e = let same : other ≡ device = cc in ap (λ d. Device (Sync d)) same
 is_sync next device e = absurd (cc)
+
+-- it may fail, and is a step on a device
+pub is_failing : (next : Want) (step : DeviceStep) → failing_of next ≡ Some step → next ≡ Device step
+is_failing (Device (Sync device)) step e = let same : Sync device ≡ step = cc in ap (λ s. Device s) same
+is_failing (Device (ReadMetadata left)) step e = let same : ReadMetadata left ≡ step = cc in ap (λ s. Device s) same
+is_failing next step e = absurd (cc)
 
 pub refuses : (next : Want) → is_refusal next ≡ true → (refusal : Refusal) × (next ≡ End (Refuses refusal))
 refuses (End (Refuses refusal)) e = (refusal, refl)

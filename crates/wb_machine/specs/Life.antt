@@ -7,15 +7,19 @@ use Rattle.wb_types.specs.declared.mode.Dev.TheVariants.{Metadata}
 use Rattle.wb_types.specs.declared.mode.Mode.TheVariants.{Writeback}
 use Rattle.wb_disk.specs.Device.{Content as Bytes, History}
 use Rattle.wb_disk.specs.Memory.{Memory}
+use Rattle.wb_disk.specs.Crash.{Choice}
+use Rattle.wb_disk.specs.Failing.{lands, synced_where}
 use Rattle.wb_words.specs.Cards.{blank_card}
 use Rattle.wb_meta.specs.Formats.{IsFormatted}
 use Rattle.wb_meta.specs.declared.read_steps.ReadSteps.{ReadSteps}
 use Rattle.wb_meta.specs.declared.read_steps.ReadSteps.TheVariants.{Begun}
 use Rattle.wb_desk.specs.Opening.{threshold_of}
 use Rattle.wb_devices.specs.declared.devices.Devices.{Devices}
+use Rattle.wb_devices.specs.Moving.{device_in}
 use Rattle.wb_tasks.specs.Plan.{Plan, want}
 use Rattle.wb_tasks.specs.declared.step.Answer.TheVariants.{Refused as Refuses}
-use Rattle.wb_tasks.specs.declared.step.DeviceStep.TheVariants.{Sync}
+use Rattle.wb_tasks.specs.declared.step.DeviceStep.{DeviceStep}
+use Rattle.wb_tasks.specs.declared.step.DeviceStep.TheVariants.{Sync, ReadMetadata}
 use Rattle.wb_tasks.specs.declared.step.Want.{Want}
 use Rattle.wb_tasks.specs.declared.step.Want.TheVariants.{Device, End}
 use Rattle.wb_runs.specs.declared.job.Job.{Job}
@@ -24,7 +28,7 @@ use Rattle.wb_runs.specs.declared.event.Event.{Event}
 use Rattle.wb_runs.specs.declared.event.Event.TheVariants.{Step, FaultStep}
 use Rattle.wb_runs.specs.declared.event.What.{What}
 use Rattle.wb_runs.specs.declared.event.Record.{Record}
-use Rattle.wb_runs.specs.States.{Shape, State, Actor, Phase, Gone, Opens, resting, start}
+use Rattle.wb_runs.specs.States.{Shape, State, Actor, Phase, Gone, Opens, resting, start, with_device}
 use Rattle.wb_runs.specs.Happenings.{Chosen, Happening, AtWork, MayBe, May}
 use Rattle.wb_runs.specs.Effects.{after_what, after_happening, after_all, IsRun, records_of}
 use Rattle.wb_machine.specs.declared.opener.Opener.{Opener}
@@ -90,6 +94,11 @@ abbrev pub reading_failed : Dev → Option (ReadSteps Global) → Option (ReadSt
 reading_failed Metadata reading = None
 reading_failed device reading = reading
 
+-- What a step that fails leaves of the devices: a sync has landed where the choice says so, one that reads changes nothing.
+abbrev pub failed_by : DeviceStep → Choice → Devices (List History) → Devices (List History)
+failed_by (Sync device) choice devices = with_device device devices (synced_where (lands device choice) (device_in device devices))
+failed_by step choice devices = devices
+
 -- ---- what an event does
 
 -- what an event does, and reads, from one state to the next
@@ -122,6 +131,12 @@ abbrev pub sync_of : Want → Option Dev
 sync_of (Device (Sync device)) = Some device
 sync_of next = None
 
+-- the step, if it is a sync or reads metadata: the machine can have it fail
+abbrev pub failing_of : Want → Option DeviceStep
+failing_of (Device (Sync device)) = Some (Sync device)
+failing_of (Device (ReadMetadata left)) = Some (ReadMetadata left)
+failing_of next = None
+
 abbrev pub is_refusal : Want → Bool
 is_refusal (End (Refuses refusal)) = true
 is_refusal next = false
@@ -130,7 +145,11 @@ is_refusal next = false
 abbrev pub IsBeyond : Want → Type 0
 IsBeyond next = (sync_of next ≡ None) × (is_refusal next ≡ false)
 
+-- It is to fail, and is besides not one that reads metadata.
+abbrev pub IsFaultBeyond : Want → Type 0
+IsFaultBeyond next = (failing_of next ≡ None) × (is_refusal next ≡ false)
+
 abbrev pub IsGap : Now → Event → Type 0
 IsGap w (Step a) = AtWork w a (λ job s. IsBeyond (want s))
-IsGap w (FaultStep a choice) = AtWork w a (λ job s. IsBeyond (want s))
+IsGap w (FaultStep a choice) = AtWork w a (λ job s. IsFaultBeyond (want s))
 IsGap w event = ⊥

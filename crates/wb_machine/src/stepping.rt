@@ -5,10 +5,10 @@ ghost use Rattle.wb_runs.specs.declared.event.Event.TheVariants.{Step, FaultStep
 ghost use Rattle.wb_runs.specs.States.{Shape};
 ghost use Rattle.wb_machine.specs.declared.halt.Halt.TheVariants.{Beyond};
 ghost use Rattle.wb_machine.specs.declared.machine.TheConstants.{ACTORS};
-ghost use Rattle.wb_machine.specs.Life.{Happens, IsGap, IsThere, is_refusal, state_of, sync_of};
+ghost use Rattle.wb_machine.specs.Life.{Happens, IsGap, IsThere, failing_of, is_refusal, state_of, sync_of};
 
 use crate::halt::Halt;
-use crate::opener::{Opener, fail_sync};
+use crate::opener::{Opener, fail_step};
 use std::alloc::Global;
 use wb_devices::Devices;
 use wb_disk::{CrashChoice, MemDisk};
@@ -67,11 +67,11 @@ pub(crate) fn falter(
         return Ok(What::Skipped);
     }
     let want = at_work.task.want();
-    if let Some(device) = sync_of(&want) {
-        if !fail_sync(devices, device, choice) {
+    if let Some(step) = failing_of(&want) {
+        if !fail_step(devices, step, choice) {
             return Ok(What::Skipped);
         }
-        at_work.fail(device);
+        at_work.fail(step);
         return Ok(What::Stepped(want, Got::Fault));
     }
     if !is_refusal(&want) {
@@ -86,6 +86,17 @@ fn sync_of(want: &Want) -> Option<Dev>
 {
     match want {
         Want::Device(DeviceStep::Sync(device)) => Some(*device),
+        _ => None,
+    }
+}
+
+/// The step, if it is a sync or reads metadata.
+fn failing_of(want: &Want) -> Option<DeviceStep>
+    ensures { result ≡ failing_of want.now }
+{
+    match want {
+        Want::Device(DeviceStep::Sync(device)) => Some(DeviceStep::Sync(*device)),
+        Want::Device(DeviceStep::ReadMetadata(left)) => Some(DeviceStep::ReadMetadata(*left)),
         _ => None,
     }
 }
