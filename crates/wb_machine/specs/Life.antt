@@ -16,6 +16,7 @@ use Rattle.wb_meta.specs.declared.read_steps.ReadSteps.TheVariants.{Begun}
 use Rattle.wb_desk.specs.Opening.{threshold_of}
 use Rattle.wb_devices.specs.declared.devices.Devices.{Devices}
 use Rattle.wb_devices.specs.Moving.{device_in}
+use Rattle.wb_devices.specs.declared.running.RunningCommit.{RunningCommit}
 use Rattle.wb_tasks.specs.Plan.{Plan, want}
 use Rattle.wb_tasks.specs.declared.step.Answer.TheVariants.{Refused as Refuses}
 use Rattle.wb_tasks.specs.declared.step.DeviceStep.{DeviceStep}
@@ -66,10 +67,15 @@ actors_of actors (Some opener) = slice_set (replicate actors resting) opener.act
 
 abbrev pub phase_of : Option Opener → Phase (Unit {0}) Global
 phase_of None = Gone
-phase_of (Some opener) = Opens Writeback opener.reading
+phase_of (Some opener) = Opens Writeback opener.opening.reading
+
+-- the commit of the opening's root, once all was read
+abbrev pub commit_of : Option Opener → Option RunningCommit
+commit_of None = None
+commit_of (Some opener) = opener.opening.commit
 
 abbrev pub state_of : ℕ → Devices Memory → Option Opener → Now
-state_of actors devices opener = record { devices = contents_of devices; commit = None; phase = phase_of opener; actors = actors_of actors opener }
+state_of actors devices opener = record { devices = contents_of devices; commit = commit_of opener; phase = phase_of opener; actors = actors_of actors opener }
 
 -- who opens is one of so many
 abbrev pub IsThere : ℕ → Option Opener → Type 0
@@ -126,30 +132,21 @@ pub record IsReached (life : Life) : Type 0 where
 
 -- ---- what it cannot do yet
 
--- the device that a step syncs, if it is a sync
-abbrev pub sync_of : Want → Option Dev
-sync_of (Device (Sync device)) = Some device
-sync_of next = None
-
--- the step, if it is a sync or reads metadata: the machine can have it fail
-abbrev pub failing_of : Want → Option DeviceStep
-failing_of (Device (Sync device)) = Some (Sync device)
-failing_of (Device (ReadMetadata left)) = Some (ReadMetadata left)
-failing_of next = None
+-- the step, if it is a sync or reads metadata: the machine does it, or has it fail
+abbrev pub device_step_of : Want → Option DeviceStep
+device_step_of (Device (Sync device)) = Some (Sync device)
+device_step_of (Device (ReadMetadata left)) = Some (ReadMetadata left)
+device_step_of next = None
 
 abbrev pub is_refusal : Want → Bool
 is_refusal (End (Refuses refusal)) = true
 is_refusal next = false
 
--- The next step of the actor that is named is neither a sync nor a refusal.
+-- The next step of the actor that is named is neither a sync, nor one that reads metadata, nor a refusal.
 abbrev pub IsBeyond : Want → Type 0
-IsBeyond next = (sync_of next ≡ None) × (is_refusal next ≡ false)
-
--- It is to fail, and is besides not one that reads metadata.
-abbrev pub IsFaultBeyond : Want → Type 0
-IsFaultBeyond next = (failing_of next ≡ None) × (is_refusal next ≡ false)
+IsBeyond next = (device_step_of next ≡ None) × (is_refusal next ≡ false)
 
 abbrev pub IsGap : Now → Event → Type 0
 IsGap w (Step a) = AtWork w a (λ job s. IsBeyond (want s))
-IsGap w (FaultStep a choice) = AtWork w a (λ job s. IsFaultBeyond (want s))
+IsGap w (FaultStep a choice) = AtWork w a (λ job s. IsBeyond (want s))
 IsGap w event = ⊥
