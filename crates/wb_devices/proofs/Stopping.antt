@@ -11,10 +11,12 @@ use Rattle.wb_tasks.specs.declared.step.Got.{Got}
 use Rattle.wb_types.specs.declared.geometry.Geometry.{Geometry}
 use Rattle.wb_disk.specs.Device.{History}
 use Rattle.wb_format.specs.declared.root.Root.{Root}
-use Rattle.wb_meta.specs.Reads.{ReadingGoesOn, ReadOneMore, known_root}
+use Rattle.wb_meta.specs.Reads.{AreStepsOn, IsDone, ReadingGoesOn, ReadOneMore, known_root}
+use Rattle.wb_meta.specs.declared.read_steps.ReadSteps.TheVariants.{Begun, FirstSlotRead, RootFound, Done as AllRead}
+use Rattle.wb_tasks.specs.declared.step.Got.TheVariants.{More}
 use Rattle.wb_meta.specs.declared.read_steps.ReadSteps.{ReadSteps}
 use Rattle.wb_devices.specs.declared.running.RunningCommit.{RunningCommit}
-use Rattle.wb_devices.specs.Opened.{DidOpen, HasCome, HasGeneration, IsOf, got_of_refusal}
+use Rattle.wb_devices.specs.Opened.{DidOpen, DidTell, HasCome, HasGeneration, IsOf, got_of_refusal}
 
 pub fits_reading : (refusal : Refusal) (left : ℕ) → IsOfReading refusal → Fits (Device (ReadMetadata left)) (got_of_refusal refusal)
 fits_reading (Io Metadata) left h = tt
@@ -37,6 +39,16 @@ pub of_root : {A : Type 0} (geometry : Geometry) (now : ReadSteps A) (root : Roo
 of_root geometry now root known fits other also =
     let same : root ≡ other = cc in
     subst (λ (r : Root). r.geometry ≡ geometry) same fits
+
+-- of a reading that is done the root is known
+pub not_done : {A : Type 0} (now : ReadSteps A) → None ≡ known_root now → IsDone now → ⊥
+not_done (Begun alloc global) none done = done
+not_done (FirstSlotRead alloc global first) none done = done
+not_done (RootFound global root loader) none done = done
+not_done (AllRead state) none done = cc
+
+pub did_tell : {A : Type 0} (geometry : Geometry) (sectors left : ℕ) (was now : ReadSteps A) (device : List History) (commit commit' : Option RunningCommit) (got : Got) (after : Option (ReadSteps A)) → ReadingGoesOn was device now → AreStepsOn sectors now → HasCome geometry left now commit got after commit' → ReadOneMore was now → (HasGeneration commit → HasGeneration commit') → (got ≡ More → ¬ IsDone now) → DidTell geometry sectors left was device commit got after commit'
+did_tell geometry sectors left was now device commit commit' got after goes on come one spells more = inl (now, goes, on, come, one, spells, more)
 
 pub did_open : {A : Type 0} (tells : Type 0) (geometry : Geometry) (left : ℕ) (before : Option (ReadSteps A)) (was now : ReadSteps A) (device : List History) (faults faults' : ℕ) (commit commit' : Option RunningCommit) (got : Got) (after : Option (ReadSteps A)) → before ≡ Some was → (tells → ReadingGoesOn was device now) → (tells → faults' ≡ faults) → HasCome geometry left now commit got after commit' → ReadOneMore was now → (HasGeneration commit → HasGeneration commit') → DidOpen tells geometry left before device faults commit got after faults' commit'
 did_open {A} tells geometry left before was now device faults faults' commit commit' got after is on same come one spells =

@@ -7,7 +7,7 @@ use Rattle.wb_disk.specs.Device.{History}
 use Rattle.wb_format.specs.declared.root.Root.{Root}
 use Rattle.wb_meta.specs.Openings.{IsOpening}
 use Rattle.wb_meta.specs.States.{CountsFault, IsOfReading}
-use Rattle.wb_meta.specs.Reads.{ReadingGoesOn, ReadOneMore, StopsBy, IsDone, known_root}
+use Rattle.wb_meta.specs.Reads.{AreStepsOn, ReadingGoesOn, ReadOneMore, StopsBy, IsDone, known_root}
 use Rattle.wb_meta.specs.declared.commit_steps.CommitSteps.TheVariants.{NodesSynced}
 use Rattle.wb_meta.specs.declared.read_steps.ReadSteps.{ReadSteps}
 use Rattle.wb_tasks.specs.declared.step.Got.{Got}
@@ -57,6 +57,14 @@ DidRead {A} tells geometry left was device faults commit got after faults' commi
     ((now : ReadSteps A) × (tells → ReadingGoesOn was device now) × (tells → faults' ≡ faults) × HasCome geometry left now commit got after commit'
     × ReadOneMore was now × (HasGeneration commit → HasGeneration commit'))
     ⊎ ((refusal : Refusal) × (tells → StopsBy was device refusal) × (tells → CountsFault refusal faults faults') × (got ≡ got_of_refusal refusal) × (after ≡ None) × (commit' ≡ commit) × IsOfReading refusal)
+
+-- A sector's content was told, on a device of so many sectors: the reading goes on from what it was, by what stands there, or
+-- stops for what wb_meta says. No device has failed. Where it goes on with more to read, not all was read.
+abbrev pub DidTell : {A : Type 0} → Geometry → ℕ → ℕ → ReadSteps A → List History → Option RunningCommit → Got → Option (ReadSteps A) → Option RunningCommit → Type 0
+DidTell {A} geometry sectors left was device commit got after commit' =
+    ((now : ReadSteps A) × ReadingGoesOn was device now × AreStepsOn sectors now × HasCome geometry left now commit got after commit'
+    × ReadOneMore was now × (HasGeneration commit → HasGeneration commit') × (got ≡ More → ¬ IsDone now))
+    ⊎ ((refusal : Refusal) × StopsBy was device refusal × IsOfReading refusal × ((faults : ℕ) → CountsFault refusal faults faults) × (got ≡ got_of_refusal refusal) × (after ≡ None) × (commit' ≡ commit))
 
 -- What a step of an opening did, from the reading that was there: with none, the opening was over, and nothing was read.
 abbrev pub DidOpen : {A : Type 0} → Type 0 → Geometry → ℕ → Option (ReadSteps A) → List History → ℕ → Option RunningCommit → Got → Option (ReadSteps A) → ℕ → Option RunningCommit → Type 0

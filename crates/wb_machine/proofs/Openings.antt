@@ -11,31 +11,32 @@ use Rattle.wb_types.specs.declared.refusal.Refusal.{Refusal}
 use Rattle.wb_disk.specs.Device.{History, synced}
 use Rattle.wb_disk.specs.Memory.{Memory}
 use Rattle.wb_disk.specs.Crash.{Choice, Applies, crashed}
-use Rattle.wb_disk.specs.Failing.{MayFail, lands, synced_where}
+use Rattle.wb_disk.specs.Failing.{MayFail, lands}
 use Rattle.wb_meta.specs.declared.read_steps.ReadSteps.{ReadSteps}
 use Rattle.wb_meta.specs.declared.read_steps.ReadSteps.TheVariants.{Begun}
-use Rattle.wb_tasks.specs.Plan.{Plan, want, after, table}
+use Rattle.wb_tasks.specs.Plan.{Plan, want, after, table, device_of}
 use Rattle.wb_tasks.specs.Tables.{Opening}
 use Rattle.wb_tasks.specs.declared.step.Answer.TheVariants.{Refused as Refuses}
 use Rattle.wb_tasks.specs.declared.step.DeviceStep.{DeviceStep}
-use Rattle.wb_tasks.specs.declared.step.DeviceStep.TheVariants.{Sync}
+use Rattle.wb_tasks.specs.declared.step.DeviceStep.TheVariants.{Sync, ReadMetadata}
 use Rattle.wb_tasks.specs.declared.step.Want.{Want}
 use Rattle.wb_tasks.specs.declared.step.Want.TheVariants.{Device, End}
 use Rattle.wb_tasks.specs.declared.step.Got.{Got}
 use Rattle.wb_tasks.specs.declared.step.Got.TheVariants.{Done, Fault}
 use Rattle.wb_devices.specs.declared.devices.Devices.{Devices}
 use Rattle.wb_devices.specs.Moving.{device_in}
+use Rattle.wb_devices.specs.declared.running.RunningCommit.{RunningCommit}
 use Rattle.wb_runs.specs.declared.job.Job.{Job}
 use Rattle.wb_runs.specs.declared.job.Job.TheVariants.{Open}
 use Rattle.wb_runs.specs.declared.event.Event.{Event}
 use Rattle.wb_runs.specs.declared.event.Event.TheVariants.{Start, Step, FaultStep, Stop}
 use Rattle.wb_runs.specs.declared.event.What.{What}
 use Rattle.wb_runs.specs.declared.event.What.TheVariants.{Skipped, Started, Stepped, Stopped}
-use Rattle.wb_runs.specs.States.{Shape, Actor, Gone, Opens, OfTarget, resting, with_device}
-use Rattle.wb_runs.specs.Happenings.{Chosen, Plain, Begins, OfSome, DoesNotApply, MayFailAt, MayStop}
+use Rattle.wb_runs.specs.States.{Shape, Actor, Gone, Opens, OfTarget, OfReading, resting, with_device}
+use Rattle.wb_runs.specs.Happenings.{Chosen, Plain, Begins, Reaches, OfSome, DoesNotApply, DoesRead, MayFailAt, MayStop}
 use Rattle.wb_runs.specs.Effects.{after_what, all_crashed, all_resting, job_of, stepped, with_actor, device_done, device_failed, went}
 use Rattle.wb_machine.specs.declared.opener.Opener.{Opener}
-use Rattle.wb_machine.specs.Life.{Now, Happens, IsThere, is_refusal, sync_of, actors_of, contents_of, is_opening, opening_actor, opens, phase_of, reading_synced, reading_failed, state_of}
+use Rattle.wb_machine.specs.Life.{Now, Happens, IsThere, failed_by, device_step_of, is_refusal, actors_of, contents_of, is_opening, opening_actor, opens, phase_of, reading_synced, reading_failed, state_of}
 
 -- ---- lists of one actor that opens, beside others that rest
 
@@ -137,16 +138,16 @@ no_target devices n o a (Open mode) e = inr (inr (inr (λ same. cc)))
 no_target devices n None a job e = inr (inr (λ t. t))
 no_target devices n (Some o) a job e = inr (inr (λ t. t))
 
-begun_state : (n : ℕ) (devices : Devices Memory) (o : Option Opener) (a : ℕ) (plan : Plan) (new : Opener) → new.actor ≡ a → new.task ≡ plan → new.reading ≡ None →
+begun_state : (n : ℕ) (devices : Devices Memory) (o : Option Opener) (a : ℕ) (plan : Plan) (new : Opener) → new.actor ≡ a → new.task ≡ plan → new.opening.reading ≡ None → new.opening.commit ≡ None →
     state_of n devices (Some new) ≡ record { devices = contents_of devices; commit = None; phase = Opens Writeback None; actors = slice_set (all_resting (actors_of n o)) a (opening_actor plan) }
-begun_state n devices o a plan new e f g = rw (e, f, g, all_rest n o) refl
+begun_state n devices o a plan new e f g k = rw (e, f, g, k, all_rest n o) refl
 
-pub starts : (shape : Shape) (devices : Devices Memory) (n : ℕ) (o : Option Opener) (a : ℕ) (job : Job) (what : What) (new : Opener) → is_opening job ≡ true → a < n → opens a o ≡ false → new.actor ≡ a → new.task ≡ table (Opening shape.geometry.meta_sectors) → new.reading ≡ None → what ≡ Started →
+pub starts : (shape : Shape) (devices : Devices Memory) (n : ℕ) (o : Option Opener) (a : ℕ) (job : Job) (what : What) (new : Opener) → is_opening job ≡ true → a < n → opens a o ≡ false → new.actor ≡ a → new.task ≡ table (Opening shape.geometry.meta_sectors) → new.opening.reading ≡ None → new.opening.commit ≡ None → what ≡ Started →
     Happens shape (state_of n devices o) (Start a job) what [] (state_of n devices (Some new))
-starts shape devices n o a (Open Writeback) what new j h i e f g s = rw s (record {
+starts shape devices n o a (Open Writeback) what new j h i e f g k s = rw s (record {
   chosen = Plain;
   may = (refl, applies, tt);
-  leads = begun_state n devices o a (table (Opening shape.geometry.meta_sectors)) new e f g ∙ sym given;
+  leads = begun_state n devices o a (table (Opening shape.geometry.meta_sectors)) new e f g k ∙ sym given;
 })
   where
     some : slice_get (all_resting (actors_of n o)) a ≡ Some resting
@@ -165,13 +166,13 @@ starts shape devices n o a (Open Writeback) what new j h i e f g s = rw s (recor
     applies (inl none) = let inside = within n o a h in let is = inside.1 in absurd (cc)
     applies (inr (inl t)) = idle n o a (λ doing. Unit {0}) i t
     applies (inr (inr p)) = no_standing o p
-starts shape devices n o a job what new j h i e f g s = absurd (cc)
+starts shape devices n o a job what new j h i e f g k s = absurd (cc)
 
 -- ---- steps of who opens
 
 module _ (shape : Shape) (n : ℕ) (devices devices' : Devices Memory) (o new : Opener) (h : o.actor < n) (same : new.actor ≡ o.actor) where
   abbrev w : Now
-  w = state_of n devices (Some o)
+  w = record { devices = contents_of devices; commit = None; phase = phase_of (Some o); actors = actors_of n (Some o) }
 
   -- the actors once its task is this
   acts : (plan : Plan) → new.task ≡ plan → actors_of n (Some new) ≡ slice_set (actors_of n (Some o)) o.actor (opening_actor plan)
@@ -182,45 +183,66 @@ module _ (shape : Shape) (n : ℕ) (devices devices' : Devices Memory) (o new : 
       went shape w o.actor next got chosen change ≡ stepped shape w o.actor (opening_actor o.task) next got chosen (change (Open Writeback))
   leads next got chosen change = ap (λ (x : Option Actor). with_actor w x (λ y. stepped shape w o.actor y next got chosen (change (job_of y.task)))) (there n o h)
 
-  next_state : (contents : Devices (List History)) (reading : Option (ReadSteps Global)) (plan : Plan) → contents_of devices' ≡ contents → new.reading ≡ reading → new.task ≡ plan →
-      state_of n devices' (Some new) ≡ record { devices = contents; commit = None; phase = Opens Writeback reading; actors = slice_set (actors_of n (Some o)) o.actor (opening_actor plan) }
-  next_state contents reading plan d r t = rw (d, r, acts plan t) refl
+  next_state : (contents : Devices (List History)) (reading : Option (ReadSteps Global)) (commit : Option RunningCommit) (plan : Plan) → contents_of devices' ≡ contents → new.opening.reading ≡ reading → new.opening.commit ≡ commit → new.task ≡ plan →
+      state_of n devices' (Some new) ≡ record { devices = contents; commit = commit; phase = Opens Writeback reading; actors = slice_set (actors_of n (Some o)) o.actor (opening_actor plan) }
+  next_state contents reading commit plan d r c t = rw (d, r, c, acts plan t) refl
 
-  pub syncs : (alloc : Global) (device : Dev) (what : What) → want o.task ≡ Device (Sync device) → what ≡ Stepped (Device (Sync device)) Done → new.task ≡ after o.task Done → new.reading ≡ reading_synced alloc device o.reading →
+  pub syncs : (alloc : Global) (device : Dev) (what : What) → want o.task ≡ Device (Sync device) → what ≡ Stepped (Device (Sync device)) Done → new.task ≡ after o.task Done → new.opening.reading ≡ reading_synced alloc device o.opening.reading → new.opening.commit ≡ None →
       contents_of devices' ≡ with_device device (contents_of devices) (synced (device_in device (contents_of devices))) → Happens shape w (Step o.actor) what [] (state_of n devices' (Some new))
-  syncs alloc Metadata what next e t r d = rw e (record {
+  syncs alloc Metadata what next e t r c d = rw e (record {
     chosen = Begins (Begun alloc alloc);
     may = busy n o _ h (sym next, (refl, refl, refl));
-    leads = next_state _ _ _ d r t ∙ sym (leads (Device (Sync Metadata)) Done (Begins (Begun alloc alloc)) (λ job step. device_done {P = Unit {0}} {A = Global} job step (Begins (Begun alloc alloc))));
+    leads = next_state _ _ _ _ d r c t ∙ sym (leads (Device (Sync Metadata)) Done (Begins (Begun alloc alloc)) (λ job step. device_done {P = Unit {0}} {A = Global} job step (Begins (Begun alloc alloc))));
   })
-  syncs alloc Cache what next e t r d = rw e (record {
+  syncs alloc Cache what next e t r c d = rw e (record {
     chosen = Plain;
     may = busy n o _ h (sym next, ((refl, refl), refl));
-    leads = next_state _ _ _ d r t ∙ sym (leads (Device (Sync Cache)) Done Plain (λ job step. device_done {P = Unit {0}} {A = Global} job step Plain));
+    leads = next_state _ _ _ _ d r c t ∙ sym (leads (Device (Sync Cache)) Done Plain (λ job step. device_done {P = Unit {0}} {A = Global} job step Plain));
   })
-  syncs alloc Origin what next e t r d = rw e (record {
+  syncs alloc Origin what next e t r c d = rw e (record {
     chosen = Plain;
     may = busy n o _ h (sym next, ((refl, refl), refl));
-    leads = next_state _ _ _ d r t ∙ sym (leads (Device (Sync Origin)) Done Plain (λ job step. device_done {P = Unit {0}} {A = Global} job step Plain));
+    leads = next_state _ _ _ _ d r c t ∙ sym (leads (Device (Sync Origin)) Done Plain (λ job step. device_done {P = Unit {0}} {A = Global} job step Plain));
   })
 
-  pub fails : (choice : Choice) (device : Dev) (what : What) → want o.task ≡ Device (Sync device) → what ≡ Stepped (Device (Sync device)) Fault → MayFail device choice (length (device_in device (contents_of devices))) → new.task ≡ after o.task Fault → new.reading ≡ reading_failed device o.reading →
-      contents_of devices' ≡ with_device device (contents_of devices) (synced_where (lands device choice) (device_in device (contents_of devices))) → Happens shape w (FaultStep o.actor choice) what [] (state_of n devices' (Some new))
-  fails choice Metadata what next e m t r d = rw e (record {
+  pub fails : (choice : Choice) (step : DeviceStep) (what : What) → device_step_of (want o.task) ≡ Some step → want o.task ≡ Device step → what ≡ Stepped (Device step) Fault → MayFail (device_of step) choice (length (device_in (device_of step) (contents_of devices))) → new.task ≡ after o.task Fault → new.opening.reading ≡ reading_failed (device_of step) o.opening.reading → new.opening.commit ≡ None →
+      contents_of devices' ≡ failed_by step choice (contents_of devices) → Happens shape w (FaultStep o.actor choice) what [] (state_of n devices' (Some new))
+  fails choice (ReadMetadata left) what kind next e m t r c d = rw e (record {
+    chosen = Plain;
+    may = (refl, refl, busy n o _ h (sym next, m, (refl, refl)));
+    leads = next_state _ _ _ _ d r c t ∙ sym (leads (Device (ReadMetadata left)) Fault Plain (λ job step. device_failed {P = Unit {0}} {A = Global} (lands Metadata choice) job step Plain));
+  })
+  fails choice (Sync Metadata) what kind next e m t r c d = rw e (record {
     chosen = Plain;
     may = (refl, refl, busy n o _ h (sym next, m, (refl, tt)));
-    leads = next_state _ _ _ d r t ∙ sym (leads (Device (Sync Metadata)) Fault Plain (λ job step. device_failed {P = Unit {0}} {A = Global} (lands Metadata choice) job step Plain));
+    leads = next_state _ _ _ _ d r c t ∙ sym (leads (Device (Sync Metadata)) Fault Plain (λ job step. device_failed {P = Unit {0}} {A = Global} (lands Metadata choice) job step Plain));
   })
-  fails choice Cache what next e m t r d = rw e (record {
+  fails choice (Sync Cache) what kind next e m t r c d = rw e (record {
     chosen = Plain;
     may = (refl, refl, busy n o _ h (sym next, m, refl));
-    leads = next_state _ _ _ d r t ∙ sym (leads (Device (Sync Cache)) Fault Plain (λ job step. device_failed {P = Unit {0}} {A = Global} (lands Cache choice) job step Plain));
+    leads = next_state _ _ _ _ d r c t ∙ sym (leads (Device (Sync Cache)) Fault Plain (λ job step. device_failed {P = Unit {0}} {A = Global} (lands Cache choice) job step Plain));
   })
-  fails choice Origin what next e m t r d = rw e (record {
+  fails choice (Sync Origin) what kind next e m t r c d = rw e (record {
     chosen = Plain;
     may = (refl, refl, busy n o _ h (sym next, m, refl));
-    leads = next_state _ _ _ d r t ∙ sym (leads (Device (Sync Origin)) Fault Plain (λ job step. device_failed {P = Unit {0}} {A = Global} (lands Origin choice) job step Plain));
+    leads = next_state _ _ _ _ d r c t ∙ sym (leads (Device (Sync Origin)) Fault Plain (λ job step. device_failed {P = Unit {0}} {A = Global} (lands Origin choice) job step Plain));
   })
+  fails choice step what kind next e m t r c d = absurd (cc)
+
+  pub reads : (left : ℕ) (was : ReadSteps Global) (got : Got) (what : What) → want o.task ≡ Device (ReadMetadata left) → what ≡ Stepped (Device (ReadMetadata left)) got → o.opening.reading ≡ Some was →
+      DoesRead {P = Unit {0}} shape.geometry left was devices.metadata.contents None got (Reaches new.opening.reading new.opening.commit) → new.task ≡ after o.task got → contents_of devices' ≡ contents_of devices → Happens shape w (Step o.actor) what [] (state_of n devices' (Some new))
+  reads left was got what next e present does t d = rw e (record {
+    chosen = Reaches new.opening.reading new.opening.commit;
+    may = busy n o _ h (sym next, (refl, refl, of_reading o.opening.reading present));
+    leads = next_state _ _ _ _ d refl refl t ∙ sym (leads (Device (ReadMetadata left)) got (Reaches new.opening.reading new.opening.commit) (λ job step. device_done {P = Unit {0}} {A = Global} job step (Reaches new.opening.reading new.opening.commit)));
+  })
+    where
+      of_reading : (reading : Option (ReadSteps Global)) → reading ≡ Some was → OfReading {P = Unit {0}} (Opens Writeback reading) (λ mode r. DoesRead {P = Unit {0}} shape.geometry left r devices.metadata.contents None got (Reaches new.opening.reading new.opening.commit))
+      of_reading reading e = subst (λ x. OfReading {P = Unit {0}} (Opens Writeback x) (λ mode r. DoesRead {P = Unit {0}} shape.geometry left r devices.metadata.contents None got (Reaches new.opening.reading new.opening.commit))) (sym e) does
+
+-- where no commit runs
+pub at_none : (n : ℕ) (devices : Devices Memory) (o : Opener) (P : Now → Type 0) → o.opening.commit ≡ None → P (record { devices = contents_of devices; commit = None; phase = phase_of (Some o); actors = actors_of n (Some o) }) → P (state_of n devices (Some o))
+at_none n devices o P none p = subst (λ (c : Option RunningCommit). P (record { devices = contents_of devices; commit = c; phase = phase_of (Some o); actors = actors_of n (Some o) })) (sym none) p
 
 -- its answer, which is a refusal
 pub refused : (shape : Shape) (n : ℕ) (devices : Devices Memory) (o : Opener) → o.actor < n → (refusal : Refusal) (what : What) → want o.task ≡ End (Refuses refusal) → what ≡ Stepped (End (Refuses refusal)) Done →
@@ -253,9 +275,11 @@ crashes device choice d0 d1 d2 b same applies stops crashed_so =
 
 -- ---- what kind a step is
 
-pub is_sync : (next : Want) (device : Dev) → sync_of next ≡ Some device → next ≡ Device (Sync device)
-is_sync (Device (Sync other)) device e = let same : other ≡ device = cc in ap (λ d. Device (Sync d)) same
-is_sync next device e = absurd (cc)
+-- it is a step on a device
+pub is_device_step : (next : Want) (step : DeviceStep) → device_step_of next ≡ Some step → next ≡ Device step
+is_device_step (Device (Sync device)) step e = let same : Sync device ≡ step = cc in ap (λ s. Device s) same
+is_device_step (Device (ReadMetadata left)) step e = let same : ReadMetadata left ≡ step = cc in ap (λ s. Device s) same
+is_device_step next step e = absurd (cc)
 
 pub refuses : (next : Want) → is_refusal next ≡ true → (refusal : Refusal) × (next ≡ End (Refuses refusal))
 refuses (End (Refuses refusal)) e = (refusal, refl)

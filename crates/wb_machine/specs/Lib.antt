@@ -1,2 +1,3 @@
 pub mod Log
 pub mod Life
+pub mod Standing

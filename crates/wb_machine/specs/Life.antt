@@ -7,15 +7,20 @@ use Rattle.wb_types.specs.declared.mode.Dev.TheVariants.{Metadata}
 use Rattle.wb_types.specs.declared.mode.Mode.TheVariants.{Writeback}
 use Rattle.wb_disk.specs.Device.{Content as Bytes, History}
 use Rattle.wb_disk.specs.Memory.{Memory}
+use Rattle.wb_disk.specs.Crash.{Choice}
+use Rattle.wb_disk.specs.Failing.{lands, synced_where}
 use Rattle.wb_words.specs.Cards.{blank_card}
 use Rattle.wb_meta.specs.Formats.{IsFormatted}
 use Rattle.wb_meta.specs.declared.read_steps.ReadSteps.{ReadSteps}
 use Rattle.wb_meta.specs.declared.read_steps.ReadSteps.TheVariants.{Begun}
 use Rattle.wb_desk.specs.Opening.{threshold_of}
 use Rattle.wb_devices.specs.declared.devices.Devices.{Devices}
+use Rattle.wb_devices.specs.Moving.{device_in}
+use Rattle.wb_devices.specs.declared.running.RunningCommit.{RunningCommit}
 use Rattle.wb_tasks.specs.Plan.{Plan, want}
 use Rattle.wb_tasks.specs.declared.step.Answer.TheVariants.{Refused as Refuses}
-use Rattle.wb_tasks.specs.declared.step.DeviceStep.TheVariants.{Sync}
+use Rattle.wb_tasks.specs.declared.step.DeviceStep.{DeviceStep}
+use Rattle.wb_tasks.specs.declared.step.DeviceStep.TheVariants.{Sync, ReadMetadata}
 use Rattle.wb_tasks.specs.declared.step.Want.{Want}
 use Rattle.wb_tasks.specs.declared.step.Want.TheVariants.{Device, End}
 use Rattle.wb_runs.specs.declared.job.Job.{Job}
@@ -24,7 +29,7 @@ use Rattle.wb_runs.specs.declared.event.Event.{Event}
 use Rattle.wb_runs.specs.declared.event.Event.TheVariants.{Step, FaultStep}
 use Rattle.wb_runs.specs.declared.event.What.{What}
 use Rattle.wb_runs.specs.declared.event.Record.{Record}
-use Rattle.wb_runs.specs.States.{Shape, State, Actor, Phase, Gone, Opens, resting, start}
+use Rattle.wb_runs.specs.States.{Shape, State, Actor, Phase, Gone, Opens, resting, start, with_device}
 use Rattle.wb_runs.specs.Happenings.{Chosen, Happening, AtWork, MayBe, May}
 use Rattle.wb_runs.specs.Effects.{after_what, after_happening, after_all, IsRun, records_of}
 use Rattle.wb_machine.specs.declared.opener.Opener.{Opener}
@@ -62,10 +67,15 @@ actors_of actors (Some opener) = slice_set (replicate actors resting) opener.act
 
 abbrev pub phase_of : Option Opener → Phase (Unit {0}) Global
 phase_of None = Gone
-phase_of (Some opener) = Opens Writeback opener.reading
+phase_of (Some opener) = Opens Writeback opener.opening.reading
+
+-- the commit of the opening's root, once all was read
+abbrev pub commit_of : Option Opener → Option RunningCommit
+commit_of None = None
+commit_of (Some opener) = opener.opening.commit
 
 abbrev pub state_of : ℕ → Devices Memory → Option Opener → Now
-state_of actors devices opener = record { devices = contents_of devices; commit = None; phase = phase_of opener; actors = actors_of actors opener }
+state_of actors devices opener = record { devices = contents_of devices; commit = commit_of opener; phase = phase_of opener; actors = actors_of actors opener }
 
 -- who opens is one of so many
 abbrev pub IsThere : ℕ → Option Opener → Type 0
@@ -89,6 +99,11 @@ reading_synced alloc device reading = reading
 abbrev pub reading_failed : Dev → Option (ReadSteps Global) → Option (ReadSteps Global)
 reading_failed Metadata reading = None
 reading_failed device reading = reading
+
+-- What a step that fails leaves of the devices: a sync has landed where the choice says so, one that reads changes nothing.
+abbrev pub failed_by : DeviceStep → Choice → Devices (List History) → Devices (List History)
+failed_by (Sync device) choice devices = with_device device devices (synced_where (lands device choice) (device_in device devices))
+failed_by step choice devices = devices
 
 -- ---- what an event does
 
@@ -117,18 +132,19 @@ pub record IsReached (life : Life) : Type 0 where
 
 -- ---- what it cannot do yet
 
--- the device that a step syncs, if it is a sync
-abbrev pub sync_of : Want → Option Dev
-sync_of (Device (Sync device)) = Some device
-sync_of next = None
+-- the step, if it is a sync or reads metadata: the machine does it, or has it fail
+abbrev pub device_step_of : Want → Option DeviceStep
+device_step_of (Device (Sync device)) = Some (Sync device)
+device_step_of (Device (ReadMetadata left)) = Some (ReadMetadata left)
+device_step_of next = None
 
 abbrev pub is_refusal : Want → Bool
 is_refusal (End (Refuses refusal)) = true
 is_refusal next = false
 
--- The next step of the actor that is named is neither a sync nor a refusal.
+-- The next step of the actor that is named is neither a sync, nor one that reads metadata, nor a refusal.
 abbrev pub IsBeyond : Want → Type 0
-IsBeyond next = (sync_of next ≡ None) × (is_refusal next ≡ false)
+IsBeyond next = (device_step_of next ≡ None) × (is_refusal next ≡ false)
 
 abbrev pub IsGap : Now → Event → Type 0
 IsGap w (Step a) = AtWork w a (λ job s. IsBeyond (want s))

@@ -11,6 +11,7 @@ ghost use Rattle.wb_runs.specs.States.{start};
 ghost use Rattle.wb_machine.specs.declared.halt.Halt.TheVariants.{Beyond};
 ghost use Rattle.wb_machine.specs.declared.machine.TheConstants.{ACTORS};
 ghost use Rattle.wb_machine.specs.Life.{GoesOn, Happens, IsGap, IsReached, IsThere, shape_of, state_of};
+ghost use Rattle.wb_machine.specs.Standing.{IsSound};
 
 use crate::halt::Halt;
 use crate::opener::Opener;
@@ -45,13 +46,14 @@ pub struct Machine {
 impl Model for Machine {
     ghost use Rattle.wb_machine.specs.declared.machine.TheConstants.{ACTORS};
     ghost use Rattle.wb_machine.specs.Life.{Life, IsReached, IsThere, shape_of, state_of};
+    ghost use Rattle.wb_machine.specs.Standing.{IsSound};
 
     ghost Value = { Life };
 
     ghost view = { λ m. record { shape = shape_of m.geometry ACTORS; trace = m.trace.records; state = state_of ACTORS m.devices m.opener } };
 
     ghost invariant = { λ m. IsReached (record { shape = shape_of m.geometry ACTORS; trace = m.trace.records; state = state_of ACTORS m.devices m.opener })
-        × IsThere ACTORS m.opener };
+        × (IsThere ACTORS m.opener × IsSound m.geometry m.devices m.opener) };
 }
 
 impl Machine {
@@ -133,16 +135,18 @@ fn happen(
     opener: &mut Option<Opener>,
     event: &Event,
 ) -> Result<What, Halt>
-    requires { IsThere ACTORS opener.old }
+    requires there { IsThere ACTORS opener.old }
+    requires sound { IsSound geometry.now devices.old opener.old }
     ensures there { IsThere ACTORS opener.new }
+    ensures sound { IsSound geometry.now devices.new opener.new }
     ensures ok { IfOk result (λ what. Happens (shape_of geometry.now ACTORS) (state_of ACTORS devices.old opener.old) event.now what [] (state_of ACTORS devices.new opener.new)) }
     ensures err { OnErr result ((devices.new ≡ devices.old) × (opener.new ≡ opener.old)) }
     ensures gap { IfErr result (λ halt. (halt ≡ Beyond) × IsGap (state_of ACTORS devices.old opener.old) event.now) }
 {
     match event {
-        Event::Start(a, job) => Ok(start(geometry, devices, opener, *a, job)),
-        Event::Step(a) => step(alloc, devices, opener, *a),
-        Event::FaultStep(a, choice) => falter(devices, opener, *a, choice),
+        Event::Start(a, job) => Ok(start(geometry, alloc, devices, opener, *a, job)),
+        Event::Step(a) => step(geometry, devices, opener, *a),
+        Event::FaultStep(a, choice) => falter(geometry, devices, opener, *a, choice),
         Event::Stop(choice) => Ok(stop(devices, opener, choice)),
     }
 }

@@ -4,10 +4,12 @@ ghost use Rattle.std.specs.Prelude.{◌≡◌, []};
 ghost use Rattle.wb_runs.specs.declared.event.Event.TheVariants.{Start};
 ghost use Rattle.wb_machine.specs.declared.machine.TheConstants.{ACTORS};
 ghost use Rattle.wb_machine.specs.Life.{Happens, IsThere, is_opening, shape_of, state_of};
+ghost use Rattle.wb_machine.specs.Standing.{IsSound};
 
 use crate::machine::ACTORS;
 use crate::opener::{Opener, opens};
-use wb_devices::Devices;
+use std::alloc::Global;
+use wb_devices::{Devices, Opening};
 use wb_disk::MemDisk;
 use wb_flow::OpenTask;
 use wb_runs::{Job, What};
@@ -17,13 +19,16 @@ use wb_types::{Geometry, Mode};
 /// opening is given up.
 pub(crate) fn start(
     geometry: &Geometry,
+    alloc: Global,
     devices: &Devices<MemDisk>,
     opener: &mut Option<Opener>,
     actor: usize,
     job: &Job,
 ) -> What
-    requires { IsThere ACTORS opener.old }
+    requires there { IsThere ACTORS opener.old }
+    requires sound { IsSound geometry.now devices.now opener.old }
     ensures there { IsThere ACTORS opener.new }
+    ensures sound { IsSound geometry.now devices.now opener.new }
     ensures does { Happens (shape_of geometry.now ACTORS) (state_of ACTORS devices.now opener.old) (Start actor job.now) result [] (state_of ACTORS devices.now opener.new) }
 {
     if actor >= ACTORS || opens(opener, actor) || !is_opening(job) {
@@ -32,7 +37,12 @@ pub(crate) fn start(
     *opener = Some(Opener {
         actor,
         task: OpenTask::reading(geometry.meta_sectors),
-        reading: None,
+        opening: Opening {
+            geometry: *geometry,
+            alloc,
+            reading: None,
+            commit: None,
+        },
     });
     What::Started
 }

@@ -2,30 +2,31 @@
 
 ghost use Rattle.std.specs.Prelude.{◌≡◌, [], IfOk, IfErr, OnErr};
 ghost use Rattle.wb_runs.specs.declared.event.Event.TheVariants.{Step, FaultStep};
-ghost use Rattle.wb_runs.specs.States.{Shape};
 ghost use Rattle.wb_machine.specs.declared.halt.Halt.TheVariants.{Beyond};
 ghost use Rattle.wb_machine.specs.declared.machine.TheConstants.{ACTORS};
-ghost use Rattle.wb_machine.specs.Life.{Happens, IsGap, IsThere, is_refusal, state_of, sync_of};
+ghost use Rattle.wb_machine.specs.Life.{Happens, IsGap, IsThere, device_step_of, is_refusal, shape_of, state_of};
+ghost use Rattle.wb_machine.specs.Standing.{IsSound};
 
 use crate::halt::Halt;
-use crate::opener::{Opener, fail_sync};
-use std::alloc::Global;
+use crate::opener::{Opener, fail_step};
 use wb_devices::Devices;
 use wb_disk::{CrashChoice, MemDisk};
 use wb_runs::What;
 use wb_tasks::{Answer, DeviceStep, Got, Want};
-use wb_types::Dev;
+use wb_types::Geometry;
 
 /// The next step of an actor's opening, if it opens.
 pub(crate) fn step(
-    alloc: Global,
+    geometry: &Geometry,
     devices: &mut Devices<MemDisk>,
     opener: &mut Option<Opener>,
     actor: usize,
 ) -> Result<What, Halt>
-    requires { IsThere ACTORS opener.old }
+    requires there { IsThere ACTORS opener.old }
+    requires sound { IsSound geometry.now devices.old opener.old }
     ensures there { IsThere ACTORS opener.new }
-    ensures ok { IfOk result (λ what. (shape : Shape) → Happens shape (state_of ACTORS devices.old opener.old) (Step actor) what [] (state_of ACTORS devices.new opener.new)) }
+    ensures sound { IsSound geometry.now devices.new opener.new }
+    ensures ok { IfOk result (λ what. Happens (shape_of geometry.now ACTORS) (state_of ACTORS devices.old opener.old) (Step actor) what [] (state_of ACTORS devices.new opener.new)) }
     ensures err { OnErr result ((devices.new ≡ devices.old) × (opener.new ≡ opener.old)) }
     ensures gap { IfErr result (λ halt. (halt ≡ Beyond) × IsGap (state_of ACTORS devices.old opener.old) (Step actor)) }
 {
@@ -36,9 +37,9 @@ pub(crate) fn step(
         return Ok(What::Skipped);
     }
     let want = at_work.task.want();
-    if let Some(device) = sync_of(&want) {
-        at_work.sync(alloc, devices, device);
-        return Ok(What::Stepped(want, Got::Done));
+    if let Some(step) = device_step_of(&want) {
+        let got = at_work.perform(geometry, devices, step);
+        return Ok(What::Stepped(want, got));
     }
     if !is_refusal(&want) {
         return Err(Halt::Beyond);
@@ -49,17 +50,21 @@ pub(crate) fn step(
 
 /// The next step of an actor's opening, which is on a device, fails as the choice says.
 pub(crate) fn falter(
+    geometry: &Geometry,
     devices: &mut Devices<MemDisk>,
     opener: &mut Option<Opener>,
     actor: usize,
     choice: &CrashChoice,
 ) -> Result<What, Halt>
-    requires { IsThere ACTORS opener.old }
+    requires there { IsThere ACTORS opener.old }
+    requires sound { IsSound geometry.now devices.old opener.old }
     ensures there { IsThere ACTORS opener.new }
-    ensures ok { IfOk result (λ what. (shape : Shape) → Happens shape (state_of ACTORS devices.old opener.old) (FaultStep actor choice.now) what [] (state_of ACTORS devices.new opener.new)) }
+    ensures sound { IsSound geometry.now devices.new opener.new }
+    ensures ok { IfOk result (λ what. Happens (shape_of geometry.now ACTORS) (state_of ACTORS devices.old opener.old) (FaultStep actor choice.now) what [] (state_of ACTORS devices.new opener.new)) }
     ensures err { OnErr result ((devices.new ≡ devices.old) × (opener.new ≡ opener.old)) }
     ensures gap { IfErr result (λ halt. (halt ≡ Beyond) × IsGap (state_of ACTORS devices.old opener.old) (FaultStep actor choice.now)) }
 {
+    let _ = geometry;
     let Some(at_work) = opener else {
         return Ok(What::Skipped);
     };
@@ -67,11 +72,11 @@ pub(crate) fn falter(
         return Ok(What::Skipped);
     }
     let want = at_work.task.want();
-    if let Some(device) = sync_of(&want) {
-        if !fail_sync(devices, device, choice) {
+    if let Some(step) = device_step_of(&want) {
+        if !fail_step(devices, step, choice) {
             return Ok(What::Skipped);
         }
-        at_work.fail(device);
+        at_work.fail(step);
         return Ok(What::Stepped(want, Got::Fault));
     }
     if !is_refusal(&want) {
@@ -80,12 +85,13 @@ pub(crate) fn falter(
     Ok(What::Skipped)
 }
 
-/// The device that a step syncs, if it is a sync.
-fn sync_of(want: &Want) -> Option<Dev>
-    ensures { result ≡ sync_of want.now }
+/// The step, if it is a sync or reads metadata.
+fn device_step_of(want: &Want) -> Option<DeviceStep>
+    ensures { result ≡ device_step_of want.now }
 {
     match want {
-        Want::Device(DeviceStep::Sync(device)) => Some(*device),
+        Want::Device(DeviceStep::Sync(device)) => Some(DeviceStep::Sync(*device)),
+        Want::Device(DeviceStep::ReadMetadata(left)) => Some(DeviceStep::ReadMetadata(*left)),
         _ => None,
     }
 }

@@ -5,6 +5,8 @@ ghost use Rattle.wb_runs.specs.declared.event.Event.TheVariants.{Stop};
 ghost use Rattle.wb_runs.specs.States.{Shape};
 ghost use Rattle.wb_machine.specs.declared.machine.TheConstants.{ACTORS};
 ghost use Rattle.wb_machine.specs.Life.{Happens, IsThere, state_of};
+ghost use Rattle.wb_machine.specs.Standing.{IsSound};
+ghost use Rattle.wb_types.specs.declared.geometry.Geometry.{Geometry};
 
 use crate::opener::Opener;
 use wb_devices::Devices;
@@ -21,6 +23,7 @@ pub(crate) fn stop(
 ) -> What
     requires { IsThere ACTORS opener.old }
     ensures there { IsThere ACTORS opener.new }
+    ensures sound { (geometry : Geometry) → IsSound geometry devices.old opener.old → IsSound geometry devices.new opener.new }
     ensures does { (shape : Shape) → Happens shape (state_of ACTORS devices.old opener.old) (Stop choice.now) result [] (state_of ACTORS devices.new opener.new) }
 {
     if !devices.metadata.applies(Dev::Metadata, choice)

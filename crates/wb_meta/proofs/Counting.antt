@@ -11,7 +11,9 @@ use Rattle.wb_tree.specs.declared.placed.PlacedNode.{PlacedNode}
 use Rattle.wb_tree.specs.Reading.{is_reached}
 use Rattle.wb_tree.specs.Loading.{Loading, IsFresh}
 use Rattle.wb_meta.specs.States.{places_of}
-use Rattle.wb_meta.specs.Reads.{AreApartPlaces, IsTreeOn}
+use Rattle.wb_meta.specs.Reads.{AreApartPlaces, AreStepsOn, IsTreeOn, sectors_read}
+use Rattle.wb_meta.specs.declared.read_steps.ReadSteps.{ReadSteps}
+use Rattle.wb_meta.specs.declared.read_steps.ReadSteps.TheVariants.{Begun, FirstSlotRead, RootFound, Done as AllRead}
 
 -- what holds of all holds of one of them
 all_at : {X : Type 0} (P : X → Type 0) (xs : List X) (k : ℕ) (x : X) → AllByRecursion P xs → k < length xs → get_or xs k x ≡ x → P x
@@ -82,6 +84,33 @@ length-apart sectors places apart =
     let count = length-le_from_distinct_below (numbers places) sectors (distinct_numbers places apart.apart) (numbers_below sectors places apart.to) in
     let same : length (numbers places) ≡ length places = length-map places (λ (p : Place). p.0) in
     omega (arith, count, same)
+
+behind : (k : ℕ) (places : List Place) → k < 2 → AllByRecursion (λ (p : Place). 2 ≤ p.0) places → AllByRecursion (λ n. nat_eq k n ≡ false) (numbers places)
+behind k [] small all = tt
+behind k (p ∷ places) small all = (let far = all.0 in grind (arith, nat_tests), behind k places small all.1)
+
+both_slots : (places : List Place) → IsDistinct nat_eq (numbers places) → AllByRecursion (λ (p : Place). 2 ≤ p.0) places → IsDistinct nat_eq (0 ∷ 1 ∷ numbers places)
+unfolding IsDistinct
+both_slots places distinct from = ((refl, behind 0 places (omega arith) from), (behind 1 places (omega arith) from, distinct))
+
+-- the two slots are none of them
+pub slots-apart : (sectors : ℕ) (places : List Place) → 2 ≤ sectors → AreApartPlaces sectors places → 2 + length places ≤ sectors
+slots-apart sectors places two apart =
+    let rest = numbers_below sectors places apart.to in
+    let second : (q : ℕ) → list_any (nat_eq q) (1 ∷ numbers places) ≡ true → q < sectors = λ q e. is_here q 1 (list_any (nat_eq q) (numbers places)) sectors (omega (arith, two)) (rest q) e in
+    let count = length-le_from_distinct_below (0 ∷ 1 ∷ numbers places) sectors (both_slots places (distinct_numbers places apart.apart) apart.from) (λ q e. is_here q 0 (list_any (nat_eq q) (1 ∷ numbers places)) sectors (omega (arith, two)) (second q) e) in
+    let same : length (numbers places) ≡ length places = length-map places (λ (p : Place). p.0) in
+    omega (arith, count, same)
+
+-- so no reading has read more sectors than there are
+pub read-sectors : {A : Type 0} (sectors : ℕ) (steps : ReadSteps A) → 2 ≤ sectors → AreStepsOn sectors steps → sectors_read steps ≤ sectors
+read-sectors sectors (Begun alloc global) two on = omega arith
+read-sectors sectors (FirstSlotRead alloc global first) two on = omega (arith, two)
+read-sectors sectors (RootFound global root loader) two on =
+    let count = slots-apart sectors (places_of loader.found.reached) two on.0.used in
+    let same : length (places_of loader.found.reached) ≡ length loader.found.reached = length-map loader.found.reached (λ (n : PlacedNode). n.place) in
+    omega (arith, count, same)
+read-sectors sectors (AllRead state) two on = slots-apart sectors state.used.items two on.used_are
 
 pub length_pushed : (nodes : List PlacedNode) (node : PlacedNode) → length (nodes ++ node ∷ []) ≡ length nodes + 1
 length_pushed nodes node = length-append nodes (node ∷ [])

@@ -9,6 +9,7 @@ pub mod Storing
 pub mod Sectors
 pub mod Counting
 pub mod Loaded
+pub mod Telling
 pub mod OneReading
 pub mod Round
 pub mod Reading

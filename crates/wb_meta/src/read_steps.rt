@@ -2,17 +2,17 @@
 
 ghost use Rattle.std.specs.Prelude.{◌≡◌, ◌≤◌, ◌<◌, ◌↔◌, ◌⊎◌, ◌+◌, ◌-◌, ℕ, List, map, length, IsTrue, IsFalse, IsSome, OnOk, IfOk, IfErr};
 ghost use Rattle.wb_types.specs.declared.refusal.Refusal.TheVariants.{Memory as OutOfMemory};
-ghost use Rattle.wb_disk.specs.Device.{Content, newest};
+ghost use Rattle.wb_disk.specs.Device.{Content as Bytes, History, newest};
 ghost use Rattle.wb_meta.specs.States.{RepresentsState, IsRefusedBy, IsOfReading, CountsFault};
-ghost use Rattle.wb_meta.specs.Reads.{IsTreeOn, FitsDevice, AreStepsOn, HasLoaded, HasRead, ReadingGoesOn, StopsBy, IsDone, StepsFewer, ReadOneMore, coming_sector, known_root, sectors_read, steps_left};
+ghost use Rattle.wb_meta.specs.Reads.{IsToldOf, IsTreeOn, FitsDevice, AreStepsOn, HasLoaded, HasRead, ReadingGoesOn, StopsBy, IsDone, StepsFewer, ReadOneMore, coming_sector, known_root, sectors_read, steps_left};
 
-use crate::sector::get_node;
-use crate::slot::{newest_root, read_slot};
+use crate::sector::{get_node, node_told};
+use crate::slot::{newest_root, read_slot, slot_told};
 use std::alloc::{Allocator, Global};
 use wb_disk::Disk;
 use wb_format::Root;
 use wb_tree::{Loader, Tree};
-use wb_types::{Place, Refusal};
+use wb_types::{Content, Place, Refusal};
 
 /// What a metadata device stands for.
 #[derive(Drop)]
@@ -54,7 +54,7 @@ impl<A: Allocator + Clone> ReadSteps<A> {
     /// A reading that has read nothing.
     pub fn new(alloc: A, global: Global) -> ReadSteps<A>
         ensures on { (sectors : ℕ) → AreStepsOn sectors result }
-        ensures begins { (sectors : List Content) → HasRead sectors result }
+        ensures begins { (sectors : List Bytes) → HasRead sectors result }
         ensures left { (sectors : ℕ) → steps_left sectors result ≡ sectors + 2 }
     {
         ReadSteps::Begun { alloc, global }
@@ -149,6 +149,48 @@ impl<A: Allocator + Clone> ReadSteps<A> {
     }
 }
 
+impl<A: Allocator + Clone> ReadSteps<A> {
+    /// Does the next step on a device of so many sectors, by what stands in the sector that comes next: for who reads that
+    /// sector by a call that never fails. None where the device has not got it. The refusals are those of `next` but `Io`.
+    pub fn tell(self, sectors: u64, content: Option<Content>) -> Result<ReadSteps<A>, Refusal>
+        requires { AreStepsOn sectors self }
+        ensures on { IfOk result (AreStepsOn sectors) }
+        ensures one_more { IfOk result (ReadOneMore self) }
+        ensures idle { IfOk result (λ steps. IsDone self → steps ≡ self) }
+        ensures read { (device : List History) → IsToldOf self sectors content device → IfOk result (ReadingGoesOn self device) }
+        ensures refused { (device : List History) → IsToldOf self sectors content device → IfErr result (StopsBy self device) }
+        ensures kinds { IfErr result IsOfReading }
+        ensures no_fault { (faults : ℕ) → IfErr result (λ refusal. CountsFault refusal faults faults) }
+    {
+        match self {
+            ReadSteps::Begun { alloc, global } => Ok(ReadSteps::FirstSlotRead {
+                alloc,
+                global,
+                first: slot_told(content, 0),
+            }),
+            ReadSteps::FirstSlotRead {
+                alloc,
+                global,
+                first,
+            } => {
+                let second = slot_told(content, 1);
+                let root = newest_root(first, second, sectors)?;
+                let loader = Loader::new(alloc, global, &root)?;
+                go_on(global, root, loader)
+            }
+            ReadSteps::RootFound {
+                global,
+                root,
+                loader,
+            } => match loader.wanted() {
+                Some(_) => go_on(global, root, loader.tell(node_told(content))?),
+                None => go_on(global, root, loader),
+            },
+            ReadSteps::Done(state) => Ok(ReadSteps::Done(state)),
+        }
+    }
+}
+
 /// Goes on with the next node of a root's tree; where there is none, the reading is done.
 fn go_on<A: Allocator + Clone>(
     global: Global,
@@ -159,7 +201,7 @@ fn go_on<A: Allocator + Clone>(
     ensures left { (sectors : ℕ) → IfOk result (λ steps. steps_left sectors steps
         ≤ sectors - length loader.found.reached) }
     ensures count { IfOk result (λ steps. sectors_read steps ≡ 2 + length loader.found.reached) }
-    ensures read { (sectors : List Content) → IsTreeOn (length sectors) root loader
+    ensures read { (sectors : List Bytes) → IsTreeOn (length sectors) root loader
         → HasLoaded sectors root loader → IfOk result (HasRead sectors) }
     ensures refused { IfErr result (λ refusal. refusal ≡ OutOfMemory) }
 {

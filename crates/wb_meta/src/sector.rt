@@ -1,10 +1,10 @@
 //! Single steps of the metadata device.
 
-ghost use Rattle.std.specs.Prelude.{◌≡◌, ◌<◌, ◌⊎◌, ℕ, List, OnOk, OnErr, IfOk, IfErr, map};
+ghost use Rattle.std.specs.Prelude.{◌≡◌, ◌<◌, ◌⊎◌, ℕ, List, OnOk, OnErr, IfOk, IfErr, length, map, slice_get};
 ghost use Rattle.wb_types.specs.declared.refusal.Refusal.TheVariants.{Io};
 ghost use Rattle.wb_types.specs.declared.mode.Dev.TheVariants.{Metadata};
 ghost use Rattle.wb_format.specs.Layout.{SpellsNode, SpellsRoot};
-ghost use Rattle.wb_disk.specs.Device.{written, synced, PartlySynced, OneMore, newest};
+ghost use Rattle.wb_disk.specs.Device.{Content as Bytes, written, synced, PartlySynced, OneMore, newest};
 ghost use Rattle.wb_meta.specs.Representing.{ReadsThere};
 ghost use Rattle.wb_meta.specs.Steps.{Puts, MayPut, zero_sector};
 
@@ -71,6 +71,14 @@ pub(crate) fn sync<D: Disk>(disk: &mut D) -> Result<(), Refusal>
     ensures refused { IfErr result (λ refusal. refusal ≡ Io Metadata) }
 {
     disk.sync().map_err(|_| Refusal::Io(Dev::Metadata))
+}
+
+/// The node that a sector spells in which this stands, where it spells one.
+pub(crate) fn node_told(content: Option<Content>) -> Option<Node>
+    ensures { (sectors : List Bytes) (at : ℕ) → at < length sectors → slice_get sectors at ≡ content
+        → ReadsThere sectors (λ _. result) at }
+{
+    Node::read(&content?)
 }
 
 /// The node that a sector spells, where it spells one. `Io` where the device fails.

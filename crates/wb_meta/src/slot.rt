@@ -1,16 +1,16 @@
 //! The two slots of a root.
 
-ghost use Rattle.std.specs.Prelude.{◌≡◌, ◌⊎◌, ◌<◌, ℕ, List, map, length, OnOk, OnErr, IfOk, IfErr};
+ghost use Rattle.std.specs.Prelude.{◌≡◌, ◌⊎◌, ◌<◌, ℕ, List, map, length, slice_get, OnOk, OnErr, IfOk, IfErr};
 ghost use Rattle.wb_types.specs.declared.refusal.Refusal.TheVariants.{Io, NotFormatted, Mismatch};
 ghost use Rattle.wb_types.specs.declared.mode.Dev.TheVariants.{Metadata};
-ghost use Rattle.wb_disk.specs.Device.{Content, OneMore, newest};
+ghost use Rattle.wb_disk.specs.Device.{Content as Bytes, OneMore, newest};
 ghost use Rattle.wb_tree.specs.Reading.{IsNewestRoot};
 ghost use Rattle.wb_meta.specs.Slots.{IsInSlot, IsNewest};
 ghost use Rattle.wb_meta.specs.States.{IsRefusedBy};
 
 use wb_disk::Disk;
 use wb_format::Root;
-use wb_types::{Dev, Refusal, SECTOR_BYTES};
+use wb_types::{Content, Dev, Refusal, SECTOR_BYTES};
 
 /// The valid root of a slot, where there is one. `Io` where the device fails.
 pub(crate) fn read_slot<D: Disk>(disk: &mut D, slot: u32) -> Result<Option<Root>, Refusal>
@@ -29,13 +29,19 @@ pub(crate) fn read_slot<D: Disk>(disk: &mut D, slot: u32) -> Result<Option<Root>
     if disk.read(at, &mut content).is_err() {
         return Err(Refusal::Io(Dev::Metadata));
     }
-    let Some(root) = Root::read(&content) else {
-        return Ok(None);
-    };
+    Ok(slot_told(Some(content), slot))
+}
+
+/// The valid root of a slot in which this stands, where it is one; none where the device has not got the slot.
+pub(crate) fn slot_told(content: Option<Content>, slot: u32) -> Option<Root>
+    ensures { (sectors : List Bytes) → slice_get sectors slot ≡ content → IsInSlot sectors slot result }
+{
+    let content = content?;
+    let root = Root::read(&content)?;
     if root.slot().0 == slot {
-        Ok(Some(root))
+        Some(root)
     } else {
-        Ok(None)
+        None
     }
 }
 
@@ -46,10 +52,10 @@ pub(crate) fn newest_root(
     second: Option<Root>,
     sectors: u64,
 ) -> Result<Root, Refusal>
-    ensures newest { IfOk result (λ root. (contents : List Content) → IsInSlot contents 0 first
+    ensures newest { IfOk result (λ root. (contents : List Bytes) → IsInSlot contents 0 first
         → IsInSlot contents 1 second → IsNewestRoot contents root) }
     ensures size { IfOk result (λ root. root.geometry.meta_sectors ≡ sectors) }
-    ensures refused { IfErr result (λ refusal. (contents : List Content) → length contents ≡ sectors
+    ensures refused { IfErr result (λ refusal. (contents : List Bytes) → length contents ≡ sectors
         → IsInSlot contents 0 first → IsInSlot contents 1 second → IsRefusedBy contents refusal) }
     ensures causes { IfErr result (λ refusal. (refusal ≡ NotFormatted) ⊎ (refusal ≡ Mismatch)) }
 {
@@ -64,7 +70,7 @@ pub(crate) fn newest_root(
 
 /// The root of higher generation of the two slots' roots.
 fn newer(first: Option<Root>, second: Option<Root>) -> Option<Root>
-    ensures { (contents : List Content) → IsInSlot contents 0 first → IsInSlot contents 1 second
+    ensures { (contents : List Bytes) → IsInSlot contents 0 first → IsInSlot contents 1 second
         → IsNewest contents result }
 {
     let Some(a) = first else {

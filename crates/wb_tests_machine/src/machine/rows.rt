@@ -36,11 +36,16 @@ const CACHE: Want = Want::Device(DeviceStep::Sync(Dev::Cache));
 
 const ORIGIN: Want = Want::Device(DeviceStep::Sync(Dev::Origin));
 
+/// The least metadata have four sectors.
+const FIRST_READ: Want = Want::Device(DeviceStep::ReadMetadata(4));
+
+const SECOND_READ: Want = Want::Device(DeviceStep::ReadMetadata(3));
+
 const METADATA_FAILED: Want = Want::End(Answer::Refused(Refusal::Io(Dev::Metadata)));
 
 const CACHE_FAILED: Want = Want::End(Answer::Refused(Refusal::Io(Dev::Cache)));
 
-pub const ROWS: [Row; 6] = [
+pub const ROWS: [Row; 10] = [
     Row {
         name: "without a target only an opening starts, in write-back mode",
         lines: &[
@@ -79,6 +84,68 @@ pub const ROWS: [Row; 6] = [
             (
                 Line::Fault(0, Base::Newest),
                 What::Stepped(METADATA, Got::Fault),
+            ),
+            (Line::Step(0), What::Stepped(METADATA_FAILED, Got::Done)),
+        ],
+    },
+    Row {
+        name: "a read of metadata that fails refuses the opening",
+        lines: &[
+            (Line::Start(0, OPEN), What::Started),
+            (Line::Step(0), What::Stepped(METADATA, Got::Done)),
+            (Line::Step(0), What::Stepped(CACHE, Got::Done)),
+            (Line::Step(0), What::Stepped(ORIGIN, Got::Done)),
+            (
+                Line::Fault(0, Base::Newest),
+                What::Stepped(FIRST_READ, Got::Fault),
+            ),
+            (Line::Fault(0, Base::Newest), What::Skipped),
+            (Line::Step(0), What::Stepped(METADATA_FAILED, Got::Done)),
+            (Line::Step(0), What::Skipped),
+            (Line::Start(1, OPEN), What::Started),
+        ],
+    },
+    Row {
+        name: "an opening reads both slots of metadata that were formatted",
+        lines: &[
+            (Line::Start(0, OPEN), What::Started),
+            (Line::Step(0), What::Stepped(METADATA, Got::Done)),
+            (Line::Step(0), What::Stepped(CACHE, Got::Done)),
+            (Line::Step(0), What::Stepped(ORIGIN, Got::Done)),
+            (Line::Step(0), What::Stepped(FIRST_READ, Got::More)),
+            (Line::Step(0), What::Stepped(SECOND_READ, Got::Done)),
+            (Line::Crash, What::Stopped),
+            (Line::Step(0), What::Skipped),
+        ],
+    },
+    Row {
+        name: "a read that fails behind one that was done refuses the opening",
+        lines: &[
+            (Line::Start(0, OPEN), What::Started),
+            (Line::Step(0), What::Stepped(METADATA, Got::Done)),
+            (Line::Step(0), What::Stepped(CACHE, Got::Done)),
+            (Line::Step(0), What::Stepped(ORIGIN, Got::Done)),
+            (Line::Step(0), What::Stepped(FIRST_READ, Got::More)),
+            (
+                Line::Fault(0, Base::Durable),
+                What::Stepped(SECOND_READ, Got::Fault),
+            ),
+            (Line::Step(0), What::Stepped(METADATA_FAILED, Got::Done)),
+        ],
+    },
+    Row {
+        name: "a failing read names sectors of the metadata, with 0 or 1",
+        lines: &[
+            (Line::Start(0, OPEN), What::Started),
+            (Line::Step(0), What::Stepped(METADATA, Got::Done)),
+            (Line::Step(0), What::Stepped(CACHE, Got::Done)),
+            (Line::Step(0), What::Stepped(ORIGIN, Got::Done)),
+            (Line::FaultOf(0, Dev::Cache, 0, 1), What::Skipped),
+            (Line::FaultOf(0, Dev::Metadata, 4, 1), What::Skipped),
+            (Line::FaultOf(0, Dev::Metadata, 3, 2), What::Skipped),
+            (
+                Line::FaultOf(0, Dev::Metadata, 3, 0),
+                What::Stepped(FIRST_READ, Got::Fault),
             ),
             (Line::Step(0), What::Stepped(METADATA_FAILED, Got::Done)),
         ],
