@@ -1,3 +1,5 @@
 pub mod Openings
+pub mod Commits
 pub mod Standing
+pub mod Wherever
 pub mod Reaching

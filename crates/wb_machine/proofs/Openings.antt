@@ -2,7 +2,7 @@
 use Rattle.std.proofs.Common.{◌≡◌, ◌≢◌, ◌≤◌, ◌<◌, ◌⊎◌, inl, inr, ℕ, zero, suc, Bool, true, false, List, [], ◌∷◌, Option, Some, None, refl, sym, ap, subst, ◌∙◌, arith, slice_get, slice_set, length, length-set, replicate}
 use Rattle.std.proofs.lemmas.Option.{slice_get_past}
 use Rattle.std.proofs.lemmas.Bool.{eqb-false, eqb-true}
-use Rattle.std.specs.Bool.{OnTrue}
+use Rattle.std.specs.Bool.{OnTrue, OnFalse}
 use Rattle.std.specs.declared.alloc.Global.{Global}
 use Rattle.wb_types.specs.declared.mode.Mode.TheVariants.{Writeback}
 use Rattle.wb_types.specs.declared.mode.Dev.{Dev}
@@ -11,19 +11,21 @@ use Rattle.wb_types.specs.declared.refusal.Refusal.{Refusal}
 use Rattle.wb_disk.specs.Device.{History, synced}
 use Rattle.wb_disk.specs.Memory.{Memory}
 use Rattle.wb_disk.specs.Crash.{Choice, Applies, crashed}
-use Rattle.wb_disk.specs.Failing.{MayFail, lands}
+use Rattle.wb_disk.specs.Failing.{MayFail, lands, synced_where}
+use Rattle.wb_meta.specs.Steps.{DoesStep, coming_step, steps_after}
 use Rattle.wb_meta.specs.declared.read_steps.ReadSteps.{ReadSteps}
 use Rattle.wb_meta.specs.declared.read_steps.ReadSteps.TheVariants.{Begun}
 use Rattle.wb_tasks.specs.Plan.{Plan, want, after, table, device_of}
 use Rattle.wb_tasks.specs.Tables.{Opening}
 use Rattle.wb_tasks.specs.declared.step.Answer.TheVariants.{Refused as Refuses}
 use Rattle.wb_tasks.specs.declared.step.DeviceStep.{DeviceStep}
-use Rattle.wb_tasks.specs.declared.step.DeviceStep.TheVariants.{Sync, ReadMetadata}
+use Rattle.wb_tasks.specs.declared.step.DeviceStep.TheVariants.{Sync, ReadMetadata, WriteRoot}
 use Rattle.wb_tasks.specs.declared.step.Want.{Want}
 use Rattle.wb_tasks.specs.declared.step.Want.TheVariants.{Device, End}
 use Rattle.wb_tasks.specs.declared.step.Got.{Got}
 use Rattle.wb_tasks.specs.declared.step.Got.TheVariants.{Done, Fault}
 use Rattle.wb_devices.specs.declared.devices.Devices.{Devices}
+use Rattle.wb_devices.specs.Committing.{goes_on}
 use Rattle.wb_devices.specs.Moving.{device_in}
 use Rattle.wb_devices.specs.declared.running.RunningCommit.{RunningCommit}
 use Rattle.wb_runs.specs.declared.job.Job.{Job}
@@ -33,10 +35,10 @@ use Rattle.wb_runs.specs.declared.event.Event.TheVariants.{Start, Step, FaultSte
 use Rattle.wb_runs.specs.declared.event.What.{What}
 use Rattle.wb_runs.specs.declared.event.What.TheVariants.{Skipped, Started, Stepped, Stopped}
 use Rattle.wb_runs.specs.States.{Shape, Actor, Gone, Opens, OfTarget, OfReading, resting, with_device}
-use Rattle.wb_runs.specs.Happenings.{Chosen, Plain, Begins, Reaches, OfSome, DoesNotApply, DoesRead, MayFailAt, MayStop}
+use Rattle.wb_runs.specs.Happenings.{Chosen, Plain, Begins, Reaches, Puts, LandedOr, sector_put, OfSome, DoesNotApply, DoesRead, MayFailAt, MayStop}
 use Rattle.wb_runs.specs.Effects.{after_what, all_crashed, all_resting, job_of, stepped, with_actor, device_done, device_failed, went}
 use Rattle.wb_machine.specs.declared.opener.Opener.{Opener}
-use Rattle.wb_machine.specs.Life.{Now, Happens, IsThere, failed_by, device_step_of, is_refusal, actors_of, contents_of, is_opening, opening_actor, opens, phase_of, reading_synced, reading_failed, state_of}
+use Rattle.wb_machine.specs.Life.{Now, Happens, FailsOn, IsThere, device_step_of, is_refusal, actors_of, contents_of, is_opening, opening_actor, opens, phase_of, reading_synced, reading_failed, state_of}
 
 -- ---- lists of one actor that opens, beside others that rest
 
@@ -171,78 +173,122 @@ starts shape devices n o a job what new j h i e f g k s = absurd (cc)
 -- ---- steps of who opens
 
 module _ (shape : Shape) (n : ℕ) (devices devices' : Devices Memory) (o new : Opener) (h : o.actor < n) (same : new.actor ≡ o.actor) where
-  abbrev w : Now
-  w = record { devices = contents_of devices; commit = None; phase = phase_of (Some o); actors = actors_of n (Some o) }
+  -- before its step, with this commit
+  abbrev w : Option RunningCommit → Now
+  w commit = record { devices = contents_of devices; commit = commit; phase = phase_of (Some o); actors = actors_of n (Some o) }
 
   -- the actors once its task is this
   acts : (plan : Plan) → new.task ≡ plan → actors_of n (Some new) ≡ slice_set (actors_of n (Some o)) o.actor (opening_actor plan)
   acts plan t = rw (same, t) (sym (set_twice (replicate n resting) o.actor (opening_actor o.task) (opening_actor plan)))
 
   -- what its step leads to
-  leads : (next : Want) (got : Got) (chosen : Chosen (Unit {0}) Global) (change : Job → DeviceStep → List History → List History) →
-      went shape w o.actor next got chosen change ≡ stepped shape w o.actor (opening_actor o.task) next got chosen (change (Open Writeback))
-  leads next got chosen change = ap (λ (x : Option Actor). with_actor w x (λ y. stepped shape w o.actor y next got chosen (change (job_of y.task)))) (there n o h)
+  leads : (commit : Option RunningCommit) (next : Want) (got : Got) (chosen : Chosen (Unit {0}) Global) (change : Job → DeviceStep → List History → List History) →
+      went shape (w commit) o.actor next got chosen change ≡ stepped shape (w commit) o.actor (opening_actor o.task) next got chosen (change (Open Writeback))
+  leads commit next got chosen change = ap (λ (x : Option Actor). with_actor (w commit) x (λ y. stepped shape (w commit) o.actor y next got chosen (change (job_of y.task)))) (there n o h)
 
   next_state : (contents : Devices (List History)) (reading : Option (ReadSteps Global)) (commit : Option RunningCommit) (plan : Plan) → contents_of devices' ≡ contents → new.opening.reading ≡ reading → new.opening.commit ≡ commit → new.task ≡ plan →
       state_of n devices' (Some new) ≡ record { devices = contents; commit = commit; phase = Opens Writeback reading; actors = slice_set (actors_of n (Some o)) o.actor (opening_actor plan) }
   next_state contents reading commit plan d r c t = rw (d, r, c, acts plan t) refl
 
-  pub syncs : (alloc : Global) (device : Dev) (what : What) → want o.task ≡ Device (Sync device) → what ≡ Stepped (Device (Sync device)) Done → new.task ≡ after o.task Done → new.opening.reading ≡ reading_synced alloc device o.opening.reading → new.opening.commit ≡ None →
-      contents_of devices' ≡ with_device device (contents_of devices) (synced (device_in device (contents_of devices))) → Happens shape w (Step o.actor) what [] (state_of n devices' (Some new))
+  pub syncs : (alloc : Global) (device : Dev) (what : What) → want o.task ≡ Device (Sync device) → what ≡ Stepped (Device (Sync device)) Done → new.task ≡ after o.task Done → new.opening.reading ≡ reading_synced alloc device None o.opening.reading → new.opening.commit ≡ None →
+      contents_of devices' ≡ with_device device (contents_of devices) (synced (device_in device (contents_of devices))) → Happens shape (w None) (Step o.actor) what [] (state_of n devices' (Some new))
   syncs alloc Metadata what next e t r c d = rw e (record {
     chosen = Begins (Begun alloc alloc);
     may = busy n o _ h (sym next, (refl, refl, refl));
-    leads = next_state _ _ _ _ d r c t ∙ sym (leads (Device (Sync Metadata)) Done (Begins (Begun alloc alloc)) (λ job step. device_done {P = Unit {0}} {A = Global} job step (Begins (Begun alloc alloc))));
+    leads = next_state _ _ _ _ d r c t ∙ sym (leads None (Device (Sync Metadata)) Done (Begins (Begun alloc alloc)) (λ job step. device_done {P = Unit {0}} {A = Global} job step (Begins (Begun alloc alloc))));
   })
   syncs alloc Cache what next e t r c d = rw e (record {
     chosen = Plain;
     may = busy n o _ h (sym next, ((refl, refl), refl));
-    leads = next_state _ _ _ _ d r c t ∙ sym (leads (Device (Sync Cache)) Done Plain (λ job step. device_done {P = Unit {0}} {A = Global} job step Plain));
+    leads = next_state _ _ _ _ d r c t ∙ sym (leads None (Device (Sync Cache)) Done Plain (λ job step. device_done {P = Unit {0}} {A = Global} job step Plain));
   })
   syncs alloc Origin what next e t r c d = rw e (record {
     chosen = Plain;
     may = busy n o _ h (sym next, ((refl, refl), refl));
-    leads = next_state _ _ _ _ d r c t ∙ sym (leads (Device (Sync Origin)) Done Plain (λ job step. device_done {P = Unit {0}} {A = Global} job step Plain));
+    leads = next_state _ _ _ _ d r c t ∙ sym (leads None (Device (Sync Origin)) Done Plain (λ job step. device_done {P = Unit {0}} {A = Global} job step Plain));
   })
 
-  pub fails : (choice : Choice) (step : DeviceStep) (what : What) → device_step_of (want o.task) ≡ Some step → want o.task ≡ Device step → what ≡ Stepped (Device step) Fault → MayFail (device_of step) choice (length (device_in (device_of step) (contents_of devices))) → new.task ≡ after o.task Fault → new.opening.reading ≡ reading_failed (device_of step) o.opening.reading → new.opening.commit ≡ None →
-      contents_of devices' ≡ failed_by step choice (contents_of devices) → Happens shape w (FaultStep o.actor choice) what [] (state_of n devices' (Some new))
-  fails choice (ReadMetadata left) what kind next e m t r c d = rw e (record {
+  pub fails : (choice : Choice) (step : DeviceStep) (what : What) → step ≢ WriteRoot → device_step_of (want o.task) ≡ Some step → want o.task ≡ Device step → what ≡ Stepped (Device step) Fault → MayFail (device_of step) choice (length (device_in (device_of step) (contents_of devices))) → new.task ≡ after o.task Fault → new.opening.reading ≡ reading_failed (device_of step) o.opening.reading → new.opening.commit ≡ None →
+      FailsOn None step choice (contents_of devices) (contents_of devices') → Happens shape (w None) (FaultStep o.actor choice) what [] (state_of n devices' (Some new))
+  fails choice (ReadMetadata left) what other kind next e m t r c d = rw e (record {
     chosen = Plain;
     may = (refl, refl, busy n o _ h (sym next, m, (refl, refl)));
-    leads = next_state _ _ _ _ d r c t ∙ sym (leads (Device (ReadMetadata left)) Fault Plain (λ job step. device_failed {P = Unit {0}} {A = Global} (lands Metadata choice) job step Plain));
+    leads = next_state _ _ _ _ d r c t ∙ sym (leads None (Device (ReadMetadata left)) Fault Plain (λ job step. device_failed {P = Unit {0}} {A = Global} (lands Metadata choice) job step Plain));
   })
-  fails choice (Sync Metadata) what kind next e m t r c d = rw e (record {
+  fails choice (Sync Metadata) what other kind next e m t r c d = rw e (record {
     chosen = Plain;
     may = (refl, refl, busy n o _ h (sym next, m, (refl, tt)));
-    leads = next_state _ _ _ _ d r c t ∙ sym (leads (Device (Sync Metadata)) Fault Plain (λ job step. device_failed {P = Unit {0}} {A = Global} (lands Metadata choice) job step Plain));
+    leads = next_state _ _ _ _ d r c t ∙ sym (leads None (Device (Sync Metadata)) Fault Plain (λ job step. device_failed {P = Unit {0}} {A = Global} (lands Metadata choice) job step Plain));
   })
-  fails choice (Sync Cache) what kind next e m t r c d = rw e (record {
+  fails choice (Sync Cache) what other kind next e m t r c d = rw e (record {
     chosen = Plain;
     may = (refl, refl, busy n o _ h (sym next, m, refl));
-    leads = next_state _ _ _ _ d r c t ∙ sym (leads (Device (Sync Cache)) Fault Plain (λ job step. device_failed {P = Unit {0}} {A = Global} (lands Cache choice) job step Plain));
+    leads = next_state _ _ _ _ d r c t ∙ sym (leads None (Device (Sync Cache)) Fault Plain (λ job step. device_failed {P = Unit {0}} {A = Global} (lands Cache choice) job step Plain));
   })
-  fails choice (Sync Origin) what kind next e m t r c d = rw e (record {
+  fails choice (Sync Origin) what other kind next e m t r c d = rw e (record {
     chosen = Plain;
     may = (refl, refl, busy n o _ h (sym next, m, refl));
-    leads = next_state _ _ _ _ d r c t ∙ sym (leads (Device (Sync Origin)) Fault Plain (λ job step. device_failed {P = Unit {0}} {A = Global} (lands Origin choice) job step Plain));
+    leads = next_state _ _ _ _ d r c t ∙ sym (leads None (Device (Sync Origin)) Fault Plain (λ job step. device_failed {P = Unit {0}} {A = Global} (lands Origin choice) job step Plain));
   })
-  fails choice step what kind next e m t r c d = absurd (cc)
+  fails choice WriteRoot what other kind next e m t r c d = absurd (other refl)
+  fails choice step what other kind next e m t r c d = absurd (cc)
 
   pub reads : (left : ℕ) (was : ReadSteps Global) (got : Got) (what : What) → want o.task ≡ Device (ReadMetadata left) → what ≡ Stepped (Device (ReadMetadata left)) got → o.opening.reading ≡ Some was →
-      DoesRead {P = Unit {0}} shape.geometry left was devices.metadata.contents None got (Reaches new.opening.reading new.opening.commit) → new.task ≡ after o.task got → contents_of devices' ≡ contents_of devices → Happens shape w (Step o.actor) what [] (state_of n devices' (Some new))
+      DoesRead {P = Unit {0}} shape.geometry left was devices.metadata.contents None got (Reaches new.opening.reading new.opening.commit) → new.task ≡ after o.task got → contents_of devices' ≡ contents_of devices → Happens shape (w None) (Step o.actor) what [] (state_of n devices' (Some new))
   reads left was got what next e present does t d = rw e (record {
     chosen = Reaches new.opening.reading new.opening.commit;
     may = busy n o _ h (sym next, (refl, refl, of_reading o.opening.reading present));
-    leads = next_state _ _ _ _ d refl refl t ∙ sym (leads (Device (ReadMetadata left)) got (Reaches new.opening.reading new.opening.commit) (λ job step. device_done {P = Unit {0}} {A = Global} job step (Reaches new.opening.reading new.opening.commit)));
+    leads = next_state _ _ _ _ d refl refl t ∙ sym (leads None (Device (ReadMetadata left)) got (Reaches new.opening.reading new.opening.commit) (λ job step. device_done {P = Unit {0}} {A = Global} job step (Reaches new.opening.reading new.opening.commit)));
   })
     where
       of_reading : (reading : Option (ReadSteps Global)) → reading ≡ Some was → OfReading {P = Unit {0}} (Opens Writeback reading) (λ mode r. DoesRead {P = Unit {0}} shape.geometry left r devices.metadata.contents None got (Reaches new.opening.reading new.opening.commit))
       of_reading reading e = subst (λ x. OfReading {P = Unit {0}} (Opens Writeback x) (λ mode r. DoesRead {P = Unit {0}} shape.geometry left r devices.metadata.contents None got (Reaches new.opening.reading new.opening.commit))) (sym e) does
 
--- where no commit runs
-pub at_none : (n : ℕ) (devices : Devices Memory) (o : Opener) (P : Now → Type 0) → o.opening.commit ≡ None → P (record { devices = contents_of devices; commit = None; phase = phase_of (Some o); actors = actors_of n (Some o) }) → P (state_of n devices (Some o))
-at_none n devices o P none p = subst (λ (c : Option RunningCommit). P (record { devices = contents_of devices; commit = c; phase = phase_of (Some o); actors = actors_of n (Some o) })) (sym none) p
+  -- the root is written
+  pub puts : (c : RunningCommit) (what : What) → want o.task ≡ Device WriteRoot → what ≡ Stepped (Device WriteRoot) Done → goes_on (length devices.metadata.contents) c.image c.steps WriteRoot ≡ true →
+      DoesStep c.image c.steps devices.metadata.contents devices'.metadata.contents → new.task ≡ after o.task Done → new.opening.reading ≡ o.opening.reading → new.opening.commit ≡ Some (record c { steps = steps_after c.image c.steps }) →
+      contents_of devices' ≡ record (contents_of devices) { metadata = devices'.metadata.contents } → Happens shape (w (Some c)) (Step o.actor) what [] (state_of n devices' (Some new))
+  puts c what next e on does t r k d = rw e (record {
+    chosen = Puts devices'.metadata.contents;
+    may = busy n o _ h (sym next, (refl, refl, (on, does)));
+    leads = next_state _ _ _ _ d r k t ∙ sym (leads (Some c) (Device WriteRoot) Done (Puts devices'.metadata.contents) (λ job step. device_done {P = Unit {0}} {A = Global} job step (Puts devices'.metadata.contents)));
+  })
+
+  -- it is durable
+  pub settles : (c : RunningCommit) (what : What) → want o.task ≡ Device (Sync Metadata) → what ≡ Stepped (Device (Sync Metadata)) Done → goes_on (length devices.metadata.contents) c.image c.steps (Sync Metadata) ≡ true →
+      new.task ≡ after o.task Done → new.opening.reading ≡ o.opening.reading → new.opening.commit ≡ Some (record c { steps = steps_after c.image c.steps }) →
+      contents_of devices' ≡ record (contents_of devices) { metadata = synced devices.metadata.contents } → Happens shape (w (Some c)) (Step o.actor) what [] (state_of n devices' (Some new))
+  settles c what next e on t r k d = rw e (record {
+    chosen = Plain;
+    may = busy n o _ h (sym next, (refl, refl, (on, refl)));
+    leads = next_state _ _ _ _ d r k t ∙ sym (leads (Some c) (Device (Sync Metadata)) Done Plain (λ job step. device_done {P = Unit {0}} {A = Global} job step Plain));
+  })
+
+  -- its write fails, having landed or not
+  pub fails_to_put : (choice : Choice) (c : RunningCommit) (what : What) → want o.task ≡ Device WriteRoot → what ≡ Stepped (Device WriteRoot) Fault → goes_on (length devices.metadata.contents) c.image c.steps WriteRoot ≡ true →
+      MayFail Metadata choice (length devices.metadata.contents) →
+      LandedOr (lands Metadata choice (sector_put (coming_step c.image c.steps))) (DoesStep c.image c.steps devices.metadata.contents devices'.metadata.contents) (devices'.metadata.contents ≡ devices.metadata.contents) →
+      new.task ≡ after o.task Fault → new.opening.reading ≡ None → new.opening.commit ≡ None →
+      contents_of devices' ≡ record (contents_of devices) { metadata = devices'.metadata.contents } → Happens shape (w (Some c)) (FaultStep o.actor choice) what [] (state_of n devices' (Some new))
+  fails_to_put choice c what next e on m landed t r k d = rw e (record {
+    chosen = Puts devices'.metadata.contents;
+    may = (refl, refl, busy n o _ h (sym next, m, (on, landed)));
+    leads = next_state _ _ _ _ d r k t ∙ sym (leads (Some c) (Device WriteRoot) Fault (Puts devices'.metadata.contents) (λ job step. device_failed {P = Unit {0}} {A = Global} (lands Metadata choice) job step (Puts devices'.metadata.contents)));
+  })
+
+  -- its sync fails
+  pub fails_to_settle : (choice : Choice) (c : RunningCommit) (what : What) → want o.task ≡ Device (Sync Metadata) → what ≡ Stepped (Device (Sync Metadata)) Fault → goes_on (length devices.metadata.contents) c.image c.steps (Sync Metadata) ≡ true →
+      MayFail Metadata choice (length devices.metadata.contents) → new.task ≡ after o.task Fault → new.opening.reading ≡ None → new.opening.commit ≡ None →
+      contents_of devices' ≡ record (contents_of devices) { metadata = synced_where (lands Metadata choice) devices.metadata.contents } → Happens shape (w (Some c)) (FaultStep o.actor choice) what [] (state_of n devices' (Some new))
+  fails_to_settle choice c what next e on m t r k d = rw e (record {
+    chosen = Plain;
+    may = (refl, refl, busy n o _ h (sym next, m, ((refl, (on, tt)))));
+    leads = next_state _ _ _ _ d r k t ∙ sym (leads (Some c) (Device (Sync Metadata)) Fault Plain (λ job step. device_failed {P = Unit {0}} {A = Global} (lands Metadata choice) job step Plain));
+  })
+
+-- where this commit runs
+pub at_commit : (n : ℕ) (devices : Devices Memory) (o : Opener) (P : Now → Type 0) (commit : Option RunningCommit) → o.opening.commit ≡ commit → P (record { devices = contents_of devices; commit = commit; phase = phase_of (Some o); actors = actors_of n (Some o) }) → P (state_of n devices (Some o))
+at_commit n devices o P commit is p = subst (λ (c : Option RunningCommit). P (record { devices = contents_of devices; commit = c; phase = phase_of (Some o); actors = actors_of n (Some o) })) (sym is) p
 
 -- its answer, which is a refusal
 pub refused : (shape : Shape) (n : ℕ) (devices : Devices Memory) (o : Opener) → o.actor < n → (refusal : Refusal) (what : What) → want o.task ≡ End (Refuses refusal) → what ≡ Stepped (End (Refuses refusal)) Done →
@@ -264,7 +310,11 @@ stops shape n devices devices' o choice what m d e = rw e (record {
   leads = rw (d, all_rest n o) refl;
 })
 
-on_true : {P : Type 0} (b : Bool) → b ≡ true → OnTrue b P → P
+pub on_false : {P : Type 0} (b : Bool) → b ≡ false → OnFalse b P → P
+on_false false e h = h
+on_false true e h = absurd (cc)
+
+pub on_true : {P : Type 0} (b : Bool) → b ≡ true → OnTrue b P → P
 on_true true e h = h
 on_true false e h = absurd (cc)
 
@@ -279,6 +329,7 @@ crashes device choice d0 d1 d2 b same applies stops crashed_so =
 pub is_device_step : (next : Want) (step : DeviceStep) → device_step_of next ≡ Some step → next ≡ Device step
 is_device_step (Device (Sync device)) step e = let same : Sync device ≡ step = cc in ap (λ s. Device s) same
 is_device_step (Device (ReadMetadata left)) step e = let same : ReadMetadata left ≡ step = cc in ap (λ s. Device s) same
+is_device_step (Device WriteRoot) step e = let same : WriteRoot ≡ step = cc in ap (λ s. Device s) same
 is_device_step next step e = absurd (cc)
 
 pub refuses : (next : Want) → is_refusal next ≡ true → (refusal : Refusal) × (next ≡ End (Refuses refusal))

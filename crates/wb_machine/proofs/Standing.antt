@@ -1,5 +1,5 @@
 -- Where an opening stands after a step.
-use Rattle.std.proofs.Common.{◌≡◌, ◌≤◌, ◌⊎◌, ◌+◌, ◌-◌, inl, inr, ℕ, List, Option, Some, None, refl, sym, ap, subst, ◌∙◌, arith, length}
+use Rattle.std.proofs.Common.{◌≡◌, ◌≢◌, ◌≤◌, ◌⊎◌, ◌+◌, ◌-◌, inl, inr, ℕ, Bool, true, false, List, Option, Some, None, refl, sym, ap, subst, ◌∙◌, arith, length}
 use Rattle.std.specs.declared.alloc.Global.{Global}
 use Rattle.wb_types.specs.declared.geometry.Geometry.{Geometry}
 use Rattle.wb_types.specs.declared.mode.Dev.{Dev}
@@ -13,20 +13,27 @@ use Rattle.wb_disk.proofs.FailedSyncs.{length-synced_from}
 use Rattle.wb_devices.specs.declared.devices.Devices.{Devices}
 use Rattle.wb_meta.specs.Reads.{AreStepsOn, IsDone, ReadingGoesOn, ReadOneMore, StopsBy, sectors_read}
 use Rattle.wb_meta.specs.States.{CountsFault, IsOfReading}
+use Rattle.wb_format.specs.declared.root.Root.{Root}
+use Rattle.wb_meta.specs.Openings.{IsOpening}
+use Rattle.wb_meta.specs.Steps.{slot_of}
+use Rattle.wb_meta.specs.declared.commit_steps.CommitSteps.{CommitSteps}
+use Rattle.wb_meta.specs.declared.commit_steps.CommitSteps.TheVariants.{NodesSynced, RootWritten, Done as Committed}
 use Rattle.wb_meta.specs.declared.read_steps.ReadSteps.{ReadSteps}
+use Rattle.wb_meta.specs.declared.read_steps.ReadSteps.TheVariants.{Begun, FirstSlotRead, RootFound, Done as AllRead}
 use Rattle.wb_meta.proofs.Counting.{read-sectors}
+use Rattle.wb_meta.proofs.Histories.{length-written}
 use Rattle.wb_tasks.specs.Plan.{Plan, want, after}
 use Rattle.wb_tasks.specs.declared.step.DeviceStep.{DeviceStep}
-use Rattle.wb_tasks.specs.declared.step.DeviceStep.TheVariants.{Sync, ReadMetadata}
+use Rattle.wb_tasks.specs.declared.step.DeviceStep.TheVariants.{Sync, ReadMetadata, WriteRoot}
 use Rattle.wb_tasks.specs.declared.step.Want.TheVariants.{Device}
 use Rattle.wb_tasks.specs.declared.step.Got.{Got}
 use Rattle.wb_tasks.specs.declared.step.Got.TheVariants.{Done, Fault, Refused, More}
-use Rattle.wb_devices.specs.Opened.{DidTell, HasCome, HasGeneration as DevicesGeneration, got_of_refusal}
+use Rattle.wb_devices.specs.Opened.{DidTell, HasCome, HasNextRoot, IsOf, HasGeneration as DevicesGeneration, got_of_refusal}
 use Rattle.wb_devices.specs.declared.opening.Opening.{Opening}
 use Rattle.wb_devices.specs.declared.running.RunningCommit.{RunningCommit}
-use Rattle.wb_runs.specs.Happenings.{Reaches, DoesRead, HasGeneration}
-use Rattle.wb_machine.specs.Life.{device_step_of, failed_by, reading_synced}
-use Rattle.wb_machine.specs.Standing.{Point, AtMetadata, AtCache, AtOrigin, AtRead, AtRoot, AtRefusal, plan_from, HasComeTo, IsReading, StandsAt}
+use Rattle.wb_runs.specs.Happenings.{Reaches, DoesRead, HasGeneration, LandedOr}
+use Rattle.wb_machine.specs.Life.{FailsOn, MayPutCommitted, PutsRoot, commit_synced, commit_written, device_step_of, reading_synced}
+use Rattle.wb_machine.specs.Standing.{Point, AtMetadata, AtCache, AtOrigin, AtRead, AtRoot, AtRootSync, AtEnd, AtRefusal, plan_from, HasComeTo, HasReadAll, IsReading, StandsAt}
 
 -- ---- at a sync
 
@@ -35,17 +42,24 @@ reading_alone : (g : Geometry) (left : ℕ) (reading : Option (ReadSteps Global)
 reading_alone g left None commit at = absurd at
 reading_alone g left (Some was) commit at = at.0
 
-alone_at : (g : Geometry) (point : Point) (step : DeviceStep) → device_step_of (want (plan_from g.meta_sectors point)) ≡ Some step → (reading : Option (ReadSteps Global)) (commit : Option RunningCommit) → HasComeTo g point reading commit → commit ≡ None
-alone_at g AtMetadata step e reading commit come = come
-alone_at g AtCache step e reading commit come = reading_alone g g.meta_sectors reading commit come
-alone_at g AtOrigin step e reading commit come = reading_alone g g.meta_sectors reading commit come
-alone_at g (AtRead left) step e reading commit come = reading_alone g left reading commit come
-alone_at g AtRoot step e reading commit come = absurd (cc)
-alone_at g (AtRefusal refusal) step e reading commit come = absurd (cc)
+-- Before all was read no commit runs, and the root is not written; then it is the root's, which is written, and made durable.
+abbrev pub Finds : Geometry → DeviceStep → Option (ReadSteps Global) → Option RunningCommit → Type 0
+Finds g step reading commit = ((commit ≡ None) × (step ≢ WriteRoot))
+    ⊎ (((step ≡ WriteRoot) × HasReadAll g NodesSynced reading commit) ⊎ ((step ≡ Sync Metadata) × HasReadAll g RootWritten reading commit))
 
--- no commit runs at a sync or a read
-pub alone : (g : Geometry) (plan : Plan) (opening : Opening) (step : DeviceStep) → StandsAt g plan opening → device_step_of (want plan) ≡ Some step → opening.commit ≡ None
-alone g plan opening step at e = alone_at g at.point step (ap (λ p. device_step_of (want p)) (sym at.plan_is) ∙ e) opening.reading opening.commit at.come
+finds_at : (g : Geometry) (point : Point) (step : DeviceStep) → device_step_of (want (plan_from g.meta_sectors point)) ≡ Some step → (reading : Option (ReadSteps Global)) (commit : Option RunningCommit) → HasComeTo g point reading commit → Finds g step reading commit
+finds_at g AtMetadata step e reading commit come = inl (come, λ root. cc)
+finds_at g AtCache step e reading commit come = inl (reading_alone g g.meta_sectors reading commit come, λ root. cc)
+finds_at g AtOrigin step e reading commit come = inl (reading_alone g g.meta_sectors reading commit come, λ root. cc)
+finds_at g (AtRead left) step e reading commit come = inl (reading_alone g left reading commit come, λ root. cc)
+finds_at g AtRoot step e reading commit come = let same : WriteRoot ≡ step = cc in inr (inl (sym same, come))
+finds_at g AtRootSync step e reading commit come = let same : Sync Metadata ≡ step = cc in inr (inr (sym same, come))
+finds_at g AtEnd step e reading commit come = absurd (cc)
+finds_at g (AtRefusal refusal) step e reading commit come = absurd (cc)
+
+-- what a step on a device finds
+pub finds : (g : Geometry) (plan : Plan) (opening : Opening) (step : DeviceStep) → StandsAt g plan opening → device_step_of (want plan) ≡ Some step → Finds g step opening.reading opening.commit
+finds g plan opening step at e = finds_at g at.point step (ap (λ p. device_step_of (want p)) (sym at.plan_is) ∙ e) opening.reading opening.commit at.come
 
 record Goes (g : Geometry) (point : Point) (got : Got) (reading : Option (ReadSteps Global)) (commit : Option RunningCommit) : Type 0 where
   pub next : Point
@@ -55,13 +69,27 @@ record Goes (g : Geometry) (point : Point) (got : Got) (reading : Option (ReadSt
 goes_on : (g : Geometry) (plan : Plan) (opening new : Opening) (plan' : Plan) (got : Got) (at : StandsAt g plan opening) → plan' ≡ after plan got → new.geometry ≡ opening.geometry → Goes g at.point got new.reading new.commit → StandsAt g plan' new
 goes_on g plan opening new plan' got at p q goes = record { point = goes.next; plan_is = p ∙ ap (λ x. after x got) at.plan_is ∙ goes.plan; geometry = q ∙ at.geometry; come = goes.come }
 
-synced_from : (g : Geometry) (point : Point) (device : Dev) → want (plan_from g.meta_sectors point) ≡ Device (Sync device) → (alloc : Global) (reading : Option (ReadSteps Global)) (commit : Option RunningCommit) → HasComeTo g point reading commit → Goes g point Done (reading_synced alloc device reading) commit
-synced_from g AtMetadata Metadata e alloc reading commit come = record { next = AtCache; plan = refl; come = (come, (λ d. d), tt, omega arith) }
+-- the commit of the root goes on
+gone_on : (g : Geometry) (steps steps' : CommitSteps) (reading : Option (ReadSteps Global)) (commit : Option RunningCommit) (all : HasReadAll g steps reading commit) → HasReadAll g steps' reading (Some (record all.next { steps = steps' }))
+gone_on g steps steps' reading commit all = record {
+  state = all.state;
+  reading_is = all.reading_is;
+  fits = all.fits;
+  geometry = all.geometry;
+  next = record all.next { steps = steps' };
+  commit_is = refl;
+  opens = all.opens;
+  steps_are = refl;
+}
+
+synced_from : (g : Geometry) (point : Point) (device : Dev) → want (plan_from g.meta_sectors point) ≡ Device (Sync device) → (alloc : Global) (reading : Option (ReadSteps Global)) (commit : Option RunningCommit) → HasComeTo g point reading commit → Goes g point Done (reading_synced alloc device commit reading) (commit_synced device commit)
+synced_from g AtMetadata Metadata e alloc reading commit come = rw come (record { next = AtCache; plan = refl; come = (refl, (λ d. d), tt, omega arith) })
 synced_from g AtCache Cache e alloc reading commit come = record { next = AtOrigin; plan = refl; come = come }
 synced_from g AtOrigin Origin e alloc reading commit come = record { next = AtRead g.meta_sectors; plan = refl; come = come }
+synced_from g AtRootSync Metadata e alloc reading commit come = rw come.commit_is (record { next = AtEnd; plan = refl; come = gone_on g RootWritten Committed reading commit come })
 synced_from g point device e alloc reading commit come = absurd (cc)
 
-pub synced_stands : (g : Geometry) (plan : Plan) (opening new : Opening) (plan' : Plan) (alloc : Global) (device : Dev) → StandsAt g plan opening → want plan ≡ Device (Sync device) → plan' ≡ after plan Done → new.geometry ≡ opening.geometry → new.commit ≡ opening.commit → new.reading ≡ reading_synced alloc device opening.reading → StandsAt g plan' new
+pub synced_stands : (g : Geometry) (plan : Plan) (opening new : Opening) (plan' : Plan) (alloc : Global) (device : Dev) → StandsAt g plan opening → want plan ≡ Device (Sync device) → plan' ≡ after plan Done → new.geometry ≡ opening.geometry → new.commit ≡ commit_synced device opening.commit → new.reading ≡ reading_synced alloc device opening.commit opening.reading → StandsAt g plan' new
 synced_stands g plan opening new plan' alloc device at next p q c r =
     goes_on g plan opening new plan' Done at p q (rw (c, r) (synced_from g at.point device (ap want (sym at.plan_is) ∙ next) alloc opening.reading opening.commit at.come))
 
@@ -72,19 +100,42 @@ failed_from g AtMetadata step e reading commit = record { next = AtRefusal (Io M
 failed_from g AtCache step e reading commit = record { next = AtRefusal (Io Cache); plan = refl; come = tt }
 failed_from g AtOrigin step e reading commit = record { next = AtRefusal (Io Origin); plan = refl; come = tt }
 failed_from g (AtRead left) step e reading commit = record { next = AtRefusal (Io Metadata); plan = refl; come = tt }
-failed_from g AtRoot step e reading commit = absurd (cc)
+failed_from g AtRoot step e reading commit = record { next = AtRefusal (Io Metadata); plan = refl; come = tt }
+failed_from g AtRootSync step e reading commit = record { next = AtRefusal (Io Metadata); plan = refl; come = tt }
+failed_from g AtEnd step e reading commit = absurd (cc)
 failed_from g (AtRefusal refusal) step e reading commit = absurd (cc)
 
 pub failed_stands : (g : Geometry) (plan : Plan) (opening new : Opening) (plan' : Plan) (step : DeviceStep) → StandsAt g plan opening → device_step_of (want plan) ≡ Some step → plan' ≡ after plan Fault → new.geometry ≡ opening.geometry → StandsAt g plan' new
 failed_stands g plan opening new plan' step at next p q =
     goes_on g plan opening new plan' Fault at p q (failed_from g at.point step (ap (λ x. device_step_of (want x)) (sym at.plan_is) ∙ next) new.reading new.commit)
 
+landed_size : (landed : Bool) (root : Root) (old new : List History) → LandedOr landed (PutsRoot root old new) (new ≡ old) → length new ≡ length old
+landed_size true root old new put = ap length put.wrote ∙ length-written old (slot_of root).0 put.content
+landed_size false root old new same = ap length same
+
 -- the metadata device keeps its size
-pub failed_size : (step : DeviceStep) (choice : Choice) (devices : Devices (List History)) → length (failed_by step choice devices).metadata ≡ length devices.metadata
-failed_size (Sync Metadata) choice devices = length-synced_from (lands Metadata choice) 0 devices.metadata
-failed_size (Sync Cache) choice devices = refl
-failed_size (Sync Origin) choice devices = refl
-failed_size step choice devices = refl
+pub failed_size : (g : Geometry) (commit : Option RunningCommit) (step : DeviceStep) (reading : Option (ReadSteps Global)) (choice : Choice) (old new : Devices (List History)) → Finds g step reading commit → FailsOn commit step choice old new → length new.metadata ≡ length old.metadata
+failed_size g commit (Sync Metadata) reading choice old new found failed = ap (λ (d : Devices (List History)). length d.metadata) failed ∙ length-synced_from (lands Metadata choice) 0 old.metadata
+failed_size g commit (Sync Cache) reading choice old new found failed = ap (λ (d : Devices (List History)). length d.metadata) failed
+failed_size g commit (Sync Origin) reading choice old new found failed = ap (λ (d : Devices (List History)). length d.metadata) failed
+failed_size g commit WriteRoot reading choice old new found failed = elim found [
+  | inl none ↦ absurd (none.1 refl)
+  | inr root ↦ elim root [
+    | inl write ↦ landed_size (lands Metadata choice (slot_of write.1.next.image.root).0) write.1.next.image.root old.metadata new.metadata (subst (λ (c : Option RunningCommit). MayPutCommitted c choice old.metadata new.metadata) write.1.commit_is failed.0)
+    | inr sync ↦ absurd (cc)
+  ]
+]
+failed_size g commit step reading choice old new found failed = ap (λ (d : Devices (List History)). length d.metadata) failed
+
+-- ---- at the root
+
+roots_from : (g : Geometry) (point : Point) → want (plan_from g.meta_sectors point) ≡ Device WriteRoot → (reading : Option (ReadSteps Global)) (commit : Option RunningCommit) → HasComeTo g point reading commit → Goes g point Done reading (commit_written commit)
+roots_from g AtRoot e reading commit come = rw come.commit_is (record { next = AtRootSync; plan = refl; come = gone_on g NodesSynced RootWritten reading commit come })
+roots_from g point e reading commit come = absurd (cc)
+
+pub written_stands : (g : Geometry) (plan : Plan) (opening new : Opening) (plan' : Plan) → StandsAt g plan opening → want plan ≡ Device WriteRoot → plan' ≡ after plan Done → new.geometry ≡ opening.geometry → new.commit ≡ commit_written opening.commit → new.reading ≡ opening.reading → StandsAt g plan' new
+written_stands g plan opening new plan' at next p q c r =
+    goes_on g plan opening new plan' Done at p q (rw (c, r) (roots_from g at.point (ap want (sym at.plan_is) ∙ next) opening.reading opening.commit at.come))
 
 -- ---- at a read
 
@@ -187,9 +238,24 @@ module _ (g : Geometry) (left : ℕ) (was : ReadSteps Global) (device : List His
     come = subst (λ x. IsReading g (left - 1) x commit') (sym a) (c, more, on, omega (arith, one, left_is, some));
   }
 
+  all_read : (now : ReadSteps Global) → AreStepsOn g.meta_sectors now → after' ≡ Some now → IsOf g now → HasNextRoot now commit' → HasReadAll g NodesSynced after' commit'
+  all_read (AllRead state) on is fits root = record {
+    state = state;
+    reading_is = is;
+    fits = on;
+    geometry = fits state.root refl;
+    next = root.next;
+    commit_is = root.commit_is;
+    opens = subst (λ (r : Root). IsOpening root.next.image r) (let same : root.root ≡ state.root = cc in same) root.opens;
+    steps_are = root.steps;
+  }
+  all_read (Begun alloc global) on is fits root = absurd root.is_done
+  all_read (FirstSlotRead alloc global first) on is fits root = absurd root.is_done
+  all_read (RootFound global known loader) on is fits root = absurd root.is_done
+
   goes_more : (other : Got) → got ≡ other → (now : ReadSteps Global) → AreStepsOn g.meta_sectors now → sectors_read now ≡ sectors_read was + 1 → (other ≡ More → ¬ IsDone now) → HasCome g left now None other after' commit' → (other ≡ Fault → ⊥) → Goes g (AtRead left) other after' commit'
   goes_more More e now on one more come fault = more_on now on one (more refl) come.0 come.1 come.3
-  goes_more Done e now on one more come fault = record { next = AtRoot; plan = refl; come = tt }
+  goes_more Done e now on one more come fault = record { next = AtRoot; plan = refl; come = all_read now on come.0 come.1 come.2 }
   goes_more (Refused refusal) e now on one more come fault = record { next = AtRefusal refusal; plan = refl; come = tt }
   goes_more Fault e now on one more come fault = absurd (fault refl)
   goes_more other e now on one more come fault = absurd come

@@ -10,7 +10,11 @@ use Rattle.wb_disk.specs.Memory.{Memory}
 use Rattle.wb_disk.specs.Crash.{Choice}
 use Rattle.wb_disk.specs.Failing.{lands, synced_where}
 use Rattle.wb_words.specs.Cards.{blank_card}
+use Rattle.wb_format.specs.Layout.{SpellsRoot}
+use Rattle.wb_format.specs.declared.root.Root.{Root}
 use Rattle.wb_meta.specs.Formats.{IsFormatted}
+use Rattle.wb_meta.specs.Steps.{Puts, slot_of}
+use Rattle.wb_meta.specs.declared.commit_steps.CommitSteps.TheVariants.{RootWritten, Done as Committed}
 use Rattle.wb_meta.specs.declared.read_steps.ReadSteps.{ReadSteps}
 use Rattle.wb_meta.specs.declared.read_steps.ReadSteps.TheVariants.{Begun}
 use Rattle.wb_desk.specs.Opening.{threshold_of}
@@ -20,7 +24,7 @@ use Rattle.wb_devices.specs.declared.running.RunningCommit.{RunningCommit}
 use Rattle.wb_tasks.specs.Plan.{Plan, want}
 use Rattle.wb_tasks.specs.declared.step.Answer.TheVariants.{Refused as Refuses}
 use Rattle.wb_tasks.specs.declared.step.DeviceStep.{DeviceStep}
-use Rattle.wb_tasks.specs.declared.step.DeviceStep.TheVariants.{Sync, ReadMetadata}
+use Rattle.wb_tasks.specs.declared.step.DeviceStep.TheVariants.{Sync, ReadMetadata, WriteRoot}
 use Rattle.wb_tasks.specs.declared.step.Want.{Want}
 use Rattle.wb_tasks.specs.declared.step.Want.TheVariants.{Device, End}
 use Rattle.wb_runs.specs.declared.job.Job.{Job}
@@ -30,7 +34,7 @@ use Rattle.wb_runs.specs.declared.event.Event.TheVariants.{Step, FaultStep}
 use Rattle.wb_runs.specs.declared.event.What.{What}
 use Rattle.wb_runs.specs.declared.event.Record.{Record}
 use Rattle.wb_runs.specs.States.{Shape, State, Actor, Phase, Gone, Opens, resting, start, with_device}
-use Rattle.wb_runs.specs.Happenings.{Chosen, Happening, AtWork, MayBe, May}
+use Rattle.wb_runs.specs.Happenings.{Chosen, Happening, AtWork, LandedOr, MayBe, May}
 use Rattle.wb_runs.specs.Effects.{after_what, after_happening, after_all, IsRun, records_of}
 use Rattle.wb_machine.specs.declared.opener.Opener.{Opener}
 
@@ -91,19 +95,49 @@ abbrev pub is_opening : Job → Bool
 is_opening (Open Writeback) = true
 is_opening job = false
 
--- Once the metadata are durable a reading of them begins; where they are not, it is over.
-abbrev pub reading_synced : Global → Dev → Option (ReadSteps Global) → Option (ReadSteps Global)
-reading_synced alloc Metadata reading = Some (Begun alloc alloc)
-reading_synced alloc device reading = reading
+-- Once the metadata are durable a reading of them begins; once the root is that was written, what was read stays. Where they are
+-- not, it is over.
+abbrev pub reading_synced : Global → Dev → Option RunningCommit → Option (ReadSteps Global) → Option (ReadSteps Global)
+reading_synced alloc Metadata None reading = Some (Begun alloc alloc)
+reading_synced alloc device commit reading = reading
 
 abbrev pub reading_failed : Dev → Option (ReadSteps Global) → Option (ReadSteps Global)
 reading_failed Metadata reading = None
 reading_failed device reading = reading
 
--- What a step that fails leaves of the devices: a sync has landed where the choice says so, one that reads changes nothing.
-abbrev pub failed_by : DeviceStep → Choice → Devices (List History) → Devices (List History)
-failed_by (Sync device) choice devices = with_device device devices (synced_where (lands device choice) (device_in device devices))
-failed_by step choice devices = devices
+-- the commit of the root, once that was written
+abbrev pub commit_written : Option RunningCommit → Option RunningCommit
+commit_written None = None
+commit_written (Some commit) = Some (record commit { steps = RootWritten })
+
+-- and once the metadata are durable
+abbrev pub commit_synced : Dev → Option RunningCommit → Option RunningCommit
+commit_synced Metadata (Some commit) = Some (record commit { steps = Committed })
+commit_synced device commit = commit
+
+-- after a fault on the metadata there is none
+abbrev pub commit_failed : Dev → Option RunningCommit → Option RunningCommit
+commit_failed Metadata commit = None
+commit_failed device commit = commit
+
+-- this root was written to its slot
+abbrev pub PutsRoot : Root → List History → List History → Type 0
+PutsRoot root old new = Puts (λ content. SpellsRoot content root) (slot_of root).0 old new
+
+-- so was that of the commit
+abbrev pub PutsCommitted : Option RunningCommit → List History → List History → Type 0
+PutsCommitted commit old new = IfSome commit (λ running. PutsRoot running.image.root old new)
+
+-- though its write failed, where the choice says so
+abbrev pub MayPutCommitted : Option RunningCommit → Choice → List History → List History → Type 0
+MayPutCommitted commit choice old new = IfSome commit (λ running. LandedOr (lands Metadata choice (slot_of running.image.root).0) (PutsRoot running.image.root old new) (new ≡ old))
+
+-- What a step that fails leaves of the devices: a sync, or the root of the commit, has landed where the choice says so; one that
+-- reads changes nothing.
+abbrev pub FailsOn : Option RunningCommit → DeviceStep → Choice → Devices (List History) → Devices (List History) → Type 0
+FailsOn commit (Sync device) choice old new = new ≡ with_device device old (synced_where (lands device choice) (device_in device old))
+FailsOn commit WriteRoot choice old new = MayPutCommitted commit choice old.metadata new.metadata × (new ≡ record old { metadata = new.metadata })
+FailsOn commit step choice old new = new ≡ old
 
 -- ---- what an event does
 
@@ -132,17 +166,18 @@ pub record IsReached (life : Life) : Type 0 where
 
 -- ---- what it cannot do yet
 
--- the step, if it is a sync or reads metadata: the machine does it, or has it fail
+-- the step, if it is one of an opening on a device: the machine does it, or has it fail
 abbrev pub device_step_of : Want → Option DeviceStep
 device_step_of (Device (Sync device)) = Some (Sync device)
 device_step_of (Device (ReadMetadata left)) = Some (ReadMetadata left)
+device_step_of (Device WriteRoot) = Some WriteRoot
 device_step_of next = None
 
 abbrev pub is_refusal : Want → Bool
 is_refusal (End (Refuses refusal)) = true
 is_refusal next = false
 
--- The next step of the actor that is named is neither a sync, nor one that reads metadata, nor a refusal.
+-- The next step of the actor that is named is neither one on a device, nor a refusal: of an opening, that it is done.
 abbrev pub IsBeyond : Want → Type 0
 IsBeyond next = (device_step_of next ≡ None) × (is_refusal next ≡ false)
 

@@ -83,8 +83,8 @@ impl Machine {
         })
     }
 
-    /// One event. It adds one record, which says what the event did. Where the record wants more memory than there is, or the
-    /// event is a step that the machine cannot do yet, nothing has changed.
+    /// One event. It adds one record, which says what the event did. Where the record or what the step writes wants more memory
+    /// than there is, or the event is a step that the machine cannot do yet, nothing has changed.
     pub fn event(&mut self, event: Event) -> Result<(), Halt>
         ensures ok { OnOk result (GoesOn self.old event self.new) }
         ensures err { OnErr result (self.new ≡ self.old) }
@@ -141,7 +141,7 @@ fn happen(
     ensures sound { IsSound geometry.now devices.new opener.new }
     ensures ok { IfOk result (λ what. Happens (shape_of geometry.now ACTORS) (state_of ACTORS devices.old opener.old) event.now what [] (state_of ACTORS devices.new opener.new)) }
     ensures err { OnErr result ((devices.new ≡ devices.old) × (opener.new ≡ opener.old)) }
-    ensures gap { IfErr result (λ halt. (halt ≡ Beyond) × IsGap (state_of ACTORS devices.old opener.old) event.now) }
+    ensures gap { IfErr result (λ halt. halt ≡ Beyond → IsGap (state_of ACTORS devices.old opener.old) event.now) }
 {
     match event {
         Event::Start(a, job) => Ok(start(geometry, alloc, devices, opener, *a, job)),

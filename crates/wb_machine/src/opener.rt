@@ -1,13 +1,14 @@
-//! An opening at work, and its syncs.
+//! An opening at work, and its steps on devices.
 
-ghost use Rattle.std.specs.Prelude.{◌≡◌, ◌<◌, ◌↔◌, ℕ, [], List, Some, IfSome, IsTrue, length, map, slice_get};
+ghost use Rattle.std.specs.Prelude.{◌≡◌, ◌≤◌, ◌<◌, ◌↔◌, ℕ, [], List, Some, IfSome, IfOk, OnOk, OnErr, IfErr, IsTrue, length, map, slice_get};
 ghost use Rattle.std.specs.declared.alloc.Global.{Global as GlobalValue};
 ghost use Rattle.std.specs.Bool.{OnTrue, OnFalse};
+ghost use Rattle.wb_types.specs.declared.mode.Dev.TheVariants.{Metadata};
 ghost use Rattle.wb_disk.specs.Device.{newest, synced};
 ghost use Rattle.wb_disk.specs.Failing.{MayFail};
 ghost use Rattle.wb_tasks.specs.Plan.{want, after, device_of};
 ghost use Rattle.wb_tasks.specs.declared.step.Got.TheVariants.{Done, Fault};
-ghost use Rattle.wb_tasks.specs.declared.step.DeviceStep.TheVariants.{Sync, ReadMetadata};
+ghost use Rattle.wb_tasks.specs.declared.step.DeviceStep.TheVariants.{Sync, ReadMetadata, WriteRoot};
 ghost use Rattle.wb_meta.specs.Reads.{AreStepsOn, coming_sector};
 ghost use Rattle.wb_meta.specs.declared.read_steps.ReadSteps.{ReadSteps as Steps};
 ghost use Rattle.wb_tasks.specs.declared.step.Want.TheVariants.{Device};
@@ -16,18 +17,21 @@ ghost use Rattle.wb_devices.specs.Opened.{DidTell};
 ghost use Rattle.wb_runs.specs.States.{with_device};
 ghost use Rattle.wb_runs.specs.declared.event.Event.TheVariants.{Step};
 ghost use Rattle.wb_runs.specs.declared.event.What.TheVariants.{Stepped};
-ghost use Rattle.wb_machine.specs.Life.{Happens, contents_of, failed_by, device_step_of, opens, reading_synced, reading_failed, shape_of, state_of};
+ghost use Rattle.wb_machine.specs.declared.halt.Halt.TheVariants.{Memory};
+ghost use Rattle.wb_machine.specs.Life.{FailsOn, Happens, PutsCommitted, commit_failed, commit_synced, commit_written, contents_of, device_step_of, opens, reading_synced, reading_failed, shape_of, state_of};
 ghost use Rattle.wb_machine.specs.Standing.{StandsAt};
 
-use wb_devices::{Devices, Opening};
+use crate::halt::Halt;
+use crate::rooting::{fail_root, put_committed};
+use wb_devices::{Devices, Opening, RunningCommit};
 use wb_disk::{CrashChoice, Disk, MemDisk};
 use wb_flow::OpenTask;
-use wb_meta::ReadSteps;
+use wb_meta::{CommitSteps, ReadSteps};
 use wb_tasks::{DeviceStep, Got, Task};
 use wb_types::{Content, Dev, Geometry, SECTOR_BYTES};
 
 /// Who opens, what is left of the opening, and what was read: the reading begins once the metadata were synced, and is over where
-/// the metadata device has failed.
+/// the metadata device has failed, as is the commit of the root.
 #[derive(Drop)]
 pub struct Opener {
     pub actor: usize,
@@ -36,28 +40,34 @@ pub struct Opener {
 }
 
 impl Opener {
-    /// Its next step, which syncs a device or reads metadata, is done.
+    /// Its next step, on a device, is done. `Memory` where there is none for the root that it writes: nothing has changed.
     pub(crate) fn perform(
         &mut self,
         geometry: &Geometry,
         devices: &mut Devices<MemDisk>,
         step: DeviceStep,
-    ) -> Got
+    ) -> Result<Got, Halt>
         requires next { device_step_of (want self.old.task) ≡ Some step }
         requires whole { length devices.old.metadata.contents ≡ geometry.now.meta_sectors }
         requires stands { StandsAt geometry.now self.old.task self.old.opening }
         ensures actor { self.new.actor ≡ self.old.actor }
         ensures whole { length devices.new.metadata.contents ≡ geometry.now.meta_sectors }
         ensures stands { StandsAt geometry.now self.new.task self.new.opening }
-        ensures does { (actors : ℕ) → self.old.actor < actors → Happens (shape_of geometry.now actors) (state_of actors devices.old (Some self.old)) (Step self.old.actor) (Stepped (Device step) result) [] (state_of actors devices.new (Some self.new)) }
+        ensures does { (actors : ℕ) → self.old.actor < actors → IfOk result (λ got. Happens (shape_of geometry.now actors) (state_of actors devices.old (Some self.old)) (Step self.old.actor) (Stepped (Device step) got) [] (state_of actors devices.new (Some self.new))) }
+        ensures err { OnErr result ((devices.new ≡ devices.old) × (self.new ≡ self.old)) }
+        ensures halt { IfErr result (λ halt. halt ≡ Memory) }
     {
         let _two_slots = geometry.node_count();
         match step {
             DeviceStep::Sync(device) => {
                 self.sync(devices, device);
-                Got::Done
+                Ok(Got::Done)
             }
-            DeviceStep::ReadMetadata(left) => self.read(&mut devices.metadata, left),
+            DeviceStep::ReadMetadata(left) => Ok(self.read(&mut devices.metadata, left)),
+            DeviceStep::WriteRoot => {
+                self.write_root(&mut devices.metadata)?;
+                Ok(Got::Done)
+            }
             _ => unreachable!(),
         }
     }
@@ -68,17 +78,14 @@ impl Opener {
         ensures actor { self.new.actor ≡ self.old.actor }
         ensures task { self.new.task ≡ after self.old.task Done }
         ensures geometry { self.new.opening.geometry ≡ self.old.opening.geometry }
-        ensures commit { self.new.opening.commit ≡ self.old.opening.commit }
-        ensures reading { self.new.opening.reading ≡ reading_synced self.old.opening.alloc device self.old.opening.reading }
+        ensures commit { self.new.opening.commit ≡ commit_synced device self.old.opening.commit }
+        ensures reading { self.new.opening.reading ≡ reading_synced self.old.opening.alloc device self.old.opening.commit self.old.opening.reading }
         ensures devices { contents_of devices.new ≡ with_device device (contents_of devices.old) (synced (device_in device (contents_of devices.old))) }
     {
         match device {
             Dev::Metadata => {
                 let _ = devices.metadata.sync();
-                self.opening.reading = Some(ReadSteps::Begun {
-                    alloc: self.opening.alloc,
-                    global: self.opening.alloc,
-                });
+                self.has_durable_metadata();
             }
             Dev::Cache => {
                 let _ = devices.cache.sync();
@@ -88,6 +95,43 @@ impl Opener {
             }
         }
         self.task.next(Got::Done);
+    }
+
+    /// The metadata are durable: the root that was written, or, before that, what is to be read.
+    fn has_durable_metadata(&mut self)
+        ensures actor { self.new.actor ≡ self.old.actor }
+        ensures task { self.new.task ≡ self.old.task }
+        ensures geometry { self.new.opening.geometry ≡ self.old.opening.geometry }
+        ensures commit { self.new.opening.commit ≡ commit_synced Metadata self.old.opening.commit }
+        ensures reading { self.new.opening.reading ≡ reading_synced self.old.opening.alloc Metadata self.old.opening.commit self.old.opening.reading }
+    {
+        if let Some(running) = &mut self.opening.commit {
+            running.steps = CommitSteps::Done;
+            return;
+        }
+        self.opening.reading = Some(ReadSteps::Begun {
+            alloc: self.opening.alloc,
+            global: self.opening.alloc,
+        });
+    }
+
+    /// Writes the root, as the next step. `Memory` where there is none for it: nothing has changed.
+    fn write_root(&mut self, metadata: &mut MemDisk) -> Result<(), Halt>
+        requires next { want self.old.task ≡ Device WriteRoot }
+        requires slots { 2 ≤ length metadata.old.contents }
+        ensures size { length metadata.new.contents ≡ length metadata.old.contents }
+        ensures actor { self.new.actor ≡ self.old.actor }
+        ensures task { OnOk result (self.new.task ≡ after self.old.task Done) }
+        ensures geometry { self.new.opening.geometry ≡ self.old.opening.geometry }
+        ensures reading { self.new.opening.reading ≡ self.old.opening.reading }
+        ensures commit { OnOk result (self.new.opening.commit ≡ commit_written self.old.opening.commit) }
+        ensures puts { OnOk result (PutsCommitted self.old.opening.commit metadata.old.contents metadata.new.contents) }
+        ensures err { OnErr result ((metadata.new ≡ metadata.old) × (self.new ≡ self.old)) }
+        ensures halt { IfErr result (λ halt. halt ≡ Memory) }
+    {
+        put_committed(metadata, &mut self.opening.commit)?;
+        self.task.next(Got::Done);
+        Ok(())
     }
 
     /// Reads the metadata sector that comes next, as the next step, where at most so many may follow.
@@ -107,18 +151,21 @@ impl Opener {
         got
     }
 
-    /// Its next step, which syncs a device or reads metadata, has failed.
+    /// Its next step, on a device, has failed.
     pub(crate) fn fail(&mut self, step: DeviceStep)
         requires { device_step_of (want self.old.task) ≡ Some step }
         ensures actor { self.new.actor ≡ self.old.actor }
         ensures task { self.new.task ≡ after self.old.task Fault }
         ensures geometry { self.new.opening.geometry ≡ self.old.opening.geometry }
-        ensures commit { self.new.opening.commit ≡ self.old.opening.commit }
+        ensures commit { self.new.opening.commit ≡ commit_failed (device_of step) self.old.opening.commit }
         ensures reading { self.new.opening.reading ≡ reading_failed (device_of step) self.old.opening.reading }
     {
         match step {
             DeviceStep::Sync(Dev::Cache) | DeviceStep::Sync(Dev::Origin) => {}
-            _ => self.opening.reading = None,
+            _ => {
+                self.opening.reading = None;
+                self.opening.commit = None;
+            }
         }
         self.task.next(Got::Fault);
     }
@@ -158,22 +205,28 @@ pub(crate) fn opens(opener: &Option<Opener>, actor: usize) -> bool
     }
 }
 
-/// A sync that fails, and lands where the choice says so, or a step that reads metadata and fails. False, and nothing changes,
-/// where it cannot fail so.
+/// A step of an opening on a device that fails: a sync, or the write of this commit's root, which lands where the choice says so, or
+/// one that reads metadata. False, and nothing changes, where it cannot fail so. `Memory` where a root is to land and there is none
+/// for it: nothing has changed.
 pub(crate) fn fail_step(
     devices: &mut Devices<MemDisk>,
+    commit: &Option<RunningCommit>,
     step: DeviceStep,
     choice: &CrashChoice,
-) -> bool
-    requires { device_step_of (Device step) ≡ Some step }
-    ensures may { IsTrue result ↔ MayFail (device_of step) choice.now (length (device_in (device_of step) (contents_of devices.old))) }
-    ensures landed { OnTrue result (contents_of devices.new ≡ failed_by step choice.now (contents_of devices.old)) }
-    ensures kept { OnFalse result (devices.new ≡ devices.old) }
+) -> Result<bool, Halt>
+    requires next { device_step_of (Device step) ≡ Some step }
+    requires slots { 2 ≤ length devices.old.metadata.contents }
+    ensures may { IfOk result (λ may. IsTrue may ↔ MayFail (device_of step) choice.now (length (device_in (device_of step) (contents_of devices.old)))) }
+    ensures failed { IfOk result (λ may. OnTrue may (FailsOn commit.now step choice.now (contents_of devices.old) (contents_of devices.new))) }
+    ensures kept { IfOk result (λ may. OnFalse may (devices.new ≡ devices.old)) }
+    ensures err { OnErr result (devices.new ≡ devices.old) }
+    ensures halt { IfErr result (λ halt. halt ≡ Memory) }
 {
     match step {
-        DeviceStep::Sync(Dev::Metadata) => devices.metadata.fail_sync(Dev::Metadata, choice),
-        DeviceStep::Sync(Dev::Cache) => devices.cache.fail_sync(Dev::Cache, choice),
-        DeviceStep::Sync(Dev::Origin) => devices.origin.fail_sync(Dev::Origin, choice),
-        _ => choice.may_fail(Dev::Metadata, devices.metadata.sectors()),
+        DeviceStep::Sync(Dev::Metadata) => { Ok(devices.metadata.fail_sync(Dev::Metadata, choice)) }
+        DeviceStep::Sync(Dev::Cache) => Ok(devices.cache.fail_sync(Dev::Cache, choice)),
+        DeviceStep::Sync(Dev::Origin) => Ok(devices.origin.fail_sync(Dev::Origin, choice)),
+        DeviceStep::WriteRoot => fail_root(&mut devices.metadata, commit, choice),
+        _ => Ok(choice.may_fail(Dev::Metadata, devices.metadata.sectors())),
     }
 }

@@ -28,7 +28,7 @@ pub(crate) fn step(
     ensures sound { IsSound geometry.now devices.new opener.new }
     ensures ok { IfOk result (λ what. Happens (shape_of geometry.now ACTORS) (state_of ACTORS devices.old opener.old) (Step actor) what [] (state_of ACTORS devices.new opener.new)) }
     ensures err { OnErr result ((devices.new ≡ devices.old) × (opener.new ≡ opener.old)) }
-    ensures gap { IfErr result (λ halt. (halt ≡ Beyond) × IsGap (state_of ACTORS devices.old opener.old) (Step actor)) }
+    ensures gap { IfErr result (λ halt. halt ≡ Beyond → IsGap (state_of ACTORS devices.old opener.old) (Step actor)) }
 {
     let Some(at_work) = opener else {
         return Ok(What::Skipped);
@@ -38,7 +38,7 @@ pub(crate) fn step(
     }
     let want = at_work.task.want();
     if let Some(step) = device_step_of(&want) {
-        let got = at_work.perform(geometry, devices, step);
+        let got = at_work.perform(geometry, devices, step)?;
         return Ok(What::Stepped(want, got));
     }
     if !is_refusal(&want) {
@@ -62,9 +62,9 @@ pub(crate) fn falter(
     ensures sound { IsSound geometry.now devices.new opener.new }
     ensures ok { IfOk result (λ what. Happens (shape_of geometry.now ACTORS) (state_of ACTORS devices.old opener.old) (FaultStep actor choice.now) what [] (state_of ACTORS devices.new opener.new)) }
     ensures err { OnErr result ((devices.new ≡ devices.old) × (opener.new ≡ opener.old)) }
-    ensures gap { IfErr result (λ halt. (halt ≡ Beyond) × IsGap (state_of ACTORS devices.old opener.old) (FaultStep actor choice.now)) }
+    ensures gap { IfErr result (λ halt. halt ≡ Beyond → IsGap (state_of ACTORS devices.old opener.old) (FaultStep actor choice.now)) }
 {
-    let _ = geometry;
+    let _two_slots = geometry.node_count();
     let Some(at_work) = opener else {
         return Ok(What::Skipped);
     };
@@ -73,7 +73,8 @@ pub(crate) fn falter(
     }
     let want = at_work.task.want();
     if let Some(step) = device_step_of(&want) {
-        if !fail_step(devices, step, choice) {
+        let fails = fail_step(devices, &at_work.opening.commit, step, choice)?;
+        if !fails {
             return Ok(What::Skipped);
         }
         at_work.fail(step);
@@ -85,13 +86,14 @@ pub(crate) fn falter(
     Ok(What::Skipped)
 }
 
-/// The step, if it is a sync or reads metadata.
+/// The step, if it is one of an opening on a device.
 fn device_step_of(want: &Want) -> Option<DeviceStep>
     ensures { result ≡ device_step_of want.now }
 {
     match want {
         Want::Device(DeviceStep::Sync(device)) => Some(DeviceStep::Sync(*device)),
         Want::Device(DeviceStep::ReadMetadata(left)) => Some(DeviceStep::ReadMetadata(*left)),
+        Want::Device(DeviceStep::WriteRoot) => Some(DeviceStep::WriteRoot),
         _ => None,
     }
 }

@@ -79,13 +79,13 @@ fn openings_go_as_their_rows_say(rt: HostRuntime) -> Result<(), Fail> {
 }
 
 #[test]
-fn a_machine_writes_no_root_yet(rt: HostRuntime) -> Result<(), Fail> {
+fn a_machine_answers_no_opening_yet(rt: HostRuntime) -> Result<(), Fail> {
     let mut machine = small_machine(rt.alloc())?;
     assert!(rt; machine.event(Event::Start(0, Job::Open(Mode::Writeback))) == Ok(()));
-    for _ in 0..5 {
+    for _ in 0..7 {
         assert!(rt; machine.event(Event::Step(0)) == Ok(()));
     }
     assert!(rt; machine.event(Event::Step(0)) == Err(Halt::Beyond));
-    assert_eq!(rt; machine.trace().records().len(), 6);
+    assert_eq!(rt; machine.trace().records().len(), 8);
     Ok(())
 }

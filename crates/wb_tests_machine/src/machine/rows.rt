@@ -41,11 +41,13 @@ const FIRST_READ: Want = Want::Device(DeviceStep::ReadMetadata(4));
 
 const SECOND_READ: Want = Want::Device(DeviceStep::ReadMetadata(3));
 
+const ROOT: Want = Want::Device(DeviceStep::WriteRoot);
+
 const METADATA_FAILED: Want = Want::End(Answer::Refused(Refusal::Io(Dev::Metadata)));
 
 const CACHE_FAILED: Want = Want::End(Answer::Refused(Refusal::Io(Dev::Cache)));
 
-pub const ROWS: [Row; 10] = [
+pub const ROWS: [Row; 16] = [
     Row {
         name: "without a target only an opening starts, in write-back mode",
         lines: &[
@@ -148,6 +150,124 @@ pub const ROWS: [Row; 10] = [
                 What::Stepped(FIRST_READ, Got::Fault),
             ),
             (Line::Step(0), What::Stepped(METADATA_FAILED, Got::Done)),
+        ],
+    },
+    Row {
+        name: "an opening writes its root into the other slot, and makes it durable",
+        lines: &[
+            (Line::Start(0, OPEN), What::Started),
+            (Line::Step(0), What::Stepped(METADATA, Got::Done)),
+            (Line::Step(0), What::Stepped(CACHE, Got::Done)),
+            (Line::Step(0), What::Stepped(ORIGIN, Got::Done)),
+            (Line::Step(0), What::Stepped(FIRST_READ, Got::More)),
+            (Line::Step(0), What::Stepped(SECOND_READ, Got::Done)),
+            (Line::CrashOf(Dev::Metadata, 1, 1), What::Skipped),
+            (Line::Step(0), What::Stepped(ROOT, Got::Done)),
+            (Line::Step(1), What::Skipped),
+            (Line::Step(0), What::Stepped(METADATA, Got::Done)),
+            (Line::CrashOf(Dev::Metadata, 1, 1), What::Skipped),
+            (Line::CrashOf(Dev::Metadata, 1, 0), What::Stopped),
+            (Line::Step(0), What::Skipped),
+        ],
+    },
+    Row {
+        name: "a root that a crash has kept is the one over which the next opening writes",
+        lines: &[
+            (Line::Start(0, OPEN), What::Started),
+            (Line::Step(0), What::Stepped(METADATA, Got::Done)),
+            (Line::Step(0), What::Stepped(CACHE, Got::Done)),
+            (Line::Step(0), What::Stepped(ORIGIN, Got::Done)),
+            (Line::Step(0), What::Stepped(FIRST_READ, Got::More)),
+            (Line::Step(0), What::Stepped(SECOND_READ, Got::Done)),
+            (Line::Step(0), What::Stepped(ROOT, Got::Done)),
+            (Line::CrashOf(Dev::Metadata, 1, 1), What::Stopped),
+            (Line::Start(0, OPEN), What::Started),
+            (Line::Step(0), What::Stepped(METADATA, Got::Done)),
+            (Line::Step(0), What::Stepped(CACHE, Got::Done)),
+            (Line::Step(0), What::Stepped(ORIGIN, Got::Done)),
+            (Line::Step(0), What::Stepped(FIRST_READ, Got::More)),
+            (Line::Step(0), What::Stepped(SECOND_READ, Got::Done)),
+            (Line::CrashOf(Dev::Metadata, 0, 1), What::Skipped),
+            (Line::Step(0), What::Stepped(ROOT, Got::Done)),
+            (Line::CrashOf(Dev::Metadata, 0, 1), What::Stopped),
+        ],
+    },
+    Row {
+        name: "a root that a crash has not kept is written once more",
+        lines: &[
+            (Line::Start(0, OPEN), What::Started),
+            (Line::Step(0), What::Stepped(METADATA, Got::Done)),
+            (Line::Step(0), What::Stepped(CACHE, Got::Done)),
+            (Line::Step(0), What::Stepped(ORIGIN, Got::Done)),
+            (Line::Step(0), What::Stepped(FIRST_READ, Got::More)),
+            (Line::Step(0), What::Stepped(SECOND_READ, Got::Done)),
+            (Line::Step(0), What::Stepped(ROOT, Got::Done)),
+            (Line::CrashOf(Dev::Metadata, 1, 0), What::Stopped),
+            (Line::Start(0, OPEN), What::Started),
+            (Line::Step(0), What::Stepped(METADATA, Got::Done)),
+            (Line::Step(0), What::Stepped(CACHE, Got::Done)),
+            (Line::Step(0), What::Stepped(ORIGIN, Got::Done)),
+            (Line::Step(0), What::Stepped(FIRST_READ, Got::More)),
+            (Line::Step(0), What::Stepped(SECOND_READ, Got::Done)),
+            (Line::CrashOf(Dev::Metadata, 1, 1), What::Skipped),
+            (Line::Step(0), What::Stepped(ROOT, Got::Done)),
+            (Line::CrashOf(Dev::Metadata, 1, 1), What::Stopped),
+        ],
+    },
+    Row {
+        name: "a write of the root that fails has landed where it is said",
+        lines: &[
+            (Line::Start(0, OPEN), What::Started),
+            (Line::Step(0), What::Stepped(METADATA, Got::Done)),
+            (Line::Step(0), What::Stepped(CACHE, Got::Done)),
+            (Line::Step(0), What::Stepped(ORIGIN, Got::Done)),
+            (Line::Step(0), What::Stepped(FIRST_READ, Got::More)),
+            (Line::Step(0), What::Stepped(SECOND_READ, Got::Done)),
+            (
+                Line::FaultOf(0, Dev::Metadata, 1, 1),
+                What::Stepped(ROOT, Got::Fault),
+            ),
+            (Line::CrashOf(Dev::Metadata, 1, 2), What::Skipped),
+            (Line::Step(0), What::Stepped(METADATA_FAILED, Got::Done)),
+            (Line::Step(0), What::Skipped),
+            (Line::CrashOf(Dev::Metadata, 1, 1), What::Stopped),
+        ],
+    },
+    Row {
+        name: "a write of the root that fails has not landed where it is said",
+        lines: &[
+            (Line::Start(0, OPEN), What::Started),
+            (Line::Step(0), What::Stepped(METADATA, Got::Done)),
+            (Line::Step(0), What::Stepped(CACHE, Got::Done)),
+            (Line::Step(0), What::Stepped(ORIGIN, Got::Done)),
+            (Line::Step(0), What::Stepped(FIRST_READ, Got::More)),
+            (Line::Step(0), What::Stepped(SECOND_READ, Got::Done)),
+            (Line::FaultOf(0, Dev::Cache, 1, 0), What::Skipped),
+            (
+                Line::FaultOf(0, Dev::Metadata, 1, 0),
+                What::Stepped(ROOT, Got::Fault),
+            ),
+            (Line::CrashOf(Dev::Metadata, 1, 1), What::Skipped),
+            (Line::Step(0), What::Stepped(METADATA_FAILED, Got::Done)),
+        ],
+    },
+    Row {
+        name: "a sync of the root that fails refuses the opening, whose root a crash may keep",
+        lines: &[
+            (Line::Start(0, OPEN), What::Started),
+            (Line::Step(0), What::Stepped(METADATA, Got::Done)),
+            (Line::Step(0), What::Stepped(CACHE, Got::Done)),
+            (Line::Step(0), What::Stepped(ORIGIN, Got::Done)),
+            (Line::Step(0), What::Stepped(FIRST_READ, Got::More)),
+            (Line::Step(0), What::Stepped(SECOND_READ, Got::Done)),
+            (Line::Step(0), What::Stepped(ROOT, Got::Done)),
+            (
+                Line::Fault(0, Base::Durable),
+                What::Stepped(METADATA, Got::Fault),
+            ),
+            (Line::Step(0), What::Stepped(METADATA_FAILED, Got::Done)),
+            (Line::CrashOf(Dev::Metadata, 1, 1), What::Stopped),
+            (Line::Start(0, OPEN), What::Started),
         ],
     },
     Row {

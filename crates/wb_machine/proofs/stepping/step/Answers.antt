@@ -17,13 +17,13 @@ pub returns-in-Some-device_step_of-clause-ok : goal.returns-in-Some-device_step_
 returns-in-Some-device_step_of-clause-ok c =
     let inside = subst (λ o. IsThere ACTORS o) c.in-Some.is c.requires.there in
     let next = is_device_step c.want-want.result c.in-Some-device_step_of.step (sym c.device_step_of.ensures ∙ c.in-Some-device_step_of.is) in
-    rw (c.in-Some.is, ← c.if-at_work-actor.false, next) (c.perform-got.ensures.does ACTORS inside)
+    rw (c.in-Some.is, ← c.if-at_work-actor.false, next) (c.in_ok-got.ensures.does ACTORS inside)
 
 pub returns-then-not-is_refusal-clause-gap : goal.returns-then-not-is_refusal-clause-gap
 returns-then-not-is_refusal-clause-gap c =
     let inside = subst (λ o. IsThere ACTORS o) c.in-Some.is c.requires.there in
     let beyond : IsBeyond c.want-want.result = (sym c.device_step_of.ensures ∙ c.in_default-device_step_of.is, sym c.is_refusal.ensures ∙ c.if-not-is_refusal.true) in
-    rw (c.in-Some.is, ← c.if-at_work-actor.false) (refl, busy ACTORS c.in-Some.at_work _ inside (subst IsBeyond c.want-want.ensures beyond))
+    rw (c.in-Some.is, ← c.if-at_work-actor.false) (λ halt. busy ACTORS c.in-Some.at_work _ inside (subst IsBeyond c.want-want.ensures beyond))
 
 pub returns-clause-ok : goal.returns-clause-ok
 returns-clause-ok c =
