@@ -1,5 +1,5 @@
 -- A stage of a migration or a flush is ready for each of its steps, and from its run to what is told of it.
-use Rattle.std.proofs.Common.{◌≡◌, ℕ, List, [], ◌∷◌, sym, ap, ◌∙◌, subst}
+use Rattle.std.proofs.Common.{◌≡◌, ℕ, Bool, List, [], ◌∷◌, sym, ap, ◌∙◌, subst}
 use Rattle.wb_disk.specs.Device.{History}
 use Rattle.wb_words.specs.declared.card.Hold.TheVariants.{Nothing}
 use Rattle.wb_tasks.specs.Tables.{TaskJob}
@@ -11,18 +11,19 @@ use Rattle.wb_tasks.specs.declared.step.Want.{Want}
 use Rattle.wb_tasks.specs.declared.step.Got.{Got}
 use Rattle.wb_stage.specs.Jobs.{MayRun}
 use Rattle.wb_target.specs.Works.{WorkState, WorkStep, WorkLed, WasPerformed, IsReadyToWork}
+use Rattle.wb_target.specs.declared.gate.Point.{Point}
 use Rattle.wb_target.specs.declared.working.WorkStage.{WorkStage}
 use Rattle.wb_port.proofs.Passing.{made_by_pass, same_table}
 use Rattle.wb_port.proofs.Readying.{kept_by}
 use Rattle.wb_target.proofs.Readying.{work_ready, work_idle}
 
-abbrev working_at : {R D P : Type 0} → WorkStage R D P → WorkState D
+abbrev working_at : {R D P G : Type 0} → WorkStage R D P G → WorkState D
 working_at x = record { hand = x.hand.now; buffer = x.buffer.now; commit = x.commit.now }
 
-module _ {R D P : Type 0} (tells : Type 0) (size : D → ℕ) (contents : D → List History) (faults : D → ℕ) (s : Plan) (job : TaskJob) (steps : List (Want × Got)) (old new : WorkStage R D P)
-    (begun : s ≡ table job) (leads : Leads (WorkLed tells size contents faults) old steps new) where
-  abbrev led : WorkStage R D P → Want → Got → WorkStage R D P → Type 0
-  led = WorkLed tells size contents faults
+module _ {R D P G : Type 0} (tells : Type 0) (size : D → ℕ) (contents : D → List History) (faults : D → ℕ) (answers : G → Point → Bool → Type 0) (s : Plan) (job : TaskJob) (steps : List (Want × Got)) (old new : WorkStage R D P G)
+    (begun : s ≡ table job) (leads : Leads (WorkLed tells size contents faults answers) old steps new) where
+  abbrev led : WorkStage R D P G → Want → Got → WorkStage R D P G → Type 0
+  led = WorkLed tells size contents faults answers
 
   pub same_hand : new.hand.ghost_name ≡ old.hand.ghost_name
   same_hand = kept_by led (λ x. x.hand.ghost_name) (λ x w g y h. h.same_hand) old steps new leads
@@ -50,6 +51,6 @@ module _ {R D P : Type 0} (tells : Type 0) (size : D → ℕ) (contents : D → 
   pub performed : (answer : Answer) → IsRunOf s steps answer → WasPerformed tells size contents faults old.cells.now.blocks s (working_at old) answer (working_at new)
   performed answer run = record { steps = steps; run = run; leads = plainly old steps leads }
     where
-      plainly : (x : WorkStage R D P) (done : List (Want × Got)) → Leads led x done new → Leads (WorkStep tells size contents faults x.cells.now.blocks) (working_at x) done (working_at new)
-      plainly x [] e = ap (λ (y : WorkStage R D P). working_at y) e
+      plainly : (x : WorkStage R D P G) (done : List (Want × Got)) → Leads led x done new → Leads (WorkStep tells size contents faults x.cells.now.blocks) (working_at x) done (working_at new)
+      plainly x [] e = ap (λ (y : WorkStage R D P G). working_at y) e
       plainly x (step ∷ done) l = (working_at l.0, (l.1.by_pass, l.1.works), subst (λ c. Leads (WorkStep tells size contents faults c.now.blocks) (working_at l.0) done (working_at new)) l.1.cells (plainly l.0 done l.2))

@@ -1,3 +1,4 @@
 pub mod Works
 pub mod Carried
 pub mod Making
+pub mod Workers

@@ -18,6 +18,8 @@ use Rattle.wb_devices.specs.declared.running.RunningCommit.{RunningCommit}
 use Rattle.wb_stage.specs.Stages.{IsServed, is_all_done}
 use Rattle.wb_port.specs.Hands.{DoneByPass, IsReadyOn}
 use Rattle.wb_port.specs.declared.hand.Hand.{Hand}
+use Rattle.wb_target.specs.declared.gate.Point.{Point}
+use Rattle.wb_target.specs.declared.gate.Point.TheVariants.{Device as AtDevice}
 use Rattle.wb_target.specs.declared.working.WorkStage.{WorkStage}
 
 -- the commit is let go where all of it was done
@@ -62,12 +64,19 @@ pub record WasPerformed {D : Type 0} (tells : Type 0) (size : D → ℕ) (conten
   pub run : IsRunOf plan steps answer
   pub leads : Leads (WorkStep tells size contents faults blocks) old steps new
 
-abbrev pub IsReadyToWork : {R D P : Type 0} → WorkStage R D P → Want → Type 0
+abbrev pub IsReadyToWork : {R D P G : Type 0} → WorkStage R D P G → Want → Type 0
 IsReadyToWork stage want = IsReadyOn stage.cells.now stage.hand.now.pass want × IsServed want
 
-pub record WorkLed {R D P : Type 0} (tells : Type 0) (size : D → ℕ) (contents : D → List History) (faults : D → ℕ) (old : WorkStage R D P) (want : Want) (got : Got) (new : WorkStage R D P) : Type 0 where
+-- the gate was asked before a step on a device
+abbrev pub IsAsked : {G : Type 0} → (G → Point → Bool → Type 0) → G → Want → Type 0
+IsAsked answers gate (Device step) = (go : Bool) × answers gate AtDevice go
+IsAsked answers gate want = Unit {0}
+
+pub record WorkLed {R D P G : Type 0} (tells : Type 0) (size : D → ℕ) (contents : D → List History) (faults : D → ℕ) (answers : G → Point → Bool → Type 0) (old : WorkStage R D P G) (want : Want) (got : Got) (new : WorkStage R D P G) : Type 0 where
   pub cells : new.cells ≡ old.cells
   pub held : new.held ≡ old.held
+  pub gate : new.gate ≡ old.gate
+  pub asked : IsAsked answers old.gate.now want
   pub same_hand : new.hand.ghost_name ≡ old.hand.ghost_name
   pub same_buffer : new.buffer.ghost_name ≡ old.buffer.ghost_name
   pub same_commit : new.commit.ghost_name ≡ old.commit.ghost_name

@@ -10,6 +10,7 @@ ghost use Rattle.wb_target.specs.Works.{WasPerformed};
 ghost use Rattle.wb_target.specs.Carried.{state_of, HasDone, migration_of, IsThere, IsCarriedOut};
 
 use crate::client::Client;
+use crate::gate::{Gate, OpenGate};
 use crate::orders::perform_task;
 use crate::target::Target;
 use std::alloc::Global;
@@ -30,9 +31,10 @@ pub enum Flushed {
 }
 
 /// Performs a task, under these orders: a run of its table.
-fn work<R: Wait, D: Disk + Drop, P: Policy, T: Task>(
+fn work<R: Wait, D: Disk + Drop, P: Policy, G: Gate, T: Task>(
     rt: &R,
     target: &Target<P>,
+    gate: &G,
     port: &mut Port<D>,
     held: &[Order],
     task: &mut T,
@@ -44,6 +46,7 @@ fn work<R: Wait, D: Disk + Drop, P: Policy, T: Task>(
     perform_task(
         rt,
         target,
+        gate,
         &port.cells,
         &mut port.hand,
         port.buffer.as_mut_slice(),
@@ -63,7 +66,7 @@ fn note_failure<R: Wait, D: Disk + Drop, P: Policy>(rt: &R, target: &Target<P>, 
 }
 
 /// A buffer for the steps of migrations, if it has none; `Memory` where there is none for it.
-fn take_buffer<D>(alloc: Global, port: &mut Port<D>) -> Result<(), Refusal>
+pub(crate) fn take_buffer<D>(alloc: Global, port: &mut Port<D>) -> Result<(), Refusal>
     ensures geometry { port.new.geometry ≡ port.old.geometry }
 {
     if port.buffer.is_empty() {
@@ -73,9 +76,10 @@ fn take_buffer<D>(alloc: Global, port: &mut Port<D>) -> Result<(), Refusal>
 }
 
 /// Migrates a block under its order, again while it is busy.
-fn migrate<R: Wait, D: Disk + Drop, P: Policy>(
+fn migrate<R: Wait, D: Disk + Drop, P: Policy, G: Gate>(
     rt: &R,
     target: &Target<P>,
+    gate: &G,
     port: &mut Port<D>,
     order: Order,
     migration: Migration,
@@ -88,7 +92,7 @@ fn migrate<R: Wait, D: Disk + Drop, P: Policy>(
     let held = [order];
     for _ in rt.forever() {
         let mut task = MigrationTask::new(migration, port.geometry.block, block, LONGEST);
-        match work(rt, target, port, &held, &mut task) {
+        match work(rt, target, gate, port, &held, &mut task) {
             Answer::Done => return Ok(()),
             Answer::Refused(Refusal::Busy) => thread::yield_now(),
             Answer::Refused(refusal) => {
@@ -102,9 +106,10 @@ fn migrate<R: Wait, D: Disk + Drop, P: Policy>(
 
 /// Makes all that was finished durable, after any commit that runs; the order of a replacement that it serves is given up
 /// where there is no memory, or no next generation.
-fn flush<R: Wait, D: Disk + Drop, P: Policy>(
+fn flush<R: Wait, D: Disk + Drop, P: Policy, G: Gate>(
     rt: &R,
     target: &Target<P>,
+    gate: &G,
     port: &mut Port<D>,
     held: &[Order],
     serves: Option<OBlock>,
@@ -122,7 +127,7 @@ fn flush<R: Wait, D: Disk + Drop, P: Policy>(
             }
         };
         let mut task = FlushTask::new(blocks, most);
-        match work(rt, target, port, held, &mut task) {
+        match work(rt, target, gate, port, held, &mut task) {
             Answer::Done => return Ok(()),
             Answer::Refused(Refusal::Busy) => target.await_commit(rt),
             Answer::Refused(refusal) => {
@@ -151,9 +156,10 @@ fn give_up<R: Wait, P: Policy>(rt: &R, target: &Target<P>, held: &[Order], block
 }
 
 /// Carries out an order of blocks that are there.
-fn carry_out<R: Wait, D: Disk + Drop, P: Policy>(
+pub(crate) fn carry_out<R: Wait, D: Disk + Drop, P: Policy, G: Gate>(
     rt: &R,
     target: &Target<P>,
+    gate: &G,
     port: &mut Port<D>,
     order: Order,
 ) -> Result<(), Refusal>
@@ -163,20 +169,20 @@ fn carry_out<R: Wait, D: Disk + Drop, P: Policy>(
 {
     match order {
         Order::Promote(block, to) => {
-            migrate(rt, target, port, order, Migration::Promote(to), block)
+            migrate(rt, target, gate, port, order, Migration::Promote(to), block)
         }
-        Order::Demote(block) => migrate(rt, target, port, order, Migration::Demote, block),
-        Order::Clean(block) => migrate(rt, target, port, order, Migration::Clean, block),
+        Order::Demote(block) => migrate(rt, target, gate, port, order, Migration::Demote, block),
+        Order::Clean(block) => migrate(rt, target, gate, port, order, Migration::Clean, block),
         Order::Replace(victim, block, to) => {
-            migrate(rt, target, port, order, Migration::Demote, victim)?;
-            flush(rt, target, port, &[order], Some(block))?;
-            migrate(rt, target, port, order, Migration::Promote(to), block)
+            migrate(rt, target, gate, port, order, Migration::Demote, victim)?;
+            flush(rt, target, gate, port, &[order], Some(block))?;
+            migrate(rt, target, gate, port, order, Migration::Promote(to), block)
         }
     }
 }
 
 /// Whether an order's blocks are there. All are; the lock cannot say of which cache the desk under it is.
-fn is_there(geometry: &Geometry, order: Order) -> bool
+pub(crate) fn is_there(geometry: &Geometry, order: Order) -> bool
     ensures { OnTrue result (IsThere geometry.now order) }
 {
     match order {
@@ -209,7 +215,7 @@ impl<'t, D: Disk + Drop, P: Policy> Client<'t, D, P> {
         if !is_there(&self.port.geometry, order) {
             return Err(Refusal::Range);
         }
-        carry_out(rt, target, &mut self.port, order)?;
+        carry_out(rt, target, &OpenGate, &mut self.port, order)?;
         Ok(Some(order))
     }
 
@@ -221,7 +227,7 @@ impl<'t, D: Disk + Drop, P: Policy> Client<'t, D, P> {
         ensures flushed { OnOk result ((served : _) × HasDone D.tells D.size D.contents D.faults (Flushing served (node_count self.old.port.geometry.cache_blocks)) self.new.port) }
     {
         let target = self.target;
-        flush(rt, target, &mut self.port, &[], None)?;
+        flush(rt, target, &OpenGate, &mut self.port, &[], None)?;
         Ok(Flushed::Led)
     }
 

@@ -4,6 +4,7 @@
 mod blocking;
 mod carrying;
 mod client;
+mod gate;
 mod making;
 mod office;
 mod opening;
@@ -11,11 +12,13 @@ mod orders;
 mod performing;
 mod target;
 mod together;
+mod worker;
 mod working;
 
 pub use blocking::Stopped;
 pub use carrying::Flushed;
 pub use client::Client;
+pub use gate::{Gate, OpenGate, Point};
 pub use target::{CLIENTS, Target};
 pub use together::{Errand, Returned, Sent};
 pub use working::WorkStage;

@@ -74,7 +74,7 @@ impl<P: Policy> Office<P> {
     }
 
     /// How many mapped blocks have a dirty seal.
-    fn count_dirty(&mut self) -> u32 {
+    pub(crate) fn count_dirty(&mut self) -> u32 {
         let mut dirty = 0;
         for c in 0..self.desk.geometry().cache_blocks {
             if self.dirty_at(CBlock(c)).is_some() {

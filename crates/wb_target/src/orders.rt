@@ -7,6 +7,7 @@ ghost use Rattle.wb_tasks.specs.Plan.{table};
 ghost use Rattle.wb_stage.specs.Jobs.{MayRun};
 ghost use Rattle.wb_target.specs.Works.{WasPerformed};
 
+use crate::gate::Gate;
 use crate::target::Target;
 use crate::working::WorkStage;
 use std::sync::Wait;
@@ -18,7 +19,7 @@ use wb_port::Hand;
 use wb_tasks::{Answer, Task, drive};
 use wb_types::Content;
 
-impl<'a, R: Wait, D: Disk, P: Policy> WorkStage<'a, R, D, P> {
+impl<'a, R: Wait, D: Disk, P: Policy, G: Gate> WorkStage<'a, R, D, P, G> {
     /// Performs a task that has not begun, up to its answer: a run of its table.
     fn run<T: Task>(&mut self, task: &mut T) -> Answer
         requires begun { (job : TaskJob) × (T.plan task.old ≡ table job) × MayRun self.old.cells.now.blocks job }
@@ -36,9 +37,10 @@ impl<'a, R: Wait, D: Disk, P: Policy> WorkStage<'a, R, D, P> {
 }
 
 /// Performs a task on a client's hand, under the orders that it has taken.
-pub(crate) fn perform_task<'a, R: Wait, D: Disk, P: Policy, T: Task>(
+pub(crate) fn perform_task<'a, R: Wait, D: Disk, P: Policy, G: Gate, T: Task>(
     rt: &'a R,
     target: &'a Target<P>,
+    gate: &'a G,
     cells: &'a Cells,
     hand: &'a mut Hand<D>,
     buffer: &'a mut [Content],
@@ -61,6 +63,7 @@ pub(crate) fn perform_task<'a, R: Wait, D: Disk, P: Policy, T: Task>(
         buffer,
         held,
         commit,
+        gate,
     };
     let answer = stage.run(task);
     let WorkStage {
@@ -71,6 +74,7 @@ pub(crate) fn perform_task<'a, R: Wait, D: Disk, P: Policy, T: Task>(
         buffer: _,
         held: _,
         commit: _,
+        gate: _,
     } = stage;
     answer
 }

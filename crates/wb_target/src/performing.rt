@@ -10,6 +10,7 @@ ghost use Rattle.wb_devices.specs.Stepping.{CommitGoes, DidStep, BufferStays};
 ghost use Rattle.wb_stage.specs.Stages.{IsServed, is_all_done};
 ghost use Rattle.wb_target.specs.Works.{IsReadyToWork, DidAskDesk, EndsIf, WorkLed};
 
+use crate::gate::{Gate, Point};
 use crate::target::Target;
 use crate::working::WorkStage;
 use std::sync::Wait;
@@ -54,12 +55,13 @@ impl<P: Policy> Target<P> {
     }
 }
 
-impl<'a, R: Wait, D: Disk, P: Policy> WorkStage<'a, R, D, P> {
+impl<'a, R: Wait, D: Disk, P: Policy, G: Gate> WorkStage<'a, R, D, P, G> {
     /// A step on a device.
     fn device_step(&mut self, step: DeviceStep) -> Got
         ensures kind { IsOutcome result }
         ensures cells { self.new.cells ≡ self.old.cells }
         ensures held { self.new.held ≡ self.old.held }
+        ensures gate { self.new.gate ≡ self.old.gate }
         ensures same_hand { self.new.hand.ghost_name ≡ self.old.hand.ghost_name }
         ensures same_commit { self.new.commit.ghost_name ≡ self.old.commit.ghost_name }
         ensures same_buffer { self.new.buffer.ghost_name ≡ self.old.buffer.ghost_name }
@@ -95,6 +97,7 @@ impl<'a, R: Wait, D: Disk, P: Policy> WorkStage<'a, R, D, P> {
         ensures kind { Fits (AskDesk step) result }
         ensures cells { self.new.cells ≡ self.old.cells }
         ensures held { self.new.held ≡ self.old.held }
+        ensures gate { self.new.gate ≡ self.old.gate }
         ensures same_hand { self.new.hand.ghost_name ≡ self.old.hand.ghost_name }
         ensures hand { self.new.hand.now ≡ self.old.hand.now }
         ensures same_commit { self.new.commit.ghost_name ≡ self.old.commit.ghost_name }
@@ -125,6 +128,7 @@ impl<'a, R: Wait, D: Disk, P: Policy> WorkStage<'a, R, D, P> {
         ensures kind { Fits (AskDesk (BeginCommit false most)) result }
         ensures cells { self.new.cells ≡ self.old.cells }
         ensures held { self.new.held ≡ self.old.held }
+        ensures gate { self.new.gate ≡ self.old.gate }
         ensures same_hand { self.new.hand.ghost_name ≡ self.old.hand.ghost_name }
         ensures hand { self.new.hand.now ≡ self.old.hand.now }
         ensures same_commit { self.new.commit.ghost_name ≡ self.old.commit.ghost_name }
@@ -146,6 +150,7 @@ impl<'a, R: Wait, D: Disk, P: Policy> WorkStage<'a, R, D, P> {
     fn end(&mut self)
         ensures cells { self.new.cells ≡ self.old.cells }
         ensures held { self.new.held ≡ self.old.held }
+        ensures gate { self.new.gate ≡ self.old.gate }
         ensures same_hand { self.new.hand.ghost_name ≡ self.old.hand.ghost_name }
         ensures hand { self.new.hand.now ≡ self.old.hand.now }
         ensures same_commit { self.new.commit.ghost_name ≡ self.old.commit.ghost_name }
@@ -164,16 +169,19 @@ impl<'a, R: Wait, D: Disk, P: Policy> WorkStage<'a, R, D, P> {
     }
 }
 
-impl<'a, R: Wait, D: Disk, P: Policy> Stage for WorkStage<'a, R, D, P> {
+impl<'a, R: Wait, D: Disk, P: Policy, G: Gate> Stage for WorkStage<'a, R, D, P, G> {
     ghost ready = { IsReadyToWork };
 
-    ghost led = { WorkLed D.tells D.size D.contents D.faults };
+    ghost led = { WorkLed D.tells D.size D.contents D.faults G.answers };
 
     #[tactic(auto, using(wb_devices::proofs::Going::outcome_fits))]
     fn perform(&mut self, want: &Want) -> Got {
         match want {
             Want::Cell(step) => Got::from(self.cells.step(&mut self.hand.pass, *step)),
-            Want::Device(step) => self.device_step(*step),
+            Want::Device(step) => {
+                self.gate.go_on(Point::Device);
+                self.device_step(*step)
+            }
             Want::Desk(step) => self.desk_step(*step),
             Want::End(_) => unreachable!(),
         }

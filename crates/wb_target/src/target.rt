@@ -67,6 +67,11 @@ impl<P: Policy> Target<P> {
         self.office.lock(rt).desk.counts()
     }
 
+    /// How many mapped blocks are dirty now: a look at each cache block, under the lock.
+    pub fn dirty<R: Wait>(&self, rt: &R) -> u32 {
+        self.office.lock(rt).count_dirty()
+    }
+
     /// Adds the status line, with no end of line (the kernel's device-mapper/cache.rst, "Status"): what the desk counts, what the
     /// words count of requests, and how many mapped blocks are dirty, or `Fail` alone once the target has failed. A look at each
     /// cache block, under the lock. `Memory` where there is none, and then nothing is added.

@@ -1,6 +1,6 @@
 //! Clients on threads of their own.
 
-ghost use Rattle.std.specs.Prelude.{◌≡◌, IfOk, vec_len};
+ghost use Rattle.std.specs.Prelude.{◌≡◌, ◌<◌, ℕ, IfOk, vec_len, slice_index_or};
 
 use crate::client::Client;
 use crate::target::Target;
@@ -18,12 +18,16 @@ pub trait Errand {
     /// What it tells at its end.
     type Told: Send + Drop;
 
+    /// What it may tell.
+    ghost tells: { Self → Self.Told → Type 0 };
+
     /// Does it, by this client.
     fn run<R: Wait, D: Disk + Drop, P: Policy>(
         self,
         rt: &R,
         client: &mut Client<'_, D, P>,
-    ) -> Self::Told;
+    ) -> Self::Told
+        ensures { tells self result };
 }
 
 /// An errand, and the devices that its client is to have.
@@ -51,6 +55,7 @@ impl<P: Policy + Send> Target<P> {
         errands: Vec<Sent<D, E>>,
     ) -> Result<Vec<Returned<D, E::Told>>, AllocError>
         ensures many { IfOk result (λ returned. vec_len returned ≡ vec_len errands) }
+        ensures each { IfOk result (λ returned. (i : ℕ) (r : _) (s : _) → i < vec_len errands → IfOk (slice_index_or returned.items i r).told (E.tells (slice_index_or errands.items i s).errand)) }
     {
         thread::map_vec(rt, errands, &|sent| do_errand(rt, self, sent))
     }
@@ -61,7 +66,9 @@ fn do_errand<R: Wait, P: Policy, D: Disk + Drop, E: Errand + Drop>(
     rt: &R,
     target: &Target<P>,
     sent: Sent<D, E>,
-) -> Returned<D, E::Told> {
+) -> Returned<D, E::Told>
+    ensures { IfOk result.told (E.tells sent.errand) }
+{
     let Sent { devices, errand } = sent;
     match target.client(rt, devices) {
         Ok(mut client) => {

@@ -1,6 +1,7 @@
 //! Where a client performs migrations and flushes: on the shared words by its pass, on its devices, and on the desk, for each
 //! step of which it takes the lock.
 
+use crate::gate::Gate;
 use crate::target::Target;
 use std::sync::Wait;
 use wb_cells::Cells;
@@ -10,7 +11,7 @@ use wb_port::Hand;
 use wb_types::Content;
 
 /// The stage of a migration or a flush.
-pub struct WorkStage<'a, R: Wait, D, P: Policy> {
+pub struct WorkStage<'a, R: Wait, D, P: Policy, G: Gate> {
     pub rt: &'a R,
     pub target: &'a Target<P>,
     pub cells: &'a Cells,
@@ -21,4 +22,6 @@ pub struct WorkStage<'a, R: Wait, D, P: Policy> {
     pub held: &'a [Order],
     /// The commit that it runs, if any.
     pub commit: &'a mut Option<RunningCommit>,
+    /// It is asked before each step on a device.
+    pub gate: &'a G,
 }

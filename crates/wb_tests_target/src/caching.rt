@@ -1,31 +1,14 @@
 //! Blocks that are cached, written back and found again.
 
-use crate::fixture::{Memory, begun_with, client_of, formatted, open};
+use crate::fixture::{
+    Lent, Memory, begun_with, client_of, formatted, open, shows, worked, write_and_read,
+};
 use std::alloc::Global;
 use std::sync::Wait;
 use std::test::Fail;
-use wb_disk::MemDisk;
 use wb_policy::{Order, TinyLfu};
-use wb_target::{Client, Flushed, Target};
-use wb_types::{CBlock, OBlock, Refusal, SECTOR_BYTES, Sector};
-
-type Lent<'t> = Client<'t, MemDisk, TinyLfu>;
-
-/// Whether a sector begins with this byte.
-fn shows(rt: &impl Wait, client: &mut Lent<'_>, at: u64, byte: u8) -> bool {
-    let mut out = [[0; SECTOR_BYTES]];
-    client.read(rt, Sector(at), &mut out).is_ok() && out[0][0] == byte
-}
-
-/// Writes a sector and reads it, by which its block has two accesses.
-fn write_and_read(rt: &impl Wait, client: &mut Lent<'_>, at: u64, byte: u8) -> bool {
-    client.write(rt, Sector(at), &[begun_with(byte)]).is_ok() && shows(rt, client, at, byte)
-}
-
-/// What the order that waits longest was, once it is carried out.
-fn worked(rt: &impl Wait, client: &mut Lent<'_>) -> Option<Order> {
-    client.work_one(rt).unwrap_or(None)
-}
+use wb_target::{Flushed, Target};
+use wb_types::{CBlock, OBlock, Refusal, Sector};
 
 #[test]
 fn a_block_is_cached_at_its_second_access(rt: HostRuntime) -> Result<(), Fail> {

@@ -3,13 +3,15 @@
 use std::alloc::Global;
 use std::sync::Wait;
 use wb_devices::Devices;
-use wb_disk::MemDisk;
+use wb_disk::{Disk, MemDisk};
 use wb_meta::format;
-use wb_policy::TinyLfu;
+use wb_policy::{Order, Policy, TinyLfu};
 use wb_target::{Client, Target};
-use wb_types::{Content, Geometry, Mode, Refusal, SECTOR_BYTES};
+use wb_types::{Content, Geometry, Mode, Refusal, SECTOR_BYTES, Sector};
 
 pub type Memory = Devices<MemDisk>;
+
+pub type Lent<'t> = Client<'t, MemDisk, TinyLfu>;
 
 /// Devices whose metadata are formatted.
 pub fn formatted(alloc: Global) -> Result<Memory, Refusal> {
@@ -45,4 +47,33 @@ pub fn begun_with(byte: u8) -> Content {
     let mut content = [0; SECTOR_BYTES];
     content[0] = byte;
     content
+}
+
+/// Whether a sector begins with this byte.
+pub fn shows<D: Disk + Drop, P: Policy>(
+    rt: &impl Wait,
+    client: &mut Client<'_, D, P>,
+    at: u64,
+    byte: u8,
+) -> bool {
+    let mut out = [[0; SECTOR_BYTES]];
+    client.read(rt, Sector(at), &mut out).is_ok() && out[0][0] == byte
+}
+
+/// Writes a sector and reads it, by which its block has two accesses.
+pub fn write_and_read<D: Disk + Drop, P: Policy>(
+    rt: &impl Wait,
+    client: &mut Client<'_, D, P>,
+    at: u64,
+    byte: u8,
+) -> bool {
+    client.write(rt, Sector(at), &[begun_with(byte)]).is_ok() && shows(rt, client, at, byte)
+}
+
+/// What the order that waits longest was, once it is carried out.
+pub fn worked<D: Disk + Drop, P: Policy>(
+    rt: &impl Wait,
+    client: &mut Client<'_, D, P>,
+) -> Option<Order> {
+    client.work_one(rt).unwrap_or(None)
 }

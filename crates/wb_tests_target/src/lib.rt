@@ -4,6 +4,8 @@
 #[cfg(test)]
 mod caching;
 #[cfg(test)]
+mod files;
+#[cfg(test)]
 mod fixture;
 #[cfg(test)]
 mod memory;
@@ -11,3 +13,7 @@ mod memory;
 mod opening;
 #[cfg(test)]
 mod requests;
+#[cfg(test)]
+mod threads;
+#[cfg(test)]
+mod workers;

@@ -1,0 +1,99 @@
+//! Workers: clients that carry out orders on their own thread, as long as a gate lets them.
+
+ghost use Rattle.std.specs.Prelude.{◌≡◌, OnOk, IfErr, true};
+ghost use Rattle.wb_target.specs.declared.gate.Point.TheVariants.{Order as BeforeOrder};
+ghost use Rattle.wb_target.specs.Workers.{IsEndedBy, IsFailure};
+
+use crate::carrying::{carry_out, is_there, take_buffer};
+use crate::client::Client;
+use crate::gate::{Gate, Point};
+use crate::target::Target;
+use std::sync::Wait;
+use std::thread;
+use wb_disk::Disk;
+use wb_policy::{Order, Policy};
+use wb_port::Port;
+use wb_types::{OBlock, Refusal};
+
+impl<'t, D: Disk + Drop, P: Policy> Client<'t, D, P> {
+    /// Carries out orders, the one that waits longest first, until the gate ends it. The gate is asked before each order, before
+    /// each step on a device, and where no order waits; a no before an order or where none waits ends it, with no order taken.
+    /// An order that there is no memory for, no next generation, or a block that cannot be read, is given up alone.
+    ///
+    /// `Failed` where the target has failed; `Io` where a write or sync of its own failed.
+    pub fn worker<R: Wait, G: Gate>(&mut self, rt: &R, gate: &G) -> Result<(), Refusal>
+        ensures ended { OnOk result (IsEndedBy G.answers gate.now) }
+        ensures refused { IfErr result IsFailure }
+        ensures target { self.new.target ≡ self.old.target }
+        ensures geometry { self.new.port.geometry ≡ self.old.port.geometry }
+    {
+        let target = self.target;
+        work_off(rt, target, gate, &mut self.port)
+    }
+}
+
+/// Carries out orders on a port until the gate ends it.
+fn work_off<R: Wait, D: Disk + Drop, P: Policy, G: Gate>(
+    rt: &R,
+    target: &Target<P>,
+    gate: &G,
+    port: &mut Port<D>,
+) -> Result<(), Refusal>
+    ensures ended { OnOk result (IsEndedBy G.answers gate.now) }
+    ensures refused { IfErr result IsFailure }
+    ensures geometry { port.new.geometry ≡ port.old.geometry }
+{
+    for _ in rt.forever() {
+        if port.has_failed() {
+            return Err(Refusal::Failed);
+        }
+        if !gate.go_on(Point::Order) {
+            return Ok(());
+        }
+        if take_turn(rt, target, gate, port)? {
+            continue;
+        }
+        if !gate.go_on(Point::Idle) {
+            return Ok(());
+        }
+        thread::yield_now();
+    }
+    unreachable!()
+}
+
+/// Takes an order and carries it out, or gives it up, where the gate let it be taken: whether one waited. Refused only where the
+/// target has failed.
+fn take_turn<R: Wait, D: Disk + Drop, P: Policy, G: Gate>(
+    rt: &R,
+    target: &Target<P>,
+    gate: &G,
+    port: &mut Port<D>,
+) -> Result<bool, Refusal>
+    requires let_by { G.answers gate.now BeforeOrder true }
+    ensures refused { IfErr result IsFailure }
+    ensures geometry { port.new.geometry ≡ port.old.geometry }
+{
+    let Some(order) = target.take_order(rt) else {
+        return Ok(false);
+    };
+    if take_buffer(target.alloc, port).is_err() || !is_there(&port.geometry, order) {
+        target.release(rt, &[order], block_of(order));
+        return Ok(true);
+    }
+    match carry_out(rt, target, gate, port, order) {
+        Ok(()) => Ok(true),
+        Err(_) if !port.has_failed() => Ok(true),
+        Err(Refusal::Io(device)) => Err(Refusal::Io(device)),
+        Err(_) => Err(Refusal::Failed),
+    }
+}
+
+/// A block of an order, by which it is told from others that live.
+fn block_of(order: Order) -> OBlock {
+    match order {
+        Order::Promote(block, _)
+        | Order::Demote(block)
+        | Order::Clean(block)
+        | Order::Replace(block, _, _) => block,
+    }
+}

@@ -1,0 +1,121 @@
+//! Errands by clients on threads of their own, over files.
+
+use crate::files::{Names, images, target_over};
+use crate::fixture::begun_with;
+use std::sync::Wait;
+use std::test::Fail;
+use wb_disk::{Disk, FileDisk};
+use wb_policy::Policy;
+use wb_target::{Client, Errand, Sent};
+use wb_types::{SECTOR_BYTES, Sector};
+
+/// Reads a sector so many times, and tells whether each was answered.
+#[derive(Drop)]
+struct Reads {
+    at: u64,
+    times: u32,
+}
+
+impl Errand for Reads {
+    type Told = bool;
+
+    ghost tells = { λ reads told. Unit {0} };
+
+    fn run<R: Wait, D: Disk + Drop, P: Policy>(
+        self,
+        rt: &R,
+        client: &mut Client<'_, D, P>,
+    ) -> bool {
+        let mut out = [[0; SECTOR_BYTES]];
+        for _ in 0..self.times {
+            if client.read(rt, Sector(self.at), &mut out).is_err() {
+                return false;
+            }
+        }
+        true
+    }
+}
+
+/// Four errands that read sector 0 a hundred times each.
+fn readers(rt: &HostRuntime, names: &Names) -> Result<Vec<Sent<FileDisk, Reads>>, Fail> {
+    let mut sent = Vec::new(rt.alloc());
+    for _ in 0..4 {
+        let devices = images(rt, names)?;
+        let errand = Reads { at: 0, times: 100 };
+        sent.push(Sent { devices, errand })?;
+    }
+    Ok(sent)
+}
+
+const READ: Names = ["read_m.img", "read_c.img", "read_o.img"];
+
+#[test]
+fn four_clients_read_one_sector(rt: HostRuntime) -> Result<(), Fail> {
+    let target = target_over(&rt, &READ)?;
+    let returned = target.together(&rt, readers(&rt, &READ)?)?;
+    for one in &returned {
+        assert!(rt; one.told == Ok(true));
+    }
+    let mut text = String::new(rt.alloc());
+    target.status(&rt, &mut text)?;
+    let wanted =
+        "1 2/4 64 0/4 0 400 0 0 0 0 0 1 writeback 2 migration_threshold 2048 tinylfu 2 promote_min 2 rw -";
+    assert!(rt; text.as_str() == wanted);
+    Ok(())
+}
+
+/// Writes a sector that begins with this byte, and tells the first byte that is read there then.
+#[derive(Drop)]
+struct Writes {
+    at: u64,
+    byte: u8,
+}
+
+impl Errand for Writes {
+    type Told = Option<u8>;
+
+    ghost tells = { λ writes told. Unit {0} };
+
+    fn run<R: Wait, D: Disk + Drop, P: Policy>(
+        self,
+        rt: &R,
+        client: &mut Client<'_, D, P>,
+    ) -> Option<u8> {
+        let at = Sector(self.at);
+        let mut out = [[0; SECTOR_BYTES]];
+        for _ in 0..3 {
+            client.write(rt, at, &[begun_with(self.byte)]).ok()?;
+        }
+        client.work_one(rt).ok()?;
+        client.read(rt, at, &mut out).ok()?;
+        Some(out[0][0])
+    }
+}
+
+/// What is written, and where: one sector in each of two blocks.
+const WRITES: [(u64, u8); 2] = [(0, 0x40), (64, 0x41)];
+
+/// Errands that write one each.
+fn writers(rt: &HostRuntime, names: &Names) -> Result<Vec<Sent<FileDisk, Writes>>, Fail> {
+    let mut sent = Vec::new(rt.alloc());
+    for (at, byte) in WRITES {
+        let devices = images(rt, names)?;
+        let errand = Writes { at, byte };
+        sent.push(Sent { devices, errand })?;
+    }
+    Ok(sent)
+}
+
+const WRITTEN: Names = ["written_m.img", "written_c.img", "written_o.img"];
+
+#[test]
+fn clients_read_what_they_wrote_each_in_its_place(rt: HostRuntime) -> Result<(), Fail> {
+    let target = target_over(&rt, &WRITTEN)?;
+    let returned = target.together(&rt, writers(&rt, &WRITTEN)?)?;
+    assert!(rt; returned.len() == 2);
+    for ((_, byte), one) in WRITES.iter().zip(&returned) {
+        assert!(rt; one.told == Ok(Some(*byte)));
+    }
+    assert!(rt; target.counts(&rt).promotions == 2);
+    Ok(())
+}
