@@ -314,15 +314,19 @@ check 'a size' "$(reason '' -v run 'cache short.img c.img o.img 64 0 tinylfu 0')
   '1 wbcache: metadata: it has 3 sectors, and takes 4 to 4294967295 for this cache'
 check 'a part of a block' "$(reason '' -v run 'cache m.img short.img o.img 64 0 tinylfu 0')" \
   '1 wbcache: cache: 3 sectors are no whole number of blocks of 64'
+opened='wbcache: opened 640 sectors; 0 of 4 cache blocks mapped, 0 dirty'
 check 'refused lines' "$(reason 'r 0 1
 r 640 1
 r 641 1
 x
-' -v run "$table")" '1 wbcache: 3 lines were refused, the first at line 2: 1 Range'
+' -v run "$table")" "1 $opened
+wbcache: 3 lines were refused, the first at line 2: 1 Range"
 check 'one refused line' "$(reason 'w 0 641 11
-' -v run "$table")" '1 wbcache: 1 line was refused, the first at line 1: 1 Range'
-check 'a writer that fails' "$( (printf 'r 0 1\n' | "$cache" -v run "$table" >/dev/full) 2>&1; echo $?)" 'wbcache: an answer cannot be written
-4'
+' -v run "$table")" "1 $opened
+wbcache: 1 line was refused, the first at line 1: 1 Range"
+check 'a writer that fails' "$( (printf 'r 0 1\n' | "$cache" -v run "$table" >/dev/full) 2>&1; echo $?)" "$opened
+wbcache: an answer cannot be written
+4"
 if test "$(id -u)" != 0; then
   chmod 000 c.img
   has 'no permission' "$(reason '' -v run "$table")" '3 wbcache: cache file c.img: Permission denied'
@@ -369,19 +373,22 @@ check 'an answer is out before the next line is read' "$said" 'ok
 refused 1 Range
 67 ab
 68 00'
-check 'a dialogue that ends' "$(cat told)" 'wbcache: 1 line was refused, the first at line 3: 1 Range
-1'
+check 'a dialogue that ends' "$(cat told)" "$opened
+wbcache: 1 line was refused, the first at line 3: 1 Range
+1"
 fresh
 open_dialogue -v run "$table"
 said=$(ask 'w 60 8 ab' 1; ask 'r 640 1' 1)
 exec 4<&-
 printf 'r 63 2\n' >&3 2>/dev/null
 close_dialogue
-check 'a writer that fails after two answers' "$said $(cat told)" 'ok
-refused 1 Range wbcache: an answer cannot be written
-4'
-check 'a reader that fails' "$( ("$cache" -v run "$table" <.) 2>&1; echo $?)" 'wbcache: the script cannot be read further
-4'
+check 'a writer that fails after two answers' "$said $(cat told)" "ok
+refused 1 Range $opened
+wbcache: an answer cannot be written
+4"
+check 'a reader that fails' "$( ("$cache" -v run "$table" <.) 2>&1; echo $?)" "$opened
+wbcache: the script cannot be read further
+4"
 
 # A device that fails: a file cut short while it is open no longer has the sector, and has it once it is written.
 fresh
@@ -395,18 +402,20 @@ refused 5 Io origin
 ok
 70 11
 refused 5 Io origin'
-check 'reads that failed' "$(cat told)" 'wbcache: 3 lines were refused, the first at line 2: 5 Io origin
-3'
+check 'reads that failed' "$(cat told)" "$opened
+wbcache: 3 lines were refused, the first at line 2: 5 Io origin
+3"
 
 # Past the limit of the file size: the kit cannot ignore the signal, a shell can (docs/DECISIONS.md).
 fresh
 said=$( (trap '' XFSZ; ulimit -f 100; printf 'w 0 1 11\nw 390 20 22\nr 0 1\nw 0 1 33\nr 640 1\n' | "$cache" -v run "$table") 2>&1)
-check 'a write that fails leaves the target failed' "$? $said" '3 ok
+check 'a write that fails leaves the target failed' "$? $said" "3 $opened
+ok
 refused 5 Io origin
 refused 6 Failed
 refused 6 Failed
 refused 1 Range
-wbcache: 4 lines were refused, the first at line 2: 5 Io origin'
+wbcache: 4 lines were refused, the first at line 2: 5 Io origin"
 
 # Help, version and what is not read.
 for words in -h --help 'run --help' 'format -h'; do

@@ -6,6 +6,7 @@ ghost use Rattle.wbcache.specs.Request.{IsInside, IsRequest, AsksInside};
 use crate::fill::Fill;
 use crate::line::Line;
 use crate::part::first_part;
+use crate::progress::Progress;
 use std::alloc::Global;
 use std::fmt::Write;
 use std::sync::Wait;
@@ -26,17 +27,18 @@ pub fn answer<R: Wait, D: Disk + Drop, P: Policy>(
     client: &mut Client<'_, D, P>,
     asked: Line,
     text: &mut String,
+    progress: &mut Progress<'_>,
 ) -> Result<(), Refusal>
     ensures outside { IsRequest asked → ¬ AsksInside asked (client.old.port.geometry.block * client.old.port.geometry.origin_blocks) → IsErrOf result Refusal.Range }
     ensures inside { IsRequest asked → IsErrOf result Refusal.Range → ¬ AsksInside asked (client.old.port.geometry.block * client.old.port.geometry.origin_blocks) }
 {
     match asked {
         Line::Nothing => return Ok(()),
-        Line::Read { at, count } => return read(rt, alloc, client, at, count, text),
+        Line::Read { at, count } => return read(rt, alloc, client, at, count, text, progress),
         Line::TryRead { at, count } => return try_read(alloc, client, at, count, text),
         Line::Work => return work(rt, client, text),
         Line::Status => return status(rt, client, text),
-        Line::Write { at, count, fill } => write(rt, alloc, client, at, count, fill)?,
+        Line::Write { at, count, fill } => write(rt, alloc, client, at, count, fill, progress)?,
         Line::TryWrite { at, count, fill } => try_write(alloc, client, at, count, fill)?,
         Line::Settle => client.settle(rt),
         Line::Flush => {
@@ -59,11 +61,13 @@ fn read<R: Wait, D: Disk + Drop, P: Policy>(
     at: Sector,
     count: u64,
     text: &mut String,
+    progress: &mut Progress<'_>,
 ) -> Result<(), Refusal>
     ensures outside { ¬ IsInside at.0 count (client.old.port.geometry.block * client.old.port.geometry.origin_blocks) → IsErrOf result Refusal.Range }
     ensures inside { IsErrOf result Refusal.Range → ¬ IsInside at.0 count (client.old.port.geometry.block * client.old.port.geometry.origin_blocks) }
 {
     let end = end_of(&client.port.geometry, at, count)?;
+    progress.begin();
     let Sector(mut first) = at;
     while first < end {
         let part = first_part(client.port.geometry.block, first, end);
@@ -73,6 +77,7 @@ fn read<R: Wait, D: Disk + Drop, P: Policy>(
         }
         show(first, contents.as_slice(), text)?;
         first += part.count;
+        progress.reach(count.saturating_sub(end - first), count);
     }
     Ok(())
 }
@@ -86,11 +91,13 @@ fn write<R: Wait, D: Disk + Drop, P: Policy>(
     at: Sector,
     count: u64,
     fill: u8,
+    progress: &mut Progress<'_>,
 ) -> Result<(), Refusal>
     ensures outside { ¬ IsInside at.0 count (client.old.port.geometry.block * client.old.port.geometry.origin_blocks) → IsErrOf result Refusal.Range }
     ensures inside { IsErrOf result Refusal.Range → ¬ IsInside at.0 count (client.old.port.geometry.block * client.old.port.geometry.origin_blocks) }
 {
     let end = end_of(&client.port.geometry, at, count)?;
+    progress.begin();
     let Sector(mut first) = at;
     while first < end {
         let part = first_part(client.port.geometry.block, first, end);
@@ -99,6 +106,7 @@ fn write<R: Wait, D: Disk + Drop, P: Policy>(
             return Err(stopped.refusal);
         }
         first += part.count;
+        progress.reach(count.saturating_sub(end - first), count);
     }
     Ok(())
 }

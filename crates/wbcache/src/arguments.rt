@@ -35,7 +35,9 @@ fn command<'a>(alloc: Global) -> Result<Command<'a>, Error> {
     let verbose = Arg::new(alloc, "verbose")
         .short('v')
         .long("verbose")
-        .help("Say on standard error why something was refused")
+        .help(
+            "Say on standard error what was opened, how far a long request has come, and why something was refused",
+        )
         .action(ArgAction::SetTrue)
         .global(true);
     Ok(

@@ -12,6 +12,7 @@ mod line;
 mod number;
 mod output;
 mod part;
+mod progress;
 mod reason;
 mod script;
 mod sizes;
@@ -22,6 +23,7 @@ mod words;
 
 use crate::arguments::{Asked, read_arguments};
 use crate::ended::Ended;
+use crate::progress::Progress;
 use clap::Error;
 use clap::error::ErrorKind;
 use std::io::{BufReader, IsTerminal};
@@ -63,7 +65,16 @@ fn serve<T: Wait>(rt: &HostRuntime, waits: &T) -> u8 {
         Asked::Format(table) => format::format_files(rt, alloc, table, &mut io::writer(rt)),
         Asked::Run(table) => match BufReader::new(alloc, rt.reader()) {
             Ok(mut reader) => {
-                script::run(rt, waits, alloc, table, &mut reader, &mut io::writer(rt))
+                let mut progress = Progress::new(rt, verbose);
+                script::run(
+                    rt,
+                    waits,
+                    alloc,
+                    table,
+                    &mut reader,
+                    &mut io::writer(rt),
+                    &mut progress,
+                )
             }
             Err(_) => return no_memory(rt),
         },

@@ -5,6 +5,7 @@ use crate::devices::{Disks, open_table};
 use crate::ended::Ended;
 use crate::line::{Line, read_line};
 use crate::output::{StreamFailed, print, print_bad_line, print_refusal, refuse};
+use crate::progress::Progress;
 use crate::reason::Reason;
 use crate::status::Status;
 use crate::tally::{Said, Tally};
@@ -27,7 +28,7 @@ const MOST_OF_A_LINE: u64 = 1_048_576;
 
 /// Runs a script over the files of a table, and gives the exit status with the reason of what was refused: the cache is opened,
 /// in write-back mode with TinyLFU, and one client plays the script. Each line's answer is out, in one write, before the next line
-/// is read. All three files are locked until the script ends, which leaves the cache without the clean flag.
+/// is read, and what was opened and how far a long request has come is told where that was asked for. All three files are locked until the script ends, which leaves the cache without the clean flag.
 ///
 /// 0 where each line was answered, 1 where the opening or a line was refused or one was no line of a script, 3 where a device
 /// failed, 4 where the reader or the writer did.
@@ -38,6 +39,7 @@ pub fn run<'a, R: Files<File = File>, T: Wait, I: BufRead, W: Write>(
     table: &'a str,
     reader: &mut I,
     writer: &mut W,
+    progress: &mut Progress<'_>,
 ) -> Ended<'a> {
     let (disks, geometry) = match open_table(rt, table) {
         Ok(opened) => opened,
@@ -47,7 +49,10 @@ pub fn run<'a, R: Files<File = File>, T: Wait, I: BufRead, W: Write>(
         }
     };
     match open_target(alloc, disks, &geometry) {
-        Ok((devices, target)) => serve(waits, alloc, &target, devices, reader, writer),
+        Ok((devices, target)) => {
+            progress.opened(&geometry, target.counts(waits).mapped, target.dirty(waits));
+            serve(waits, alloc, &target, devices, reader, writer, progress)
+        }
         Err(refusal) => refused(alloc, refusal, writer),
     }
 }
@@ -81,9 +86,10 @@ fn serve<'a, R: Wait, D: Disk + Drop, P: Policy, I: BufRead, W: Write>(
     devices: Devices<D>,
     reader: &mut I,
     writer: &mut W,
+    progress: &mut Progress<'_>,
 ) -> Ended<'a> {
     match target.client(rt, devices) {
-        Ok(mut client) => play_all(rt, alloc, &mut client, reader, writer),
+        Ok(mut client) => play_all(rt, alloc, &mut client, reader, writer, progress),
         Err((_, refusal)) => refused(alloc, refusal, writer),
     }
 }
@@ -103,9 +109,10 @@ fn play_all<'a, R: Wait, D: Disk + Drop, P: Policy, I: BufRead, W: Write>(
     client: &mut Client<'_, D, P>,
     reader: &mut I,
     writer: &mut W,
+    progress: &mut Progress<'_>,
 ) -> Ended<'a> {
     let mut tally = Tally::new();
-    let played = play(rt, alloc, client, reader, writer, &mut tally);
+    let played = play(rt, alloc, client, reader, writer, &mut tally, progress);
     let reason = if tally.first.is_some() {
         Some(Reason::Lines(tally))
     } else {
@@ -122,6 +129,7 @@ fn play<R: Wait, D: Disk + Drop, P: Policy, I: BufRead, W: Write>(
     reader: &mut I,
     writer: &mut W,
     tally: &mut Tally,
+    progress: &mut Progress<'_>,
 ) -> Result<Status, StreamFailed> {
     let Ok(mut text) = String::with_capacity(alloc, ONE_LINE) else {
         return refuse(alloc, Refusal::Memory, writer);
@@ -131,7 +139,7 @@ fn play<R: Wait, D: Disk + Drop, P: Policy, I: BufRead, W: Write>(
     for number in 1..u64::MAX {
         text.clear();
         let answered = match next_input(reader, &mut line)? {
-            Input::Asks(asked) => answer(rt, alloc, client, asked, &mut text),
+            Input::Asks(asked) => answer(rt, alloc, client, asked, &mut text, progress),
             Input::TooLong => Err(Refusal::Memory),
             Input::Bad => {
                 tally.note(number, Said::BadLine);
