@@ -65,12 +65,15 @@ fn end(orders: &mut LiveOrders, c: CBlock) {
     }
 }
 
+fn answers(orders: &mut LiveOrders, call: Call, order: Option<Order>, cost: u64) -> bool {
+    answer(orders, call) == order && orders.cost() == cost
+}
+
 #[test]
 fn orders_come_and_go(rt: HostRuntime) -> Result<(), Refusal> {
     let mut orders = LiveOrders::new(rt.alloc(), 3, 8)?;
     for (call, order, cost) in CALLS {
-        assert!(rt; answer(&mut orders, call) == order);
-        assert!(rt; orders.cost() == cost);
+        assert!(rt; answers(&mut orders, call, order, cost));
     }
     assert!(rt; orders.given() == 4);
     assert!(rt; orders.busy() == [false, false, false, false, true, false, false, true].as_slice());

@@ -25,17 +25,23 @@ const RUNS: [(u32, u32, u8, u32, u64); 12] = [
     (9, 73, 8, 37, 0x70_0000),
 ];
 
+fn add(sketch: &mut Sketch, times: u32) {
+    for _ in 0..times {
+        sketch.add(OBlock(7));
+    }
+}
+
+fn shows(sketch: &Sketch, estimate: u8, sample: u32, word: u64) -> bool {
+    let seen = sketch.estimate(OBlock(7)) == estimate && sketch.sample() == sample;
+    seen && sketch.row(1) == [word].as_slice()
+}
+
 #[test]
 fn a_block_accessed_past_the_reset(rt: HostRuntime) -> Result<(), Fail> {
-    let block = OBlock(7);
     for (cache_blocks, times, estimate, sample, word) in RUNS {
         let mut sketch = Sketch::new(rt.alloc(), cache_blocks.min(64))?;
-        for _ in 0..times {
-            sketch.add(block);
-        }
-        let found = (sketch.estimate(block), sketch.sample());
-        assert!(rt; found == (estimate, sample), "after {times}");
-        assert!(rt; sketch.row(1) == [word].as_slice(), "after {times}");
+        add(&mut sketch, times);
+        assert!(rt; shows(&sketch, estimate, sample, word), "after {times}");
     }
     Ok(())
 }
@@ -86,34 +92,49 @@ fn places_of_the_smallest_sketch(rt: HostRuntime) {
     }
 }
 
+fn has_rows(sketch: &Sketch, plain: &Plain) -> bool {
+    for number in 1..5usize {
+        if sketch.row(number) != plain.words(number).as_slice() {
+            return false;
+        }
+    }
+    true
+}
+
+fn estimates(sketch: &Sketch, plain: &Plain, block: u32) -> bool {
+    sketch.estimate(OBlock(block)) == plain.estimate(block)
+}
+
+/// Adds an access to both: whether they agree then, of its block and of another one.
+fn agree(sketch: &mut Sketch, plain: &mut Plain, x: u32, other: u32) -> bool {
+    sketch.add(OBlock(x));
+    plain.add(x);
+    let counted = estimates(sketch, plain, x) && estimates(sketch, plain, other);
+    counted && sketch.sample() == plain.sample && has_rows(sketch, plain)
+}
+
+/// Whether both agree after each of so many pseudo-random accesses.
+fn agree_throughout(sketch: &mut Sketch, plain: &mut Plain, accesses: u32) -> bool {
+    let mut state = 1u64;
+    for _ in 0..accesses {
+        state = state
+            .wrapping_mul(6_364_136_223_846_793_005)
+            .wrapping_add(1_442_695_040_888_963_407);
+        let x = ((state >> 33) & (state >> 45) & 127) as u32;
+        let other = ((state >> 52) & 127) as u32;
+        if !agree(sketch, plain, x, other) {
+            return false;
+        }
+    }
+    true
+}
+
 /// Over 4,000 accesses, 49 resets among them, the sketch and the plain program agree, also in each of the
 /// four rows' counters.
 #[test]
 fn random_accesses_as_the_plain_program_counts_them(rt: HostRuntime) -> Result<(), Fail> {
     let mut sketch = Sketch::new(rt.alloc(), 20)?;
     let mut plain = Plain::new(rt.alloc())?;
-    let mut state = 1u64;
-    for _ in 0..4000 {
-        state = state
-            .wrapping_mul(6_364_136_223_846_793_005)
-            .wrapping_add(1_442_695_040_888_963_407);
-        let x = ((state >> 33) & (state >> 45) & 127) as u32;
-        sketch.add(OBlock(x));
-        plain.add(x);
-        let other = ((state >> 52) & 127) as u32;
-        for block in [x, other] {
-            assert!(rt;
-                sketch.estimate(OBlock(block)) == plain.estimate(block),
-                "of block {block}"
-            );
-        }
-        assert!(rt; sketch.sample() == plain.sample);
-        for number in 1..5usize {
-            assert!(rt;
-                sketch.row(number) == plain.words(number).as_slice(),
-                "row {number}"
-            );
-        }
-    }
+    assert!(rt; agree_throughout(&mut sketch, &mut plain, 4000));
     Ok(())
 }

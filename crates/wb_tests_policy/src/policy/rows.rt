@@ -28,19 +28,30 @@ const PLACED: [Option<(u32, u8)>; 4] = [Some((0, 5)), Some((1, 2)), Some((2, 5))
 
 const NO_ENTRIES: [Option<(u32, u8)>; 4] = [None, None, None, None];
 
+/// Whether block 9 is to replace this one, which then has a live order.
+fn replaces(tiny: &mut TinyLfu, busy: &mut [bool], at: u32) -> bool {
+    let order = settle(tiny, 9, None, 128, busy);
+    if let Some(bit) = busy.get_mut(at as usize) {
+        *bit = true;
+    }
+    order == Some(Order::Replace(OBlock(at), OBlock(9), CBlock(at)))
+}
+
+fn replaces_each(tiny: &mut TinyLfu, busy: &mut [bool], rising: &[u32]) -> bool {
+    for at in rising {
+        if !replaces(tiny, busy, *at) {
+            return false;
+        }
+    }
+    true
+}
+
 #[test]
 fn mapped_blocks_are_placed_by_hint_then_by_cache_block(rt: HostRuntime) -> Result<(), Fail> {
     let mut tiny = policy::<TinyLfu>(rt.alloc(), PLACED)?;
-    let mut busy = vec![in rt.alloc(); false; 10]?;
-    let _first = settle(&mut tiny, 9, None, 128, busy.as_slice());
-    for at in [3, 1, 0, 2] {
-        let order = settle(&mut tiny, 9, None, 128, busy.as_slice());
-        let want = Order::Replace(OBlock(at), OBlock(9), CBlock(at));
-        assert!(rt; order == Some(want));
-        if let Some(bit) = busy.get_mut(at as usize) {
-            *bit = true;
-        }
-    }
+    let mut busy = [false; 10];
+    let _first = settle(&mut tiny, 9, None, 128, &busy);
+    assert!(rt; replaces_each(&mut tiny, &mut busy, &[3, 1, 0, 2]));
     Ok(())
 }
 
@@ -111,17 +122,18 @@ const SETTINGS: [(Key, u64, bool, u64); 7] = [
     (Key::PromoteMin, 1, true, 1),
 ];
 
+fn answers(answer: Result<(), Refusal>, is_taken: bool) -> bool {
+    match answer {
+        Ok(()) => is_taken,
+        Err(refusal) => !is_taken && refusal == Refusal::BadMessage,
+    }
+}
+
 #[test]
 fn the_least_estimate_of_a_promotion_is_a_setting(rt: HostRuntime) -> Result<(), Fail> {
     let mut tiny = policy::<TinyLfu>(rt.alloc(), NO_ENTRIES)?;
     for (key, value, is_taken, then) in &SETTINGS {
-        let answer = tiny.set(*key, *value);
-        let want = if *is_taken {
-            Ok(())
-        } else {
-            Err(Refusal::BadMessage)
-        };
-        assert!(rt; answer == want);
+        assert!(rt; answers(tiny.set(*key, *value), *is_taken));
         assert!(rt; tiny.shown() == ("tinylfu", Some(*then)));
     }
     let order = settle(&mut tiny, 0, Some(CBlock(0)), 64, &[]);

@@ -66,18 +66,27 @@ fn every_block_of_the_largest_cache_is_found_in_turn(rt: HostRuntime) {
     assert!(rt; serves(rt.alloc(), 1_048_575));
 }
 
-/// Whether blocks of a full cache that are freed one after the other are the least free ones by turns.
-fn frees(alloc: Global, blocks: u32, freed: &[(u32, u32)]) -> bool {
-    let Ok(mut space) = space_of(alloc, blocks, true, &[]) else {
-        return false;
-    };
+/// Frees a block, after which this one has to be the least free.
+fn frees_one(space: &mut Space, c: u32, least: u32) -> bool {
+    let freed = remove(space, c, false) && begin(space, &[]) && end(space);
+    freed && space.least_free() == Some(CBlock(least))
+}
+
+fn frees_each(space: &mut Space, freed: &[(u32, u32)]) -> bool {
     for (c, least) in freed {
-        let freed = remove(&mut space, *c, false) && begin(&mut space, &[]) && end(&mut space);
-        if !freed || space.least_free() != Some(CBlock(*least)) {
+        if !frees_one(space, *c, *least) {
             return false;
         }
     }
     true
+}
+
+/// Whether blocks of a full cache that are freed one after the other are the least free ones by turns.
+fn frees(alloc: Global, blocks: u32, freed: &[(u32, u32)]) -> bool {
+    match space_of(alloc, blocks, true, &[]) {
+        Ok(mut space) => frees_each(&mut space, freed),
+        Err(_) => false,
+    }
 }
 
 // Each row frees a block, and names the least free one then.
