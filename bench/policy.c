@@ -1,5 +1,6 @@
-/* The same admission and replacement in plain C: policy CACHE_BLOCKS ACCESSES. The sketch is that of sketch.c; recency
-   is a list linked by cache block, and an array says where each origin block stands. Prints how many were hits. */
+/* The same admission and replacement in plain C: policy CACHE_BLOCKS ACCESSES|FILE. The sketch is that of sketch.c; recency
+   is a list linked by cache block, and an array says where each origin block stands. A file has the number of a block on each
+   line. Prints how many accesses were hits. */
 #include <stdint.h>
 #include <stdio.h>
 #include <stdlib.h>
@@ -78,9 +79,20 @@ static uint32_t next_block(void) {
   return rank * 0x9e3b1 & 0xfffff;
 }
 
+/* The next access of the trace, or of those that are drawn. */
+static int next_access(FILE *trace, uint64_t drawn, uint64_t accesses, uint32_t *block) {
+  if (trace) return fscanf(trace, "%u", block) == 1 && *block < ORIGIN_BLOCKS;
+  *block = next_block();
+  return drawn < accesses;
+}
+
 int main(int argc, char **argv) {
   if (argc != 3) return 2;
-  uint64_t cache = strtoull(argv[1], 0, 10), accesses = strtoull(argv[2], 0, 10), hits = 0, taken = 0;
+  char *end;
+  uint64_t cache = strtoull(argv[1], 0, 10), accesses = strtoull(argv[2], &end, 10), hits = 0, taken = 0;
+  FILE *trace = *end ? fopen(argv[2], "r") : NULL;
+  uint32_t block;
+  if (*end && !trace) return 1;
   for (bits = 4, width = 16; width < cache; bits++) width *= 2;
   limit = 8 * cache > 64 ? 8 * cache : 64;
   for (int i = 0; i < 4; i++) counters[i] = calloc(width, 1);
@@ -89,8 +101,7 @@ int main(int argc, char **argv) {
   older = calloc(cache + 1, 4);
   origin = calloc(cache + 1, 4);
   node_of = calloc(ORIGIN_BLOCKS, 4);
-  for (uint64_t i = 0; i < accesses; i++) {
-    uint32_t block = next_block();
+  for (uint64_t i = 0; next_access(trace, i, accesses, &block); i++) {
     add(block);
     if (node_of[block]) {
       hits++;

@@ -2,6 +2,7 @@
 
 ghost use Rattle.std.specs.Prelude.{◌≤◌};
 
+use crate::cached::{BLOCK, Cached, Call};
 use crate::desks::Accessed;
 use crate::edits::{Edits, Work};
 use crate::shares::{Crowd, Shares};
@@ -39,6 +40,8 @@ pub enum Asked<'a> {
     /// Settle so many accesses, or tick so often, over a cache of so many blocks.
     Settles { cache_blocks: u32, accesses: u64 },
     Ticks { cache_blocks: u32, ticks: u64 },
+    /// Requests of a target's clients on cached blocks.
+    Cached(Cached<'a>),
     /// Accesses through a desk.
     Desk(Accessed<'a>),
     Turnover(Turnover),
@@ -61,8 +64,40 @@ pub fn read_asked(words: &[String]) -> Option<Asked<'_>> {
             third.as_str(),
             fourth.as_str(),
         ),
-        _ => None,
+        _ => read_cached(words),
     }
+}
+
+fn read_cached(words: &[String]) -> Option<Asked<'_>> {
+    let [_, metadata, cache, origin, call, sectors, requests, clients] = words else {
+        return None;
+    };
+    let sectors = read_u64(sectors.as_str())?;
+    if sectors == 0 || sectors > BLOCK {
+        return None;
+    }
+    Some(Asked::Cached(Cached {
+        metadata: metadata.as_str(),
+        cache: cache.as_str(),
+        origin: origin.as_str(),
+        call: read_call(call.as_str())?,
+        sectors,
+        requests: read_u64(requests.as_str())?,
+        crowd: read_crowd(clients.as_str())?,
+    }))
+}
+
+fn read_call(word: &str) -> Option<Call> {
+    if word == "try_read" {
+        return Some(Call::TryRead);
+    }
+    if word == "try_write" {
+        return Some(Call::TryWrite);
+    }
+    if word == "read" {
+        return Some(Call::Read);
+    }
+    (word == "write").then_some(Call::Write)
 }
 
 fn read_state<'a>(file: &'a str, word: &str) -> Option<Asked<'a>> {

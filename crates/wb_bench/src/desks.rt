@@ -3,6 +3,7 @@
 ghost use Rattle.std.specs.Prelude.{◌≡◌, None, IfOk, replicate};
 ghost use Rattle.wb_meta.specs.Reads.{FitsDevice};
 
+use crate::clock::passed;
 use crate::traces::Trace;
 use std::alloc::Global;
 use std::time::Instant;
@@ -174,17 +175,6 @@ impl Spent {
         };
         self.calls[at] = self.calls[at].wrapping_add(calls);
         self.nanoseconds[at] = self.nanoseconds[at].wrapping_add(nanoseconds);
-    }
-}
-
-/// The nanoseconds since then.
-fn passed(rt: &HostRuntime, start: &Instant) -> u64 {
-    match start.elapsed(rt) {
-        Ok(took) => took
-            .as_secs()
-            .wrapping_mul(1_000_000_000)
-            .wrapping_add(u64::from(took.subsec_nanos())),
-        Err(_) => 0,
     }
 }
 

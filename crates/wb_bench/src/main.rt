@@ -14,6 +14,9 @@
 //! calls and their nanoseconds.
 //! `wb_bench tree CACHE_BLOCKS get|set|clear|CHANGES ROUNDS` looks up, sets or clears a block of a full mapping in each
 //! round, or sets so many blocks and plans an image, and prints the sum of the hints found, or of the nodes written.
+//! `wb_bench METADATA CACHE ORIGIN try_read|try_write|read|write SECTORS REQUESTS 1|2|4` opens a formatted cache with blocks of 64
+//! sectors, promotes a block of the origin for each of its own, and makes so many requests by each of so many clients, on threads
+//! and cached blocks of their own; it prints how many promotions there were and their nanoseconds, and so of the requests.
 //! `wb_bench FILE mapping CACHE_BLOCKS` makes the file a metadata device that holds a full mapping of so many cache
 //! blocks, and `wb_bench FILE state` reads what it stands for; both print the number of nodes.
 #![tactic(auto)]
@@ -22,6 +25,8 @@ ghost use Rattle.std.specs.Prelude.{◌≡◌, ◌<◌, ◌≤◌};
 
 mod accesses;
 mod asked;
+mod cached;
+mod clock;
 mod desks;
 mod edits;
 mod mapping;
@@ -33,6 +38,7 @@ mod turnover;
 
 use crate::accesses::{add_all, time_reset};
 use crate::asked::{Asked, Direction, Requests, read_asked};
+use crate::cached::{Took, time_cached};
 use crate::desks::{Accessed, Spent, access_all};
 use crate::edits::edit_all;
 use crate::mapping::{read_mapping, write_mapping};
@@ -59,6 +65,7 @@ const USAGE: &str = "usage: wb_bench FILE read|write SECTORS REQUESTS
        wb_bench space CACHE_BLOCKS ROUNDS REMOVED
        wb_bench tree CACHE_BLOCKS get|set|clear|CHANGES ROUNDS
        wb_bench shares same|apart 1|2|4 ROUNDS
+       wb_bench METADATA CACHE ORIGIN try_read|try_write|read|write SECTORS REQUESTS 1|2|4
        wb_bench FILE mapping CACHE_BLOCKS
        wb_bench FILE state";
 
@@ -86,6 +93,10 @@ fn main(rt: HostRuntime) -> ExitCode {
         Asked::Reset { cache_blocks } => match time_reset(&rt, cache_blocks) {
             Some(nanoseconds) => print(&rt, nanoseconds),
             None => failed(&rt, "out of memory, or no clock"),
+        },
+        Asked::Cached(cached) => match time_cached(&rt, &rt, &cached) {
+            Ok(took) => tell_took(&rt, &took),
+            Err(why) => failed(&rt, why),
         },
         Asked::Desk(accessed) => tell_spent(&rt, &accessed),
         Asked::Turnover(turnover) => tell_sum(&rt, turn_over(alloc, &turnover)),
@@ -119,6 +130,23 @@ fn tell_sum(rt: &HostRuntime, sum: Result<u64, Refusal>) -> ExitCode {
         Ok(sum) => print(rt, sum),
         Err(Refusal::Geometry) => failed(rt, "no cache has so many blocks"),
         Err(_) => failed(rt, "out of memory"),
+    }
+}
+
+/// Prints the promotions and the requests of clients, with their nanoseconds.
+fn tell_took(rt: &HostRuntime, took: &Took) -> ExitCode {
+    let Took {
+        promotions,
+        promoting,
+        requests,
+        serving,
+    } = *took;
+    match println!(rt; "promotions {promotions} {promoting}\nrequests {requests} {serving}") {
+        Ok(()) => ExitCode::SUCCESS,
+        Err(_) => {
+            failed(rt, "the output failed");
+            ExitCode::from(STREAM_FAILED)
+        }
     }
 }
 

@@ -23,6 +23,20 @@ pub enum Crowd {
     Four,
 }
 
+impl Crowd {
+    /// How many they are.
+    pub fn count(self) -> u64
+        ensures some { 1 ≤ result }
+        ensures few { result ≤ 4 }
+    {
+        match self {
+            Crowd::One => 1,
+            Crowd::Two => 2,
+            Crowd::Four => 4,
+        }
+    }
+}
+
 /// Which blocks, on how many threads, how many times.
 #[derive(Clone, Copy, Debug)]
 pub struct Shares {
@@ -51,12 +65,7 @@ pub fn share_all<R: Threads + Wait + Sync>(
         Crowd::Two => pair(rt, &cells, pass, 0, step, rounds),
         Crowd::Four => four(rt, &cells, pass, step, rounds),
     };
-    let threads = match crowd {
-        Crowd::One => 1,
-        Crowd::Two => 2,
-        Crowd::Four => 4,
-    };
-    Ok(threads * u64::from(rounds))
+    Ok(crowd.count() * u64::from(rounds))
 }
 
 /// Shares a block so many times, trying again where an exchange is lost.

@@ -1,0 +1,93 @@
+/* The work of a target's clients by plain system calls, timed inside:
+     clients FILE read|write SECTORS REQUESTS THREADS
+   makes so many requests on each of so many threads, each with a descriptor and an equal part of the file's blocks of its own,
+     clients copy FROM TO
+   copies one file to the other, a block at a time, each by one pread and one pwrite between two rounds of a lock.
+   Prints the nanoseconds of all. */
+#include <fcntl.h>
+#include <pthread.h>
+#include <stdio.h>
+#include <stdlib.h>
+#include <string.h>
+#include <time.h>
+#include <unistd.h>
+
+enum { SECTOR = 512, BLOCK = 64 * SECTOR, MOST_THREADS = 64 };
+
+static const char *path;
+static int writes;
+static size_t size;
+static long requests, share;
+
+static void fail(const char *why) {
+  fprintf(stderr, "clients: %s\n", why);
+  exit(1);
+}
+
+static int opened(const char *name) {
+  int file = open(name, O_RDWR);
+  if (file < 0) fail("a file cannot be opened");
+  return file;
+}
+
+static long blocks_of(int file) { return lseek(file, 0, SEEK_END) / BLOCK; }
+
+static long long now(void) {
+  struct timespec at;
+  clock_gettime(CLOCK_MONOTONIC, &at);
+  return at.tv_sec * 1000000000LL + at.tv_nsec;
+}
+
+static void *serve(void *which) {
+  static _Thread_local char buffer[BLOCK];
+  int file = opened(path);
+  long first = (long)which * share;
+  memset(buffer, 0x5a, sizeof buffer);
+  for (long number = 0; number < requests; number++) {
+    off_t where = (first + number % share) * BLOCK;
+    ssize_t moved = writes ? pwrite(file, buffer, size, where) : pread(file, buffer, size, where);
+    if (moved != (ssize_t)size) fail("a short call");
+  }
+  close(file);
+  return NULL;
+}
+
+static long long copy(const char *from, const char *to) {
+  static char buffer[BLOCK];
+  pthread_mutex_t lock = PTHREAD_MUTEX_INITIALIZER;
+  int source = opened(from), target = opened(to);
+  long blocks = blocks_of(target);
+  long long start = now();
+  for (long block = 0; block < blocks; block++) {
+    pthread_mutex_lock(&lock);
+    pthread_mutex_unlock(&lock);
+    if (pread(source, buffer, BLOCK, (off_t)block * BLOCK) != BLOCK) fail("a short read");
+    if (pwrite(target, buffer, BLOCK, (off_t)block * BLOCK) != BLOCK) fail("a short write");
+    pthread_mutex_lock(&lock);
+    pthread_mutex_unlock(&lock);
+  }
+  return now() - start;
+}
+
+int main(int argc, char **argv) {
+  pthread_t threads[MOST_THREADS];
+  if (argc == 4 && strcmp(argv[1], "copy") == 0) {
+    printf("%lld\n", copy(argv[2], argv[3]));
+    return 0;
+  }
+  if (argc != 6) fail("usage: clients FILE read|write SECTORS REQUESTS THREADS, or clients copy FROM TO");
+  path = argv[1];
+  writes = strcmp(argv[2], "write") == 0;
+  size = strtoul(argv[3], 0, 10) * SECTOR;
+  requests = atol(argv[4]);
+  long many = atol(argv[5]);
+  if (size < SECTOR || size > BLOCK || many < 1 || many > MOST_THREADS) fail("1 to 64 sectors, 1 to 64 threads");
+  share = blocks_of(opened(path)) / many;
+  if (share < 1) fail("the file is too short");
+  long long start = now();
+  for (long each = 0; each < many; each++)
+    if (pthread_create(&threads[each], NULL, serve, (void *)each)) fail("no thread");
+  for (long each = 0; each < many; each++) pthread_join(threads[each], NULL);
+  printf("%lld\n", now() - start);
+  return 0;
+}

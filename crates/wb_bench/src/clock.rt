@@ -1,0 +1,14 @@
+//! How long something took.
+
+use std::time::Instant;
+
+/// The nanoseconds since then; 0 where the clock cannot be read.
+pub fn passed(rt: &HostRuntime, start: &Instant) -> u64 {
+    match start.elapsed(rt) {
+        Ok(took) => took
+            .as_secs()
+            .wrapping_mul(1_000_000_000)
+            .wrapping_add(u64::from(took.subsec_nanos())),
+        Err(_) => 0,
+    }
+}
