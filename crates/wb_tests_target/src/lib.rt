@@ -4,6 +4,8 @@
 #[cfg(test)]
 mod caching;
 #[cfg(test)]
+mod faults;
+#[cfg(test)]
 mod files;
 #[cfg(test)]
 mod fixture;

@@ -1,0 +1,183 @@
+//! A call of a device that fails, whichever it is: the next target shows of each sector what was flushed, or a later write.
+
+use crate::fixture::{Memory, begun_with, client_of, formatted, open};
+use std::alloc::Global;
+use std::sync::Wait;
+use std::test::Fail;
+use wb_devices::Devices;
+use wb_disk::{Base, CrashChoice, MemDisk};
+use wb_faults::FaultDisk;
+use wb_policy::TinyLfu;
+use wb_target::{Client, Target};
+use wb_types::{Dev, Mode, Refusal, SECTOR_BYTES, Sector};
+
+type Failing = Devices<FaultDisk<MemDisk>>;
+
+/// No run makes as many calls of a device.
+const MOST_CALLS: u64 = 200;
+
+/// How far the rounds of writes have come, each of all five sectors: the last that was begun, and the last that was finished when
+/// the last answered flush began.
+#[derive(Clone, Copy)]
+struct Rounds {
+    begun: u8,
+    flushed: u8,
+}
+
+/// Formatted devices, of which this one fails at its call of this number.
+fn failing(alloc: Global, device: Dev, call: u64) -> Result<Failing, Refusal> {
+    let memory = formatted(alloc)?;
+    Ok(Devices {
+        metadata: FaultDisk::new(memory.metadata, call_of(Dev::Metadata, device, call)),
+        cache: FaultDisk::new(memory.cache, call_of(Dev::Cache, device, call)),
+        origin: FaultDisk::new(memory.origin, call_of(Dev::Origin, device, call)),
+    })
+}
+
+fn call_of(this: Dev, device: Dev, call: u64) -> Option<u64> {
+    if this == device { Some(call) } else { None }
+}
+
+/// Writes a sector of each of five blocks three times, and carries out the orders that come of it: in the first round four blocks
+/// are cached, and the fifth takes the place of one.
+fn write_all(
+    rt: &impl Wait,
+    client: &mut Client<'_, FaultDisk<MemDisk>, TinyLfu>,
+    round: u8,
+) -> Result<(), Refusal> {
+    for block in 0..5 {
+        for _ in 0..3 {
+            if let Err(stopped) = client.write(rt, Sector(64 * block), &[begun_with(round)]) {
+                return Err(stopped.refusal);
+            }
+        }
+        client.work_one(rt)?;
+    }
+    Ok(())
+}
+
+/// Two rounds with a flush after each, and a third without, as far as no call fails.
+fn play(
+    rt: &impl Wait,
+    client: &mut Client<'_, FaultDisk<MemDisk>, TinyLfu>,
+    rounds: &mut Rounds,
+) -> Result<(), Refusal> {
+    for round in 1..4 {
+        rounds.begun = round;
+        write_all(rt, client, round)?;
+        if round < 3 {
+            client.flush(rt)?;
+            rounds.flushed = round;
+        }
+    }
+    Ok(())
+}
+
+/// A target's life over devices: how far it came, and the devices then, with whether a call failed.
+fn lived(rt: &impl Wait, alloc: Global, devices: Failing) -> (Rounds, Memory, bool) {
+    let mut rounds = Rounds {
+        begun: 0,
+        flushed: 0,
+    };
+    let (devices, target) = Target::<TinyLfu>::open(alloc, devices, 64, Mode::Writeback, &[]);
+    let devices = match target {
+        Ok(target) => match target.client(rt, devices) {
+            Ok(mut client) => {
+                let _ = play(rt, &mut client, &mut rounds);
+                target.retire(rt, client)
+            }
+            Err((devices, _)) => devices,
+        },
+        Err(_) => devices,
+    };
+    let Devices {
+        metadata,
+        cache,
+        origin,
+    } = devices;
+    let has_failed = metadata.has_failed() || cache.has_failed() || origin.has_failed();
+    let memory = Devices {
+        metadata: metadata.into_inner(),
+        cache: cache.into_inner(),
+        origin: origin.into_inner(),
+    };
+    (rounds, memory, has_failed)
+}
+
+/// Crashes devices, each sector at its oldest or its newest content.
+fn crashed(memory: &mut Memory, choice: &CrashChoice) -> bool {
+    memory.metadata.stop(Dev::Metadata, choice)
+        && memory.cache.stop(Dev::Cache, choice)
+        && memory.origin.stop(Dev::Origin, choice)
+}
+
+/// Whether a new target shows each of the five sectors as one of the rounds from the flushed one on wrote it.
+fn all_allowed(
+    rt: &impl Wait,
+    alloc: Global,
+    memory: Memory,
+    rounds: Rounds,
+) -> Result<bool, Refusal> {
+    let (devices, target) = open(alloc, memory)?;
+    let mut client = client_of(rt, &target, devices)?;
+    let mut out = [[0; SECTOR_BYTES]];
+    for block in 0..5 {
+        if let Err(stopped) = client.read(rt, Sector(64 * block), &mut out) {
+            return Err(stopped.refusal);
+        }
+        if out[0][0] < rounds.flushed || out[0][0] > rounds.begun {
+            return Ok(false);
+        }
+    }
+    Ok(true)
+}
+
+/// Whether all is shown as it may be where this call fails, or none if it never comes.
+fn is_borne(
+    rt: &impl Wait,
+    alloc: Global,
+    device: Dev,
+    call: u64,
+    base: Base,
+) -> Result<Option<bool>, Refusal> {
+    let (rounds, mut memory, has_failed) = lived(rt, alloc, failing(alloc, device, call)?);
+    if !has_failed {
+        return Ok(None);
+    }
+    let choice = CrashChoice::new(base, Vec::new(alloc));
+    if !crashed(&mut memory, &choice) {
+        return Ok(Some(false));
+    }
+    Ok(Some(all_allowed(rt, alloc, memory, rounds)?))
+}
+
+/// How many calls of a device were made to fail, one in each run, if each run was borne.
+fn count_borne(
+    rt: &impl Wait,
+    alloc: Global,
+    device: Dev,
+    base: Base,
+) -> Result<Option<u64>, Refusal> {
+    for call in 0..MOST_CALLS {
+        match is_borne(rt, alloc, device, call, base)? {
+            None => return Ok(Some(call)),
+            Some(true) => {}
+            Some(false) => return Ok(None),
+        }
+    }
+    Ok(None)
+}
+
+/// Each device, with the calls that a life of it makes at the least.
+const DEVICES: [(Dev, u64); 3] = [(Dev::Metadata, 12), (Dev::Cache, 20), (Dev::Origin, 12)];
+
+#[test]
+fn what_was_flushed_is_shown_whichever_call_failed(rt: HostRuntime) -> Result<(), Fail> {
+    for (device, least) in DEVICES {
+        for base in [Base::Durable, Base::Newest] {
+            let borne = count_borne(&rt, rt.alloc(), device, base)?;
+            assert!(rt; borne >= Some(least));
+        }
+    }
+    Ok(())
+}
