@@ -1,4 +1,6 @@
 pub mod Words
+pub mod Comments
 pub mod Numbers
+pub mod Sectors
 pub mod Table
 pub mod Status

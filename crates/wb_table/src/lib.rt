@@ -1,14 +1,18 @@
 //! Texts about a target: the line that constructs it, with the words and numbers of such lines, and the one that tells how it is.
 #![tactic(auto)]
 
+mod comment;
 mod number;
+mod sectors;
 mod status;
 mod table;
 #[cfg(test)]
 mod tests;
 mod words;
 
+pub use comment::is_comment;
 pub use number::{read_byte, read_number};
+pub use sectors::{read_fill, read_sectors};
 pub use status::{Fields, status_text};
 pub use table::{Table, TableFault, find_table_fault, read_table};
 pub use words::SplitSpaces;

@@ -1,27 +1,10 @@
-use Rattle.std.specs.Prelude.{◌≡◌, ◌==◌, ℕ, not, List, [], ◌∷◌, Option, Some, find, codes, ◌⊎◌}
+use Rattle.std.specs.Prelude.{◌≡◌, ℕ, List, [], ◌∷◌, codes, ◌⊎◌}
 use Rattle.std.specs.Str.{IsUtf8}
 use Rattle.wb_table.specs.Words.{words_of}
-use Rattle.wb_table.specs.Numbers.{SpellsNumber, SpellsByte}
+use Rattle.wb_table.specs.Comments.{IsComment}
+use Rattle.wb_table.specs.Sectors.{SpellsSectors, SpellsFill}
 use Rattle.wbcache.specs.declared.line.Line.{Line}
 use Rattle.wbcache.specs.declared.line.Line.TheVariants.{Nothing, Read, Write, TryRead, TryWrite, Flush, Settle, Work, Tick, Status}
-
--- the first byte other than a space
-abbrev pub first_byte_of : List ℕ → Option ℕ
-first_byte_of line = find (λ byte. not (byte == 32)) line
-
--- The first byte other than a space is `#`.
-abbrev pub IsComment : List ℕ → Type 0
-IsComment line = first_byte_of line ≡ Some 35
-
--- words that spell a sector and a number of sectors: `S N`
-abbrev pub SpellsSectors : List (List ℕ) → ℕ → ℕ → Type 0
-SpellsSectors (sector ∷ number ∷ []) at count = SpellsNumber sector at × SpellsNumber number count
-SpellsSectors words at count = ⊥
-
--- and a byte to fill them with: `S N hh`
-abbrev pub SpellsFill : List (List ℕ) → ℕ → ℕ → ℕ → Type 0
-SpellsFill (sector ∷ number ∷ digits ∷ []) at count fill = SpellsNumber sector at × SpellsNumber number count × SpellsByte digits fill
-SpellsFill words at count fill = ⊥
 
 -- The words of a line that asks this: none, one that names the call, or `r`, `tr`, `w`, `tw` and what they take.
 abbrev pub Asks : List (List ℕ) → Line → Type 0

@@ -1,12 +1,12 @@
 //! The lines of a script.
 
-ghost use Rattle.std.specs.Prelude.{◌≡◌, ◌≢◌, ◌↔◌, ◌∷◌, ℕ, IsTrue, IfSome, IfNone, codes};
-ghost use Rattle.wbcache.specs.Line.{first_byte_of, IsComment, SpellsSectors, SpellsFill, Asks, IsLine};
+ghost use Rattle.std.specs.Prelude.{◌≡◌, ◌≢◌, ◌∷◌, ℕ, IfSome, IfNone, codes};
+ghost use Rattle.wbcache.specs.Line.{Asks, IsLine};
 ghost use Rattle.wb_table.specs.Words.{words_of};
 ghost use Rattle.wbcache.specs.declared.line.Line.{Line as Asked};
 
-use wb_table::{SplitSpaces, read_byte, read_number};
 use std::str;
+use wb_table::{SplitSpaces, is_comment, read_fill, read_sectors};
 use wb_types::Sector;
 
 /// What a line asks.
@@ -43,20 +43,6 @@ pub fn read_line(line: &[u8]) -> Option<Line>
         return Some(Line::Nothing);
     }
     read_words(SplitSpaces(str::from_utf8(line).ok()?))
-}
-
-/// Whether a line begins with `#`, after any spaces.
-fn is_comment(line: &[u8]) -> bool
-    ensures { IsTrue result ↔ IsComment line.now }
-{
-    matches!(first_byte(line), Some(b'#'))
-}
-
-/// The first byte other than a space.
-fn first_byte(line: &[u8]) -> Option<u8>
-    ensures { result ≡ first_byte_of line.now }
-{
-    line.iter().copied().find(|byte| *byte != b' ')
 }
 
 fn read_words(mut words: SplitSpaces<'_>) -> Option<Line>
@@ -101,27 +87,4 @@ fn read_word(word: &str, mut words: SplitSpaces<'_>) -> Option<Line>
         "status" => Some(Line::Status),
         _ => None,
     }
-}
-
-/// Reads a sector and a number of sectors, and nothing behind them.
-fn read_sectors(mut words: SplitSpaces<'_>) -> Option<(Sector, u64)>
-    ensures found { IfSome result (λ read. SpellsSectors (words_of words.entry.0.now) read.0.0 read.1) }
-    ensures none { IfNone result ((at count : ℕ) → ¬ SpellsSectors (words_of words.entry.0.now) at count) }
-{
-    let at = Sector(read_number(words.next()?)?);
-    let count = read_number(words.next()?)?;
-    words.expect_end()?;
-    Some((at, count))
-}
-
-/// Reads a sector, a number of sectors and a byte, and nothing behind them.
-fn read_fill(mut words: SplitSpaces<'_>) -> Option<(Sector, u64, u8)>
-    ensures found { IfSome result (λ read. SpellsFill (words_of words.entry.0.now) read.0.0 read.1 read.2) }
-    ensures none { IfNone result ((at count fill : ℕ) → ¬ SpellsFill (words_of words.entry.0.now) at count fill) }
-{
-    let at = Sector(read_number(words.next()?)?);
-    let count = read_number(words.next()?)?;
-    let fill = read_byte(words.next()?)?;
-    words.expect_end()?;
-    Some((at, count, fill))
 }
