@@ -5,3 +5,4 @@ pub mod Answers
 pub mod Acts
 pub mod Jobs
 pub mod Performing
+pub mod Talking

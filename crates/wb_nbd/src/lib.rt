@@ -12,6 +12,7 @@ mod input;
 mod job;
 mod performing;
 mod request;
+mod transmission;
 mod words;
 
 pub use answer::Answer;
@@ -21,4 +22,5 @@ pub use export::Export;
 pub use job::{Job, Task, take_job};
 pub use performing::perform;
 pub use request::{Command, Cookie, Flags, Request};
+pub use transmission::transmit;
 pub use words::MOST_BYTES;

@@ -1,0 +1,13 @@
+-- The sectors of a task are the export's.
+use Rattle.std.proofs.Common.{ℕ, List}
+use Rattle.wb_nbd.specs.declared.request.Request.{Request}
+use Rattle.wb_nbd.specs.declared.job.Task.{Task}
+use Rattle.wb_nbd.specs.declared.job.Task.TheVariants.{Read as ReadTask, Write as WriteTask, Flush as FlushTask, Refuse}
+use Rattle.wb_nbd.specs.Jobs.{IsTask}
+use Rattle.wb_nbd.specs.Performing.{Fits}
+
+pub task_fits : (size : ℕ) (request : Request) (payload : List ℕ) (task : Task) → IsTask size request payload task → Fits size task
+task_fits size request payload (ReadTask at count) is = is.2.inside
+task_fits size request payload (WriteTask at content durable) is = is.3.inside
+task_fits size request payload FlushTask is = tt
+task_fits size request payload (Refuse errno) is = tt
