@@ -6,3 +6,6 @@ pub mod Acts
 pub mod Jobs
 pub mod Performing
 pub mod Talking
+pub mod Options
+pub mod Terms
+pub mod Handshakes
