@@ -1,1 +1,4 @@
+pub mod Words
+pub mod Numbers
+pub mod Table
 pub mod Status

@@ -1,8 +1,14 @@
-//! Texts about a target that stand for themselves: the line that tells how it is.
+//! Texts about a target: the line that constructs it, with the words and numbers of such lines, and the one that tells how it is.
 #![tactic(auto)]
 
+mod number;
 mod status;
+mod table;
 #[cfg(test)]
 mod tests;
+mod words;
 
+pub use number::{read_byte, read_number};
 pub use status::{Fields, status_text};
+pub use table::{Table, TableFault, find_table_fault, read_table};
+pub use words::SplitSpaces;

@@ -1,5 +1,2 @@
-pub mod Digits
-pub mod Parts
-pub mod Blocks
 pub mod Fills
 pub mod Ranges

@@ -1,6 +1,3 @@
-pub mod Words
-pub mod Numbers
-pub mod Table
 pub mod Line
 pub mod Request
 pub mod Fill

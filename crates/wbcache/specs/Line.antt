@@ -1,7 +1,7 @@
 use Rattle.std.specs.Prelude.{◌≡◌, ◌==◌, ℕ, not, List, [], ◌∷◌, Option, Some, find, codes, ◌⊎◌}
 use Rattle.std.specs.Str.{IsUtf8}
-use Rattle.wbcache.specs.Words.{words_of}
-use Rattle.wbcache.specs.Numbers.{SpellsNumber, SpellsByte}
+use Rattle.wb_table.specs.Words.{words_of}
+use Rattle.wb_table.specs.Numbers.{SpellsNumber, SpellsByte}
 use Rattle.wbcache.specs.declared.line.Line.{Line}
 use Rattle.wbcache.specs.declared.line.Line.TheVariants.{Nothing, Read, Write, TryRead, TryWrite, Flush, Settle, Work, Tick, Status}
 

@@ -1,6 +1,5 @@
 //! Formatting of a target's metadata.
 
-use crate::devices::{Disks, open_table};
 use crate::ended::Ended;
 use crate::output::{StreamFailed, print, print_refusal, refuse};
 use crate::reason::Reason;
@@ -10,6 +9,7 @@ use std::fmt::Write as _;
 use std::fs::File;
 use std::io::Write;
 use std::rt::Files;
+use wb_files::{Disks, open_table};
 use wb_types::{Geometry, Refusal};
 
 /// Formats the metadata over the files of a table, prints `formatted <cache blocks> <origin blocks>` or the refusal,

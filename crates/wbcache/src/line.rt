@@ -2,11 +2,10 @@
 
 ghost use Rattle.std.specs.Prelude.{◌≡◌, ◌≢◌, ◌↔◌, ◌∷◌, ℕ, IsTrue, IfSome, IfNone, codes};
 ghost use Rattle.wbcache.specs.Line.{first_byte_of, IsComment, SpellsSectors, SpellsFill, Asks, IsLine};
-ghost use Rattle.wbcache.specs.Words.{words_of};
+ghost use Rattle.wb_table.specs.Words.{words_of};
 ghost use Rattle.wbcache.specs.declared.line.Line.{Line as Asked};
 
-use crate::number::{read_byte, read_number};
-use crate::words::SplitSpaces;
+use wb_table::{SplitSpaces, read_byte, read_number};
 use std::str;
 use wb_types::Sector;
 

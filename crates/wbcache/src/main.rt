@@ -3,23 +3,18 @@
 
 mod answers;
 mod arguments;
-mod devices;
 mod ended;
 mod fill;
 mod format;
 mod help;
 mod line;
-mod number;
 mod output;
 mod part;
 mod progress;
 mod reason;
 mod script;
-mod sizes;
 mod status;
-mod table;
 mod tally;
-mod words;
 
 use crate::arguments::{Asked, read_arguments};
 use crate::ended::Ended;

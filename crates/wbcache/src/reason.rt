@@ -1,12 +1,11 @@
 //! Why something was refused, for who reads standard error.
 
 use crate::output::StreamFailed;
-use crate::sizes::SizeFault;
-use crate::table::TableFault;
 use crate::tally::Tally;
+use std::fmt;
 use std::fmt::{Display, Formatter};
-use std::{fmt, io};
-use wb_types::{Dev, Refusal};
+use wb_files::Unopened;
+use wb_types::Refusal;
 
 /// Why a run or a formatting did not end well.
 #[derive(Drop)]
@@ -17,64 +16,6 @@ pub enum Reason<'a> {
     /// Lines of a script were refused.
     Lines(Tally),
     Stream(StreamFailed),
-}
-
-/// Why the files of a table cannot serve.
-#[derive(Drop)]
-pub enum Unopened<'a> {
-    Table(TableFault<'a>),
-    /// A file cannot be opened, locked or measured.
-    File {
-        device: Dev,
-        path: &'a str,
-        trouble: Trouble,
-    },
-    Size(SizeFault),
-}
-
-/// What is the trouble with a file.
-#[derive(Drop)]
-pub enum Trouble {
-    System(io::Error),
-    /// It is locked: by another program, or as another device of the same table.
-    Locked,
-}
-
-impl<'a> Unopened<'a> {
-    /// What is printed for it.
-    pub fn refusal(&self) -> Refusal {
-        match self {
-            Unopened::Table(_) => Refusal::BadTable,
-            Unopened::File { device, .. } => Refusal::Io(*device),
-            Unopened::Size(_) => Refusal::Geometry,
-        }
-    }
-}
-
-impl<'a> Display for Unopened<'a> {
-    fn fmt<W: fmt::Write>(&self, f: &mut Formatter<W>) -> fmt::Result {
-        match self {
-            Unopened::Table(fault) => write!(f, "{fault}"),
-            Unopened::File {
-                device,
-                path,
-                trouble,
-            } => write!(f, "{device} file {path}: {trouble}"),
-            Unopened::Size(fault) => write!(f, "{fault}"),
-        }
-    }
-}
-
-impl Display for Trouble {
-    fn fmt<W: fmt::Write>(&self, f: &mut Formatter<W>) -> fmt::Result {
-        match self {
-            Trouble::System(error) => write!(f, "{error}"),
-            Trouble::Locked => write!(
-                f,
-                "locked, by another program or as another device of the table"
-            ),
-        }
-    }
 }
 
 impl<'a> Display for Reason<'a> {

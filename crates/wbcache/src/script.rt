@@ -1,7 +1,6 @@
 //! Scripts: a line in, its answer out.
 
 use crate::answers::answer;
-use crate::devices::{Disks, open_table};
 use crate::ended::Ended;
 use crate::line::{Line, read_line};
 use crate::output::{StreamFailed, print, print_bad_line, print_refusal, refuse};
@@ -16,6 +15,7 @@ use std::rt::Files;
 use std::sync::Wait;
 use wb_devices::Devices;
 use wb_disk::{Disk, FileDisk};
+use wb_files::{Disks, open_table};
 use wb_policy::{Policy, TinyLfu};
 use wb_target::{Client, Target};
 use wb_types::{Geometry, Mode, Refusal};

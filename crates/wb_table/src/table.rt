@@ -1,8 +1,8 @@
 //! The constructor line of a target.
 
 ghost use Rattle.std.specs.Prelude.{◌≡◌, ℕ, List, IfOk, IfErr, IfSome, IfNone};
-ghost use Rattle.wbcache.specs.Table.{IsTable, IsBlockSize};
-ghost use Rattle.wbcache.specs.Words.{words_of};
+ghost use Rattle.wb_table.specs.Table.{IsTable, IsBlockSize};
+ghost use Rattle.wb_table.specs.Words.{words_of};
 
 use crate::number::read_number;
 use crate::words::SplitSpaces;

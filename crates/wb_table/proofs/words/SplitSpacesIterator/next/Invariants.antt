@@ -1,6 +1,6 @@
 use Rattle.std.proofs.Common.{◌≡◌, length}
-use Rattle.wbcache.specs.Words.{words_of}
-use Rattle.wbcache.proofs.words.SplitSpacesIterator.next.Given as goal
+use Rattle.wb_table.specs.Words.{words_of}
+use Rattle.wb_table.proofs.words.SplitSpacesIterator.next.Given as goal
 
 abbrev pub invariant-loop-word : goal.invariant-loop-word
 invariant-loop-word l = words_of l.self.0.now ≡ words_of l.initial.self.0.now

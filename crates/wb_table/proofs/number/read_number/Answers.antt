@@ -1,8 +1,8 @@
 use Rattle.std.proofs.Common.{◌≡◌, true}
 use Rattle.std.specs.Char.{is_ascii_digit}
 use Rattle.std.specs.List.{list_all}
-use Rattle.wbcache.proofs.Digits.{SpellsNumber-not_parsed}
-use Rattle.wbcache.proofs.number.read_number.Goals as goal
+use Rattle.wb_table.proofs.Digits.{SpellsNumber-not_parsed}
+use Rattle.wb_table.proofs.number.read_number.Goals as goal
 
 pub returns-clause-none : goal.returns-clause-none
 returns-clause-none c =

@@ -1,5 +1,5 @@
 use Rattle.std.specs.Prelude.{◌≡◌, ◌≤◌, ◌%◌, ℕ, List, [], ◌∷◌, codes}
-use Rattle.wbcache.specs.Numbers.{SpellsNumber}
+use Rattle.wb_table.specs.Numbers.{SpellsNumber}
 
 -- A word spells the size of a block: 64 to 2,097,152 sectors, a multiple of 64.
 pub record IsBlockSize (word : List ℕ) (block : ℕ) : Type 0 where

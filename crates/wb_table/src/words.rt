@@ -2,7 +2,7 @@
 
 ghost use Rattle.std.specs.Prelude.{◌≡◌, ◌≢◌, [], ◌∷◌, List, ℕ, OnSome, IfNone};
 ghost use Rattle.std.specs.Iterator.{YieldsFirstRef, item_count};
-ghost use Rattle.wbcache.specs.Words.{words_of};
+ghost use Rattle.wb_table.specs.Words.{words_of};
 
 /// Goes over the words of a text, which stand between spaces: as `split_whitespace`, but for the space alone.
 #[derive(Drop)]

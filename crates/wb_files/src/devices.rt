@@ -1,15 +1,15 @@
-//! The devices of a target.
+//! The devices of a target, as files.
 
 ghost use Rattle.std.specs.Prelude.{◌≡◌, ◌<◌, ◌*◌, ◌^◌, ℕ, IfOk, IfErr};
 ghost use Rattle.wb_types.specs.Limits.{IsWithinLimits};
 
-use crate::reason::{Trouble, Unopened};
 use crate::sizes::find_size_fault;
-use crate::table::{Table, find_table_fault, read_table};
+use crate::unopened::{Trouble, Unopened};
 use std::fs::{File, OpenOptions, TryLockError};
 use std::io;
 use std::rt::Files;
 use wb_disk::{Disk, FileDisk};
+use wb_table::{Table, find_table_fault, read_table};
 use wb_types::{Dev, Geometry, Refusal};
 
 /// The three devices of a target.

@@ -3,7 +3,7 @@
 ghost use Rattle.std.specs.Prelude.{◌≡◌, ◌<◌, ◌≢◌, ℕ, IfSome, IfNone};
 ghost use Rattle.std.specs.Char.{digit_char, is_ascii_digit};
 ghost use Rattle.std.specs.List.{list_all};
-ghost use Rattle.wbcache.specs.Numbers.{SpellsNumber, SpellsByte};
+ghost use Rattle.wb_table.specs.Numbers.{SpellsNumber, SpellsByte};
 
 /// Reads a number below 2^64: decimal digits alone, leading zeros allowed.
 pub fn read_number(word: &str) -> Option<u64>

@@ -1,8 +1,8 @@
 use Rattle.std.proofs.Common.{◌≡◌, ◌<◌, ◌*◌, ◌/◌, ℕ, arith, Result, Ok, Err, IfErr}
 use Rattle.wb_types.specs.Limits.{IsWithinLimits}
-use Rattle.wbcache.proofs.Blocks.{mod-whole, IsWithinLimits-whole}
-use Rattle.wbcache.proofs.devices.measure.Goals as goal
-use Rattle.wbcache.proofs.devices.measure.Goals.{then-cache-block-ne0-via-then-cache-block-ne0, then-cache-block-ne0-via-else-cache-block-ne0+then-origin-block-ne0}
+use Rattle.wb_files.proofs.Blocks.{mod-whole, IsWithinLimits-whole}
+use Rattle.wb_files.proofs.devices.measure.Goals as goal
+use Rattle.wb_files.proofs.devices.measure.Goals.{then-cache-block-ne0-via-then-cache-block-ne0, then-cache-block-ne0-via-else-cache-block-ne0+then-origin-block-ne0}
 
 pub returns-then-cache-block-ne0-clause-outside : goal.returns-then-cache-block-ne0-clause-outside
 returns-then-cache-block-ne0-clause-outside c = λ cache_blocks origin_blocks cache origin within.

@@ -1,8 +1,8 @@
 use Rattle.std.proofs.Common.{◌<◌, length, arith, rules, Some, None, ◌∙◌, sym, ap, lit<}
 use Rattle.std.proofs.lemmas.Str.Pattern.{split_once_first}
 use Rattle.std.proofs.lemmas.Bool.{eqb-false}
-use Rattle.wbcache.proofs.Parts.{words_of-word, words_of-last}
-use Rattle.wbcache.proofs.words.SplitSpacesIterator.next.Goals as goal
+use Rattle.wb_table.proofs.Parts.{words_of-word, words_of-last}
+use Rattle.wb_table.proofs.words.SplitSpacesIterator.next.Goals as goal
 
 pub returns-then-not-is_empty-clause-steps : goal.returns-then-not-is_empty-clause-steps
 returns-then-not-is_empty-clause-steps c =

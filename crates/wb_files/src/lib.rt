@@ -1,0 +1,10 @@
+//! The files of a target: opened, locked and measured, or why they cannot serve.
+#![tactic(auto)]
+
+mod devices;
+mod sizes;
+mod unopened;
+
+pub use devices::{Disks, measure, open_table};
+pub use sizes::{SizeFault, find_size_fault};
+pub use unopened::{Trouble, Unopened};
