@@ -1,5 +1,5 @@
 -- What has to be done for a request.
-use Rattle.std.specs.Prelude.{◌≡◌, ◌≤◌, ◌<◌, ◌+◌, ◌*◌, ◌⊎◌, ◌++◌, ℕ, List, [], Option, Some, None, Bool, true, false, length}
+use Rattle.std.specs.Prelude.{◌≡◌, ◌≢◌, ◌≤◌, ◌<◌, ◌+◌, ◌*◌, ◌⊎◌, ◌++◌, ℕ, List, [], Option, Some, None, Bool, true, false, length}
 use Rattle.wb_nbd.specs.declared.errno.Errno.{Errno}
 use Rattle.wb_nbd.specs.declared.errno.Errno.TheVariants.{Io, Memory, Invalid, Shutdown}
 use Rattle.wb_nbd.specs.declared.request.Request.{Request}
@@ -48,11 +48,11 @@ payload_size request = size_of request.command request.length where
 -- the task of a request on an export of so many sectors, and of the bytes that follow it
 abbrev pub IsTask : ℕ → Request → List ℕ → Task → Type 0
 IsTask size request payload (ReadTask at count) =
-    (request.command ≡ Read) × (payload ≡ []) × AreSectors size request.offset request.length at.0 count
+    (request.command ≡ Read) × (payload ≡ []) × AreSectors size request.offset request.length at.0 count × (request.flags ≢ OtherFlags)
 IsTask size request payload (WriteTask at content durable) =
     (request.command ≡ Write) × (payload ≡ joined content.items) × IsDurable request.flags durable
     × AreSectors size request.offset request.length at.0 (length content.items)
-IsTask size request payload FlushTask = (request.command ≡ Flush) × (payload ≡ [])
+IsTask size request payload FlushTask = (request.command ≡ Flush) × (payload ≡ []) × (request.flags ≢ OtherFlags)
 IsTask size request payload (Refuse Invalid) = IsUnserved size request × (length payload ≡ payload_size request)
 IsTask size request payload (Refuse Memory) = (request.command ≡ Write) × (length payload ≡ request.length)
 IsTask size request payload (Refuse Io) = ⊥

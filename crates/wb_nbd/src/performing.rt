@@ -1,6 +1,6 @@
 //! Performing jobs.
 
-ghost use Rattle.std.specs.Prelude.{◌≡◌, ◌≤◌, ◌+◌, ◌⊎◌, true, false, OnOk, IfOk, IfErr, length};
+ghost use Rattle.std.specs.Prelude.{◌↔◌, IsTrue, Err, ◌≡◌, ◌≤◌, ◌+◌, ◌⊎◌, true, false, OnOk, IfOk, IfErr, length};
 ghost use Rattle.wb_nbd.specs.Acts.{Read as ReadAct, Wrote, Flushed, Refused};
 ghost use Rattle.wb_nbd.specs.Performing.{Fits, Performs, Both};
 
@@ -12,16 +12,32 @@ use std::alloc::Global;
 use wb_types::{Content, SECTOR_BYTES, Sector};
 
 /// Does a job on an export, and gives its answer: the sectors that were read, none where nothing was to be read, or why it was
-/// refused.
+/// refused. `Invalid` where its sectors are not all the export's, and then nothing is done.
 pub fn perform<E: Export>(alloc: Global, export: &mut E, job: Job) -> Answer
-    requires { Fits (E.size export.old) job.task }
     ensures cookie { result.cookie ≡ job.cookie }
-    ensures told { Performs E.acts export.old job.task result.told export.new }
+    ensures told { Fits (E.size export.old) job.task → Performs E.acts export.old job.task result.told export.new }
+    ensures outside { (Fits (E.size export.old) job.task → ⊥) → (result.told ≡ Err Errno.Invalid) × (export.new ≡ export.old) }
     ensures size { E.size export.new ≡ E.size export.old }
 {
     let Job { cookie, task } = job;
-    let told = perform_task(alloc, export, task);
+    let told = if fits(export.sectors(), &task) {
+        perform_task(alloc, export, task)
+    } else {
+        Err(Errno::Invalid)
+    };
     Answer { cookie, told }
+}
+
+/// Whether the sectors of a task are some of so many.
+fn fits(size: u64, task: &Task) -> bool
+    ensures { IsTrue result ↔ Fits size task.now }
+{
+    let (first, count) = match task {
+        Task::Read(Sector(first), count) => (*first, *count),
+        Task::Write(Sector(first), content, _) => (*first, content.len() as u64),
+        Task::Flush | Task::Refuse(_) => return true,
+    };
+    first <= size && count <= size - first
 }
 
 fn perform_task<E: Export>(alloc: Global, export: &mut E, task: Task) -> Result<Vec<Content>, Errno>
