@@ -22,10 +22,7 @@ Example, with files that 'wbcache format' has made a cache of:
 
 /// Reads the words of the command line, the program's name first: the table. The error's kind is `DisplayHelp` or
 /// `DisplayVersion` where that is asked for.
-pub fn read_arguments<'a>(
-    alloc: Global,
-    words: &'a [String],
-) -> Result<Option<&'a str>, Error> {
+pub fn read_arguments<'a>(alloc: Global, words: &'a [String]) -> Result<Option<&'a str>, Error> {
     let matches = command(alloc)?.try_get_matches_from(words)?;
     Ok(matches.get_str("TABLE"))
 }

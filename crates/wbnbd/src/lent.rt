@@ -11,6 +11,7 @@ use wb_target::Client;
 use wb_types::{Content, Refusal, Sector};
 
 /// A client of a target, that requests are done by.
+#[derive(Drop)]
 pub struct Lent<'a, 't, R, D, P: Policy> {
     pub rt: &'a R,
     pub client: &'a mut Client<'t, D, P>,

@@ -54,6 +54,7 @@ impl Pace {
 }
 
 /// Lets a worker go on until a tick is due or the connection has ended, and has it rest where no order waits.
+#[derive(Drop)]
 pub struct UntilTick<'a, C> {
     pub clock: &'a C,
     pub pace: &'a Pace,

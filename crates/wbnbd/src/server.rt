@@ -33,14 +33,7 @@ pub fn run<
     T: Threads + Wait + Clock + Sync,
     I: Read + Drop + Send,
     O: Write + Drop + Send,
->(
-    rt: &R,
-    waits: &T,
-    alloc: Global,
-    table: &'a str,
-    reader: I,
-    writer: O,
-) -> Ended<'a> {
+>(rt: &R, waits: &T, alloc: Global, table: &'a str, reader: I, writer: O) -> Ended<'a> {
     let (disks, geometry) = match open_table(rt, table) {
         Ok(opened) => opened,
         Err(unopened) => return Ended::unopened(unopened),
@@ -72,7 +65,13 @@ pub fn run<
         writer,
         pace: &pace,
     };
-    let Ok(sent) = both(alloc, devices, Beside::Serve(service), worker, Beside::Work(waits, &pace)) else {
+    let Ok(sent) = both(
+        alloc,
+        devices,
+        Beside::Serve(service),
+        worker,
+        Beside::Work(waits, &pace),
+    ) else {
         return Ended::refused(Refusal::Memory);
     };
     match target.together(waits, sent) {
@@ -105,12 +104,14 @@ fn both<E: Drop>(
 
 /// The files of a table once more, for another client; they are locked already.
 fn open_again<R: Files<File = File>>(rt: &R, table: &str) -> Result<Devices<FileDisk>, DiskFault> {
-    let Ok(Table {
-        metadata,
-        cache,
-        origin,
-        ..
-    }) = read_table(table)
+    let Ok(
+        Table {
+            metadata,
+            cache,
+            origin,
+            ..
+        },
+    ) = read_table(table)
     else {
         return Err(DiskFault);
     };
@@ -140,20 +141,27 @@ fn terms_of(geometry: &Geometry) -> Terms
 /// How a run ended, by what was told of its connection.
 fn ended_of<'a>(returned: &[Returned<FileDisk, Told>]) -> Ended<'a> {
     match returned.first() {
-        Some(Returned {
-            told: Ok(Told::Served {
-                connection,
-                flushed,
-            }),
-            ..
-        }) => match (connection, flushed) {
+        Some(
+            Returned {
+                told: Ok(
+                    Told::Served {
+                        connection,
+                        flushed,
+                    },
+                ),
+                ..
+            },
+        ) => match (connection, flushed) {
             (Err(broken), _) => Ended::broken(*broken),
             (_, Err(refusal)) => Ended::refused(*refusal),
             (Ok(()), Ok(())) => Ended::well(),
         },
-        Some(Returned {
-            told: Err(refusal), ..
-        }) => Ended::refused(*refusal),
+        Some(
+            Returned {
+                told: Err(refusal),
+                ..
+            },
+        ) => Ended::refused(*refusal),
         _ => Ended::refused(Refusal::Memory),
     }
 }
