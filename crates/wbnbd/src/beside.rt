@@ -7,7 +7,7 @@ use std::io::{Read, Write};
 use std::sync::Wait;
 use std::time::Clock;
 use wb_disk::Disk;
-use wb_nbd::{Agreed, Broken, Export, Terms, shake_hands, transmit};
+use wb_nbd::{Agreed, Broken, Terms, shake_hands};
 use wb_policy::Policy;
 use wb_target::{Client, Errand};
 use wb_types::Refusal;
@@ -68,42 +68,54 @@ fn serve<R: Wait, D: Disk + Drop, P: Policy, I: Read + Drop, O: Write + Drop>(
     client: &mut Client<'_, D, P>,
     service: Service<'_, I, O>,
 ) -> Told {
-    let mut service = service;
-    let connection = talk(rt, client, &mut service);
+    let Service {
+        alloc,
+        terms,
+        mut reader,
+        mut writer,
+        pace,
+    } = service;
+    let agreed = shake_hands(&terms, &mut reader, &mut writer);
+    let connection = match agreed {
+        Ok(Agreed::Serve) => talk(rt, client, pace, alloc, &mut reader, &mut writer),
+        Ok(Agreed::Abort) => Ok(()),
+        Err(broken) => Err(broken),
+    };
     let flushed = match client.flush(rt) {
         Ok(_) => Ok(()),
         Err(refusal) => Err(refusal),
     };
-    service.pace.end();
+    pace.end();
     Told::Served {
         connection,
         flushed,
     }
 }
 
-/// Serves a connection until it ends or breaks.
-fn talk<R: Wait, D: Disk + Drop, P: Policy, I: Read, O: Write>(
-    rt: &R,
-    client: &mut Client<'_, D, P>,
-    service: &mut Service<'_, I, O>,
+/// Serves requests until the connection ends or breaks.
+fn talk<'r, 'c, 't, 'p, R: Wait, D: Disk + Drop, P: Policy, I: Read, O: Write>(
+    rt: &'r R,
+    client: &'c mut Client<'t, D, P>,
+    pace: &'p Pace,
+    alloc: Global,
+    reader: &mut I,
+    writer: &mut O,
 ) -> Result<(), Broken> {
-    let terms = service.terms;
-    match shake_hands(&terms, &mut service.reader, &mut service.writer)? {
-        Agreed::Abort => Ok(()),
-        Agreed::Serve => {
-            let mut export = Lent {
-                rt,
-                client,
-                pace: service.pace,
-            };
-            transmit(
-                service.alloc,
-                &mut export,
-                &mut service.reader,
-                &mut service.writer,
-            )
-        }
-    }
+    let size = client.port.geometry.origin_sectors();
+    let mut lent = Lent {
+        rt,
+        client,
+        pace,
+        size,
+    };
+    let ended = lent.serve(alloc, reader, writer);
+    let Lent {
+        rt: _,
+        client: _,
+        pace: _,
+        size: _,
+    } = lent;
+    ended
 }
 
 /// Carries out orders until the connection has ended or the target has failed. A tick that there is no memory or no generation for
