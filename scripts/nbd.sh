@@ -26,41 +26,61 @@ truncate -s 64K metadata.img
 table='cache metadata.img cache.img origin.img 64 0 tinylfu 0'
 "$wbcache" format "$table"
 
-if has nbdinfo; then
-  nbdinfo -- [ "$wbnbd" "$table" ]
-  nbdinfo --list -- [ "$wbnbd" "$table" ]
+# nbdinfo and nbdcopy start no server on standard input and output, so socat joins one to a socket, for one connection.
+serve() {
+  rm -f socket
+  socat UNIX-LISTEN:socket EXEC:"$work/serve" 2>>socat.log &
+  server=$!
+  for _ in 1 2 3 4 5 6 7 8 9 10; do test -S socket || sleep 0.2; done
+}
+printf '#!/bin/sh\nexec "%s" "%s"\n' "$wbnbd" "$table" >serve
+chmod +x serve
+uri="nbd+unix:///?socket=$work/socket"
+
+if has socat && has nbdinfo; then
+  serve
+  nbdinfo "$uri"
+  wait "$server"
+  serve
+  nbdinfo --list "$uri"
+  # nbdinfo does not wait for the last answer, which socat may say.
+  wait "$server" || true
 fi
 
-if has nbdcopy; then
+if has socat && has nbdcopy; then
   head -c 67108864 /dev/urandom >image
-  nbdcopy image -- [ "$wbnbd" "$table" ]
-  nbdcopy -- [ "$wbnbd" "$table" ] copy
+  serve
+  nbdcopy image "$uri"
+  wait "$server"
+  serve
+  nbdcopy "$uri" copy
+  wait "$server"
   cmp image copy
   say 'nbdcopy: 64 MiB in and out are equal'
 fi
 
-if has qemu-io && has socat; then
-  socat UNIX-LISTEN:socket EXEC:"'$wbnbd' '$table'" &
-  server=$!
-  for _ in 1 2 3 4 5 6 7 8 9 10; do test -S socket || sleep 0.2; done
-  qemu-io -f raw -c 'write -P 0x5a 1M 3M' -c 'flush' -c 'read -P 0x5a 1M 3M' -c 'write -f -P 0x77 512 4096' -c 'read -P 0x77 512 4096' \
-    'nbd+unix:///?socket=socket'
+if has socat && has qemu-io; then
+  serve
+  qemu-io -f raw -c 'write -P 0x5a 1M 3M' -c 'flush' -c 'read -P 0x5a 1M 3M' -c 'write -f -P 0x77 512 4096' -c 'read -P 0x77 512 4096' "$uri"
   wait "$server"
   say 'qemu-io: what was written is read'
 fi
 
-if has nbdfuse && has mkfs.ext4 && test -w /dev/fuse; then
-  mkdir mount
-  nbdfuse mount/disk [ "$wbnbd" "$table" ] &
+if has socat && has nbdfuse && has mkfs.ext4 && test -w /dev/fuse; then
+  mkdir mount tree
+  nbdfuse mount/disk --command "$wbnbd" "$table" &
   server=$!
   for _ in 1 2 3 4 5 6 7 8 9 10; do test -e mount/disk || sleep 0.2; done
-  mkdir tree
   cp -R "$top/docs" "$top/scripts" tree/
   mkfs.ext4 -q -F -d tree mount/disk
   e2fsck -f -n mount/disk
   fusermount3 -u mount || fusermount -u mount
-  wait "$server" || true
-  nbdcopy -- [ "$wbnbd" "$table" ] copy
+  wait "$server"
+  # nbdfuse does not wait for its server, which flushes once nbdfuse is gone and holds the files as long.
+  sleep 2
+  serve
+  nbdcopy "$uri" copy
+  wait "$server"
   e2fsck -f -n copy
   say 'nbdfuse: a file system is whole, also after the server was started again'
 fi

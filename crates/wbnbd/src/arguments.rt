@@ -18,7 +18,9 @@ Status: 0 the client ended it, 1 the files cannot serve, 2 the arguments, 3 a
 device failed, 4 the connection broke.
 
 Example, with files that 'wbcache format' has made a cache of:
-  nbdcopy image -- [ wbnbd 'cache m c o 64 0 tinylfu 0' ]";
+  nbdfuse dir/disk --command wbnbd 'cache m c o 64 0 tinylfu 0'
+  socat UNIX-LISTEN:socket EXEC:./serve     # a script that calls wbnbd
+  nbdcopy image 'nbd+unix:///?socket=socket'";
 
 /// Reads the words of the command line, the program's name first: the table. The error's kind is `DisplayHelp` or
 /// `DisplayVersion` where that is asked for.
