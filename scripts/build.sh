@@ -1,7 +1,7 @@
 #!/bin/sh
 # Proves a program of this repository with all crates that it stands on, builds it, and leaves it at bin/NAME.
 #
-#     sh scripts/build.sh [wbcache|wb_bench]
+#     sh scripts/build.sh [wbcache|wbnbd|wb_bench]
 #
 # wbcache where none is named. A program that was built from these very sources by this very kit is left as it is. Where
 # the proof or the build fails, the last lines of what it said stand on standard error, the status is 1, and no program
@@ -19,9 +19,9 @@ fail() {
 
 # What the program is called with to see that it runs: it prints something, and ends with 0.
 case $program in
-  wbcache) trial='--version' ;;
+  wbcache | wbnbd) trial='--version' ;;
   wb_bench) trial='sketch 64 0' ;;
-  *) fail "no program is named $program: wbcache or wb_bench" ;;
+  *) fail "no program is named $program: wbcache, wbnbd or wb_bench" ;;
 esac
 
 command -v rt >/dev/null || fail "rt is not on the path. It is the command of the Rattle kit, which proves and builds \

@@ -1,0 +1,80 @@
+-- What has to be done for a request.
+use Rattle.std.specs.Prelude.{◌≡◌, ◌≢◌, ◌≤◌, ◌<◌, ◌+◌, ◌*◌, ◌⊎◌, ◌++◌, ℕ, List, [], Option, Some, None, Bool, true, false, length}
+use Rattle.wb_nbd.specs.declared.errno.Errno.{Errno}
+use Rattle.wb_nbd.specs.declared.errno.Errno.TheVariants.{Io, Memory, Invalid, Shutdown}
+use Rattle.wb_nbd.specs.declared.request.Request.{Request}
+use Rattle.wb_nbd.specs.declared.request.Command.{Command}
+use Rattle.wb_nbd.specs.declared.request.Command.TheVariants.{Read, Write, Disconnect, Flush, Other}
+use Rattle.wb_nbd.specs.declared.request.Flags.{Flags}
+use Rattle.wb_nbd.specs.declared.request.Flags.TheVariants.{None as NoFlag, Durable, Other as OtherFlags}
+use Rattle.wb_nbd.specs.declared.job.Task.{Task}
+use Rattle.wb_nbd.specs.declared.job.Task.TheVariants.{Read as ReadTask, Write as WriteTask, Flush as FlushTask, Refuse}
+use Rattle.wb_nbd.specs.declared.job.Job.{Job}
+use Rattle.wb_nbd.specs.Requests.{SpellsRequest}
+use Rattle.wb_nbd.specs.Replies.{joined}
+
+-- so many bytes from an offset on are these sectors of an export of so many: whole ones, at least one, 32 MiB at most
+pub record AreSectors (size offset bytes at count : ℕ) : Type 0 where
+  pub start : at * 512 ≡ offset
+  pub many : count * 512 ≡ bytes
+  pub some : 0 < count
+  pub inside : at + count ≤ size
+  pub most : bytes ≤ 33554432
+
+-- a request that no sectors of the export are
+abbrev pub IsOutside : ℕ → Request → Type 0
+IsOutside size request = (at count : ℕ) → AreSectors size request.offset request.length at count → ⊥
+
+-- a request that is not served: an unknown command or flag, or a read or a write outside
+pub data IsUnserved (size : ℕ) (request : Request) : Type 0 where
+  Unknown_command : request.command ≡ Other → IsUnserved size request
+  Unknown_flags : request.flags ≡ OtherFlags → IsUnserved size request
+  Read_outside : request.command ≡ Read → IsOutside size request → IsUnserved size request
+  Write_outside : request.command ≡ Write → IsOutside size request → IsUnserved size request
+
+-- a flag that the protocol has, and whether what is written has to be durable
+abbrev pub IsDurable : Flags → Bool → Type 0
+IsDurable NoFlag durable = durable ≡ false
+IsDurable Durable durable = durable ≡ true
+IsDurable OtherFlags durable = ⊥
+
+-- how many bytes follow a request
+abbrev pub payload_size : Request → ℕ
+payload_size request = size_of request.command request.length where
+  size_of : Command → ℕ → ℕ
+  size_of Write bytes = bytes
+  size_of _ bytes = 0
+
+-- the task of a request on an export of so many sectors, and of the bytes that follow it
+abbrev pub IsTask : ℕ → Request → List ℕ → Task → Type 0
+IsTask size request payload (ReadTask at count) =
+    (request.command ≡ Read) × (payload ≡ []) × AreSectors size request.offset request.length at.0 count × (request.flags ≢ OtherFlags)
+IsTask size request payload (WriteTask at content durable) =
+    (request.command ≡ Write) × (payload ≡ joined content.items) × IsDurable request.flags durable
+    × AreSectors size request.offset request.length at.0 (length content.items)
+IsTask size request payload FlushTask = (request.command ≡ Flush) × (payload ≡ []) × (request.flags ≢ OtherFlags)
+IsTask size request payload (Refuse Invalid) = IsUnserved size request × (length payload ≡ payload_size request)
+IsTask size request payload (Refuse Memory) = (request.command ≡ Write) × (length payload ≡ request.length)
+IsTask size request payload (Refuse Io) = ⊥
+IsTask size request payload (Refuse Shutdown) = ⊥
+
+-- the bytes spell a request, and what follows it, for which this is the job
+pub record AsksFor (size : ℕ) (all : List ℕ) (job : Job) : Type 0 where
+  pub header : List ℕ
+  pub payload : List ℕ
+  pub request : Request
+  pub whole : all ≡ header ++ payload
+  pub spelled : SpellsRequest header request
+  pub cookie : job.cookie ≡ request.cookie
+  pub task : IsTask size request payload job.task
+
+-- the bytes spell the request to end the connection
+pub record AsksForEnd (bytes : List ℕ) : Type 0 where
+  pub request : Request
+  pub spelled : SpellsRequest bytes request
+  pub command : request.command ≡ Disconnect
+
+-- the bytes ask for a job, or, where there is none, for the end
+abbrev pub Asks : ℕ → List ℕ → Option Job → Type 0
+Asks size bytes (Some job) = AsksFor size bytes job
+Asks size bytes None = AsksForEnd bytes

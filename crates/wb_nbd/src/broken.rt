@@ -1,0 +1,30 @@
+//! Why a connection broke.
+
+use std::io;
+use thiserror::Error;
+
+/// Why a connection ended otherwise than a client ends it.
+#[derive(Clone, Copy, Debug, PartialEq, Eq, Error, Drop)]
+pub enum Broken {
+    /// What the client sends cannot be read, or ended in the middle or between two messages.
+    #[error("the client's end is gone")]
+    Reader,
+    /// A reply cannot be written.
+    #[error("a reply cannot be written")]
+    Writer,
+    /// A message begins with another word than it has to.
+    #[error("the client does not speak the protocol")]
+    Magic,
+    /// The client answers the greeting with flags that it was not offered.
+    #[error("the client sets flags that it was not offered")]
+    ClientFlags,
+    /// The client wants an export that is not there, by an option that has no other answer.
+    #[error("the client wants another export")]
+    Name,
+    /// There is no memory to talk to the client.
+    #[error("out of memory")]
+    Memory,
+    /// More messages than can be counted.
+    #[error("too many messages")]
+    Count,
+}

@@ -1,0 +1,98 @@
+//! Performing jobs.
+
+ghost use Rattle.std.specs.Prelude.{◌↔◌, IsTrue, Err, ◌≡◌, ◌≤◌, ◌+◌, ◌⊎◌, true, false, OnOk, IfOk, IfErr, length};
+ghost use Rattle.wb_nbd.specs.Acts.{Read as ReadAct, Wrote, Flushed, Refused};
+ghost use Rattle.wb_nbd.specs.Performing.{Fits, Performs, Both};
+
+use crate::answer::Answer;
+use crate::errno::Errno;
+use crate::export::Export;
+use crate::job::{Job, Task};
+use std::alloc::Global;
+use wb_types::{Content, SECTOR_BYTES, Sector};
+
+/// Does a job on an export, and gives its answer: the sectors that were read, none where nothing was to be read, or why it was
+/// refused. `Invalid` where its sectors are not all the export's, and then nothing is done.
+pub fn perform<E: Export>(alloc: Global, export: &mut E, job: Job) -> Answer
+    ensures cookie { result.cookie ≡ job.cookie }
+    ensures told { Fits (E.size export.old) job.task → Performs E.acts export.old job.task result.told export.new }
+    ensures outside { (Fits (E.size export.old) job.task → ⊥) → (result.told ≡ Err Errno.Invalid) × (export.new ≡ export.old) }
+    ensures size { E.size export.new ≡ E.size export.old }
+{
+    let Job { cookie, task } = job;
+    let told = if fits(export.sectors(), &task) {
+        perform_task(alloc, export, task)
+    } else {
+        Err(Errno::Invalid)
+    };
+    Answer { cookie, told }
+}
+
+/// Whether the sectors of a task are some of so many.
+fn fits(size: u64, task: &Task) -> bool
+    ensures { IsTrue result ↔ Fits size task.now }
+{
+    let (first, count) = match task {
+        Task::Read(Sector(first), count) => (*first, *count),
+        Task::Write(Sector(first), content, _) => (*first, content.len() as u64),
+        Task::Flush | Task::Refuse(_) => return true,
+    };
+    first <= size && count <= size - first
+}
+
+fn perform_task<E: Export>(alloc: Global, export: &mut E, task: Task) -> Result<Vec<Content>, Errno>
+    requires { Fits (E.size export.old) task }
+    ensures told { Performs E.acts export.old task result export.new }
+    ensures size { E.size export.new ≡ E.size export.old }
+{
+    match task {
+        Task::Read(at, count) => read(alloc, export, at, count),
+        Task::Write(at, content, durable) => {
+            write(export, at, content.as_slice(), durable)?;
+            Ok(Vec::new(alloc))
+        }
+        Task::Flush => {
+            export.flush()?;
+            Ok(Vec::new(alloc))
+        }
+        Task::Refuse(errno) => Err(errno),
+    }
+}
+
+/// Reads sectors into memory of their own.
+fn read<E: Export>(
+    alloc: Global,
+    export: &mut E,
+    at: Sector,
+    count: u64,
+) -> Result<Vec<Content>, Errno>
+    requires { at.0 + count ≤ E.size export.old }
+    ensures done { IfOk result (λ given. E.acts export.old (ReadAct at.0 given.items) export.new × (length given.items ≡ count)) }
+    ensures refused { IfErr result (λ errno. E.acts export.old (Refused errno) export.new ⊎ ((errno ≡ Errno.Memory) × (export.new ≡ export.old))) }
+    ensures size { E.size export.new ≡ E.size export.old }
+{
+    let mut content = vec![in alloc; [0; SECTOR_BYTES]; count as usize].map_err(|_| Errno::Memory)?;
+    export.read(at, content.as_mut_slice())?;
+    Ok(content)
+}
+
+/// Writes sectors, and sees that they are durable where that is wanted.
+fn write<E: Export>(
+    export: &mut E,
+    at: Sector,
+    content: &[Content],
+    durable: bool,
+) -> Result<(), Errno>
+    requires { at.0 + length content.now ≤ E.size export.old }
+    ensures plain { durable ≡ false → OnOk result (E.acts export.old (Wrote at.0 content.now) export.new) }
+    ensures durable { durable ≡ true → OnOk result (Both E.acts export.old (Wrote at.0 content.now) Flushed export.new) }
+    ensures plain_refused { durable ≡ false → IfErr result (λ errno. E.acts export.old (Refused errno) export.new) }
+    ensures refused { IfErr result (λ errno. E.acts export.old (Refused errno) export.new ⊎ Both E.acts export.old (Wrote at.0 content.now) (Refused errno) export.new) }
+    ensures size { E.size export.new ≡ E.size export.old }
+{
+    export.write(at, content)?;
+    if durable {
+        export.flush()?;
+    }
+    Ok(())
+}

@@ -1,0 +1,90 @@
+//! Streams that fail, or give and take a byte at a time.
+
+use crate::memory::Memory;
+use std::io;
+use std::io::{Error, ErrorKind, Read, Write};
+use std::test::Fail;
+use wb_nbd::{Broken, transmit};
+
+/// Takes so many bytes, one at a time, and then fails.
+#[derive(Drop)]
+struct Narrow {
+    left: u64,
+}
+
+impl Write for Narrow {
+    fn write(&mut self, buf: &[u8]) -> io::Result<usize> {
+        if buf.is_empty() {
+            return Ok(0);
+        }
+        if self.left == 0 {
+            return Err(Error::from(ErrorKind::BrokenPipe));
+        }
+        self.left -= 1;
+        Ok(1)
+    }
+
+    fn flush(&mut self) -> io::Result<()> {
+        Ok(())
+    }
+}
+
+/// Two flushes, and the end.
+const FLUSHES: &[u8] =
+    b"\x25\x60\x95\x13\x00\x00\x00\x03\x00\x00\x00\x00\x00\x00\x00\x01\x00\x00\x00\x00\x00\x00\x00\x00\x00\x00\x00\x00\x25\x60\x95\x13\x00\x00\x00\x03\x00\x00\x00\x00\x00\x00\x00\x02\x00\x00\x00\x00\x00\x00\x00\x00\x00\x00\x00\x00\x25\x60\x95\x13\x00\x00\x00\x02\x00\x00\x00\x00\x00\x00\x00\x03\x00\x00\x00\x00\x00\x00\x00\x00\x00\x00\x00\x00";
+
+#[test]
+fn a_writer_that_fails_ends_it(rt: HostRuntime) -> Result<(), Fail> {
+    for left in 0..32 {
+        let mut memory = Memory::new(rt.alloc(), None)?;
+        let mut reader = FLUSHES;
+        let mut writer = Narrow { left };
+        let ended = transmit(rt.alloc(), &mut memory, &mut reader, &mut writer);
+        assert!(rt; ended == Err(Broken::Writer), "after {left} bytes");
+        assert!(rt; memory.flushes == if left < 16 { 1 } else { 2 });
+    }
+    Ok(())
+}
+
+/// Gives one byte at a time, and fails once so many were given.
+#[derive(Drop)]
+struct Slow<'a> {
+    bytes: &'a [u8],
+    left: u64,
+}
+
+impl<'a> Read for Slow<'a> {
+    fn read(&mut self, buf: &mut [u8]) -> io::Result<usize> {
+        if self.left == 0 {
+            return Err(Error::from(ErrorKind::ConnectionReset));
+        }
+        if buf.is_empty() || self.bytes.is_empty() {
+            return Ok(0);
+        }
+        self.left -= 1;
+        buf[0] = self.bytes[0];
+        self.bytes = &self.bytes[1..];
+        Ok(1)
+    }
+}
+
+#[test]
+fn a_reader_that_fails_ends_it(rt: HostRuntime) -> Result<(), Fail> {
+    for left in 0..85 {
+        let mut memory = Memory::new(rt.alloc(), None)?;
+        let mut reader = Slow {
+            bytes: FLUSHES,
+            left,
+        };
+        let mut told = Vec::new(rt.alloc());
+        let ended = transmit(rt.alloc(), &mut memory, &mut reader, &mut told);
+        let wanted = if left < 84 {
+            Err(Broken::Reader)
+        } else {
+            Ok(())
+        };
+        assert!(rt; ended == wanted, "after {left} bytes");
+        assert!(rt; memory.flushes == left / 28 - left / 84);
+    }
+    Ok(())
+}

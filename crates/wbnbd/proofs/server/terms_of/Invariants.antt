@@ -1,0 +1,8 @@
+use Rattle.std.proofs.Common.{◌≤◌}
+use Rattle.wbnbd.proofs.server.terms_of.Given as goal
+
+abbrev pub decreases-loop-preferred : goal.decreases-loop-preferred
+decreases-loop-preferred l = l.preferred
+
+abbrev pub invariant-loop-preferred : goal.invariant-loop-preferred
+invariant-loop-preferred l = l.preferred ≤ 33554432

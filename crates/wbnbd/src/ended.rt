@@ -1,0 +1,87 @@
+//! How a run of the program ended.
+
+ghost use Rattle.std.specs.Prelude.{◌≡◌};
+
+use std::fmt;
+use std::fmt::{Display, Formatter};
+use wb_files::Unopened;
+use wb_nbd::Broken;
+use wb_types::Refusal;
+
+/// The exit status of a connection that broke, or a stream that failed.
+pub const STREAM_FAILED: u8 = 4;
+
+/// The exit status, and why it is not 0.
+#[derive(Drop)]
+pub struct Ended<'a> {
+    pub code: u8,
+    pub reason: Option<Reason<'a>>,
+}
+
+/// Why a run did not end well.
+#[derive(Drop)]
+pub enum Reason<'a> {
+    Unopened(Unopened<'a>),
+    /// There is no memory, or a step of an open device failed.
+    Refused(Refusal),
+    Broken(Broken),
+}
+
+impl<'a> Ended<'a> {
+    /// The client ended the connection, and all was flushed.
+    pub fn well() -> Ended<'a>
+        ensures { result.code ≡ 0 }
+    {
+        Ended {
+            code: 0,
+            reason: None,
+        }
+    }
+
+    /// The files of the table cannot serve.
+    pub fn unopened(unopened: Unopened<'a>) -> Ended<'a> {
+        Ended {
+            code: code_of(unopened.refusal()),
+            reason: Some(Reason::Unopened(unopened)),
+        }
+    }
+
+    /// The target was not opened, or the last flush was refused.
+    pub fn refused(refusal: Refusal) -> Ended<'a> {
+        Ended {
+            code: code_of(refusal),
+            reason: Some(Reason::Refused(refusal)),
+        }
+    }
+
+    /// The connection broke.
+    pub fn broken(broken: Broken) -> Ended<'a>
+        ensures { result.code ≡ 4 }
+    {
+        Ended {
+            code: STREAM_FAILED,
+            reason: Some(Reason::Broken(broken)),
+        }
+    }
+}
+
+/// The exit status of a refusal.
+fn code_of(refusal: Refusal) -> u8 {
+    match refusal {
+        Refusal::Io(_) => 3,
+        _ => 1,
+    }
+}
+
+impl<'a> Display for Reason<'a> {
+    fn fmt<W: fmt::Write>(&self, f: &mut Formatter<W>) -> fmt::Result {
+        match self {
+            Reason::Unopened(unopened) => write!(f, "{unopened}"),
+            Reason::Refused(Refusal::Io(device)) => {
+                write!(f, "{device} file: a read, a write or a sync failed")
+            }
+            Reason::Refused(refusal) => write!(f, "{refusal}"),
+            Reason::Broken(broken) => write!(f, "{broken}"),
+        }
+    }
+}

@@ -1,0 +1,86 @@
+//! A network block device over a write-back cache: it serves one client, on standard input and output.
+#![tactic(auto)]
+
+mod arguments;
+mod beside;
+mod ended;
+mod lent;
+mod pace;
+mod server;
+
+use crate::arguments::read_arguments;
+use crate::ended::Ended;
+use clap::Error;
+use clap::error::ErrorKind;
+use std::io::{BufReader, BufWriter};
+use std::process::ExitCode;
+use std::sync::Wait;
+use std::thread::Threads;
+use std::time::Clock;
+use std::{env, io};
+use wb_streams::hold_streams;
+use wb_types::Refusal;
+
+/// What is asked of who calls the program otherwise.
+const USAGE: &str = "usage: wbnbd TABLE";
+
+/// Bytes of what the client sends, and of what it is told, that are kept for one call of the system: 256 KiB.
+const BUFFER: usize = 262_144;
+
+fn main(rt: HostRuntime) -> ExitCode {
+    // Before any file is opened.
+    match hold_streams(&rt) {
+        Ok(_held) => ExitCode::from(serve(&rt, &rt)),
+        Err(_) => ExitCode::from(ended::STREAM_FAILED),
+    }
+}
+
+/// Does what the arguments ask, and gives the exit status. Who waits or starts threads does so by the second handle.
+fn serve<T: Threads + Wait + Clock + Sync>(rt: &HostRuntime, waits: &T) -> u8 {
+    let alloc = rt.alloc();
+    let Ok(words) = env::args(rt) else {
+        return usage(rt);
+    };
+    let Ok(words) = words.collect::<Vec<String>>(alloc) else {
+        return tell(rt, &Ended::refused(Refusal::Memory));
+    };
+    let table = match read_arguments(alloc, words.as_slice()) {
+        Ok(Some(table)) => table,
+        Ok(None) => return usage(rt),
+        Err(error) => return no_task(rt, &error),
+    };
+    let reader = BufReader::with_capacity(alloc, BUFFER, rt.stdin());
+    let writer = BufWriter::with_capacity(alloc, BUFFER, rt.stdout());
+    match (reader, writer) {
+        (Ok(reader), Ok(writer)) => {
+            tell(rt, &server::run(rt, waits, alloc, table, reader, writer))
+        }
+        _ => tell(rt, &Ended::refused(Refusal::Memory)),
+    }
+}
+
+/// Says why a run did not end well, and gives the exit status.
+fn tell<R: Eprint>(rt: &R, ended: &Ended<'_>) -> u8 {
+    if let Some(reason) = &ended.reason {
+        let _ = eprintln!(rt; "wbnbd: {reason}");
+    }
+    ended.code
+}
+
+/// Gives help or the version where they are asked for, and else says what the program takes.
+fn no_task(rt: &HostRuntime, error: &Error) -> u8 {
+    match error.kind() {
+        ErrorKind::DisplayHelp | ErrorKind::DisplayVersion => match error.print(rt) {
+            Ok(()) => 0,
+            Err(_) => ended::STREAM_FAILED,
+        },
+        ErrorKind::OutOfMemory => tell(rt, &Ended::refused(Refusal::Memory)),
+        _ => usage(rt),
+    }
+}
+
+/// Says what the program takes.
+fn usage<R: Eprint>(rt: &R) -> u8 {
+    let _ = eprintln!(rt; "{USAGE}");
+    2
+}
