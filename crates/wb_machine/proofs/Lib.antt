@@ -3,3 +3,5 @@ pub mod Commits
 pub mod Standing
 pub mod Wherever
 pub mod Reaching
+pub mod Seals
+pub mod Answering

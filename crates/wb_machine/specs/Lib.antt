@@ -1,3 +1,4 @@
-pub mod Log
 pub mod Life
+pub mod Log
+pub mod Making
 pub mod Standing

@@ -1,5 +1,5 @@
 -- A machine that runs, as its callers see it, and what an event does to it, by the definitions of wb_runs.
-use Rattle.std.specs.Prelude.{◌≡◌, ◌<◌, ◌==◌, ◌++◌, ◌∷◌, [], ℕ, Bool, true, false, List, Option, Some, None, IfSome, length, replicate, slice_set}
+use Rattle.std.specs.Prelude.{◌≡◌, ◌<◌, ◌==◌, ◌++◌, ◌∷◌, [], ℕ, Bool, true, false, not, List, Option, Some, None, IfSome, length, map, replicate, slice_set}
 use Rattle.std.specs.declared.alloc.Global.{Global}
 use Rattle.wb_types.specs.declared.geometry.Geometry.{Geometry}
 use Rattle.wb_types.specs.declared.mode.Dev.{Dev}
@@ -10,6 +10,7 @@ use Rattle.wb_disk.specs.Memory.{Memory}
 use Rattle.wb_disk.specs.Crash.{Choice}
 use Rattle.wb_disk.specs.Failing.{lands, synced_where}
 use Rattle.wb_words.specs.Cards.{blank_card}
+use Rattle.wb_words.specs.declared.card.Card.{Card}
 use Rattle.wb_format.specs.Layout.{SpellsRoot}
 use Rattle.wb_format.specs.declared.root.Root.{Root}
 use Rattle.wb_meta.specs.Formats.{IsFormatted}
@@ -17,33 +18,37 @@ use Rattle.wb_meta.specs.Steps.{Puts, slot_of}
 use Rattle.wb_meta.specs.declared.commit_steps.CommitSteps.TheVariants.{RootWritten, Done as Committed}
 use Rattle.wb_meta.specs.declared.read_steps.ReadSteps.{ReadSteps}
 use Rattle.wb_meta.specs.declared.read_steps.ReadSteps.TheVariants.{Begun}
+use Rattle.wb_policy.specs.declared.quiet.Quiet.{Quiet}
 use Rattle.wb_desk.specs.Opening.{threshold_of}
 use Rattle.wb_devices.specs.declared.devices.Devices.{Devices}
 use Rattle.wb_devices.specs.Moving.{device_in}
 use Rattle.wb_devices.specs.declared.running.RunningCommit.{RunningCommit}
 use Rattle.wb_tasks.specs.Plan.{Plan, want}
-use Rattle.wb_tasks.specs.declared.step.Answer.TheVariants.{Refused as Refuses}
 use Rattle.wb_tasks.specs.declared.step.DeviceStep.{DeviceStep}
 use Rattle.wb_tasks.specs.declared.step.DeviceStep.TheVariants.{Sync, ReadMetadata, WriteRoot}
 use Rattle.wb_tasks.specs.declared.step.Want.{Want}
 use Rattle.wb_tasks.specs.declared.step.Want.TheVariants.{Device, End}
+use Rattle.wb_tasks.specs.declared.step.Answer.TheVariants.{Done as Finished}
 use Rattle.wb_runs.specs.declared.job.Job.{Job}
 use Rattle.wb_runs.specs.declared.job.Job.TheVariants.{Open}
 use Rattle.wb_runs.specs.declared.event.Event.{Event}
-use Rattle.wb_runs.specs.declared.event.Event.TheVariants.{Step, FaultStep}
+use Rattle.wb_runs.specs.declared.event.Event.TheVariants.{Start}
 use Rattle.wb_runs.specs.declared.event.What.{What}
 use Rattle.wb_runs.specs.declared.event.Record.{Record}
-use Rattle.wb_runs.specs.States.{Shape, State, Actor, Phase, Gone, Opens, resting, start, with_device}
-use Rattle.wb_runs.specs.Happenings.{Chosen, Happening, AtWork, LandedOr, MayBe, May}
+use Rattle.wb_runs.specs.States.{Shape, State, Actor, Phase as RunPhase, Stands, Gone, Opens, OfTarget, resting, start, with_device}
+use Rattle.wb_runs.specs.Happenings.{Chosen, Happening, LandedOr, MayBe, May}
 use Rattle.wb_runs.specs.Effects.{after_what, after_happening, after_all, IsRun, records_of}
-use Rattle.wb_machine.specs.declared.opener.Opener.{Opener}
+use Rattle.wb_machine.specs.declared.making.Made.{Made}
+use Rattle.wb_machine.specs.declared.phase.Phase.{Phase}
+use Rattle.wb_machine.specs.declared.phase.Phase.TheVariants.{Closed, Underway, Standing}
+use Rattle.wb_machine.specs.Making.{reading_of}
 
--- No target stands here yet, so of its policy there is nothing to say.
+-- The policy of its targets orders nothing.
 abbrev pub Now : Type 0
-Now = State (Unit {0}) Global
+Now = State Quiet Global
 
 abbrev pub Happened : Type 0
-Happened = Happening (Unit {0}) Global
+Happened = Happening Quiet Global
 
 -- the shape of a machine of this geometry, its threshold being the one that nobody names
 abbrev pub shape_of : Geometry → ℕ → Shape
@@ -64,42 +69,80 @@ contents_of devices = record { metadata = devices.metadata.contents; cache = dev
 abbrev pub opening_actor : Plan → Actor
 opening_actor plan = record { task = Some (Open Writeback, plan); card = blank_card }
 
--- beside who opens nobody is at anything
-abbrev pub actors_of : ℕ → Option Opener → List Actor
-actors_of actors None = replicate actors resting
-actors_of actors (Some opener) = slice_set (replicate actors resting) opener.actor (opening_actor opener.task)
+-- who is at nothing, with this card
+abbrev pub at_rest : Card → Actor
+at_rest card = record { task = None; card = card }
 
-abbrev pub phase_of : Option Opener → Phase (Unit {0}) Global
-phase_of None = Gone
-phase_of (Some opener) = Opens Writeback opener.opening.reading
+-- Beside who opens nobody is at anything. Of a target everybody keeps a card.
+abbrev pub actors_of : ℕ → Phase → List Actor
+actors_of actors Closed = replicate actors resting
+actors_of actors (Underway opener) = slice_set (replicate actors resting) opener.actor (opening_actor opener.task)
+actors_of actors (Standing target) = map at_rest target.crew.cards
 
--- the commit of the opening's root, once all was read
-abbrev pub commit_of : Option Opener → Option RunningCommit
-commit_of None = None
-commit_of (Some opener) = opener.opening.commit
+abbrev pub phase_of : Phase → RunPhase Quiet Global
+phase_of Closed = Gone
+phase_of (Underway opener) = Opens Writeback (reading_of opener)
+phase_of (Standing target) = Stands (record { words = target.crew.words; desk = target.desk })
 
-abbrev pub state_of : ℕ → Devices Memory → Option Opener → Now
-state_of actors devices opener = record { devices = contents_of devices; commit = commit_of opener; phase = phase_of opener; actors = actors_of actors opener }
+-- the commit of an opening's root, once all was read
+abbrev pub commit_of : Phase → Option RunningCommit
+commit_of Closed = None
+commit_of (Underway opener) = opener.opening.commit
+commit_of (Standing target) = None
 
--- who opens is one of so many
-abbrev pub IsThere : ℕ → Option Opener → Type 0
-IsThere actors opener = IfSome opener (λ o. o.actor < actors)
+abbrev pub state_of : ℕ → Devices Memory → Phase → Now
+state_of actors devices phase = record { devices = contents_of devices; commit = commit_of phase; phase = phase_of phase; actors = actors_of actors phase }
+
+-- who opens is one of so many, and a target has a card for each
+abbrev pub IsThere : ℕ → Phase → Type 0
+IsThere actors Closed = Unit {0}
+IsThere actors (Underway opener) = opener.actor < actors
+IsThere actors (Standing target) = length target.crew.cards ≡ actors
+
+-- a target stands once an opening was answered done
+abbrev pub stands_by : Want → Option Made → Phase
+stands_by (End Finished) (Some made) = Standing made.target
+stands_by next made = Closed
+
+abbrev pub answered : Phase → Phase
+answered (Underway opener) = stands_by (want opener.task) opener.made
+answered phase = Closed
 
 -- this actor opens
-abbrev pub opens : ℕ → Option Opener → Bool
-opens a None = false
-opens a (Some opener) = opener.actor == a
+abbrev pub opens : ℕ → Phase → Bool
+opens a (Underway opener) = opener.actor == a
+opens a phase = false
 
--- a job that may start where no target stands
+-- a target stands
+abbrev pub stands : Phase → Bool
+stands (Standing target) = true
+stands phase = false
+
+-- one that has not failed
+abbrev pub is_sound : Phase → Bool
+is_sound (Standing target) = not target.failed
+is_sound phase = false
+
+-- a job that may start where no target stands that has not failed
 abbrev pub is_opening : Job → Bool
 is_opening (Open Writeback) = true
 is_opening job = false
+
+-- a job of a target that stands
+abbrev pub wants_target : Job → Bool
+wants_target (Open mode) = false
+wants_target job = true
 
 -- Once the metadata are durable a reading of them begins; once the root is that was written, what was read stays. Where they are
 -- not, it is over.
 abbrev pub reading_synced : Global → Dev → Option RunningCommit → Option (ReadSteps Global) → Option (ReadSteps Global)
 reading_synced alloc Metadata None reading = Some (Begun alloc alloc)
 reading_synced alloc device commit reading = reading
+
+-- nothing was made of what is to be read
+abbrev pub made_synced : Dev → Option RunningCommit → Option Made → Option Made
+made_synced Metadata None made = None
+made_synced device commit made = made
 
 abbrev pub reading_failed : Dev → Option (ReadSteps Global) → Option (ReadSteps Global)
 reading_failed Metadata reading = None
@@ -143,7 +186,7 @@ FailsOn commit step choice old new = new ≡ old
 
 -- what an event does, and reads, from one state to the next
 pub record Happens (shape : Shape) (old : Now) (event : Event) (what : What) (read : List Bytes) (new : Now) : Type 0 where
-  pub chosen : Chosen (Unit {0}) Global
+  pub chosen : Chosen Quiet Global
   pub may : MayBe shape old event what read chosen
   pub leads : new ≡ after_what shape old event what chosen
 
@@ -173,15 +216,7 @@ device_step_of (Device (ReadMetadata left)) = Some (ReadMetadata left)
 device_step_of (Device WriteRoot) = Some WriteRoot
 device_step_of next = None
 
-abbrev pub is_refusal : Want → Bool
-is_refusal (End (Refuses refusal)) = true
-is_refusal next = false
-
--- The next step of the actor that is named is neither one on a device, nor a refusal: of an opening, that it is done.
-abbrev pub IsBeyond : Want → Type 0
-IsBeyond next = (device_step_of next ≡ None) × (is_refusal next ≡ false)
-
+-- what is to start over a target that stands, but for an opening
 abbrev pub IsGap : Now → Event → Type 0
-IsGap w (Step a) = AtWork w a (λ job s. IsBeyond (want s))
-IsGap w (FaultStep a choice) = AtWork w a (λ job s. IsBeyond (want s))
+IsGap w (Start a job) = OfTarget w.phase (λ t. wants_target job ≡ true)
 IsGap w event = ⊥

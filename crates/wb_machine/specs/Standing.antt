@@ -1,5 +1,5 @@
 -- Where an opening of the machine stands in its table, and how far its reading has come there.
-use Rattle.std.specs.Prelude.{◌≡◌, ◌+◌, ℕ, List, [], ◌∷◌, Option, Some, None, IfSome, length}
+use Rattle.std.specs.Prelude.{◌≡◌, ◌+◌, ℕ, List, [], ◌∷◌, Option, Some, None, length}
 use Rattle.std.specs.declared.alloc.Global.{Global}
 use Rattle.wb_types.specs.declared.geometry.Geometry.{Geometry}
 use Rattle.wb_types.specs.declared.mode.Dev.TheVariants.{Metadata, Cache, Origin}
@@ -20,9 +20,14 @@ use Rattle.wb_tasks.specs.declared.step.DeviceStep.TheVariants.{Sync, ReadMetada
 use Rattle.wb_tasks.specs.declared.step.Want.{Want}
 use Rattle.wb_tasks.specs.declared.step.Want.TheVariants.{Device}
 use Rattle.wb_devices.specs.declared.devices.Devices.{Devices}
-use Rattle.wb_devices.specs.declared.opening.Opening.{Opening}
 use Rattle.wb_devices.specs.declared.running.RunningCommit.{RunningCommit}
+use Rattle.wb_words.specs.SharedWords.{flag}
+use Rattle.wb_machine.specs.declared.making.Made.{Made}
 use Rattle.wb_machine.specs.declared.opener.Opener.{Opener}
+use Rattle.wb_machine.specs.declared.phase.Phase.{Phase}
+use Rattle.wb_machine.specs.declared.phase.Phase.TheVariants.{Closed, Underway, Standing}
+use Rattle.wb_machine.specs.declared.target.Target.{Target}
+use Rattle.wb_machine.specs.Making.{HasMade, reading_of}
 
 -- what comes next: a sync, a sector that is read with so many that may follow, the root, its sync, or the answer
 pub data Point : Type 0 where
@@ -80,14 +85,33 @@ HasComeTo g AtRootSync reading commit = HasReadAll g RootWritten reading commit
 HasComeTo g AtEnd reading commit = HasReadAll g Committed reading commit
 HasComeTo g (AtRefusal refusal) reading commit = Unit {0}
 
--- An opening over metadata of this geometry stands at some point.
-pub record StandsAt (g : Geometry) (plan : Plan) (opening : Opening) : Type 0 where
-  pub point : Point
-  pub plan_is : plan ≡ plan_from g.meta_sectors point
-  pub geometry : opening.geometry ≡ g
-  pub come : HasComeTo g point opening.reading opening.commit
+-- What the answer wants was made once all was read, and not before.
+abbrev pub HasMadeThere : Geometry → ℕ → Point → ℕ → Option Made → Type 0
+HasMadeThere g actors AtRoot actor made = HasMade g actors actor made
+HasMadeThere g actors AtRootSync actor made = HasMade g actors actor made
+HasMadeThere g actors AtEnd actor made = HasMade g actors actor made
+HasMadeThere g actors (AtRefusal refusal) actor made = Unit {0}
+HasMadeThere g actors point actor made = made ≡ None
 
--- The metadata device is of this geometry, and the opening stands somewhere.
-pub record IsSound (g : Geometry) (devices : Devices Memory) (opener : Option Opener) : Type 0 where
+-- An opening over metadata of this geometry, for so many actors, stands at some point.
+pub record StandsAt (g : Geometry) (actors : ℕ) (o : Opener) : Type 0 where
+  pub point : Point
+  pub plan_is : o.task ≡ plan_from g.meta_sectors point
+  pub geometry : o.opening.geometry ≡ g
+  pub come : HasComeTo g point (reading_of o) o.opening.commit
+  pub made : HasMadeThere g actors point o.actor o.made
+
+-- A target has as many words as the origin has blocks, and knows whether it has failed.
+pub record IsWhole (g : Geometry) (target : Target) : Type 0 where
+  pub blocks : target.crew.blocks ≡ g.origin_blocks
+  pub failed : target.failed ≡ flag target.crew.words.fail
+
+abbrev pub StandsSo : Geometry → ℕ → Phase → Type 0
+StandsSo g actors Closed = Unit {0}
+StandsSo g actors (Underway opener) = StandsAt g actors opener
+StandsSo g actors (Standing target) = IsWhole g target
+
+-- The metadata device is of this geometry, and what is there is sound.
+pub record IsSound (g : Geometry) (actors : ℕ) (devices : Devices Memory) (phase : Phase) : Type 0 where
   pub whole : length devices.metadata.contents ≡ g.meta_sectors
-  pub opens : IfSome opener (λ o. StandsAt g o.task o.opening)
+  pub stands : StandsSo g actors phase

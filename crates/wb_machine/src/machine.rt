@@ -14,7 +14,7 @@ ghost use Rattle.wb_machine.specs.Life.{GoesOn, Happens, IsGap, IsReached, IsThe
 ghost use Rattle.wb_machine.specs.Standing.{IsSound};
 
 use crate::halt::Halt;
-use crate::opener::Opener;
+use crate::phase::Phase;
 use crate::starting::start;
 use crate::stepping::{falter, step};
 use crate::stopping::stop;
@@ -24,6 +24,7 @@ use std::marker::Model;
 use wb_devices::Devices;
 use wb_disk::MemDisk;
 use wb_meta::format;
+use wb_policy::Quiet;
 use wb_runs::{
     Event, Record, What, every_crash_is_consistent, every_opening_shows_allowed,
     openings_refuse_by_cause, reads_give_the_latest_write,
@@ -33,13 +34,13 @@ use wb_types::{Geometry, Refusal};
 /// How many actors a machine has.
 pub const ACTORS: usize = 64;
 
-/// Three devices in memory, who opens a target over them, and the trace of what happened.
+/// Three devices in memory, what stands over them, and the trace of what happened.
 #[derive(Drop)]
 pub struct Machine {
     alloc: Global,
     geometry: Geometry,
     devices: Devices<MemDisk>,
-    opener: Option<Opener>,
+    phase: Phase,
     trace: Trace,
 }
 
@@ -50,10 +51,10 @@ impl Model for Machine {
 
     ghost Value = { Life };
 
-    ghost view = { λ m. record { shape = shape_of m.geometry ACTORS; trace = m.trace.records; state = state_of ACTORS m.devices m.opener } };
+    ghost view = { λ m. record { shape = shape_of m.geometry ACTORS; trace = m.trace.records; state = state_of ACTORS m.devices m.phase } };
 
-    ghost invariant = { λ m. IsReached (record { shape = shape_of m.geometry ACTORS; trace = m.trace.records; state = state_of ACTORS m.devices m.opener })
-        × (IsThere ACTORS m.opener × IsSound m.geometry m.devices m.opener) };
+    ghost invariant = { λ m. IsReached (record { shape = shape_of m.geometry ACTORS; trace = m.trace.records; state = state_of ACTORS m.devices m.phase })
+        × (IsThere ACTORS m.phase × IsSound m.geometry ACTORS m.devices m.phase) };
 }
 
 impl Machine {
@@ -78,7 +79,7 @@ impl Machine {
                 cache,
                 origin,
             },
-            opener: None,
+            phase: Phase::Closed,
             trace: Trace::new(alloc),
         })
     }
@@ -97,7 +98,7 @@ impl Machine {
             &self.geometry,
             self.alloc,
             &mut self.devices,
-            &mut self.opener,
+            &mut self.phase,
             &event,
         )?;
         self.trace.push_reserved(Record {
@@ -119,10 +120,10 @@ impl Machine {
         ensures causes { (run : IsReached self.now) → AllRefuseByCause self.now.shape (start self.now.shape run.metadata) (formatted self.now.shape) run.happenings }
         ensures reads { (run : IsReached self.now) → AllReadRightly self.now.shape (start self.now.shape run.metadata) (formatted self.now.shape) run.happenings }
     {
-        every_crash_is_consistent::<(), Global>();
-        every_opening_shows_allowed::<(), Global>();
-        openings_refuse_by_cause::<(), Global>();
-        reads_give_the_latest_write::<(), Global>();
+        every_crash_is_consistent::<Quiet, Global>();
+        every_opening_shows_allowed::<Quiet, Global>();
+        openings_refuse_by_cause::<Quiet, Global>();
+        reads_give_the_latest_write::<Quiet, Global>();
         &self.trace
     }
 }
@@ -132,21 +133,21 @@ fn happen(
     geometry: &Geometry,
     alloc: Global,
     devices: &mut Devices<MemDisk>,
-    opener: &mut Option<Opener>,
+    phase: &mut Phase,
     event: &Event,
 ) -> Result<What, Halt>
-    requires there { IsThere ACTORS opener.old }
-    requires sound { IsSound geometry.now devices.old opener.old }
-    ensures there { IsThere ACTORS opener.new }
-    ensures sound { IsSound geometry.now devices.new opener.new }
-    ensures ok { IfOk result (λ what. Happens (shape_of geometry.now ACTORS) (state_of ACTORS devices.old opener.old) event.now what [] (state_of ACTORS devices.new opener.new)) }
-    ensures err { OnErr result ((devices.new ≡ devices.old) × (opener.new ≡ opener.old)) }
-    ensures gap { IfErr result (λ halt. halt ≡ Beyond → IsGap (state_of ACTORS devices.old opener.old) event.now) }
+    requires there { IsThere ACTORS phase.old }
+    requires sound { IsSound geometry.now ACTORS devices.old phase.old }
+    ensures there { IsThere ACTORS phase.new }
+    ensures sound { IsSound geometry.now ACTORS devices.new phase.new }
+    ensures ok { IfOk result (λ what. Happens (shape_of geometry.now ACTORS) (state_of ACTORS devices.old phase.old) event.now what [] (state_of ACTORS devices.new phase.new)) }
+    ensures err { OnErr result ((devices.new ≡ devices.old) × (phase.new ≡ phase.old)) }
+    ensures gap { IfErr result (λ halt. halt ≡ Beyond → IsGap (state_of ACTORS devices.old phase.old) event.now) }
 {
     match event {
-        Event::Start(a, job) => Ok(start(geometry, alloc, devices, opener, *a, job)),
-        Event::Step(a) => step(geometry, devices, opener, *a),
-        Event::FaultStep(a, choice) => falter(geometry, devices, opener, *a, choice),
-        Event::Stop(choice) => Ok(stop(devices, opener, choice)),
+        Event::Start(a, job) => start(geometry, alloc, devices, phase, *a, job),
+        Event::Step(a) => step(geometry, devices, phase, *a),
+        Event::FaultStep(a, choice) => falter(geometry, devices, phase, *a, choice),
+        Event::Stop(choice) => Ok(stop(devices, phase, choice)),
     }
 }

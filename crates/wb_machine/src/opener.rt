@@ -1,15 +1,17 @@
 //! An opening at work, and its steps on devices.
 
-ghost use Rattle.std.specs.Prelude.{◌≡◌, ◌≤◌, ◌<◌, ◌↔◌, ℕ, [], List, Some, IfSome, IfOk, OnOk, OnErr, IfErr, IsTrue, length, map, slice_get};
+ghost use Rattle.std.specs.Prelude.{◌≡◌, ◌≤◌, ◌<◌, ◌↔◌, ℕ, [], None, Some, IfOk, OnOk, OnErr, IfErr, IsTrue, length, map, slice_get};
 ghost use Rattle.std.specs.declared.alloc.Global.{Global as GlobalValue};
 ghost use Rattle.std.specs.Bool.{OnTrue, OnFalse};
 ghost use Rattle.wb_types.specs.declared.mode.Dev.TheVariants.{Metadata};
+ghost use Rattle.wb_types.specs.declared.refusal.Refusal.TheVariants.{Memory as OutOfMemory};
 ghost use Rattle.wb_disk.specs.Device.{newest, synced};
 ghost use Rattle.wb_disk.specs.Failing.{MayFail};
-ghost use Rattle.wb_tasks.specs.Plan.{want, after, device_of};
+ghost use Rattle.wb_tasks.specs.Plan.{Fits, want, after, device_of};
 ghost use Rattle.wb_tasks.specs.declared.step.Got.TheVariants.{Done, Fault};
 ghost use Rattle.wb_tasks.specs.declared.step.DeviceStep.TheVariants.{Sync, ReadMetadata, WriteRoot};
-ghost use Rattle.wb_meta.specs.Reads.{AreStepsOn, coming_sector};
+ghost use Rattle.wb_meta.specs.Reads.{coming_sector};
+ghost use Rattle.wb_meta.specs.declared.commit_steps.CommitSteps.TheVariants.{NodesSynced};
 ghost use Rattle.wb_meta.specs.declared.read_steps.ReadSteps.{ReadSteps as Steps};
 ghost use Rattle.wb_tasks.specs.declared.step.Want.TheVariants.{Device};
 ghost use Rattle.wb_devices.specs.Moving.{device_in};
@@ -18,25 +20,31 @@ ghost use Rattle.wb_runs.specs.States.{with_device};
 ghost use Rattle.wb_runs.specs.declared.event.Event.TheVariants.{Step};
 ghost use Rattle.wb_runs.specs.declared.event.What.TheVariants.{Stepped};
 ghost use Rattle.wb_machine.specs.declared.halt.Halt.TheVariants.{Memory};
-ghost use Rattle.wb_machine.specs.Life.{FailsOn, Happens, PutsCommitted, commit_failed, commit_synced, commit_written, contents_of, device_step_of, opens, reading_synced, reading_failed, shape_of, state_of};
-ghost use Rattle.wb_machine.specs.Standing.{StandsAt};
+ghost use Rattle.wb_machine.specs.declared.machine.TheConstants.{ACTORS};
+ghost use Rattle.wb_machine.specs.declared.phase.Phase.TheVariants.{Underway};
+ghost use Rattle.wb_machine.specs.Life.{FailsOn, Happens, PutsCommitted, commit_failed, commit_synced, commit_written, contents_of, device_step_of, made_synced, reading_synced, reading_failed, shape_of, state_of};
+ghost use Rattle.wb_machine.specs.Making.{HasMade, MadeBy, reading_of};
+ghost use Rattle.wb_machine.specs.Standing.{HasReadAll, IsReading, StandsAt};
 
 use crate::halt::Halt;
+use crate::machine::ACTORS;
+use crate::making::{Made, make};
 use crate::rooting::{fail_root, put_committed};
 use wb_devices::{Devices, Opening, RunningCommit};
 use wb_disk::{CrashChoice, Disk, MemDisk};
 use wb_flow::OpenTask;
 use wb_meta::{CommitSteps, ReadSteps};
 use wb_tasks::{DeviceStep, Got, Task};
-use wb_types::{Content, Dev, Geometry, SECTOR_BYTES};
+use wb_types::{Content, Dev, Geometry, Refusal, SECTOR_BYTES};
 
 /// Who opens, what is left of the opening, and what was read: the reading begins once the metadata were synced, and is over where
-/// the metadata device has failed, as is the commit of the root.
+/// the metadata device has failed, as is the commit of the root. Once all was read, what the answer wants has been made of it.
 #[derive(Drop)]
 pub struct Opener {
     pub actor: usize,
     pub task: OpenTask,
     pub opening: Opening,
+    pub made: Option<Made>,
 }
 
 impl Opener {
@@ -49,11 +57,12 @@ impl Opener {
     ) -> Result<Got, Halt>
         requires next { device_step_of (want self.old.task) ≡ Some step }
         requires whole { length devices.old.metadata.contents ≡ geometry.now.meta_sectors }
-        requires stands { StandsAt geometry.now self.old.task self.old.opening }
+        requires there { self.old.actor < ACTORS }
+        requires stands { StandsAt geometry.now ACTORS self.old }
         ensures actor { self.new.actor ≡ self.old.actor }
         ensures whole { length devices.new.metadata.contents ≡ geometry.now.meta_sectors }
-        ensures stands { StandsAt geometry.now self.new.task self.new.opening }
-        ensures does { (actors : ℕ) → self.old.actor < actors → IfOk result (λ got. Happens (shape_of geometry.now actors) (state_of actors devices.old (Some self.old)) (Step self.old.actor) (Stepped (Device step) got) [] (state_of actors devices.new (Some self.new))) }
+        ensures stands { StandsAt geometry.now ACTORS self.new }
+        ensures does { IfOk result (λ got. Happens (shape_of geometry.now ACTORS) (state_of ACTORS devices.old (Underway self.old)) (Step self.old.actor) (Stepped (Device step) got) [] (state_of ACTORS devices.new (Underway self.new))) }
         ensures err { OnErr result ((devices.new ≡ devices.old) × (self.new ≡ self.old)) }
         ensures halt { IfErr result (λ halt. halt ≡ Memory) }
     {
@@ -63,7 +72,7 @@ impl Opener {
                 self.sync(devices, device);
                 Ok(Got::Done)
             }
-            DeviceStep::ReadMetadata(left) => Ok(self.read(&mut devices.metadata, left)),
+            DeviceStep::ReadMetadata(left) => Ok(self.read(geometry, &mut devices.metadata, left)),
             DeviceStep::WriteRoot => {
                 self.write_root(&mut devices.metadata)?;
                 Ok(Got::Done)
@@ -79,7 +88,8 @@ impl Opener {
         ensures task { self.new.task ≡ after self.old.task Done }
         ensures geometry { self.new.opening.geometry ≡ self.old.opening.geometry }
         ensures commit { self.new.opening.commit ≡ commit_synced device self.old.opening.commit }
-        ensures reading { self.new.opening.reading ≡ reading_synced self.old.opening.alloc device self.old.opening.commit self.old.opening.reading }
+        ensures reading { reading_of self.new ≡ reading_synced self.old.opening.alloc device self.old.opening.commit (reading_of self.old) }
+        ensures made { self.new.made ≡ made_synced device self.old.opening.commit self.old.made }
         ensures devices { contents_of devices.new ≡ with_device device (contents_of devices.old) (synced (device_in device (contents_of devices.old))) }
     {
         match device {
@@ -103,12 +113,14 @@ impl Opener {
         ensures task { self.new.task ≡ self.old.task }
         ensures geometry { self.new.opening.geometry ≡ self.old.opening.geometry }
         ensures commit { self.new.opening.commit ≡ commit_synced Metadata self.old.opening.commit }
-        ensures reading { self.new.opening.reading ≡ reading_synced self.old.opening.alloc Metadata self.old.opening.commit self.old.opening.reading }
+        ensures reading { reading_of self.new ≡ reading_synced self.old.opening.alloc Metadata self.old.opening.commit (reading_of self.old) }
+        ensures made { self.new.made ≡ made_synced Metadata self.old.opening.commit self.old.made }
     {
         if let Some(running) = &mut self.opening.commit {
             running.steps = CommitSteps::Done;
             return;
         }
+        self.made = None;
         self.opening.reading = Some(ReadSteps::Begun {
             alloc: self.opening.alloc,
             global: self.opening.alloc,
@@ -123,7 +135,8 @@ impl Opener {
         ensures actor { self.new.actor ≡ self.old.actor }
         ensures task { OnOk result (self.new.task ≡ after self.old.task Done) }
         ensures geometry { self.new.opening.geometry ≡ self.old.opening.geometry }
-        ensures reading { self.new.opening.reading ≡ self.old.opening.reading }
+        ensures reading { reading_of self.new ≡ reading_of self.old }
+        ensures made { self.new.made ≡ self.old.made }
         ensures commit { OnOk result (self.new.opening.commit ≡ commit_written self.old.opening.commit) }
         ensures puts { OnOk result (PutsCommitted self.old.opening.commit metadata.old.contents metadata.new.contents) }
         ensures err { OnErr result ((metadata.new ≡ metadata.old) × (self.new ≡ self.old)) }
@@ -135,20 +148,84 @@ impl Opener {
     }
 
     /// Reads the metadata sector that comes next, as the next step, where at most so many may follow.
-    fn read(&mut self, metadata: &mut MemDisk, left: u32) -> Got
+    fn read(&mut self, geometry: &Geometry, metadata: &mut MemDisk, left: u32) -> Got
+        requires there { self.old.actor < ACTORS }
         requires next { want self.old.task ≡ Device (ReadMetadata left) }
-        requires on { IfSome self.old.opening.reading (AreStepsOn (length metadata.old.contents)) }
+        requires none { self.old.made ≡ None }
+        requires geometry { self.old.opening.geometry ≡ geometry.now }
+        requires size { length metadata.old.contents ≡ geometry.now.meta_sectors }
+        requires reads { IsReading geometry.now left self.old.opening.reading self.old.opening.commit }
         ensures device { metadata.new ≡ metadata.old }
         ensures actor { self.new.actor ≡ self.old.actor }
         ensures task { self.new.task ≡ after self.old.task result }
         ensures geometry { self.new.opening.geometry ≡ self.old.opening.geometry }
-        ensures did { (was : Steps GlobalValue) → self.old.opening.reading ≡ Some was → DidTell self.old.opening.geometry (length metadata.old.contents) left was metadata.old.contents self.old.opening.commit result self.new.opening.reading self.new.opening.commit }
+        ensures did { (was : Steps GlobalValue) → self.old.opening.reading ≡ Some was → DidTell geometry.now geometry.now.meta_sectors left was metadata.old.contents self.old.opening.commit result (reading_of self.new) self.new.opening.commit }
+        ensures made { MadeBy geometry.now ACTORS result self.old.actor self.new.made }
     {
-        let sectors = metadata.sectors();
-        let content = content_of(metadata, coming_of(&self.opening));
-        let got = self.opening.tell(sectors, content, left);
+        let got = self.tell(geometry, metadata, left);
         self.task.next(got);
         got
+    }
+
+    /// Tells the opening what stands in the metadata sector that comes next. Where all was read, what the answer wants is made; the
+    /// opening is refused where there is no memory for it.
+    fn tell(&mut self, geometry: &Geometry, metadata: &mut MemDisk, left: u32) -> Got
+        requires there { self.old.actor < ACTORS }
+        requires none { self.old.made ≡ None }
+        requires geometry { self.old.opening.geometry ≡ geometry.now }
+        requires size { length metadata.old.contents ≡ geometry.now.meta_sectors }
+        requires reads { IsReading geometry.now left self.old.opening.reading self.old.opening.commit }
+        ensures device { metadata.new ≡ metadata.old }
+        ensures actor { self.new.actor ≡ self.old.actor }
+        ensures task { self.new.task ≡ self.old.task }
+        ensures kind { Fits (Device (ReadMetadata left)) result }
+        ensures geometry { self.new.opening.geometry ≡ self.old.opening.geometry }
+        ensures did { (was : Steps GlobalValue) → self.old.opening.reading ≡ Some was → DidTell geometry.now geometry.now.meta_sectors left was metadata.old.contents self.old.opening.commit result (reading_of self.new) self.new.opening.commit }
+        ensures made { MadeBy geometry.now ACTORS result self.old.actor self.new.made }
+    {
+        let _two_slots = geometry.node_count();
+        let sectors = metadata.sectors();
+        let content = content_of(metadata, coming_of(&self.opening));
+        match self.opening.tell(sectors, content, left) {
+            Got::Done => match self.prepare() {
+                Ok(()) => Got::Done,
+                Err(refusal) => Got::Refused(refusal),
+            },
+            got => got,
+        }
+    }
+
+    /// Makes what the answer wants, once all was read. `Memory` where there is none for it: then the reading is over.
+    fn prepare(&mut self) -> Result<(), Refusal>
+        requires there { self.old.actor < ACTORS }
+        requires none { self.old.made ≡ None }
+        requires all { HasReadAll self.old.opening.geometry NodesSynced self.old.opening.reading self.old.opening.commit }
+        ensures actor { self.new.actor ≡ self.old.actor }
+        ensures task { self.new.task ≡ self.old.task }
+        ensures geometry { self.new.opening.geometry ≡ self.old.opening.geometry }
+        ensures reading { OnOk result (reading_of self.new ≡ self.old.opening.reading) }
+        ensures commit { OnOk result (self.new.opening.commit ≡ self.old.opening.commit) }
+        ensures made { OnOk result (HasMade self.old.opening.geometry ACTORS self.old.actor self.new.made) }
+        ensures over { OnErr result ((reading_of self.new ≡ None) × (self.new.opening.commit ≡ None) × (self.new.made ≡ None)) }
+        ensures refused { IfErr result (λ refusal. refusal ≡ OutOfMemory) }
+    {
+        let Some(ReadSteps::Done(state)) = self.opening.reading.take() else {
+            return Ok(());
+        };
+        let Some(commit) = &self.opening.commit else {
+            return Ok(());
+        };
+        let next = commit.image.root;
+        match make(self.opening.alloc, self.actor, state, next) {
+            Ok(made) => {
+                self.made = Some(made);
+                Ok(())
+            }
+            Err(refusal) => {
+                self.opening.commit = None;
+                Err(refusal)
+            }
+        }
     }
 
     /// Its next step, on a device, has failed.
@@ -158,16 +235,26 @@ impl Opener {
         ensures task { self.new.task ≡ after self.old.task Fault }
         ensures geometry { self.new.opening.geometry ≡ self.old.opening.geometry }
         ensures commit { self.new.opening.commit ≡ commit_failed (device_of step) self.old.opening.commit }
-        ensures reading { self.new.opening.reading ≡ reading_failed (device_of step) self.old.opening.reading }
+        ensures reading { reading_of self.new ≡ reading_failed (device_of step) (reading_of self.old) }
     {
         match step {
             DeviceStep::Sync(Dev::Cache) | DeviceStep::Sync(Dev::Origin) => {}
-            _ => {
-                self.opening.reading = None;
-                self.opening.commit = None;
-            }
+            _ => self.close(),
         }
         self.task.next(Got::Fault);
+    }
+
+    /// The reading is over, and what was made of it is gone.
+    fn close(&mut self)
+        ensures actor { self.new.actor ≡ self.old.actor }
+        ensures task { self.new.task ≡ self.old.task }
+        ensures geometry { self.new.opening.geometry ≡ self.old.opening.geometry }
+        ensures commit { self.new.opening.commit ≡ None }
+        ensures reading { reading_of self.new ≡ None }
+    {
+        self.opening.reading = None;
+        self.opening.commit = None;
+        self.made = None;
     }
 }
 
@@ -193,16 +280,6 @@ fn content_of(disk: &mut MemDisk, coming: Option<u64>) -> Option<Content>
     let mut content = [0; SECTOR_BYTES];
     let _ = disk.read(at, &mut content);
     Some(content)
-}
-
-/// Whether this actor opens.
-pub(crate) fn opens(opener: &Option<Opener>, actor: usize) -> bool
-    ensures { result ≡ opens actor opener.now }
-{
-    match opener {
-        Some(opener) => opener.actor == actor,
-        None => false,
-    }
 }
 
 /// A step of an opening on a device that fails: a sync, or the write of this commit's root, which lands where the choice says so, or

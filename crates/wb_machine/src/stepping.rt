@@ -2,13 +2,16 @@
 
 ghost use Rattle.std.specs.Prelude.{◌≡◌, [], IfOk, IfErr, OnErr};
 ghost use Rattle.wb_runs.specs.declared.event.Event.TheVariants.{Step, FaultStep};
-ghost use Rattle.wb_machine.specs.declared.halt.Halt.TheVariants.{Beyond};
+ghost use Rattle.wb_machine.specs.declared.halt.Halt.TheVariants.{Memory};
 ghost use Rattle.wb_machine.specs.declared.machine.TheConstants.{ACTORS};
-ghost use Rattle.wb_machine.specs.Life.{Happens, IsGap, IsThere, device_step_of, is_refusal, shape_of, state_of};
+ghost use Rattle.wb_machine.specs.Life.{Happens, IsThere, answered, device_step_of, shape_of, stands_by, state_of};
 ghost use Rattle.wb_machine.specs.Standing.{IsSound};
 
 use crate::halt::Halt;
-use crate::opener::{Opener, fail_step};
+use crate::making::Made;
+use crate::opener::fail_step;
+use crate::phase::Phase;
+use std::mem;
 use wb_devices::Devices;
 use wb_disk::{CrashChoice, MemDisk};
 use wb_runs::What;
@@ -19,71 +22,84 @@ use wb_types::Geometry;
 pub(crate) fn step(
     geometry: &Geometry,
     devices: &mut Devices<MemDisk>,
-    opener: &mut Option<Opener>,
+    phase: &mut Phase,
     actor: usize,
 ) -> Result<What, Halt>
-    requires there { IsThere ACTORS opener.old }
-    requires sound { IsSound geometry.now devices.old opener.old }
-    ensures there { IsThere ACTORS opener.new }
-    ensures sound { IsSound geometry.now devices.new opener.new }
-    ensures ok { IfOk result (λ what. Happens (shape_of geometry.now ACTORS) (state_of ACTORS devices.old opener.old) (Step actor) what [] (state_of ACTORS devices.new opener.new)) }
-    ensures err { OnErr result ((devices.new ≡ devices.old) × (opener.new ≡ opener.old)) }
-    ensures gap { IfErr result (λ halt. halt ≡ Beyond → IsGap (state_of ACTORS devices.old opener.old) (Step actor)) }
+    requires there { IsThere ACTORS phase.old }
+    requires sound { IsSound geometry.now ACTORS devices.old phase.old }
+    ensures there { IsThere ACTORS phase.new }
+    ensures sound { IsSound geometry.now ACTORS devices.new phase.new }
+    ensures ok { IfOk result (λ what. Happens (shape_of geometry.now ACTORS) (state_of ACTORS devices.old phase.old) (Step actor) what [] (state_of ACTORS devices.new phase.new)) }
+    ensures err { OnErr result ((devices.new ≡ devices.old) × (phase.new ≡ phase.old)) }
+    ensures halt { IfErr result (λ halt. halt ≡ Memory) }
 {
-    let Some(at_work) = opener else {
+    let Phase::Underway(opener) = phase else {
         return Ok(What::Skipped);
     };
-    if at_work.actor != actor {
+    if opener.actor != actor {
         return Ok(What::Skipped);
     }
-    let want = at_work.task.want();
+    let want = opener.task.want();
     if let Some(step) = device_step_of(&want) {
-        let got = at_work.perform(geometry, devices, step)?;
+        let got = opener.perform(geometry, devices, step)?;
         return Ok(What::Stepped(want, got));
     }
-    if !is_refusal(&want) {
-        return Err(Halt::Beyond);
-    }
-    *opener = None;
+    answer(phase);
     Ok(What::Stepped(want, Got::Done))
+}
+
+/// An opening is answered: done, and its target stands; or it is refused.
+fn answer(phase: &mut Phase)
+    ensures { phase.new ≡ answered phase.old }
+{
+    if let Phase::Underway(opener) = mem::replace(phase, Phase::Closed) {
+        *phase = stands_by(opener.task.want(), opener.made);
+    }
+}
+
+/// What stands after this answer of an opening that has made this.
+fn stands_by(want: Want, made: Option<Made>) -> Phase
+    ensures { result ≡ stands_by want made }
+{
+    match (want, made) {
+        (Want::End(Answer::Done), Some(made)) => Phase::Standing(made.target),
+        _ => Phase::Closed,
+    }
 }
 
 /// The next step of an actor's opening, which is on a device, fails as the choice says.
 pub(crate) fn falter(
     geometry: &Geometry,
     devices: &mut Devices<MemDisk>,
-    opener: &mut Option<Opener>,
+    phase: &mut Phase,
     actor: usize,
     choice: &CrashChoice,
 ) -> Result<What, Halt>
-    requires there { IsThere ACTORS opener.old }
-    requires sound { IsSound geometry.now devices.old opener.old }
-    ensures there { IsThere ACTORS opener.new }
-    ensures sound { IsSound geometry.now devices.new opener.new }
-    ensures ok { IfOk result (λ what. Happens (shape_of geometry.now ACTORS) (state_of ACTORS devices.old opener.old) (FaultStep actor choice.now) what [] (state_of ACTORS devices.new opener.new)) }
-    ensures err { OnErr result ((devices.new ≡ devices.old) × (opener.new ≡ opener.old)) }
-    ensures gap { IfErr result (λ halt. halt ≡ Beyond → IsGap (state_of ACTORS devices.old opener.old) (FaultStep actor choice.now)) }
+    requires there { IsThere ACTORS phase.old }
+    requires sound { IsSound geometry.now ACTORS devices.old phase.old }
+    ensures there { IsThere ACTORS phase.new }
+    ensures sound { IsSound geometry.now ACTORS devices.new phase.new }
+    ensures ok { IfOk result (λ what. Happens (shape_of geometry.now ACTORS) (state_of ACTORS devices.old phase.old) (FaultStep actor choice.now) what [] (state_of ACTORS devices.new phase.new)) }
+    ensures err { OnErr result ((devices.new ≡ devices.old) × (phase.new ≡ phase.old)) }
+    ensures halt { IfErr result (λ halt. halt ≡ Memory) }
 {
     let _two_slots = geometry.node_count();
-    let Some(at_work) = opener else {
+    let Phase::Underway(opener) = phase else {
         return Ok(What::Skipped);
     };
-    if at_work.actor != actor {
+    if opener.actor != actor {
         return Ok(What::Skipped);
     }
-    let want = at_work.task.want();
-    if let Some(step) = device_step_of(&want) {
-        let fails = fail_step(devices, &at_work.opening.commit, step, choice)?;
-        if !fails {
-            return Ok(What::Skipped);
-        }
-        at_work.fail(step);
-        return Ok(What::Stepped(want, Got::Fault));
+    let want = opener.task.want();
+    let Some(step) = device_step_of(&want) else {
+        return Ok(What::Skipped);
+    };
+    let fails = fail_step(devices, &opener.opening.commit, step, choice)?;
+    if !fails {
+        return Ok(What::Skipped);
     }
-    if !is_refusal(&want) {
-        return Err(Halt::Beyond);
-    }
-    Ok(What::Skipped)
+    opener.fail(step);
+    Ok(What::Stepped(want, Got::Fault))
 }
 
 /// The step, if it is one of an opening on a device.
@@ -96,11 +112,4 @@ fn device_step_of(want: &Want) -> Option<DeviceStep>
         Want::Device(DeviceStep::WriteRoot) => Some(DeviceStep::WriteRoot),
         _ => None,
     }
-}
-
-/// Whether a step is an answer that refuses.
-fn is_refusal(want: &Want) -> bool
-    ensures { result ≡ is_refusal want.now }
-{
-    matches!(want, Want::End(Answer::Refused(_)))
 }

@@ -78,14 +78,15 @@ fn openings_go_as_their_rows_say(rt: HostRuntime) -> Result<(), Fail> {
     Ok(())
 }
 
+/// Over a target that stands nothing starts yet.
 #[test]
-fn a_machine_answers_no_opening_yet(rt: HostRuntime) -> Result<(), Fail> {
+fn nothing_starts_over_a_target_yet(rt: HostRuntime) -> Result<(), Fail> {
     let mut machine = small_machine(rt.alloc())?;
     assert!(rt; machine.event(Event::Start(0, Job::Open(Mode::Writeback))) == Ok(()));
-    for _ in 0..7 {
+    for _ in 0..8 {
         assert!(rt; machine.event(Event::Step(0)) == Ok(()));
     }
-    assert!(rt; machine.event(Event::Step(0)) == Err(Halt::Beyond));
-    assert_eq!(rt; machine.trace().records().len(), 8);
+    assert!(rt; machine.event(Event::Start(0, Job::Flush)) == Err(Halt::Beyond));
+    assert_eq!(rt; machine.trace().records().len(), 9);
     Ok(())
 }

@@ -45,9 +45,11 @@ const ROOT: Want = Want::Device(DeviceStep::WriteRoot);
 
 const METADATA_FAILED: Want = Want::End(Answer::Refused(Refusal::Io(Dev::Metadata)));
 
+const OPENED: Want = Want::End(Answer::Done);
+
 const CACHE_FAILED: Want = Want::End(Answer::Refused(Refusal::Io(Dev::Cache)));
 
-pub const ROWS: [Row; 16] = [
+pub const ROWS: [Row; 18] = [
     Row {
         name: "without a target only an opening starts, in write-back mode",
         lines: &[
@@ -168,6 +170,53 @@ pub const ROWS: [Row; 16] = [
             (Line::CrashOf(Dev::Metadata, 1, 1), What::Skipped),
             (Line::CrashOf(Dev::Metadata, 1, 0), What::Stopped),
             (Line::Step(0), What::Skipped),
+        ],
+    },
+    Row {
+        name: "an opening is answered done, and no other starts over its target",
+        lines: &[
+            (Line::Start(5, OPEN), What::Started),
+            (Line::Step(5), What::Stepped(METADATA, Got::Done)),
+            (Line::Step(5), What::Stepped(CACHE, Got::Done)),
+            (Line::Step(5), What::Stepped(ORIGIN, Got::Done)),
+            (Line::Step(5), What::Stepped(FIRST_READ, Got::More)),
+            (Line::Step(5), What::Stepped(SECOND_READ, Got::Done)),
+            (Line::Step(5), What::Stepped(ROOT, Got::Done)),
+            (Line::Step(5), What::Stepped(METADATA, Got::Done)),
+            (Line::Fault(5, Base::Newest), What::Skipped),
+            (Line::Step(5), What::Stepped(OPENED, Got::Done)),
+            (Line::Step(5), What::Skipped),
+            (Line::Fault(5, Base::Newest), What::Skipped),
+            (Line::Start(5, OPEN), What::Skipped),
+            (Line::Start(6, OPEN), What::Skipped),
+            (Line::Start(64, Job::Flush), What::Skipped),
+            (Line::CrashOf(Dev::Metadata, 1, 1), What::Skipped),
+        ],
+    },
+    Row {
+        name: "a crash ends the target, and the next opening is answered done over its root",
+        lines: &[
+            (Line::Start(0, OPEN), What::Started),
+            (Line::Step(0), What::Stepped(METADATA, Got::Done)),
+            (Line::Step(0), What::Stepped(CACHE, Got::Done)),
+            (Line::Step(0), What::Stepped(ORIGIN, Got::Done)),
+            (Line::Step(0), What::Stepped(FIRST_READ, Got::More)),
+            (Line::Step(0), What::Stepped(SECOND_READ, Got::Done)),
+            (Line::Step(0), What::Stepped(ROOT, Got::Done)),
+            (Line::Step(0), What::Stepped(METADATA, Got::Done)),
+            (Line::Step(0), What::Stepped(OPENED, Got::Done)),
+            (Line::Crash, What::Stopped),
+            (Line::Start(0, Job::Flush), What::Skipped),
+            (Line::Start(63, OPEN), What::Started),
+            (Line::Step(63), What::Stepped(METADATA, Got::Done)),
+            (Line::Step(63), What::Stepped(CACHE, Got::Done)),
+            (Line::Step(63), What::Stepped(ORIGIN, Got::Done)),
+            (Line::Step(63), What::Stepped(FIRST_READ, Got::More)),
+            (Line::Step(63), What::Stepped(SECOND_READ, Got::Done)),
+            (Line::CrashOf(Dev::Metadata, 0, 1), What::Skipped),
+            (Line::Step(63), What::Stepped(ROOT, Got::Done)),
+            (Line::Step(63), What::Stepped(METADATA, Got::Done)),
+            (Line::Step(63), What::Stepped(OPENED, Got::Done)),
         ],
     },
     Row {

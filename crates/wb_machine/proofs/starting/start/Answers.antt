@@ -3,26 +3,25 @@ use Rattle.wb_runs.specs.declared.event.Event.TheVariants.{Start}
 use Rattle.wb_runs.specs.Happenings.{DoesNotApply}
 use Rattle.wb_machine.specs.declared.machine.TheConstants.{ACTORS}
 use Rattle.wb_machine.specs.Life.{shape_of, state_of}
-use Rattle.wb_machine.proofs.Openings.{no_target, nobody_starts, opener_starts, passes, starts}
 use Rattle.wb_machine.specs.Standing.{AtMetadata}
+use Rattle.wb_machine.proofs.Openings.{nobody_starts, opener_starts, passes, starts}
 use Rattle.wb_machine.proofs.starting.start.Goals as goal
-use Rattle.wb_machine.proofs.starting.start.Goals.{then-actor-ge-ACTORS-via-then-actor-ge-ACTORS, then-actor-ge-ACTORS-via-else-actor-ge-ACTORS+then-opens, then-actor-ge-ACTORS-via-else-actor-ge-ACTORS+else-opens+then-not-is_opening}
+use Rattle.wb_machine.proofs.starting.start.Goals.{then-actor-ge-ACTORS-via-then-actor-ge-ACTORS, then-actor-ge-ACTORS-via-else-actor-ge-ACTORS+then-opens}
 
-pub returns-then-actor-ge-ACTORS-clause-does : goal.returns-then-actor-ge-ACTORS-clause-does
-returns-then-actor-ge-ACTORS-clause-does c =
+pub returns-then-actor-ge-ACTORS-clause-ok : goal.returns-then-actor-ge-ACTORS-clause-ok
+returns-then-actor-ge-ACTORS-clause-ok c =
     let shape = shape_of c.args.geometry.now ACTORS in
-    let does_not : DoesNotApply (state_of ACTORS c.args.devices.now c.args.opener.now) (Start c.args.actor c.args.job.now) = elim c.then-actor-ge-ACTORS.branch [
-      | then-actor-ge-ACTORS-via-then-actor-ge-ACTORS w ↦ nobody_starts shape c.args.devices.now ACTORS c.args.opener.now c.args.actor c.args.job.now (omega (arith, w.if-actor-ge-ACTORS.true))
-      | then-actor-ge-ACTORS-via-else-actor-ge-ACTORS+then-opens w ↦ opener_starts c.args.devices.now ACTORS c.args.opener.now c.args.actor c.args.job.now c.requires.there (sym w.opens.ensures ∙ w.if-opens.true)
-      | then-actor-ge-ACTORS-via-else-actor-ge-ACTORS+else-opens+then-not-is_opening w ↦ no_target c.args.devices.now ACTORS c.args.opener.now c.args.actor c.args.job.now (sym w.is_opening.ensures ∙ w.if-not-is_opening.true)
+    let does_not : DoesNotApply (state_of ACTORS c.args.devices.now c.args.phase.now) (Start c.args.actor c.args.job.now) = elim c.then-actor-ge-ACTORS.branch [
+      | then-actor-ge-ACTORS-via-then-actor-ge-ACTORS w ↦ nobody_starts c.args.devices.now ACTORS c.args.phase.now c.requires.there c.args.actor c.args.job.now (omega (arith, w.if-actor-ge-ACTORS.true))
+      | then-actor-ge-ACTORS-via-else-actor-ge-ACTORS+then-opens w ↦ opener_starts c.args.devices.now ACTORS c.args.phase.now c.args.actor c.args.job.now c.requires.there (sym w.opens.ensures ∙ w.if-opens.true)
     ] in
-    passes shape (state_of ACTORS c.args.devices.now c.args.opener.now) (Start c.args.actor c.args.job.now) _ does_not refl
+    passes shape (state_of ACTORS c.args.devices.now c.args.phase.now) (Start c.args.actor c.args.job.now) _ does_not refl
 
-pub returns-clause-does : goal.returns-clause-does
-returns-clause-does c =
+pub returns-clause-ok : goal.returns-clause-ok
+returns-clause-ok c =
     let shape = shape_of c.args.geometry.now ACTORS in
-    starts shape c.args.devices.now ACTORS c.args.opener.now c.args.actor c.args.job.now _ (record { actor = c.args.actor; task = c.reading.result; opening = record { geometry = c.args.geometry.now; alloc = c.args.alloc; reading = None; commit = None } })
-    (sym c.is_opening.ensures ∙ c.if-not-is_opening.false) (omega (arith, c.if-actor-ge-ACTORS.false)) (sym c.opens.ensures ∙ c.if-opens.false) refl c.reading.ensures refl refl refl
+    starts shape c.args.devices.now ACTORS c.args.phase.now c.requires.there c.requires.sound.stands c.args.actor c.args.job.now _ (record { actor = c.args.actor; task = c.reading.result; opening = record { geometry = c.args.geometry.now; alloc = c.args.alloc; reading = None; commit = None }; made = None })
+    (sym c.is_opening.ensures ∙ c.if-not-is_opening.false) (omega (arith, c.if-actor-ge-ACTORS.false)) (sym c.opens.ensures ∙ c.if-opens.false) (sym c.is_sound.ensures ∙ c.if-is_sound.false) refl c.reading.ensures refl refl refl
 
 pub returns-clause-sound : goal.returns-clause-sound
-returns-clause-sound c = record { whole = c.requires.sound.whole; opens = record { point = AtMetadata; plan_is = c.reading.ensures; geometry = refl; come = refl } }
+returns-clause-sound c = record { whole = c.requires.sound.whole; stands = record { point = AtMetadata; plan_is = c.reading.ensures; geometry = refl; come = refl; made = refl } }

@@ -1,0 +1,128 @@
+-- The answer of an opening.
+use Rattle.std.proofs.Common.{◌≡◌, ◌<◌, ℕ, zero, suc, true, List, [], ◌∷◌, Option, Some, None, refl, sym, ap, subst, ◌∙◌, length, length-set, map, replicate, slice_set}
+use Rattle.wb_types.specs.declared.mode.Mode.TheVariants.{Writeback}
+use Rattle.wb_policy.specs.declared.quiet.Quiet.{Quiet}
+use Rattle.std.specs.declared.alloc.Global.{Global}
+use Rattle.wb_types.specs.declared.geometry.Geometry.{Geometry}
+use Rattle.wb_types.specs.declared.refusal.Refusal.{Refusal}
+use Rattle.wb_disk.specs.Memory.{Memory}
+use Rattle.wb_words.specs.Cards.{blank_card}
+use Rattle.wb_words.specs.SharedWords.{fresh_words}
+use Rattle.wb_words.specs.declared.card.Card.{Card}
+use Rattle.wb_meta.specs.declared.commit_steps.CommitSteps.TheVariants.{Done as Committed}
+use Rattle.wb_meta.specs.declared.read_steps.ReadSteps.{ReadSteps}
+use Rattle.wb_devices.specs.Committing.{is_committed}
+use Rattle.wb_stage.specs.Stages.{is_all_done}
+use Rattle.wb_devices.specs.declared.devices.Devices.{Devices}
+use Rattle.wb_devices.specs.declared.running.RunningCommit.{RunningCommit}
+use Rattle.wb_tasks.specs.Plan.{want}
+use Rattle.wb_tasks.specs.declared.step.Answer.TheVariants.{Done as Finished, Refused as Refuses}
+use Rattle.wb_tasks.specs.declared.step.Want.{Want}
+use Rattle.wb_tasks.specs.declared.step.Want.TheVariants.{End}
+use Rattle.wb_tasks.specs.declared.step.Got.TheVariants.{Done}
+use Rattle.wb_runs.specs.declared.event.Event.TheVariants.{Step}
+use Rattle.wb_runs.specs.declared.event.What.{What}
+use Rattle.wb_runs.specs.declared.event.What.TheVariants.{Stepped}
+use Rattle.wb_runs.specs.declared.job.Job.TheVariants.{Open}
+use Rattle.wb_runs.specs.States.{Actor, Gone, Opens, Shape, Stands, Target, resting}
+use Rattle.wb_runs.specs.Happenings.{Opened, Plain}
+use Rattle.wb_runs.specs.Effects.{card_by, device_done, job_of, seals_of, stepped, target_over, with_actor}
+use Rattle.wb_machine.specs.declared.making.Made.{Made}
+use Rattle.wb_machine.specs.declared.opener.Opener.{Opener}
+use Rattle.wb_machine.specs.declared.phase.Phase.{Phase}
+use Rattle.wb_machine.specs.declared.phase.Phase.TheVariants.{Closed, Underway, Standing}
+use Rattle.wb_machine.specs.Life.{Happens, IsThere, Now, actors_of, answered, at_rest, contents_of, device_step_of, opening_actor, shape_of, stands_by, state_of}
+use Rattle.wb_machine.specs.Making.{HasMade, IsMade, read_of, reading_by, reading_of}
+use Rattle.wb_machine.specs.Standing.{Point, AtEnd, AtRefusal, HasMadeThere, HasReadAll, HasComeTo, StandsAt, StandsSo, plan_from}
+use Rattle.wb_machine.proofs.Openings.{busy, length_replicate, set_replicate, set_twice, there}
+
+map_set : {X Y : Type 0} (f : X → Y) (xs : List X) (i : ℕ) (x : X) → map f (slice_set xs i x) ≡ slice_set (map f xs) i (f x)
+map_set f [] i x = refl
+map_set f (y ∷ ys) zero x = refl
+map_set f (y ∷ ys) (suc i) x = ap (λ zs. f y ∷ zs) (map_set f ys i x)
+
+map_replicate : {X Y : Type 0} (f : X → Y) (n : ℕ) (x : X) → map f (replicate n x) ≡ replicate n (f x)
+map_replicate f zero x = refl
+map_replicate f (suc n) x = ap (λ zs. f x ∷ zs) (map_replicate f n x)
+
+-- who opened has sealed its blocks, and nobody else has a card yet
+cards_then : (n a : ℕ) (card : Card) (cards : List Card) → cards ≡ slice_set (replicate n blank_card) a card → map at_rest cards ≡ slice_set (replicate n resting) a (at_rest card)
+cards_then n a card cards e = ap (λ (cs : List Card). map at_rest cs) e ∙ map_set at_rest (replicate n blank_card) a card ∙ ap (λ (xs : List Actor). slice_set xs a (at_rest card)) (map_replicate at_rest n blank_card)
+
+-- the target is the one that was made
+target_is : (g : Geometry) (n a : ℕ) (made : Made) → IsMade g n a made → record { words = made.target.crew.words; desk = made.target.desk } ≡ target_over (shape_of g n) Writeback made.target.desk.policy (read_of made)
+target_is g n a made is = rw (← is.words_are, ← is.desk_is) refl
+
+module _ (g : Geometry) (n : ℕ) (devices : Devices Memory) (o : Opener) (made : Made) where
+  abbrev shape : Shape
+  shape = shape_of g n
+
+  abbrev over : Option Made → Now
+  over m = record { devices = contents_of devices; commit = o.opening.commit; phase = Opens Writeback (reading_by m o.opening.reading); actors = actors_of n (Underway o) }
+
+  abbrev standing : Target Quiet → List Actor → Now
+  standing t xs = record { devices = contents_of devices; commit = None; phase = Stands t; actors = xs }
+
+  abbrev card : Card
+  card = card_by (fresh_words g.origin_blocks) blank_card (seals_of (read_of made))
+
+  actors : IsMade g n o.actor made → map at_rest made.target.crew.cards ≡ slice_set (actors_of n (Underway o)) o.actor (at_rest card)
+  actors is = cards_then n o.actor card made.target.crew.cards is.cards_are ∙ sym (set_twice (replicate n resting) o.actor (opening_actor o.task) (at_rest card))
+
+  -- its answer, which is done
+  pub opened : o.actor < n → want o.task ≡ End Finished → o.made ≡ Some made → IsMade g n o.actor made → is_all_done o.opening.commit ≡ true →
+      Happens shape (state_of n devices (Underway o)) (Step o.actor) (Stepped (End Finished) Done) [] (state_of n devices (Standing made.target))
+  opened h next made_is is done = subst (λ (m : Option Made). Happens shape (over m) (Step o.actor) (Stepped (End Finished) Done) [] (state_of n devices (Standing made.target))) (sym made_is) (record {
+    chosen = Opened made.target.desk.policy;
+    may = busy n o _ h (sym next, (refl, refl, (tt, done)));
+    leads = ap (λ (xs : List Actor). standing (record { words = made.target.crew.words; desk = made.target.desk }) xs) (actors is)
+        ∙ ap (λ (t : Target Quiet). standing t (slice_set (actors_of n (Underway o)) o.actor (at_rest card))) (target_is g n o.actor made is)
+        ∙ sym (ap (λ (x : Option Actor). with_actor (over (Some made)) x (λ y. stepped shape (over (Some made)) o.actor y (End Finished) Done (Opened made.target.desk.policy) (λ step. device_done {P = Quiet} {A = Global} (job_of y.task) step (Opened made.target.desk.policy)))) (there n o h));
+  })
+
+-- its answer, which is a refusal
+pub refused : (shape : Shape) (n : ℕ) (devices : Devices Memory) (o : Opener) → o.actor < n → (refusal : Refusal) (what : What) → want o.task ≡ End (Refuses refusal) → what ≡ Stepped (End (Refuses refusal)) Done →
+    Happens shape (state_of n devices (Underway o)) (Step o.actor) what [] (state_of n devices Closed)
+refused shape n devices o h refusal what next e = rw e (record {
+  chosen = Plain;
+  may = busy n o _ h (sym next, ((refl, refl), refl));
+  leads = ap (λ xs. record { devices = contents_of devices; commit = None; phase = Gone; actors = xs }) (sym (set_twice (replicate n resting) o.actor (opening_actor o.task) resting ∙ set_replicate n o.actor resting))
+      ∙ sym (ap (λ (x : Option Actor). with_actor (state_of n devices (Underway o)) x (λ y. stepped shape (state_of n devices (Underway o)) o.actor y (End (Refuses refusal)) Done Plain (λ step. device_done {P = Quiet} {A = Global} (Open Writeback) step Plain))) (there n o h));
+})
+
+-- ---- wherever it stands, where its next step is none on a device
+
+pub record Answers (g : Geometry) (n : ℕ) (devices : Devices Memory) (o : Opener) (next : Phase) : Type 0 where
+  pub happens : Happens (shape_of g n) (state_of n devices (Underway o)) (Step o.actor) (Stepped (want o.task) Done) [] (state_of n devices next)
+  pub is_there : IsThere n next
+  pub so : StandsSo g n next
+
+answers_done : (g : Geometry) (n : ℕ) (devices : Devices Memory) (o : Opener) → o.actor < n → want o.task ≡ End Finished → is_all_done o.opening.commit ≡ true → (made : Option Made) → o.made ≡ made → HasMade g n o.actor made → Answers g n devices o (answered (Underway o))
+answers_done g n devices o h next done None made_is is = absurd is
+answers_done g n devices o h next done (Some made) made_is is =
+    let stood : stands_by (want o.task) o.made ≡ Standing made.target = ap (λ (w : Want). stands_by w o.made) next ∙ ap (λ (m : Option Made). stands_by (End Finished) m) made_is in
+    subst (Answers g n devices o) (sym stood) (record {
+      happens = subst (λ (w : Want). Happens (shape_of g n) (state_of n devices (Underway o)) (Step o.actor) (Stepped w Done) [] (state_of n devices (Standing made.target))) (sym next) (opened g n devices o made h next made_is is done);
+      is_there = ap length is.cards_are ∙ length-set (replicate n blank_card) o.actor _ ∙ length_replicate n blank_card;
+      so = record { blocks = is.blocks_are; failed = is.failed_is };
+    })
+
+answers_refused : (g : Geometry) (n : ℕ) (devices : Devices Memory) (o : Opener) → o.actor < n → (refusal : Refusal) → want o.task ≡ End (Refuses refusal) → Answers g n devices o (answered (Underway o))
+answers_refused g n devices o h refusal next =
+    subst (Answers g n devices o) (sym (ap (λ (w : Want). stands_by w o.made) next)) (record {
+      happens = refused (shape_of g n) n devices o h refusal (Stepped (want o.task) Done) next (ap (λ (w : Want). Stepped w Done) next);
+      is_there = tt;
+      so = tt;
+    })
+
+all_done : (g : Geometry) (reading : Option (ReadSteps Global)) (commit : Option RunningCommit) → HasReadAll g Committed reading commit → is_all_done commit ≡ true
+all_done g reading commit all = ap is_all_done all.commit_is ∙ ap is_committed all.steps_are
+
+answers_at : (g : Geometry) (n : ℕ) (devices : Devices Memory) (o : Opener) → o.actor < n → (point : Point) → o.task ≡ plan_from g.meta_sectors point → HasComeTo g point (reading_of o) o.opening.commit → HasMadeThere g n point o.actor o.made → device_step_of (want (plan_from g.meta_sectors point)) ≡ None
+    → Answers g n devices o (answered (Underway o))
+answers_at g n devices o h AtEnd plan come made none = answers_done g n devices o h (ap want plan) (all_done g (reading_of o) o.opening.commit come) o.made refl made
+answers_at g n devices o h (AtRefusal refusal) plan come made none = answers_refused g n devices o h refusal (ap want plan)
+answers_at g n devices o h point plan come made none = absurd (cc)
+
+pub answers : (g : Geometry) (n : ℕ) (devices : Devices Memory) (o : Opener) → o.actor < n → StandsAt g n o → device_step_of (want o.task) ≡ None → Answers g n devices o (answered (Underway o))
+answers g n devices o h at none = answers_at g n devices o h at.point at.plan_is at.come at.made (ap (λ p. device_step_of (want p)) (sym at.plan_is) ∙ none)

@@ -1,0 +1,12 @@
+//! What stands over the devices of a machine.
+
+use crate::opener::Opener;
+use crate::target::Target;
+
+/// Nothing, an opening at work, or a target that was opened.
+#[derive(Drop)]
+pub enum Phase {
+    Closed,
+    Underway(Opener),
+    Standing(Target),
+}
