@@ -3,7 +3,9 @@ use Rattle.std.specs.Prelude.{◌≡◌, ◌+◌, ◌-◌, ℕ, List, length, ta
 use Rattle.wb_types.specs.declared.extent.Extent.{Extent}
 use Rattle.wb_types.specs.declared.mode.Dev.{Dev}
 use Rattle.wb_disk.specs.Device.{History, Content as Bytes}
+use Rattle.wb_words.specs.declared.word.Word.TheVariants.{Fail}
 use Rattle.wb_words.specs.declared.step.CellResult.{CellResult}
+use Rattle.wb_words.specs.Cards.{looked}
 use Rattle.wb_cells.specs.Passes.{CellsState, PassState, StepsBy}
 use Rattle.wb_tasks.specs.Ready.{MayTake}
 use Rattle.wb_tasks.specs.Plan.{got_of}
@@ -28,6 +30,10 @@ DoneByPass blocks pass want got pass' = pass' ≡ pass
 -- the pass is of these words, and ready for the step
 abbrev pub IsReadyOn : CellsState → PassState → Want → Type 0
 IsReadyOn cells pass want = (pass.table ≡ cells.table) × MayTake cells.blocks pass.card want
+
+-- a hand whose pass has looked at the fail word, and found this
+abbrev pub saw_fail_word : {D : Type 0} → ℕ → Hand D → Hand D
+saw_fail_word word hand = record hand { pass = record hand.pass { card = looked Fail word hand.pass.card } }
 
 -- ---- the devices and the slice
 

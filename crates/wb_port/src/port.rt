@@ -1,8 +1,10 @@
 //! What a client reads and writes by: no lock, no memory, no waiting.
 
-ghost use Rattle.std.specs.Prelude.{◌≡◌, ◌≤◌, ◌<◌, ◌+◌, ◌/◌, ◌++◌, [], ◌∷◌, OnOk, OnErr, IfOk, IfErr, length, vec_capacity};
+ghost use Rattle.std.specs.Prelude.{◌≡◌, ◌≤◌, ◌<◌, ◌+◌, ◌/◌, ◌++◌, [], ◌∷◌, ℕ, OnOk, OnErr, IfOk, IfErr, length, vec_capacity};
+ghost use Rattle.std.specs.Bool.{OnTrue, OnFalse};
 ghost use Rattle.wb_words.specs.declared.card.Hold.TheVariants.{Nothing};
 ghost use Rattle.wb_port.specs.declared.port.TheConstants.{UNSETTLED as MostUnsettled};
+ghost use Rattle.wb_port.specs.Hands.{saw_fail_word};
 
 use crate::hand::Hand;
 use crate::seat::Seat;
@@ -88,9 +90,15 @@ impl<D: Disk + Drop> Port<D> {
         )
     }
 
-    /// Whether the fail word is set.
+    /// Whether the fail word is set: one look at it.
     pub fn has_failed(&mut self) -> bool
+        ensures clear { OnFalse result (self.new.hand ≡ saw_fail_word 0 self.old.hand) }
+        ensures set { OnTrue result ((word : ℕ) × (0 < word) × (self.new.hand ≡ saw_fail_word word self.old.hand)) }
         ensures geometry { self.new.geometry ≡ self.old.geometry }
+        ensures cells { self.new.cells ≡ self.old.cells }
+        ensures accesses { self.new.accesses ≡ self.old.accesses }
+        ensures buffer { self.new.buffer ≡ self.old.buffer }
+        ensures commit { self.new.commit ≡ self.old.commit }
     {
         self.cells.look(&mut self.hand.pass, Word::Fail) != 0
     }

@@ -1,52 +1,59 @@
--- A job that was performed and answered done has been done.
-use Rattle.std.proofs.Common.{◌≡◌, ◌∙◌, ℕ, List, Result, Ok, Err, sym, subst}
+-- Runs that are refused as busy, and the one after them that is not, make a job that was done.
+use Rattle.std.proofs.Common.{◌≡◌, ◌∙◌, ℕ, List, [], ◌∷◌, Some, Result, refl, sym, subst}
+use Rattle.std.proofs.lemmas.Result.{on_ok_weaker}
 use Rattle.std.specs.Prelude.{OnOk}
-use Rattle.wb_types.specs.Limits.{node_count}
 use Rattle.wb_types.specs.declared.geometry.Geometry.{Geometry}
 use Rattle.wb_types.specs.declared.number.OBlock.{OBlock}
 use Rattle.wb_types.specs.declared.number.CBlock.{CBlock}
+use Rattle.wb_types.specs.declared.refusal.Refusal.{Refusal}
+use Rattle.wb_types.specs.declared.refusal.Refusal.TheVariants.{Busy}
 use Rattle.wb_disk.specs.Device.{History}
 use Rattle.wb_policy.specs.declared.order.Order.{Order}
 use Rattle.wb_policy.specs.declared.order.Order.TheVariants.{Replace}
-use Rattle.wb_tasks.specs.Tables.{TaskJob, Flushing}
-use Rattle.wb_tasks.specs.declared.step.Migration.TheVariants.{Promote as Promoting, Demote as Demoting}
-use Rattle.wb_port.specs.declared.port.Port.{Port}
+use Rattle.wb_tasks.specs.Tables.{TaskJob}
 use Rattle.wb_tasks.specs.Plan.{Plan, table}
 use Rattle.wb_tasks.specs.declared.step.Answer.{Answer}
-use Rattle.wb_tasks.specs.declared.step.Answer.TheVariants.{Done as Finished}
+use Rattle.wb_tasks.specs.declared.step.Answer.TheVariants.{Done as Finished, Refused as Refuses}
+use Rattle.wb_tasks.specs.declared.step.Migration.TheVariants.{Promote as Promoting, Demote as Demoting}
 use Rattle.wb_target.specs.Works.{WorkState, WasPerformed}
-use Rattle.wb_target.specs.Carried.{state_of, migration_of, HasDoneAt, HasDone, IsCarriedOut}
+use Rattle.wb_target.specs.Carried.{Runs, WasDone, WereDone, migration_of, flush_of, jobs_of}
+use Rattle.wb_target.proofs.Tries.{SoFar}
 
-pub done_now : {D : Type 0} (tells : Type 0) (size : D → ℕ) (contents : D → List History) (faults : D → ℕ) (blocks blocks' : ℕ) (plan : Plan) (job job' : TaskJob) (before now : WorkState D) (answer : Answer)
-    → plan ≡ table job → job ≡ job' → blocks ≡ blocks' → answer ≡ Finished → WasPerformed tells size contents faults blocks plan before answer now → HasDoneAt tells size contents faults blocks' job' now
-done_now {D} tells size contents faults blocks blocks' plan job job' before now answer is same many done performed =
-    let one : WasPerformed tells size contents faults blocks (table job) before answer now = subst (λ (p : Plan). WasPerformed tells size contents faults blocks p before answer now) is performed in
-    let two : WasPerformed tells size contents faults blocks (table job') before answer now = subst (λ (j : TaskJob). WasPerformed tells size contents faults blocks (table j) before answer now) same one in
-    let three : WasPerformed tells size contents faults blocks' (table job') before answer now = subst (λ (n : ℕ). WasPerformed tells size contents faults n (table job') before answer now) many two in
-    record { before = before; performed = subst (λ (a : Answer). WasPerformed tells size contents faults blocks' (table job') before a now) done three }
+-- a run, of the job and in the sizes that it is told of
+pub run_of : {D : Type 0} (tells : Type 0) (size : D → ℕ) (contents : D → List History) (faults : D → ℕ) (blocks blocks' : ℕ) (plan : Plan) (job job' : TaskJob) (old new : WorkState D) (answer answer' : Answer)
+    → plan ≡ table job → job ≡ job' → blocks ≡ blocks' → answer ≡ answer' → WasPerformed tells size contents faults blocks plan old answer new → Runs tells size contents faults blocks' job' old answer' new
+run_of {D} tells size contents faults blocks blocks' plan job job' old new answer answer' is same many told performed =
+    let one : WasPerformed tells size contents faults blocks (table job) old answer new = subst (λ (p : Plan). WasPerformed tells size contents faults blocks p old answer new) is performed in
+    let two : WasPerformed tells size contents faults blocks (table job') old answer new = subst (λ (j : TaskJob). WasPerformed tells size contents faults blocks (table j) old answer new) same one in
+    let three : WasPerformed tells size contents faults blocks' (table job') old answer new = subst (λ (n : ℕ). WasPerformed tells size contents faults n (table job') old answer new) many two in
+    subst (λ (a : Answer). WasPerformed tells size contents faults blocks' (table job') old a new) told three
 
--- A replacement's three tasks, in the sizes that stay.
-pub replaced : {D : Type 0} (tells : Type 0) (size : D → ℕ) (contents : D → List History) (faults : D → ℕ) (v x : OBlock) (c : CBlock) (first : Geometry) (one two three : Port D)
-    → one.geometry ≡ first → two.geometry ≡ one.geometry → three.geometry ≡ two.geometry
-    → HasDone tells size contents faults (migration_of first Demoting v) one → ((served : List OBlock) × HasDone tells size contents faults (Flushing served (node_count one.geometry.cache_blocks)) two)
-    → HasDone tells size contents faults (migration_of two.geometry (Promoting c) x) three → IsCarriedOut tells size contents faults (Replace v x c) three
-replaced {D} tells size contents faults v x c first one two three a b e demoted flushed promoted =
-    let to2 : two.geometry ≡ three.geometry = sym e in
-    let to1 : one.geometry ≡ three.geometry = sym (e ∙ b) in
-    let to0 : first ≡ three.geometry = sym (e ∙ (b ∙ a)) in
-    let done : ℕ → TaskJob → WorkState D → Type 0 = λ n job now. HasDoneAt tells size contents faults n job now in record {
-      demoted_to = state_of one;
-      demoted = subst (λ g. done three.geometry.origin_blocks (migration_of g Demoting v) (state_of one)) to0 (subst (λ g. done g.origin_blocks (migration_of first Demoting v) (state_of one)) to1 demoted);
-      served = flushed.0;
-      flushed_to = state_of two;
-      flushed = subst (λ g. done three.geometry.origin_blocks (Flushing flushed.0 (node_count g.cache_blocks)) (state_of two)) to1 (subst (λ g. done g.origin_blocks (Flushing flushed.0 (node_count one.geometry.cache_blocks)) (state_of two)) to2 flushed.1);
-      promoted = subst (λ g. done three.geometry.origin_blocks (migration_of g (Promoting c) x) (state_of three)) to2 promoted;
-    }
+-- A job after runs of it that were refused as busy.
+module _ {D : Type 0} (runs : TaskJob → WorkState D → Answer → WorkState D → Type 0) (job : TaskJob) where
+  abbrev pub Before : WorkState D → WorkState D → Type 0
+  Before old mid = SoFar (λ s t. runs job s (Refuses Busy) t) old mid
 
-pub carried : {D A E : Type 0} (tells : Type 0) (size : D → ℕ) (contents : D → List History) (faults : D → ℕ) (order : Order) (v x : OBlock) (c : CBlock) (first : Geometry) (one two three : Port D) (r : Result A E)
-    → order ≡ Replace v x c → one.geometry ≡ first → two.geometry ≡ one.geometry → three.geometry ≡ two.geometry
-    → HasDone tells size contents faults (migration_of first Demoting v) one → ((served : List OBlock) × HasDone tells size contents faults (Flushing served (node_count one.geometry.cache_blocks)) two)
-    → OnOk r (HasDone tells size contents faults (migration_of two.geometry (Promoting c) x) three) → OnOk r (IsCarriedOut tells size contents faults order three)
-carried tells size contents faults order v x c first one two three (Err y) is a b e demoted flushed promoted = tt
-carried tells size contents faults order v x c first one two three (Ok y) is a b e demoted flushed promoted =
-    subst (λ o. IsCarriedOut tells size contents faults o three) (sym is) (replaced tells size contents faults v x c first one two three a b e demoted flushed promoted)
+  pub done_then : (old mid new : WorkState D) → Before old mid → runs job mid Finished new → WasDone runs job old new
+  done_then old mid new so run = record { tries = so.0; before = mid; tried = so.1; ended = run }
+
+-- an order of one job
+module _ {D A : Type 0} (runs : TaskJob → WorkState D → Answer → WorkState D → Type 0) (r : Result A Refusal) (job : TaskJob) (jobs : List TaskJob) (is : jobs ≡ job ∷ []) (old new : WorkState D) where
+  pub one_done : OnOk r (WasDone runs job old new) → OnOk r (WereDone runs jobs old new)
+  one_done h = subst (λ (js : List TaskJob). OnOk r (WereDone runs js old new)) (sym is) (on_ok_weaker r (λ (d : WasDone runs job old new). (new, d, refl)) h)
+
+-- ---- a replacement's three jobs, in the sizes that stay
+
+module _ {D : Type 0} (tells : Type 0) (size : D → ℕ) (contents : D → List History) (faults : D → ℕ) where
+  abbrev pub runs_in : Geometry → TaskJob → WorkState D → Answer → WorkState D → Type 0
+  runs_in geometry = Runs tells size contents faults geometry.origin_blocks
+
+  pub jobs_in : (order : Order) (one first : Geometry) (old new : WorkState D) → one ≡ first → WereDone (runs_in one) (jobs_of one order) old new → WereDone (runs_in first) (jobs_of first order) old new
+  jobs_in order one first old new same h = subst (λ (g : Geometry). WereDone (runs_in g) (jobs_of g order) old new) same h
+
+  pub replaced : {A : Type 0} (r : Result A Refusal) (order : Order) (v x : OBlock) (to : CBlock) (first one two : Geometry) (s0 s1 s2 s3 : WorkState D) → order ≡ Replace v x to → one ≡ first → two ≡ one
+      → WasDone (runs_in first) (migration_of first Demoting v) s0 s1 → WasDone (runs_in one) (flush_of one (Some x)) s1 s2 → OnOk r (WasDone (runs_in two) (migration_of two (Promoting to) x) s2 s3) → OnOk r (WereDone (runs_in first) (jobs_of first order) s0 s3)
+  replaced r order v x to first one two s0 s1 s2 s3 is a b demoted flushed promoted =
+      let there : WasDone (runs_in first) (flush_of first (Some x)) s1 s2 = subst (λ (g : Geometry). WasDone (runs_in g) (flush_of g (Some x)) s1 s2) a flushed in
+      subst (λ (o : Order). OnOk r (WereDone (runs_in first) (jobs_of first o) s0 s3)) (sym is)
+      (on_ok_weaker r (λ (p : WasDone (runs_in first) (migration_of first (Promoting to) x) s2 s3). (s1, demoted, (s2, there, (s3, p, refl))))
+      (subst (λ (g : Geometry). OnOk r (WasDone (runs_in g) (migration_of g (Promoting to) x) s2 s3)) (b ∙ a) promoted))

@@ -1,6 +1,10 @@
 pub mod Readying
 pub mod Tasks
+pub mod Tries
+pub mod Parts
+pub mod Trying
 pub mod Carried
+pub mod Syncing
 pub mod Knowing
 pub mod Written
 pub mod Sending

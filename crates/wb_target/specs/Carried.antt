@@ -1,9 +1,10 @@
--- What a client has done when an order is carried out.
-use Rattle.std.specs.Prelude.{◌<◌, ℕ, List}
+-- What a client has done when an order is carried out, or a flush is answered.
+use Rattle.std.specs.Prelude.{◌≡◌, ◌<◌, ℕ, List, [], ◌∷◌, Option, Some, None, All, length}
 use Rattle.wb_types.specs.Limits.{node_count}
 use Rattle.wb_types.specs.Extents.{pieces}
 use Rattle.wb_types.specs.declared.geometry.Geometry.{Geometry}
 use Rattle.wb_types.specs.declared.number.OBlock.{OBlock}
+use Rattle.wb_types.specs.declared.refusal.Refusal.TheVariants.{Busy}
 use Rattle.wb_disk.specs.Device.{History}
 use Rattle.wb_policy.specs.declared.order.Order.{Order}
 use Rattle.wb_policy.specs.declared.order.Order.TheVariants.{Promote, Replace, Demote, Clean}
@@ -11,41 +12,65 @@ use Rattle.wb_tasks.specs.Tables.{TaskJob, OnBlock, Migrating, Flushing, whole_b
 use Rattle.wb_tasks.specs.Plan.{table}
 use Rattle.wb_tasks.specs.declared.step.Migration.{Migration}
 use Rattle.wb_tasks.specs.declared.step.Migration.TheVariants.{Promote as Promoting, Demote as Demoting, Clean as Cleaning}
-use Rattle.wb_tasks.specs.declared.step.Answer.TheVariants.{Done as Finished}
+use Rattle.wb_tasks.specs.declared.step.Answer.{Answer}
+use Rattle.wb_tasks.specs.declared.step.Answer.TheVariants.{Done as Finished, Refused as Refuses}
+use Rattle.wb_devices.specs.declared.devices.Devices.{Devices}
+use Rattle.wb_port.specs.Hands.{saw_fail_word}
 use Rattle.wb_port.specs.declared.moving.TheConstants.{LONGEST}
 use Rattle.wb_port.specs.declared.port.Port.{Port}
+use Rattle.wb_target.specs.Tries.{EndedAfter}
 use Rattle.wb_target.specs.Works.{WorkState, WasPerformed}
 
 -- what a client is at
 abbrev pub state_of : {D : Type 0} → Port D → WorkState D
 state_of port = record { hand = port.hand; buffer = port.buffer.items; commit = port.commit }
 
+-- it has looked at the fail word, and found this
+abbrev pub looked_at_fail : {D : Type 0} → ℕ → WorkState D → WorkState D
+looked_at_fail word s = record s { hand = saw_fail_word word s.hand }
+
+-- A client that begins to work has looked at the fail word, which was clear, and has a buffer: its own, or a new one where it
+-- had none.
+pub record HasBegun {D : Type 0} (old new : WorkState D) : Type 0 where
+  pub clear : new.hand ≡ saw_fail_word 0 old.hand
+  pub commit : new.commit ≡ old.commit
+  pub kept : 0 < length old.buffer → new.buffer ≡ old.buffer
+
+-- ---- a job
+
+-- one run of a job's table on a client, with this answer
+abbrev pub Runs : {D : Type 0} → Type 0 → (D → ℕ) → (D → List History) → (D → ℕ) → ℕ → TaskJob → WorkState D → Answer → WorkState D → Type 0
+Runs tells size contents faults blocks job old answer new = WasPerformed tells size contents faults blocks (table job) old answer new
+
+-- A job was done: after runs that were refused as busy, if any, another was answered done.
+abbrev pub WasDone : {D : Type 0} → (TaskJob → WorkState D → Answer → WorkState D → Type 0) → TaskJob → WorkState D → WorkState D → Type 0
+WasDone runs job old new = EndedAfter (λ s t. runs job s (Refuses Busy) t) (λ s t. runs job s Finished t) old new
+
+-- these were done, one after the other
+abbrev pub WereDone : {D : Type 0} → (TaskJob → WorkState D → Answer → WorkState D → Type 0) → List TaskJob → WorkState D → WorkState D → Type 0
+WereDone runs [] old new = old ≡ new
+WereDone {D} runs (job ∷ jobs) old new = (mid : WorkState D) × WasDone runs job old mid × WereDone runs jobs mid new
+
+-- ---- orders
+
 -- a migration of a whole block
 abbrev pub migration_of : Geometry → Migration → OBlock → TaskJob
 migration_of geometry migration block = OnBlock (Migrating migration (record { block_sectors = geometry.block; block = block; extents = pieces LONGEST (whole_block geometry.block block) }))
 
--- A job was performed and answered done, and the client is now at what that led to.
-pub record HasDoneAt {D : Type 0} (tells : Type 0) (size : D → ℕ) (contents : D → List History) (faults : D → ℕ) (blocks : ℕ) (job : TaskJob) (now : WorkState D) : Type 0 where
-  pub before : WorkState D
-  pub performed : WasPerformed tells size contents faults blocks (table job) before Finished now
+-- a flush that serves the order of this block, if any
+abbrev pub serving : Option OBlock → List OBlock
+serving None = []
+serving (Some block) = block ∷ []
 
-abbrev pub HasDone : {D : Type 0} → Type 0 → (D → ℕ) → (D → List History) → (D → ℕ) → TaskJob → Port D → Type 0
-HasDone tells size contents faults job port = HasDoneAt tells size contents faults port.geometry.origin_blocks job (state_of port)
+abbrev pub flush_of : Geometry → Option OBlock → TaskJob
+flush_of geometry serves = Flushing (serving serves) (node_count geometry.cache_blocks)
 
--- A replacement is a demotion, a flush that serves it, and a promotion, one after the other.
-pub record HasReplaced {D : Type 0} (tells : Type 0) (size : D → ℕ) (contents : D → List History) (faults : D → ℕ) (geometry : Geometry) (demotion promotion : TaskJob) (now : WorkState D) : Type 0 where
-  pub demoted_to : WorkState D
-  pub demoted : HasDoneAt tells size contents faults geometry.origin_blocks demotion demoted_to
-  pub served : List OBlock
-  pub flushed_to : WorkState D
-  pub flushed : HasDoneAt tells size contents faults geometry.origin_blocks (Flushing served (node_count geometry.cache_blocks)) flushed_to
-  pub promoted : HasDoneAt tells size contents faults geometry.origin_blocks promotion now
-
-abbrev pub IsCarriedOut : {D : Type 0} → Type 0 → (D → ℕ) → (D → List History) → (D → ℕ) → Order → Port D → Type 0
-IsCarriedOut tells size contents faults (Promote b c) port = HasDone tells size contents faults (migration_of port.geometry (Promoting c) b) port
-IsCarriedOut tells size contents faults (Demote b) port = HasDone tells size contents faults (migration_of port.geometry Demoting b) port
-IsCarriedOut tells size contents faults (Clean b) port = HasDone tells size contents faults (migration_of port.geometry Cleaning b) port
-IsCarriedOut tells size contents faults (Replace v x c) port = HasReplaced tells size contents faults port.geometry (migration_of port.geometry Demoting v) (migration_of port.geometry (Promoting c) x) (state_of port)
+-- The jobs of an order: a migration; a replacement is a demotion, a flush that serves the promoted block's order, and a promotion.
+abbrev pub jobs_of : Geometry → Order → List TaskJob
+jobs_of geometry (Promote block to) = migration_of geometry (Promoting to) block ∷ []
+jobs_of geometry (Demote block) = migration_of geometry Demoting block ∷ []
+jobs_of geometry (Clean block) = migration_of geometry Cleaning block ∷ []
+jobs_of geometry (Replace victim block to) = migration_of geometry Demoting victim ∷ flush_of geometry (Some block) ∷ migration_of geometry (Promoting to) block ∷ []
 
 -- an order's blocks are there
 abbrev pub IsThere : Geometry → Order → Type 0
@@ -53,3 +78,12 @@ IsThere geometry (Promote b c) = b.0 < geometry.origin_blocks
 IsThere geometry (Demote b) = b.0 < geometry.origin_blocks
 IsThere geometry (Clean b) = b.0 < geometry.origin_blocks
 IsThere geometry (Replace v x c) = (v.0 < geometry.origin_blocks) × (x.0 < geometry.origin_blocks)
+
+-- ---- what a flush leaves
+
+-- of each sector its last content alone
+abbrev pub IsSynced : List History → Type 0
+IsSynced histories = All (λ h. h.later ≡ []) histories
+
+abbrev pub AreSynced : {D : Type 0} → (D → List History) → Devices D → Type 0
+AreSynced contents devices = IsSynced (contents devices.metadata) × IsSynced (contents devices.cache) × IsSynced (contents devices.origin)

@@ -1,4 +1,6 @@
+pub mod Tries
 pub mod Works
 pub mod Carried
+pub mod Blocking
 pub mod Making
 pub mod Workers

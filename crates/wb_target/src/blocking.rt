@@ -1,7 +1,8 @@
 //! Requests that wait, over any number of blocks.
 
-ghost use Rattle.std.specs.Prelude.{◌≡◌, ◌≤◌, ◌<◌, ◌+◌, ◌*◌, OnOk, IfErr, length};
+ghost use Rattle.std.specs.Prelude.{◌≡◌, ◌≢◌, ◌≤◌, ◌<◌, ◌+◌, ◌-◌, ◌*◌, ◌%◌, ℕ, min, Some, None, OnOk, IfErr, length};
 ghost use Rattle.wb_port.specs.Requests.{IsOutside};
+ghost use Rattle.wb_target.specs.Blocking.{ReadCame, WriteCame, CameTo, InParts, IsInside, IsStopped};
 
 use crate::client::Client;
 use std::sync::Wait;
@@ -22,8 +23,9 @@ impl<'t, D: Disk + Drop, P: Policy> Client<'t, D, P> {
     ///
     /// `Range` for no sector, or one outside the origin, before any block; `Failed`, `Io` and `Memory` where a block met them.
     pub fn read<R: Wait>(&mut self, rt: &R, at: Sector, out: &mut [Content]) -> Result<(), Stopped>
-        ensures range { IfErr result (λ stopped. stopped.refusal ≡ Refusal.Range → IsOutside self.old.port.geometry at.0 (length out.old)) }
-        ensures inside { OnOk result ((0 < length out.old) × (at.0 + length out.old ≤ self.old.port.geometry.block * self.old.port.geometry.origin_blocks)) }
+        ensures inside { OnOk result (IsInside self.old.port.geometry at.0 (length out.old)) }
+        ensures read { OnOk result ((parts : ℕ) × InParts (ReadCame D.tells D.size D.contents D.faults self.old.port.geometry) self.old.port.geometry.block None parts at.0 self.old.port.hand out.old self.new.port.hand out.new) }
+        ensures stopped { IfErr result (λ stopped. IsStopped (ReadCame D.tells D.size D.contents D.faults self.old.port.geometry) self.old.port.geometry at.0 stopped self.old.port.hand out.old self.new.port.hand out.new) }
         ensures target { self.new.target ≡ self.old.target }
         ensures geometry { self.new.port.geometry ≡ self.old.port.geometry }
         ensures many { length out.new ≡ length out.old }
@@ -36,12 +38,14 @@ impl<'t, D: Disk + Drop, P: Policy> Client<'t, D, P> {
         let mut from = 0;
         while from < out.len() {
             let start = first + from as u64;
-            let end = from + (size - start % size).min((out.len() - from) as u64) as usize;
-            if let Err(refusal) = self.read_block(rt, Sector(start), &mut out[from..end]) {
-                return Err(Stopped { done, refusal });
+            let end = part_end(size, start, from, out.len());
+            match self.read_block(rt, Sector(start), &mut out[from..end]) {
+                Ok(()) => {
+                    done += 1;
+                    from = end;
+                }
+                Err(refusal) => return Err(Stopped { done, refusal }),
             }
-            done += 1;
-            from = end;
         }
         Ok(())
     }
@@ -50,8 +54,9 @@ impl<'t, D: Disk + Drop, P: Policy> Client<'t, D, P> {
     ///
     /// `Range` as `read`; `Failed`, `Worn` and `Io` where a block met them.
     pub fn write<R: Wait>(&mut self, rt: &R, at: Sector, from: &[Content]) -> Result<(), Stopped>
-        ensures range { IfErr result (λ stopped. stopped.refusal ≡ Refusal.Range → IsOutside self.old.port.geometry at.0 (length from.now)) }
-        ensures inside { OnOk result ((0 < length from.now) × (at.0 + length from.now ≤ self.old.port.geometry.block * self.old.port.geometry.origin_blocks)) }
+        ensures inside { OnOk result (IsInside self.old.port.geometry at.0 (length from.now)) }
+        ensures written { OnOk result ((parts : ℕ) × InParts (WriteCame D.tells D.size D.contents D.faults self.old.port.geometry) self.old.port.geometry.block None parts at.0 self.old.port.hand from.now self.new.port.hand from.now) }
+        ensures stopped { IfErr result (λ stopped. IsStopped (WriteCame D.tells D.size D.contents D.faults self.old.port.geometry) self.old.port.geometry at.0 stopped self.old.port.hand from.now self.new.port.hand from.now) }
         ensures target { self.new.target ≡ self.old.target }
         ensures geometry { self.new.port.geometry ≡ self.old.port.geometry }
     {
@@ -63,19 +68,21 @@ impl<'t, D: Disk + Drop, P: Policy> Client<'t, D, P> {
         let mut sent = 0;
         while sent < from.len() {
             let start = first + sent as u64;
-            let end = sent + (size - start % size).min((from.len() - sent) as u64) as usize;
-            if let Err(refusal) = self.write_block(rt, Sector(start), &from[sent..end]) {
-                return Err(Stopped { done, refusal });
+            let end = part_end(size, start, sent, from.len());
+            match self.write_block(rt, Sector(start), &from[sent..end]) {
+                Ok(()) => {
+                    done += 1;
+                    sent = end;
+                }
+                Err(refusal) => return Err(Stopped { done, refusal }),
             }
-            done += 1;
-            sent = end;
         }
         Ok(())
     }
 
     /// Whether so many sectors, and at least one, lie in the origin.
     fn in_range(&self, at: Sector, count: u64) -> Result<(), Stopped>
-        ensures inside { OnOk result ((0 < count) × (at.0 + count ≤ self.now.port.geometry.block * self.now.port.geometry.origin_blocks)) }
+        ensures inside { OnOk result (IsInside self.now.port.geometry at.0 count) }
         ensures refused { IfErr result (λ stopped. (stopped.done ≡ 0) × (stopped.refusal ≡ Refusal.Range) × IsOutside self.now.port.geometry at.0 count) }
     {
         let Sector(first) = at;
@@ -96,7 +103,10 @@ impl<'t, D: Disk + Drop, P: Policy> Client<'t, D, P> {
         at: Sector,
         out: &mut [Content],
     ) -> Result<(), Refusal>
-        ensures range { IfErr result (λ refusal. refusal ≡ Refusal.Range → IsOutside self.old.port.geometry at.0 (length out.old)) }
+        requires inside { IsInside self.old.port.geometry at.0 (length out.old) }
+        requires fits { at.0 % self.old.port.geometry.block + length out.old ≤ self.old.port.geometry.block }
+        ensures read { OnOk result (CameTo (ReadCame D.tells D.size D.contents D.faults self.old.port.geometry) None (record { first = at.0; count = length out.old }) (self.old.port.hand, out.old) (self.new.port.hand, out.new)) }
+        ensures refused { IfErr result (λ refusal. (refusal ≢ Refusal.Range) × CameTo (ReadCame D.tells D.size D.contents D.faults self.old.port.geometry) (Some refusal) (record { first = at.0; count = length out.old }) (self.old.port.hand, out.old) (self.new.port.hand, out.new)) }
         ensures target { self.new.target ≡ self.old.target }
         ensures geometry { self.new.port.geometry ≡ self.old.port.geometry }
         ensures many { length out.new ≡ length out.old }
@@ -106,16 +116,21 @@ impl<'t, D: Disk + Drop, P: Policy> Client<'t, D, P> {
             match self.port.try_read(at, out) {
                 Err(Refusal::Busy) => thread::yield_now(),
                 Err(refusal) => return Err(refusal),
-                Ok(()) => break,
+                Ok(()) => {
+                    self.settle(rt);
+                    return Ok(());
+                }
             }
         }
-        self.settle(rt);
-        Ok(())
+        unreachable!()
     }
 
     /// Writes sectors of one block, as `read_block` reads them.
     fn write_block<R: Wait>(&mut self, rt: &R, at: Sector, from: &[Content]) -> Result<(), Refusal>
-        ensures range { IfErr result (λ refusal. refusal ≡ Refusal.Range → IsOutside self.old.port.geometry at.0 (length from.now)) }
+        requires inside { IsInside self.old.port.geometry at.0 (length from.now) }
+        requires fits { at.0 % self.old.port.geometry.block + length from.now ≤ self.old.port.geometry.block }
+        ensures written { OnOk result (CameTo (WriteCame D.tells D.size D.contents D.faults self.old.port.geometry) None (record { first = at.0; count = length from.now }) (self.old.port.hand, from.now) (self.new.port.hand, from.now)) }
+        ensures refused { IfErr result (λ refusal. (refusal ≢ Refusal.Range) × CameTo (WriteCame D.tells D.size D.contents D.faults self.old.port.geometry) (Some refusal) (record { first = at.0; count = length from.now }) (self.old.port.hand, from.now) (self.new.port.hand, from.now)) }
         ensures target { self.new.target ≡ self.old.target }
         ensures geometry { self.new.port.geometry ≡ self.old.port.geometry }
     {
@@ -124,10 +139,24 @@ impl<'t, D: Disk + Drop, P: Policy> Client<'t, D, P> {
             match self.port.try_write(at, from) {
                 Err(Refusal::Busy) => thread::yield_now(),
                 Err(refusal) => return Err(refusal),
-                Ok(()) => break,
+                Ok(()) => {
+                    self.settle(rt);
+                    return Ok(());
+                }
             }
         }
-        self.settle(rt);
-        Ok(())
+        unreachable!()
     }
+}
+
+/// Where the part of a request ends, in its slice, that begins there at this sector: with its block, or with the slice.
+fn part_end(block: u64, start: u64, from: usize, count: usize) -> usize
+    requires some { 0 < block }
+    requires left { from < count }
+    ensures end { result ≡ from + min (block - start % block) (count - from) }
+    ensures later { from < result }
+    ensures within { result ≤ count }
+    ensures fits { start % block + (result - from) ≤ block }
+{
+    from + (block - start % block).min((count - from) as u64) as usize
 }

@@ -1,13 +1,12 @@
 //! Orders carried out, and flushes, by a client on its own thread.
 
-ghost use Rattle.std.specs.Prelude.{◌≡◌, ◌<◌, OnOk, IfOk, IfSome, Some, None, [], ◌∷◌};
-ghost use Rattle.wb_tasks.specs.Tables.{TaskJob, OnBlock, Flushing};
+ghost use Rattle.std.specs.Prelude.{◌≡◌, ◌<◌, OnOk, IfOk, IfSome, IfNone, Some, None, length};
 ghost use Rattle.std.specs.Bool.{OnTrue};
+ghost use Rattle.wb_tasks.specs.Tables.{TaskJob};
 ghost use Rattle.wb_tasks.specs.Plan.{table};
 ghost use Rattle.wb_stage.specs.Jobs.{MayRun};
-ghost use Rattle.wb_types.specs.Limits.{node_count};
 ghost use Rattle.wb_target.specs.Works.{WasPerformed};
-ghost use Rattle.wb_target.specs.Carried.{state_of, HasDone, migration_of, IsThere, IsCarriedOut};
+ghost use Rattle.wb_target.specs.Carried.{state_of, looked_at_fail, HasBegun, Runs, WasDone, WereDone, migration_of, serving, flush_of, jobs_of, IsThere, AreSynced};
 
 use crate::client::Client;
 use crate::gate::{Gate, OpenGate};
@@ -67,6 +66,9 @@ fn note_failure<R: Wait, D: Disk + Drop, P: Policy>(rt: &R, target: &Target<P>, 
 
 /// A buffer for the steps of migrations, if it has none; `Memory` where there is none for it.
 pub(crate) fn take_buffer<D>(alloc: Global, port: &mut Port<D>) -> Result<(), Refusal>
+    ensures kept { 0 < length port.old.buffer.items → port.new.buffer.items ≡ port.old.buffer.items }
+    ensures hand { port.new.hand ≡ port.old.hand }
+    ensures commit { port.new.commit ≡ port.old.commit }
     ensures geometry { port.new.geometry ≡ port.old.geometry }
 {
     if port.buffer.is_empty() {
@@ -86,7 +88,7 @@ fn migrate<R: Wait, D: Disk + Drop, P: Policy, G: Gate>(
     block: OBlock,
 ) -> Result<(), Refusal>
     requires { block.0 < port.old.geometry.origin_blocks }
-    ensures done { OnOk result (HasDone D.tells D.size D.contents D.faults (migration_of port.old.geometry migration block) port.new) }
+    ensures done { OnOk result (WasDone (Runs D.tells D.size D.contents D.faults port.old.geometry.origin_blocks) (migration_of port.old.geometry migration block) (state_of port.old) (state_of port.new)) }
     ensures geometry { port.new.geometry ≡ port.old.geometry }
 {
     let held = [order];
@@ -114,7 +116,7 @@ fn flush<R: Wait, D: Disk + Drop, P: Policy, G: Gate>(
     held: &[Order],
     serves: Option<OBlock>,
 ) -> Result<(), Refusal>
-    ensures done { OnOk result ((served : _) × HasDone D.tells D.size D.contents D.faults (Flushing served (node_count port.old.geometry.cache_blocks)) port.new) }
+    ensures done { OnOk result (WasDone (Runs D.tells D.size D.contents D.faults port.old.geometry.origin_blocks) (flush_of port.old.geometry serves) (state_of port.old) (state_of port.new)) }
     ensures geometry { port.new.geometry ≡ port.old.geometry }
 {
     let most = port.geometry.node_count();
@@ -140,7 +142,9 @@ fn flush<R: Wait, D: Disk + Drop, P: Policy, G: Gate>(
 }
 
 /// The block of the order that a flush serves, if any.
-fn served(alloc: Global, block: Option<OBlock>) -> Result<Vec<OBlock>, Refusal> {
+fn served(alloc: Global, block: Option<OBlock>) -> Result<Vec<OBlock>, Refusal>
+    ensures { IfOk result (λ blocks. blocks.items ≡ serving block) }
+{
     let mut blocks = Vec::new(alloc);
     if let Some(block) = block {
         blocks.push(block).map_err(|_| Refusal::Memory)?;
@@ -164,7 +168,7 @@ pub(crate) fn carry_out<R: Wait, D: Disk + Drop, P: Policy, G: Gate>(
     order: Order,
 ) -> Result<(), Refusal>
     requires { IsThere port.old.geometry order }
-    ensures carried { OnOk result (IsCarriedOut D.tells D.size D.contents D.faults order port.new) }
+    ensures carried { OnOk result (WereDone (Runs D.tells D.size D.contents D.faults port.old.geometry.origin_blocks) (jobs_of port.old.geometry order) (state_of port.old) (state_of port.new)) }
     ensures geometry { port.new.geometry ≡ port.old.geometry }
 {
     match order {
@@ -202,7 +206,8 @@ impl<'t, D: Disk + Drop, P: Policy> Client<'t, D, P> {
     /// `Failed` where the target has failed; `Memory` where there is none; `Io` where a step failed; `GenerationEnd` where a
     /// replacement's commit has no next generation.
     pub fn work_one<R: Wait>(&mut self, rt: &R) -> Result<Option<Order>, Refusal>
-        ensures carried { IfOk result (λ told. IfSome told (λ order. IsCarriedOut D.tells D.size D.contents D.faults order self.new.port)) }
+        ensures carried { IfOk result (λ told. IfSome told (λ order. (begun : _) × HasBegun (state_of self.old.port) begun × WereDone (Runs D.tells D.size D.contents D.faults self.old.port.geometry.origin_blocks) (jobs_of self.old.port.geometry order) begun (state_of self.new.port))) }
+        ensures idle { IfOk result (λ told. IfNone told (HasBegun (state_of self.old.port) (state_of self.new.port))) }
     {
         if self.port.has_failed() {
             return Err(Refusal::Failed);
@@ -224,7 +229,8 @@ impl<'t, D: Disk + Drop, P: Policy> Client<'t, D, P> {
     /// `Failed` where the target has failed; `Io` where a step failed; `Memory` where there is none; `GenerationEnd` where there
     /// is no next generation.
     pub fn flush<R: Wait>(&mut self, rt: &R) -> Result<Flushed, Refusal>
-        ensures flushed { OnOk result ((served : _) × HasDone D.tells D.size D.contents D.faults (Flushing served (node_count self.old.port.geometry.cache_blocks)) self.new.port) }
+        ensures flushed { OnOk result (WasDone (Runs D.tells D.size D.contents D.faults self.old.port.geometry.origin_blocks) (flush_of self.old.port.geometry None) (state_of self.old.port) (state_of self.new.port)) }
+        ensures synced { OnOk result (D.tells → AreSynced D.contents self.new.port.hand.devices) }
     {
         let target = self.target;
         flush(rt, target, &OpenGate, &mut self.port, &[], None)?;
@@ -237,7 +243,8 @@ impl<'t, D: Disk + Drop, P: Policy> Client<'t, D, P> {
     /// `Failed` where the target has failed, and `Memory` where there is none for the list of dirty blocks: then the policy was
     /// told nothing. Else as `flush`, and then the orders stay.
     pub fn tick<R: Wait>(&mut self, rt: &R) -> Result<Flushed, Refusal>
-        ensures flushed { OnOk result ((served : _) × HasDone D.tells D.size D.contents D.faults (Flushing served (node_count self.old.port.geometry.cache_blocks)) self.new.port) }
+        ensures flushed { OnOk result (WasDone (Runs D.tells D.size D.contents D.faults self.old.port.geometry.origin_blocks) (flush_of self.old.port.geometry None) (looked_at_fail 0 (state_of self.old.port)) (state_of self.new.port)) }
+        ensures synced { OnOk result (D.tells → AreSynced D.contents self.new.port.hand.devices) }
     {
         if self.port.has_failed() {
             return Err(Refusal::Failed);

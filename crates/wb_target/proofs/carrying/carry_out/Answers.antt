@@ -1,5 +1,23 @@
-use Rattle.wb_target.proofs.Carried.{carried}
+use Rattle.std.proofs.Common.{ap}
+use Rattle.wb_tasks.specs.declared.step.Migration.TheVariants.{Promote, Demote, Clean}
+use Rattle.wb_target.specs.Carried.{state_of, Runs, migration_of, jobs_of}
+use Rattle.wb_target.proofs.Carried.{one_done, replaced}
 use Rattle.wb_target.proofs.carrying.carry_out.Goals as goal
+
+pub returns-in-Promote-clause-carried : goal.returns-in-Promote-clause-carried
+returns-in-Promote-clause-carried g c =
+    let first = c.args.port.now.geometry in
+    one_done (Runs g.D.Disk.tells g.D.Disk.size g.D.Disk.contents g.D.Disk.faults first.origin_blocks) c.migrate.result (migration_of first (Promote c.in-Promote.to) c.in-Promote.block) (jobs_of first c.args.order) (ap (λ order. jobs_of first order) c.in-Promote.is) (state_of c.args.port.now) (state_of c.migrate.new.port) c.migrate.ensures.done
+
+pub returns-in-Demote-clause-carried : goal.returns-in-Demote-clause-carried
+returns-in-Demote-clause-carried g c =
+    let first = c.args.port.now.geometry in
+    one_done (Runs g.D.Disk.tells g.D.Disk.size g.D.Disk.contents g.D.Disk.faults first.origin_blocks) c.migrate-in-Demote.result (migration_of first Demote c.in-Demote.block) (jobs_of first c.args.order) (ap (λ order. jobs_of first order) c.in-Demote.is) (state_of c.args.port.now) (state_of c.migrate-in-Demote.new.port) c.migrate-in-Demote.ensures.done
+
+pub returns-in-Clean-clause-carried : goal.returns-in-Clean-clause-carried
+returns-in-Clean-clause-carried g c =
+    let first = c.args.port.now.geometry in
+    one_done (Runs g.D.Disk.tells g.D.Disk.size g.D.Disk.contents g.D.Disk.faults first.origin_blocks) c.migrate-in-Clean.result (migration_of first Clean c.in-Clean.block) (jobs_of first c.args.order) (ap (λ order. jobs_of first order) c.in-Clean.is) (state_of c.args.port.now) (state_of c.migrate-in-Clean.new.port) c.migrate-in-Clean.ensures.done
 
 pub returns-in_ok-flush-in-Replace-clause-carried : goal.returns-in_ok-flush-in-Replace-clause-carried
 returns-in_ok-flush-in-Replace-clause-carried g c =
@@ -7,5 +25,5 @@ returns-in_ok-flush-in-Replace-clause-carried g c =
     let d = c.migrate-in-Replace in
     let f = c.flush in
     let p = c.migrate-in-Replace-2 in
-    carried g.D.Disk.tells g.D.Disk.size g.D.Disk.contents g.D.Disk.faults c.args.order r.victim r.block r.to c.args.port.now.geometry d.new.port f.new.port p.new.port p.result r.is d.ensures.geometry f.ensures.geometry p.ensures.geometry
+    replaced g.D.Disk.tells g.D.Disk.size g.D.Disk.contents g.D.Disk.faults p.result c.args.order r.victim r.block r.to c.args.port.now.geometry d.new.port.geometry f.new.port.geometry (state_of c.args.port.now) (state_of d.new.port) (state_of f.new.port) (state_of p.new.port) r.is d.ensures.geometry f.ensures.geometry
     c.in_ok-migrate-in-Replace.ensures.done c.in_ok-flush-in-Replace.ensures.done p.ensures.done

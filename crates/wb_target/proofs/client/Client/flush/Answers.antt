@@ -1,0 +1,5 @@
+use Rattle.wb_target.proofs.Syncing.{synced_after}
+use Rattle.wb_target.proofs.client.Client.flush.Goals as goal
+
+pub returns-clause-synced : goal.returns-clause-synced
+returns-clause-synced g c = λ told. synced_after g.D.Disk.tells g.D.Disk.size g.D.Disk.contents g.D.Disk.faults _ told _ _ _ _ c.in_ok-flush.ensures.done
