@@ -1,6 +1,6 @@
 -- What a handshake is.
-use Rattle.std.specs.Prelude.{◌≡◌, ◌≢◌, ◌⊎◌, ℕ, List, Bool, true, false, Option, Some, None, length}
-use Rattle.std.specs.Io.KnownBytes.{Consumes, Appends, Keeps}
+use Rattle.std.specs.Prelude.{◌≡◌, ◌⊎◌, ℕ, List, Bool, true, false, Option, Some, None, length}
+use Rattle.std.specs.Io.KnownBytes.{Consumes, Appends}
 use Rattle.wb_nbd.specs.declared.option.Wish.{Wish}
 use Rattle.wb_nbd.specs.declared.option.Wish.TheVariants.{Start, StartOther, Abort as AbortWish, List as ListWish, Info, Go, Refuse}
 use Rattle.wb_nbd.specs.declared.handshake.Agreed.{Agreed}

@@ -1,6 +1,5 @@
 -- What has to be done for a request.
-use Rattle.std.specs.Prelude.{◌≡◌, ◌≢◌, ◌≤◌, ◌<◌, ◌+◌, ◌*◌, ◌⊎◌, ◌++◌, ℕ, List, [], Option, Some, None, Bool, true, false, length}
-use Rattle.wb_nbd.specs.declared.errno.Errno.{Errno}
+use Rattle.std.specs.Prelude.{◌≡◌, ◌≢◌, ◌≤◌, ◌<◌, ◌+◌, ◌*◌, ◌++◌, ℕ, List, [], Option, Some, None, Bool, true, false, length}
 use Rattle.wb_nbd.specs.declared.errno.Errno.TheVariants.{Io, Memory, Invalid, Shutdown}
 use Rattle.wb_nbd.specs.declared.request.Request.{Request}
 use Rattle.wb_nbd.specs.declared.request.Command.{Command}

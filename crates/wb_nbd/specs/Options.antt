@@ -3,7 +3,6 @@ use Rattle.std.specs.Prelude.{◌≡◌, ◌≢◌, ◌≤◌, ◌<◌, ◌+◌,
 use Rattle.wb_nbd.specs.declared.option.OptionHeader.{OptionHeader}
 use Rattle.wb_nbd.specs.declared.option.Wish.{Wish}
 use Rattle.wb_nbd.specs.declared.option.Wish.TheVariants.{Start, StartOther, Abort, List as ListWish, Info, Go, Refuse}
-use Rattle.wb_nbd.specs.declared.option.OptionError.{OptionError}
 use Rattle.wb_nbd.specs.declared.option.OptionError.TheVariants.{Unsupported, Invalid, Unknown, TooBig}
 use Rattle.wb_nbd.specs.Bytes.{number_at}
 

@@ -1,5 +1,5 @@
 -- What performing a task does, and what it tells.
-use Rattle.std.specs.Prelude.{◌≡◌, ◌⊎◌, ◌≤◌, ◌+◌, ℕ, List, [], Bool, true, false, Result, Ok, Err, Vec, length}
+use Rattle.std.specs.Prelude.{◌≡◌, ◌⊎◌, ◌≤◌, ◌+◌, ℕ, List, [], true, false, Result, Ok, Err, Vec, length}
 use Rattle.wb_nbd.specs.declared.errno.Errno.{Errno}
 use Rattle.wb_nbd.specs.declared.errno.Errno.TheVariants.{Memory}
 use Rattle.wb_nbd.specs.declared.job.Task.{Task}

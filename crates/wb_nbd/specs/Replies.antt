@@ -1,5 +1,5 @@
 -- The bytes of a reply.
-use Rattle.std.specs.Prelude.{ℕ, List, ◌++◌, [], flat_map, Result, Ok, Err}
+use Rattle.std.specs.Prelude.{ℕ, List, ◌++◌, flat_map}
 use Rattle.byteorder.specs.Endian.{big_bytes}
 use Rattle.wb_nbd.specs.declared.errno.Errno.{Errno}
 use Rattle.wb_nbd.specs.declared.errno.Errno.TheVariants.{Io, Memory, Invalid, Shutdown}

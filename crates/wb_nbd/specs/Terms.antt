@@ -1,5 +1,5 @@
 -- The bytes by which a server answers options.
-use Rattle.std.specs.Prelude.{◌+◌, ◌^◌, ℕ, List, [], ◌++◌, replicate, Bool, true, false}
+use Rattle.std.specs.Prelude.{ℕ, List, [], ◌++◌, replicate, Bool, true, false}
 use Rattle.byteorder.specs.Endian.{big_bytes}
 use Rattle.wb_nbd.specs.declared.option.Wish.{Wish}
 use Rattle.wb_nbd.specs.declared.option.Wish.TheVariants.{Start, StartOther, Abort, List as ListWish, Info, Go, Refuse}
