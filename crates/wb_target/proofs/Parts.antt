@@ -1,11 +1,11 @@
 -- Part by part a request comes to its end.
-use Rattle.std.proofs.Common.{◌≡◌, ◌≤◌, ◌<◌, ◌+◌, ◌-◌, ◌%◌, ◌++◌, ◌∙◌, ℕ, zero, suc, min, List, Option, Some, None, length, take, drop, refl, sym, ap, subst, arith}
+use Rattle.std.proofs.Common.{◌≡◌, ◌≤◌, ◌<◌, ◌+◌, ◌-◌, ◌%◌, ◌++◌, ◌∙◌, ℕ, suc, min, List, Option, Some, None, length, take, drop, refl, sym, ap, subst, arith}
 use Rattle.std.proofs.lemmas.List.{take-take, drop-take, drop-drop, length-drop, length-take-le, length-append}
 use borrow.Rule.Slice.PartMut.{put_mid}
 use Rattle.wb_types.specs.declared.extent.Extent.{Extent}
 use Rattle.wb_types.specs.declared.refusal.Refusal.{Refusal}
 use Rattle.wb_disk.specs.Device.{Content}
-use Rattle.wb_target.specs.Blocking.{CameTo, front, Ends, InParts}
+use Rattle.wb_target.specs.Blocking.{CameTo, InParts}
 
 -- So many parts of a request were done, up to this place of its slice: what comes of the rest, comes of the whole.
 abbrev pub ComeTo : {H : Type 0} → (Option Refusal → Extent → H × List Content → H × List Content → Type 0) → ℕ → ℕ → H → List Content → ℕ → ℕ → H → List Content → Type 0

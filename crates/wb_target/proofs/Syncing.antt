@@ -9,7 +9,7 @@ use Rattle.wb_types.specs.declared.refusal.Refusal.TheVariants.{Busy, Failed, Me
 use Rattle.wb_disk.specs.Device.{History, newest, only, synced}
 use Rattle.wb_words.specs.declared.word.Word.TheVariants.{Fail}
 use Rattle.wb_words.specs.declared.step.CellStep.TheVariants.{Look, SetFailed}
-use Rattle.wb_tasks.specs.Tables.{TaskJob, Flushing}
+use Rattle.wb_tasks.specs.Tables.{Flushing}
 use Rattle.wb_tasks.specs.Plan.{Plan, table, after, after_look, refused, release_orders, node_writes, root_steps, commit_steps, Fits}
 use Rattle.wb_tasks.specs.Run.{IsRunOf, Leads}
 use Rattle.wb_tasks.specs.declared.step.DeviceStep.TheVariants.{Sync, WriteNode, WriteRoot}
@@ -23,7 +23,7 @@ use Rattle.wb_tasks.proofs.Driving.{no_result}
 use Rattle.wb_devices.specs.Moving.{device_in}
 use Rattle.wb_devices.specs.declared.devices.Devices.{Devices}
 use Rattle.wb_port.proofs.Letting.{not_done}
-use Rattle.wb_target.specs.Works.{WorkState, WorkStep, WasPerformed}
+use Rattle.wb_target.specs.Works.{WorkState, WorkStep}
 use Rattle.wb_target.specs.Carried.{IsSynced, AreSynced, Runs, WasDone}
 
 synced_now : (histories : List History) → IsSynced (synced histories)

@@ -1,5 +1,5 @@
 -- Tries that were refused as busy, one after the other.
-use Rattle.std.proofs.Common.{◌≡◌, List, [], ◌∷◌, ◌++◌, refl, sym, subst}
+use Rattle.std.proofs.Common.{List, [], ◌∷◌, ◌++◌, refl, sym, subst}
 use Rattle.wb_target.specs.Tries.{Tried}
 
 -- tries so far, from the one state to the other

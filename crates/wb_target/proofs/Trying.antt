@@ -1,15 +1,12 @@
 -- What a try of one part comes to, where its request is inside and no access is unsettled.
-use Rattle.std.proofs.Common.{◌≡◌, ◌≢◌, ◌≤◌, ◌<◌, ◌+◌, ◌*◌, ◌%◌, ◌⊎◌, inl, inr, ℕ, List, Option, Some, None, Result, Err, length, refl, sym, ap, subst, arith}
-use Rattle.std.specs.Prelude.{IfErr}
-use Rattle.std.proofs.lemmas.Result.{IfErr-weaker}
+use Rattle.std.proofs.Common.{◌≡◌, ◌≢◌, ◌≤◌, ◌+◌, ◌%◌, inl, inr, ℕ, List, Some, None, length, refl, sym, subst, arith}
 use Rattle.wb_types.specs.declared.extent.Extent.{Extent}
 use Rattle.wb_types.specs.declared.geometry.Geometry.{Geometry}
 use Rattle.wb_types.specs.declared.refusal.Refusal.{Refusal}
-use Rattle.wb_types.specs.declared.refusal.Refusal.TheVariants.{Busy, Range, Crosses as CrossesBlocks, Defer}
+use Rattle.wb_types.specs.declared.refusal.Refusal.TheVariants.{Range, Crosses as CrossesBlocks, Defer}
 use Rattle.wb_disk.specs.Device.{History, Content}
 use Rattle.wb_port.specs.Ports.{block_at, IsTryRefused, TryReadRefused, TryWriteRefused}
 use Rattle.wb_port.specs.Requests.{IsOutside, ReadRefused, WriteRefused, WasRead, WasWritten}
-use Rattle.wb_port.specs.declared.hand.Hand.{Hand}
 use Rattle.wb_port.specs.declared.port.Port.{Port}
 use Rattle.wb_target.specs.Blocking.{IsInside, ReadCame, WriteCame}
 

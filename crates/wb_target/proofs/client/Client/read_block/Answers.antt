@@ -1,4 +1,4 @@
-use Rattle.std.proofs.Common.{◌∙◌, List, Some, None, length, refl, sym, ap, subst}
+use Rattle.std.proofs.Common.{◌∙◌, List, Some, None, length, sym, ap, subst}
 use Rattle.wb_types.specs.declared.refusal.Refusal.TheVariants.{Busy}
 use Rattle.wb_target.specs.Blocking.{ReadCame, CameTo}
 use Rattle.wb_target.proofs.Tries.{again}

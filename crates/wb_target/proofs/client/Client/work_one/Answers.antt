@@ -1,4 +1,4 @@
-use Rattle.std.proofs.Common.{◌≡◌, ◌<◌, ◌∙◌, length, sym, ap, subst}
+use Rattle.std.proofs.Common.{◌<◌, ◌∙◌, length, sym, ap, subst}
 use Rattle.wb_target.specs.Carried.{state_of}
 use Rattle.wb_target.proofs.Carried.{jobs_in}
 use Rattle.wb_target.proofs.client.Client.work_one.Goals as goal

@@ -1,4 +1,4 @@
-use Rattle.std.proofs.Common.{◌≡◌, ◌+◌, ◌-◌, ◌∙◌, inr, Some, None, length, take, drop, refl, subst, arith}
+use Rattle.std.proofs.Common.{◌+◌, ◌-◌, ◌∙◌, inr, Some, None, length, take, drop, refl, subst, arith}
 use Rattle.wb_target.specs.Blocking.{WriteCame, CameTo}
 use Rattle.wb_target.proofs.Parts.{part_done, part_refused, all_done}
 use Rattle.wb_target.proofs.client.Client.write.Goals as goal
