@@ -1,7 +1,7 @@
 //! What is done beside one another: a connection is served, and orders are carried out.
 
 use crate::lent::Lent;
-use crate::pace::{Pace, UntilTick};
+use crate::pace::{Connection, Pace, UntilTick};
 use std::alloc::Global;
 use std::io::{Read, Write};
 use std::sync::Wait;
@@ -28,7 +28,7 @@ pub struct Service<'a, I, O> {
     pub terms: Terms,
     pub reader: I,
     pub writer: O,
-    pub pace: &'a Pace,
+    pub connection: Connection<'a>,
 }
 
 /// How it went.
@@ -73,10 +73,11 @@ fn serve<R: Wait, D: Disk + Drop, P: Policy, I: Read + Drop, O: Write + Drop>(
         terms,
         mut reader,
         mut writer,
-        pace,
+        connection,
     } = service;
+    let pace = connection.pace;
     let agreed = shake_hands(&terms, &mut reader, &mut writer);
-    let connection = match agreed {
+    let talked = match agreed {
         Ok(Agreed::Serve) => talk(rt, client, pace, alloc, &mut reader, &mut writer),
         Ok(Agreed::Abort) => Ok(()),
         Err(broken) => Err(broken),
@@ -85,9 +86,9 @@ fn serve<R: Wait, D: Disk + Drop, P: Policy, I: Read + Drop, O: Write + Drop>(
         Ok(_) => Ok(()),
         Err(refusal) => Err(refusal),
     };
-    pace.end();
+    drop(connection);
     Told::Served {
-        connection,
+        connection: talked,
         flushed,
     }
 }

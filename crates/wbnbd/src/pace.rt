@@ -53,6 +53,18 @@ impl Pace {
     }
 }
 
+/// A connection that is to be served: once it is let go it has ended, and was perhaps never served.
+pub struct Connection<'a> {
+    pub pace: &'a Pace,
+}
+
+impl<'a> Drop for Connection<'a> {
+    fn drop(self) {
+        self.pace.end();
+        let Connection { pace: _ } = self;
+    }
+}
+
 /// Lets a worker go on until a tick is due or the connection has ended, and has it rest where no order waits.
 #[derive(Drop)]
 pub struct UntilTick<'a, C> {

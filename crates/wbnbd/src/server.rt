@@ -4,7 +4,7 @@ ghost use Rattle.std.specs.Prelude.{◌≡◌, ◌*◌, ◌≤◌};
 
 use crate::beside::{Beside, Service, Told};
 use crate::ended::Ended;
-use crate::pace::Pace;
+use crate::pace::{Connection, Pace};
 use std::alloc::{AllocError, Global};
 use std::fs::File;
 use std::io::{Read, Write};
@@ -63,7 +63,7 @@ pub fn run<
         terms: terms_of(&geometry),
         reader,
         writer,
-        pace: &pace,
+        connection: Connection { pace: &pace },
     };
     let Ok(sent) = both(
         alloc,
