@@ -426,7 +426,7 @@ for words in -h --help 'run --help' 'format -h'; do
   has "$words explains the script" "$said" 'w S N hh'
 done
 check 'help is for standard output' "$("$cache" --help 2>&1 >/dev/null)" ''
-check 'the version' "$("$cache" --version)" "wbcache 0.1.0, proved with $(rt version)"
+check 'the version' "$("$cache" --version)" "wbcache 0.1.0, proved with rattle $(rt version | cut -d' ' -f2-)"
 "$cache" --help >/dev/full 2>&1
 check 'help that cannot be written ends with 4' $? 4
 for words in '' 'run' 'format' 'help' 'run a b' 'replay x' '-x' 'run -x a'; do

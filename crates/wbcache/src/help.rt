@@ -1,7 +1,7 @@
 //! What the program says of itself.
 
-/// The program's version, and what it is proved with, as `rt version` tells it.
-pub const VERSION: &str = "0.1.0, proved with rattle-kit-13b logic dac8208d650f15bf";
+/// The program's version, and the proof logic that it is proved with, as `rt version` names it behind the kit.
+pub const VERSION: &str = "0.1.0, proved with rattle logic dac8208d650f15bf";
 
 pub const ABOUT: &str = "A write-back block cache over three files.";
 

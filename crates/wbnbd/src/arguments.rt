@@ -3,8 +3,8 @@
 use clap::{Arg, ArgAction, Command, Error};
 use std::alloc::Global;
 
-/// The program's version, and what it is proved with, as `rt version` tells it.
-const VERSION: &str = "0.1.0, proved with rattle-kit-13b logic dac8208d650f15bf";
+/// The program's version, and the proof logic that it is proved with, as `rt version` names it behind the kit.
+const VERSION: &str = "0.1.0, proved with rattle logic dac8208d650f15bf";
 
 const ABOUT: &str =
     "Serves a write-back cache over three files as a network block device, to one client on standard input and output.";
