@@ -7,6 +7,7 @@
 #
 # TRACES is a program that prints a trace: python3 TRACES NAME BLOCKS ACCESSES SEED.
 set -eu
+traces=${3:-}
 top=$(cd "$(dirname "$0")/.." && pwd)
 if test $# -ge 2; then
   cache=$1
@@ -90,10 +91,10 @@ done
 sort -n "$work/opened" | sed -n 3p | awk -v n=$blocks '{ printf "%-22s %12s %12.0f\n", n " blocks", $1, $2 / 1024 }'
 
 # Hit ratios of traces, of reads that are each followed by its order.
-test $# -ge 3 || exit 0
+test -n "$traces" || exit 0
 printf '\n%-22s %12s %12s\n' 'hits of 40,000' plain proved
 for name in zipf scan_zipf loop shift; do
-  python3 "$3" $name 2048 40000 1 >"$work/trace"
+  python3 "$traces" $name 2048 40000 1 >"$work/trace"
   files 256 2048
   "$cache" format "$table" >"$work/said"
   awk '{ printf "r %d 1\nwork\n", $1 * 64 } END { print "status" }' "$work/trace" >"$work/script"

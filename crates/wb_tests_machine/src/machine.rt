@@ -2,13 +2,13 @@
 
 mod rows;
 
-use self::rows::{Line, ROWS};
+use self::rows::{Line, OVER_A_TARGET, ROWS};
 use std::alloc::Global;
 use std::test::Fail;
 use wb_disk::{Base, CrashChoice, NamedContent};
-use wb_machine::{Halt, Machine};
-use wb_runs::{Event, Job, What};
-use wb_types::{Dev, Geometry, Mode, Refusal};
+use wb_machine::Machine;
+use wb_runs::{Event, What};
+use wb_types::{Dev, Geometry, Refusal};
 
 /// Ten blocks of 64 sectors, and a cache of four.
 fn small_machine(alloc: Global) -> Result<Machine, Refusal> {
@@ -58,7 +58,7 @@ fn last(machine: &Machine) -> What {
     }
 }
 
-/// The first line of a row after which something else happened, if there is one.
+/// The first line of a row that the machine cannot do, or after which something else happened, if there is one.
 fn play(alloc: Global, lines: &[(Line, What)]) -> Result<Option<usize>, Refusal> {
     let mut machine = small_machine(alloc)?;
     for (number, line) in lines.iter().enumerate() {
@@ -78,15 +78,9 @@ fn openings_go_as_their_rows_say(rt: HostRuntime) -> Result<(), Fail> {
     Ok(())
 }
 
-/// Over a target that stands nothing starts yet.
+/// Over a target that stands nothing starts yet: the machine cannot do it, and has no record of it.
 #[test]
 fn nothing_starts_over_a_target_yet(rt: HostRuntime) -> Result<(), Fail> {
-    let mut machine = small_machine(rt.alloc())?;
-    assert!(rt; machine.event(Event::Start(0, Job::Open(Mode::Writeback))) == Ok(()));
-    for _ in 0..8 {
-        assert!(rt; machine.event(Event::Step(0)) == Ok(()));
-    }
-    assert!(rt; machine.event(Event::Start(0, Job::Flush)) == Err(Halt::Beyond));
-    assert_eq!(rt; machine.trace().records().len(), 9);
+    assert!(rt; play(rt.alloc(), &OVER_A_TARGET)? == Some(9));
     Ok(())
 }

@@ -49,6 +49,20 @@ const OPENED: Want = Want::End(Answer::Done);
 
 const CACHE_FAILED: Want = Want::End(Answer::Refused(Refusal::Io(Dev::Cache)));
 
+/// An opening up to its answer, and what would start over its target.
+pub const OVER_A_TARGET: [(Line, What); 10] = [
+    (Line::Start(0, OPEN), What::Started),
+    (Line::Step(0), What::Stepped(METADATA, Got::Done)),
+    (Line::Step(0), What::Stepped(CACHE, Got::Done)),
+    (Line::Step(0), What::Stepped(ORIGIN, Got::Done)),
+    (Line::Step(0), What::Stepped(FIRST_READ, Got::More)),
+    (Line::Step(0), What::Stepped(SECOND_READ, Got::Done)),
+    (Line::Step(0), What::Stepped(ROOT, Got::Done)),
+    (Line::Step(0), What::Stepped(METADATA, Got::Done)),
+    (Line::Step(0), What::Stepped(OPENED, Got::Done)),
+    (Line::Start(0, Job::Flush), What::Started),
+];
+
 pub const ROWS: [Row; 18] = [
     Row {
         name: "without a target only an opening starts, in write-back mode",
