@@ -58,12 +58,21 @@ fn last(machine: &Machine) -> What {
     }
 }
 
-/// The first line of a row that the machine cannot do, or after which something else happened, if there is one.
+/// The first line of a row that a small machine cannot do, or after which something else happened, if there is one.
 fn play(alloc: Global, lines: &[(Line, What)]) -> Result<Option<usize>, Refusal> {
     let mut machine = small_machine(alloc)?;
+    go_over(&mut machine, alloc, lines)
+}
+
+/// The same of a machine that is lent.
+fn go_over(
+    machine: &mut Machine,
+    alloc: Global,
+    lines: &[(Line, What)],
+) -> Result<Option<usize>, Refusal> {
     for (number, line) in lines.iter().enumerate() {
         let event = event_of(alloc, line.0)?;
-        if machine.event(event).is_err() || last(&machine) != line.1 {
+        if machine.event(event).is_err() || last(machine) != line.1 {
             return Ok(Some(number));
         }
     }
