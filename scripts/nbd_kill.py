@@ -100,7 +100,7 @@ def main():
     durable, number = {}, 0
     for _ in range(kills):
         server = Server(program, table)
-        killer = threading.Timer(random.uniform(0.01, 1.0), server.process.kill)
+        killer = threading.Timer(random.randrange(10, 1000) / 1000, server.process.kill)
         killer.start()
         last = load(server, dict(durable), durable, number)
         killer.join()
