@@ -6,8 +6,6 @@ mod number;
 mod sectors;
 mod status;
 mod table;
-#[cfg(test)]
-mod tests;
 mod words;
 
 pub use comment::is_comment;

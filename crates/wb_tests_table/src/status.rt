@@ -1,8 +1,8 @@
-//! Lines of worked examples.
+//! Status lines of worked examples.
 
-use crate::{Fields, status_text};
 use std::alloc::Global;
 use std::test::Fail;
+use wb_table::{Fields, status_text};
 use wb_types::{Mode, Refusal};
 
 /// A target of four cache blocks of 64 sectors, just opened over formatted devices.
