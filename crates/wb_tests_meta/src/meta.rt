@@ -10,7 +10,7 @@ mod noise;
 mod reading;
 mod rounds;
 
-use std::process::Abort;
+use std::alloc::Global;
 use std::test::Fail;
 use wb_disk::{Disk, MemDisk};
 use wb_format::{Node, Root, Version};
@@ -74,47 +74,74 @@ fn one_node_fits(disk: &MemDisk, image: &Image) -> bool
     place >= 2 && u64::from(place) < disk.sectors()
 }
 
-/// A formatted device, and the image of the first commit.
-fn formatted(rt: &(impl Abort + AllocGlobal)) -> Result<(MemDisk, Image), Fail> {
-    let geometry = Geometry::new(64, 4, 10, 4)?;
-    let mut disk = MemDisk::new(rt.alloc(), 4)?;
-    format(&mut disk, &geometry)?;
+/// The image of one leaf at place 2.
+fn first_image(alloc: Global) -> Result<Image, Refusal> {
     let root = Root {
         generation: 1,
         version: Version::One,
         clean: false,
-        geometry,
+        geometry: Geometry::new(64, 4, 10, 4)?,
         top: Some(Place(2)),
     };
-    let leaf = Node::read(&sector_of(&LEAF)).ok_or("a leaf")?;
-    let mut nodes = Vec::new(rt.alloc());
-    nodes.push((Place(2), leaf))?;
-    Ok((disk, Image { root, nodes }))
+    let Some(leaf) = Node::read(&sector_of(&LEAF)) else {
+        return Err(Refusal::Damaged(Place(2)));
+    };
+    let mut nodes = Vec::with_capacity(alloc, 1)?;
+    nodes.push_reserved((Place(2), leaf));
+    Ok(Image { root, nodes })
+}
+
+/// A formatted device, and the image of the first commit.
+fn formatted(alloc: Global) -> Result<(MemDisk, Image), Refusal> {
+    let image = first_image(alloc)?;
+    let mut disk = MemDisk::new(alloc, 4)?;
+    format(&mut disk, &image.root.geometry)?;
+    Ok((disk, image))
+}
+
+/// Whether the sectors of a device begin so, and have zeros behind that.
+fn has_sectors(disk: &mut MemDisk, fronts: &[&[u8]]) -> bool {
+    for (at, front) in fronts.iter().enumerate() {
+        if front.len() > 512 || sector_at(disk, at as u64) != Some(sector_of(front)) {
+            return false;
+        }
+    }
+    true
+}
+
+/// Whether the commit of an image of one node takes these steps.
+fn takes_steps(disk: &mut MemDisk, image: &Image, wanted: &[CommitStep]) -> Result<bool, Refusal> {
+    let mut steps = CommitSteps::new();
+    for step in wanted {
+        if steps.coming(image) != Some(*step) || !one_node_fits(disk, image) {
+            return Ok(false);
+        }
+        steps.next(disk, image)?;
+    }
+    Ok(steps.coming(image).is_none())
+}
+
+const FIRST_COMMIT: [CommitStep; 4] = [
+    CommitStep::WriteNode(Place(2)),
+    CommitStep::Sync,
+    CommitStep::WriteRoot(Place(1)),
+    CommitStep::Sync,
+];
+
+#[test]
+fn a_formatting_is_for_the_size_of_its_device(rt: HostRuntime) -> Result<(), Fail> {
+    let geometry = Geometry::new(64, 4, 10, 4)?;
+    let mut larger = MemDisk::new(rt.alloc(), 5)?;
+    assert!(rt; format(&mut larger, &geometry) == Err(Refusal::Geometry));
+    assert!(rt; has_sectors(&mut larger, &[&[]]));
+    Ok(())
 }
 
 #[test]
 fn formatting_and_a_first_commit_write_these_sectors(rt: HostRuntime) -> Result<(), Fail> {
-    let (mut disk, image) = formatted(&rt)?;
-    let mut larger = MemDisk::new(rt.alloc(), 5)?;
-    assert!(rt; format(&mut larger, &image.root.geometry) == Err(Refusal::Geometry));
-    assert!(rt; sector_at(&mut larger, 0) == Some([0; 512]));
-    assert!(rt; sector_at(&mut disk, 0) == Some(sector_of(&FORMATTED)));
-    assert!(rt; sector_at(&mut disk, 1) == Some([0; 512]));
-    let mut steps = CommitSteps::new();
-    for step in [
-        CommitStep::WriteNode(Place(2)),
-        CommitStep::Sync,
-        CommitStep::WriteRoot(Place(1)),
-        CommitStep::Sync,
-    ] {
-        assert!(rt; steps.coming(&image) == Some(step));
-        assert!(rt; one_node_fits(&disk, &image));
-        steps.next(&mut disk, &image)?;
-    }
-    assert!(rt; steps.coming(&image).is_none());
-    assert!(rt; sector_at(&mut disk, 0) == Some(sector_of(&FORMATTED)));
-    assert!(rt; sector_at(&mut disk, 1) == Some(sector_of(&COMMITTED)));
-    assert!(rt; sector_at(&mut disk, 2) == Some(sector_of(&LEAF)));
-    assert!(rt; sector_at(&mut disk, 3) == Some([0; 512]));
+    let (mut disk, image) = formatted(rt.alloc())?;
+    assert!(rt; has_sectors(&mut disk, &[&FORMATTED, &[]]));
+    assert!(rt; takes_steps(&mut disk, &image, &FIRST_COMMIT)?);
+    assert!(rt; has_sectors(&mut disk, &[&FORMATTED, &COMMITTED, &LEAF, &[]]));
     Ok(())
 }

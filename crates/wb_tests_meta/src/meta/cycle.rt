@@ -6,9 +6,9 @@ ghost use Rattle.wb_meta.specs.Placing.{HavePlaces};
 
 use super::rounds::{change, entry_of, plan_at};
 use std::alloc::Global;
-use std::process::Abort;
 use std::test::Fail;
 use wb_disk::{Base, CrashChoice, MemDisk};
+use wb_format::Root;
 use wb_meta::{CommitSteps, Image, State, commit, format, read_state};
 use wb_tree::Tree;
 use wb_types::{CBlock, Dev, Geometry, Place, Refusal};
@@ -86,24 +86,50 @@ fn has_places(image: &Image, used: &[Place], top: u32, wanted: &[Place]) -> bool
     image.root.top == Some(Place(top)) && used == wanted
 }
 
-/// The generation that is read after a crash behind so many steps of the first commit, which has two leaves. What is
-/// read has the entries of its generation.
-fn generation_after(rt: &(impl Abort + AllocGlobal), count: u64, base: Base) -> Result<u64, Fail> {
-    let alloc = rt.alloc();
-    let entries = [(0, 1), (33, 2)];
-    let mut disk = formatted(alloc)?;
-    let (_, image) = change_and_plan(alloc, &mut disk, &entries, (2, 6))?;
-    assert!(rt; image.nodes.len() == 3);
+/// The entries of the first commit, which has two leaves.
+const ENTRIES: [(u32, u8); 2] = [(0, 1), (33, 2)];
+
+/// Takes so many steps of a commit of three nodes; whether it is then done, if and only if those are all.
+fn takes_steps(disk: &mut MemDisk, image: &Image, count: u64) -> Result<bool, Refusal>
+    requires { HavePlaces image.now.nodes.items (length disk.old.contents) }
+{
     let mut steps = CommitSteps::new();
     for _ in 0..count {
-        steps.next(&mut disk, &image)?;
+        steps.next(disk, image)?;
     }
-    assert!(rt; steps.is_done() == (count >= 6));
-    assert!(rt; disk.stop(Dev::Metadata, &CrashChoice::new(base, Vec::new(alloc))));
-    let (generation, _) = is_read(alloc, &mut disk, &[])?;
-    let wanted: &[(u32, u8)] = if generation == 0 { &[] } else { &entries };
-    assert!(rt; is_read(alloc, &mut disk, wanted)? == (generation, true));
-    Ok(generation)
+    Ok(image.nodes.len() == 3 && steps.is_done() == (count >= 6))
+}
+
+/// The generation that is read after a crash; none where what is read has not the entries of its generation.
+fn read_after_crash(
+    alloc: Global,
+    disk: &mut MemDisk,
+    base: Base,
+    entries: &[(u32, u8)],
+) -> Result<Option<u64>, Refusal> {
+    if !disk.stop(Dev::Metadata, &CrashChoice::new(base, Vec::new(alloc))) {
+        return Ok(None);
+    }
+    let (generation, _) = is_read(alloc, disk, &[])?;
+    let wanted: &[(u32, u8)] = if generation == 0 { &[] } else { entries };
+    let (again, are_there) = is_read(alloc, disk, wanted)?;
+    Ok((again == generation && are_there).then_some(generation))
+}
+
+/// The generation that is read after a crash behind so many steps of the first commit; none where a step or what is read is
+/// not as it should be.
+fn generation_after(alloc: Global, count: u64, base: Base) -> Result<Option<u64>, Refusal> {
+    let mut disk = formatted(alloc)?;
+    if !begins_commit(alloc, &mut disk, count)? {
+        return Ok(None);
+    }
+    read_after_crash(alloc, &mut disk, base, &ENTRIES)
+}
+
+/// Takes so many steps of the first commit; whether they are as they should be.
+fn begins_commit(alloc: Global, disk: &mut MemDisk, count: u64) -> Result<bool, Refusal> {
+    let (_, image) = change_and_plan(alloc, disk, &ENTRIES, (2, 6))?;
+    takes_steps(disk, &image, count)
 }
 
 #[test]
@@ -113,62 +139,110 @@ fn a_crash_within_a_commit_is_read_as_the_mapping_before_or_the_new_one(
     for count in 0..8 {
         let oldest = if count < 6 { 0 } else { 1 };
         let newest = if count < 5 { 0 } else { 1 };
-        assert_eq!(rt;
-            generation_after(&rt, count, Base::Durable)?,
-            oldest,
-            "{count}"
-        );
-        assert_eq!(rt;
-            generation_after(&rt, count, Base::Newest)?,
-            newest,
-            "{count}"
-        );
+        let durable = generation_after(rt.alloc(), count, Base::Durable)?;
+        assert!(rt; durable == Some(oldest), "{count}");
+        let written = generation_after(rt.alloc(), count, Base::Newest)?;
+        assert!(rt; written == Some(newest), "{count}");
     }
     Ok(())
 }
 
+/// Changes a tree whose first commit has places 2, 3 and 4, and commits it; whether two nodes go to places that are left, and
+/// this root and these places are read then.
+fn commits_again(
+    alloc: Global,
+    disk: &mut MemDisk,
+    tree: &mut Tree<Global>,
+    geometry: &Geometry,
+) -> Result<bool, Refusal>
+    requires size { length tree.old.entries ≡ geometry.now.cache_blocks }
+    requires inside { AreInside geometry.now.meta_sectors tree.old }
+    requires sectors { geometry.now.meta_sectors ≡ length disk.old.contents }
+{
+    let used = tree.places(alloc)?;
+    change(tree, geometry, 33, 5)?;
+    let second = plan_at(alloc, tree, geometry, 2, &used, (5, 3))?;
+    commit(disk, &second)?;
+    let left = tree.places(alloc)?;
+    let is_planned = second.nodes.len() == 2 && has_places(&second, &left, 6, &SECOND_PLACES);
+    Ok(is_planned && stands_for(alloc, disk, &second.root, &SECOND_PLACES)?)
+}
+
+const FIRST_PLACES: [Place; 3] = [Place(4), Place(2), Place(3)];
+
+const SECOND_PLACES: [Place; 3] = [Place(6), Place(2), Place(5)];
+
+/// Whether this root and these places are read of a device.
+fn stands_for(
+    alloc: Global,
+    disk: &mut MemDisk,
+    root: &Root,
+    places: &[Place],
+) -> Result<bool, Refusal> {
+    let state = read_state(alloc, alloc, disk)?;
+    Ok(state.root == *root && state.used.as_slice() == places)
+}
+
+/// Makes two commits, the second with another hint; whether each goes to the places that are free, and is read.
+fn commits_twice(alloc: Global, disk: &mut MemDisk) -> Result<bool, Refusal> {
+    let (mut tree, first) = change_and_plan(alloc, disk, &ENTRIES, (2, 6))?;
+    let used = tree.places(alloc)?;
+    commit(disk, &first)?;
+    if !has_places(&first, &used, 4, &FIRST_PLACES)
+        || is_read(alloc, disk, &ENTRIES)? != (1, true)
+    {
+        return Ok(false);
+    }
+    commits_again(alloc, disk, &mut tree, &first.root.geometry)
+}
+
 #[test]
 fn a_second_commit_goes_to_the_places_that_are_left(rt: HostRuntime) -> Result<(), Fail> {
-    let alloc = rt.alloc();
-    let mut disk = formatted(alloc)?;
-    let (mut tree, first) = change_and_plan(alloc, &mut disk, &[(0, 1), (33, 2)], (2, 6))?;
-    let used = tree.places(alloc)?;
-    assert!(rt; has_places(&first, &used, 4, &[Place(4), Place(2), Place(3)]));
-    commit(&mut disk, &first)?;
-    assert!(rt; is_read(alloc, &mut disk, &[(0, 1), (33, 2)])? == (1, true));
-
-    let geometry = first.root.geometry;
-    change(&mut tree, &geometry, 33, 5)?;
-    let second = plan_at(alloc, &mut tree, &geometry, 2, &used, (5, 3))?;
-    let left = tree.places(alloc)?;
-    assert!(rt;
-        second.nodes.len() == 2 && has_places(&second, &left, 6, &[Place(6), Place(2), Place(5)])
-    );
-    commit(&mut disk, &second)?;
-    assert!(rt; is_read(alloc, &mut disk, &[(0, 1), (33, 5)])? == (2, true));
-    let state = read_state(alloc, alloc, &mut disk)?;
-    assert!(rt; state.root == second.root);
-    assert!(rt; state.used.as_slice() == [Place(6), Place(2), Place(5)].as_slice());
+    let mut disk = formatted(rt.alloc())?;
+    assert!(rt; commits_twice(rt.alloc(), &mut disk)?);
+    assert!(rt; is_read(rt.alloc(), &mut disk, &[(0, 1), (33, 5)])? == (2, true));
     Ok(())
+}
+
+/// Commits what a device stands for, with these changes.
+fn commit_changes(
+    alloc: Global,
+    disk: &mut MemDisk,
+    changes: &[(u32, u8)],
+    free: (u8, u8),
+) -> Result<(), Refusal>
+    ensures { length disk.new.contents ≡ length disk.old.contents }
+{
+    let (_, image) = change_and_plan(alloc, disk, changes, free)?;
+    commit(disk, &image)
+}
+
+/// Whether the next image of an empty mapping has neither node nor top.
+fn plans_nothing(alloc: Global, disk: &mut MemDisk) -> Result<bool, Refusal> {
+    let (_, empty) = change_and_plan(alloc, disk, &[], (2, 6))?;
+    Ok(empty.nodes.len() == 0 && empty.root.top.is_none())
+}
+
+/// Whether the next image with these changes has no node, and its tree is at the places of the first commit.
+fn writes_no_node(
+    alloc: Global,
+    disk: &mut MemDisk,
+    changes: &[(u32, u8)],
+) -> Result<bool, Refusal> {
+    let (tree, same) = change_and_plan(alloc, disk, changes, (5, 3))?;
+    let used = tree.places(alloc)?;
+    Ok(same.nodes.len() == 0 && has_places(&same, &used, 4, &FIRST_PLACES))
 }
 
 #[test]
 fn a_tree_that_was_read_and_not_changed_writes_no_node(rt: HostRuntime) -> Result<(), Fail> {
     let alloc = rt.alloc();
     let mut disk = formatted(alloc)?;
-    let (_, empty) = change_and_plan(alloc, &mut disk, &[], (2, 6))?;
-    assert!(rt; empty.nodes.len() == 0 && empty.root.top.is_none());
-    let (_, first) = change_and_plan(alloc, &mut disk, &[(0, 1), (33, 2)], (2, 6))?;
-    commit(&mut disk, &first)?;
-    for changes in [[].as_slice(), [(33, 2)].as_slice()] {
-        let (tree, same) = change_and_plan(alloc, &mut disk, changes, (5, 3))?;
-        let used = tree.places(alloc)?;
-        assert!(rt;
-            same.nodes.len() == 0 && has_places(&same, &used, 4, &[Place(4), Place(2), Place(3)])
-        );
-    }
-    let (_, same) = change_and_plan(alloc, &mut disk, &[], (5, 3))?;
-    commit(&mut disk, &same)?;
-    assert!(rt; is_read(alloc, &mut disk, &[(0, 1), (33, 2)])? == (2, true));
+    assert!(rt; plans_nothing(alloc, &mut disk)?);
+    commit_changes(alloc, &mut disk, &ENTRIES, (2, 6))?;
+    assert!(rt; writes_no_node(alloc, &mut disk, &[])?);
+    assert!(rt; writes_no_node(alloc, &mut disk, &[(33, 2)])?);
+    commit_changes(alloc, &mut disk, &[], (5, 3))?;
+    assert!(rt; is_read(alloc, &mut disk, &ENTRIES)? == (2, true));
     Ok(())
 }

@@ -3,7 +3,6 @@
 use super::put;
 use std::alloc::Global;
 use std::process::Abort;
-use std::test::Fail;
 use wb_disk::MemDisk;
 use wb_meta::read_state;
 use wb_types::{Content, Place, Refusal};
@@ -67,121 +66,166 @@ fn read(alloc: Global, place: u64, bytes: &[(usize, u8)]) -> Result<usize, Refus
     Ok(state.used.len())
 }
 
-/// Which bytes of the root are others, and what is then read: a root out of its ranges is none, one in them is read.
-const ROOTS: [(&[(usize, u8)], Result<usize, Refusal>); 36] = [
-    (&[(0, 0x77)], Err(Refusal::NotFormatted)),
-    (&[(7, 0x32)], Err(Refusal::NotFormatted)),
-    (&[(8, 2)], Err(Refusal::NotFormatted)),
-    (&[(16, 0)], Err(Refusal::NotFormatted)),
-    (&[(16, 2)], Err(Refusal::NotFormatted)),
-    (&[(19, 1)], Err(Refusal::NotFormatted)),
-    (&[(20, 2)], Err(Refusal::NotFormatted)),
-    (&[(23, 1)], Err(Refusal::NotFormatted)),
-    (&[(24, 0)], Err(Refusal::NotFormatted)),
-    (&[(24, 65)], Err(Refusal::NotFormatted)),
-    (&[(24, 32)], Err(Refusal::NotFormatted)),
-    (&[(27, 1)], Err(Refusal::NotFormatted)),
-    (&[(28, 0)], Err(Refusal::NotFormatted)),
-    (&[(30, 16)], Err(Refusal::NotFormatted)),
-    (&[(28, 97)], Err(Refusal::NotFormatted)),
-    (&[(32, 0)], Err(Refusal::NotFormatted)),
-    (&[(32, 1), (34, 16)], Err(Refusal::NotFormatted)),
-    (&[(36, 7)], Err(Refusal::NotFormatted)),
-    (&[(36, 0)], Err(Refusal::NotFormatted)),
-    (&[(40, 1)], Err(Refusal::NotFormatted)),
-    (&[(40, 8)], Err(Refusal::NotFormatted)),
-    (&[(43, 1)], Err(Refusal::NotFormatted)),
-    (&[(44, 1)], Err(Refusal::NotFormatted)),
-    (&[(200, 1)], Err(Refusal::NotFormatted)),
-    (&[(511, 0x80)], Err(Refusal::NotFormatted)),
-    (&[(0, 0), (1, 0)], Err(Refusal::NotFormatted)),
-    (&[], Ok(3)),
-    (&[(20, 0)], Ok(3)),
-    (&[(8, 3)], Ok(3)),
-    (&[(15, 0x80)], Ok(3)),
-    (&[(24, 128)], Ok(3)),
-    (&[(34, 16), (32, 0)], Ok(3)),
-    (&[(40, 0)], Ok(0)),
-    (&[(36, 9)], Err(Refusal::Mismatch)),
-    (&[(39, 0xff)], Err(Refusal::Mismatch)),
-    (&[(40, 7)], Err(Refusal::Damaged(Place(7)))),
+/// Bytes of a sector that are others.
+type Bytes = &'static [(usize, u8)];
+
+/// A sector, which of its bytes are others in a row each, and what is then read.
+type Group = (u64, &'static [Bytes], Result<usize, Refusal>);
+
+const OTHER_FORMATS: [Bytes; 8] = [
+    &[(0, 0x77)],
+    &[(7, 0x32)],
+    &[(8, 2)],
+    &[(16, 0)],
+    &[(16, 2)],
+    &[(19, 1)],
+    &[(20, 2)],
+    &[(23, 1)],
 ];
 
-/// Which bytes of the top node are others, and what is then read: a node out of its ranges is the first fault, one in them
-/// is read.
-const TOPS: [(&[(usize, u8)], Result<usize, Refusal>); 27] = [
-    (&[(0, 0x52)], Err(Refusal::Damaged(Place(4)))),
-    (&[(7, 0x30)], Err(Refusal::Damaged(Place(4)))),
-    (&[(8, 2)], Err(Refusal::Damaged(Place(4)))),
-    (&[(15, 1)], Err(Refusal::Damaged(Place(4)))),
-    (&[(16, 0)], Err(Refusal::Damaged(Place(4)))),
-    (&[(16, 1)], Err(Refusal::Damaged(Place(4)))),
-    (&[(16, 3)], Err(Refusal::Damaged(Place(4)))),
-    (&[(16, 5)], Err(Refusal::Damaged(Place(4)))),
-    (&[(19, 1)], Err(Refusal::Damaged(Place(4)))),
-    (&[(20, 1)], Err(Refusal::Damaged(Place(4)))),
-    (&[(24, 1)], Err(Refusal::Damaged(Place(4)))),
-    (&[(31, 1)], Err(Refusal::Damaged(Place(4)))),
-    (&[(288, 1)], Err(Refusal::Damaged(Place(4)))),
-    (&[(511, 1)], Err(Refusal::Damaged(Place(4)))),
-    (&[(32, 1)], Err(Refusal::Damaged(Place(4)))),
-    (&[(36, 1)], Err(Refusal::Damaged(Place(4)))),
-    (&[(40, 2)], Err(Refusal::Damaged(Place(4)))),
-    (&[(40, 4)], Err(Refusal::Damaged(Place(4)))),
-    (&[(40, 8)], Err(Refusal::Damaged(Place(4)))),
-    (&[(43, 1)], Err(Refusal::Damaged(Place(4)))),
-    (&[(48, 5)], Err(Refusal::Damaged(Place(4)))),
-    (&[(40, 5)], Err(Refusal::Damaged(Place(5)))),
-    (&[(32, 3)], Err(Refusal::Damaged(Place(3)))),
-    (&[(32, 1), (40, 2)], Err(Refusal::Damaged(Place(4)))),
-    (&[(8, 0)], Ok(3)),
-    (&[(40, 0)], Ok(2)),
-    (&[(32, 0), (40, 0)], Ok(1)),
+const NO_GEOMETRIES: [Bytes; 11] = [
+    &[(24, 0)],
+    &[(24, 65)],
+    &[(24, 32)],
+    &[(27, 1)],
+    &[(28, 0)],
+    &[(30, 16)],
+    &[(28, 97)],
+    &[(32, 0)],
+    &[(32, 1), (34, 16)],
+    &[(36, 7)],
+    &[(36, 0)],
 ];
 
-/// A leaf or the sector without a root, which of its bytes are others, and what is then read.
-const LEAVES: [(u64, &[(usize, u8)], Result<usize, Refusal>); 19] = [
-    (3, &[(8, 2)], Err(Refusal::Damaged(Place(3)))),
-    (3, &[(16, 2)], Err(Refusal::Damaged(Place(3)))),
-    (3, &[(20, 0)], Err(Refusal::Damaged(Place(3)))),
-    (3, &[(96, 1)], Err(Refusal::Damaged(Place(3)))),
-    (3, &[(40, 5)], Err(Refusal::Damaged(Place(3)))),
-    (3, &[(40, 9)], Err(Refusal::Damaged(Place(3)))),
-    (3, &[(41, 2)], Err(Refusal::Damaged(Place(3)))),
-    (3, &[(45, 1)], Err(Refusal::Damaged(Place(3)))),
-    (3, &[(40, 0x11), (41, 1)], Err(Refusal::Damaged(Place(3)))),
-    (3, &[(42, 40)], Err(Refusal::Damaged(Place(3)))),
-    (3, &[(42, 0)], Err(Refusal::Damaged(Place(3)))),
-    (3, &[(48, 1), (50, 7)], Err(Refusal::Damaged(Place(3)))),
-    (2, &[(0, 0)], Err(Refusal::Damaged(Place(2)))),
-    (2, &[(32, 2)], Err(Refusal::Damaged(Place(2)))),
-    (3, &[(40, 0), (42, 0)], Ok(3)),
-    (3, &[(40, 3)], Ok(3)),
-    (3, &[(40, 1), (41, 1)], Ok(3)),
-    (3, &[(42, 39)], Ok(3)),
-    (0, &[(0, 1)], Ok(3)),
+const NO_TOPS: [Bytes; 7] = [
+    &[(40, 1)],
+    &[(40, 8)],
+    &[(43, 1)],
+    &[(44, 1)],
+    &[(200, 1)],
+    &[(511, 0x80)],
+    &[(0, 0), (1, 0)],
 ];
+
+const OTHER_ROOTS: [Bytes; 6] = [
+    &[],
+    &[(20, 0)],
+    &[(8, 3)],
+    &[(15, 0x80)],
+    &[(24, 128)],
+    &[(34, 16), (32, 0)],
+];
+
+/// A root out of its ranges is none, one in them is read.
+const ROOTS: [Group; 7] = [
+    (1, &OTHER_FORMATS, Err(Refusal::NotFormatted)),
+    (1, &NO_GEOMETRIES, Err(Refusal::NotFormatted)),
+    (1, &NO_TOPS, Err(Refusal::NotFormatted)),
+    (1, &OTHER_ROOTS, Ok(3)),
+    (1, &[&[(40, 0)]], Ok(0)),
+    (1, &[&[(36, 9)], &[(39, 0xff)]], Err(Refusal::Mismatch)),
+    (1, &[&[(40, 7)]], Err(Refusal::Damaged(Place(7)))),
+];
+
+const NO_NODES: [Bytes; 10] = [
+    &[(0, 0x52)],
+    &[(7, 0x30)],
+    &[(8, 2)],
+    &[(15, 1)],
+    &[(16, 0)],
+    &[(16, 1)],
+    &[(16, 3)],
+    &[(16, 5)],
+    &[(19, 1)],
+    &[(20, 1)],
+];
+
+const NO_CHILDREN: [Bytes; 12] = [
+    &[(24, 1)],
+    &[(31, 1)],
+    &[(288, 1)],
+    &[(511, 1)],
+    &[(32, 1)],
+    &[(36, 1)],
+    &[(40, 2)],
+    &[(40, 4)],
+    &[(40, 8)],
+    &[(43, 1)],
+    &[(48, 5)],
+    &[(32, 1), (40, 2)],
+];
+
+/// A node out of its ranges is the first fault, one in them is read.
+const TOPS: [Group; 7] = [
+    (4, &NO_NODES, Err(Refusal::Damaged(Place(4)))),
+    (4, &NO_CHILDREN, Err(Refusal::Damaged(Place(4)))),
+    (4, &[&[(40, 5)]], Err(Refusal::Damaged(Place(5)))),
+    (4, &[&[(32, 3)]], Err(Refusal::Damaged(Place(3)))),
+    (4, &[&[(8, 0)]], Ok(3)),
+    (4, &[&[(40, 0)]], Ok(2)),
+    (4, &[&[(32, 0), (40, 0)]], Ok(1)),
+];
+
+const NO_LEAVES: [Bytes; 12] = [
+    &[(8, 2)],
+    &[(16, 2)],
+    &[(20, 0)],
+    &[(96, 1)],
+    &[(40, 5)],
+    &[(40, 9)],
+    &[(41, 2)],
+    &[(45, 1)],
+    &[(40, 0x11), (41, 1)],
+    &[(42, 40)],
+    &[(42, 0)],
+    &[(48, 1), (50, 7)],
+];
+
+const OTHER_LEAVES: [Bytes; 4] = [
+    &[(40, 0), (42, 0)],
+    &[(40, 3)],
+    &[(40, 1), (41, 1)],
+    &[(42, 39)],
+];
+
+/// The leaves, and the sector without a root, which may hold anything.
+const LEAVES: [Group; 4] = [
+    (3, &NO_LEAVES, Err(Refusal::Damaged(Place(3)))),
+    (3, &OTHER_LEAVES, Ok(3)),
+    (2, &[&[(0, 0)], &[(32, 2)]], Err(Refusal::Damaged(Place(2)))),
+    (0, &[&[(0, 1)]], Ok(3)),
+];
+
+/// The number of the first row of a group that is read otherwise.
+fn first_wrong(alloc: Global, group: &Group) -> Option<usize> {
+    let (place, rows, answer) = group;
+    for (number, bytes) in rows.iter().enumerate() {
+        if read(alloc, *place, bytes) != *answer {
+            return Some(number);
+        }
+    }
+    None
+}
+
+/// Compares what is read of each row of each group.
+fn compare(rt: &impl Abort, alloc: Global, groups: &[Group]) {
+    for (number, group) in groups.iter().enumerate() {
+        let wrong = first_wrong(alloc, group);
+        assert!(rt; wrong.is_none(), "group {number}, row {wrong:?}");
+    }
+}
 
 #[test]
 fn bytes_of_a_root_out_of_their_ranges_are_refused_and_others_read(rt: HostRuntime) {
-    for (bytes, answer) in ROOTS {
-        assert!(rt; read(rt.alloc(), 1, bytes) == answer, "{bytes:?}");
-    }
+    compare(&rt, rt.alloc(), &ROOTS);
 }
 
 #[test]
 fn bytes_of_the_top_out_of_their_ranges_are_refused_and_others_read(rt: HostRuntime) {
-    for (bytes, answer) in TOPS {
-        assert!(rt; read(rt.alloc(), 4, bytes) == answer, "{bytes:?}");
-    }
+    compare(&rt, rt.alloc(), &TOPS);
 }
 
 #[test]
 fn bytes_of_leaves_out_of_their_ranges_are_refused_and_others_read(rt: HostRuntime) {
-    for (place, bytes, answer) in LEAVES {
-        assert!(rt;
-            read(rt.alloc(), place, bytes) == answer,
-            "{place} {bytes:?}"
-        );
-    }
+    compare(&rt, rt.alloc(), &LEAVES);
 }

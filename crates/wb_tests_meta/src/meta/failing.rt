@@ -107,21 +107,30 @@ fn a_failed_read_is_the_last(rt: HostRuntime) -> Result<(), Fail> {
     Ok(())
 }
 
+/// Whether a device is formatted: its mapping is empty and clean, of the first generation.
+fn is_formatted(alloc: Global, disk: &mut FailingDisk) -> bool {
+    match read_state(alloc, alloc, disk) {
+        Ok(state) => state.root.generation == 0 && state.root.clean && state.used.len() == 0,
+        Err(_) => false,
+    }
+}
+
+/// Whether a formatting ends at the step that fails, and is done when it is repeated.
+fn is_repeated(alloc: Global, disk: &mut FailingDisk, geometry: &Geometry) -> bool {
+    format(disk, geometry) == Err(Refusal::Io(Dev::Metadata))
+        && disk.steps == disk.fails_at
+        && format(disk, geometry).is_ok()
+        && is_formatted(alloc, disk)
+}
+
 #[test]
 fn a_formatting_that_failed_is_repeated(rt: HostRuntime) -> Result<(), Fail> {
     let geometry = Geometry::new(64, 4, 10, 4)?;
     for fails_at in 1..6 {
         let mut disk = FailingDisk::new(MemDisk::new(rt.alloc(), 4)?, fails_at);
-        let refused = Err(Refusal::Io(Dev::Metadata));
-        assert!(rt; format(&mut disk, &geometry) == refused);
-        assert_eq!(rt; disk.steps, fails_at);
-        format(&mut disk, &geometry)?;
-        let state = read_state(rt.alloc(), rt.alloc(), &mut disk)?;
-        assert!(rt; state.root.generation == 0 && state.root.clean);
-        assert_eq!(rt; state.used.len(), 0);
+        assert!(rt; is_repeated(rt.alloc(), &mut disk, &geometry));
     }
     let mut disk = FailingDisk::new(MemDisk::new(rt.alloc(), 4)?, 6);
-    assert!(rt; format(&mut disk, &geometry).is_ok());
-    assert_eq!(rt; disk.steps, 5);
+    assert!(rt; format(&mut disk, &geometry).is_ok() && disk.steps == 5);
     Ok(())
 }

@@ -2,9 +2,9 @@
 
 use super::{LEAF, formatted, one_node_fits, put, sector_of};
 use std::alloc::Global;
-use std::process::Abort;
 use std::test::Fail;
 use wb_disk::MemDisk;
+use wb_format::Root;
 use wb_meta::{ReadSteps, commit, read_state};
 use wb_types::{Content, Place, Refusal};
 
@@ -35,25 +35,42 @@ fn leaf_sector(generation: u8) -> Content {
     content
 }
 
+/// Whether a reading has this sector next, and whether its root is known.
+fn is_at(steps: &ReadSteps<Global>, sector: u64, is_known: bool) -> bool {
+    steps.coming() == Some(sector) && steps.root().is_some() == is_known && !steps.is_done()
+}
+
+/// Whether the sectors of a device are read in this order, each beside whether the root is known before it, and this root is
+/// found.
+fn is_read_by(
+    alloc: Global,
+    disk: &mut MemDisk,
+    sectors: &[(u64, bool)],
+    root: &Root,
+) -> Result<bool, Refusal> {
+    let mut steps = ReadSteps::new(alloc, alloc);
+    for (sector, is_known) in sectors {
+        if !is_at(&steps, *sector, *is_known) {
+            return Ok(false);
+        }
+        steps = steps.next(disk)?;
+    }
+    if steps.coming().is_some() || !steps.is_done() {
+        return Ok(false);
+    }
+    match steps.next(disk)? {
+        ReadSteps::Done(state) => Ok(state.root == *root),
+        _ => Ok(false),
+    }
+}
+
 #[test]
 fn a_device_of_one_node_is_read_in_three_steps(rt: HostRuntime) -> Result<(), Fail> {
-    let alloc = rt.alloc();
-    let (mut disk, image) = formatted(&rt)?;
+    let (mut disk, image) = formatted(rt.alloc())?;
     assert!(rt; one_node_fits(&disk, &image));
     commit(&mut disk, &image)?;
-    let mut steps = ReadSteps::new(alloc, alloc);
-    for (sector, is_known) in [(0u64, false), (1, false), (2, true)] {
-        assert!(rt; steps.coming() == Some(sector));
-        assert_eq!(rt; steps.root().is_some(), is_known);
-        assert!(rt; !steps.is_done());
-        steps = steps.next(&mut disk)?;
-    }
-    assert!(rt; steps.coming().is_none());
-    assert!(rt; steps.is_done());
-    match steps.next(&mut disk)? {
-        ReadSteps::Done(state) => assert!(rt; state.root == image.root),
-        _ => assert!(rt; false),
-    }
+    let sectors = [(0, false), (1, false), (2, true)];
+    assert!(rt; is_read_by(rt.alloc(), &mut disk, &sectors, &image.root)?);
     Ok(())
 }
 
@@ -74,30 +91,52 @@ fn read_roots(
     read(alloc, &mut disk)
 }
 
+/// The generations of the roots in both slots, and what is then read.
+type Row = (Option<u8>, Option<u8>, Result<(u64, usize), Refusal>);
+
+const OF_ITS_SIZE: [Row; 8] = [
+    (Some(0), None, Ok((0, 0))),
+    (None, Some(1), Ok((1, 0))),
+    (Some(0), Some(1), Ok((1, 0))),
+    (Some(2), Some(1), Ok((2, 0))),
+    (Some(2), Some(3), Ok((3, 0))),
+    (Some(8), Some(3), Ok((8, 0))),
+    (Some(9), Some(3), Ok((3, 0))),
+    (Some(2), Some(8), Ok((2, 0))),
+];
+
+const WITHOUT_A_ROOT: [Row; 4] = [
+    (Some(1), Some(2), Err(Refusal::NotFormatted)),
+    (Some(1), None, Err(Refusal::NotFormatted)),
+    (None, Some(0), Err(Refusal::NotFormatted)),
+    (None, None, Err(Refusal::NotFormatted)),
+];
+
+const OF_ANOTHER_SIZE: [(u64, Row); 7] = [
+    (5, (Some(0), Some(1), Err(Refusal::Mismatch))),
+    (3, (Some(0), Some(1), Err(Refusal::Mismatch))),
+    (2, (None, Some(1), Err(Refusal::Mismatch))),
+    (1, (Some(0), None, Err(Refusal::Mismatch))),
+    (1, (Some(1), None, Err(Refusal::NotFormatted))),
+    (5, (None, None, Err(Refusal::NotFormatted))),
+    (0, (None, None, Err(Refusal::NotFormatted))),
+];
+
+fn are_read(alloc: Global, rows: &[Row]) -> bool {
+    for (first, second, newest) in rows {
+        if read_roots(alloc, 4, *first, *second) != *newest {
+            return false;
+        }
+    }
+    true
+}
+
 #[test]
 fn the_newest_root_in_its_slot_counts_where_it_has_the_size(rt: HostRuntime) {
-    for (sectors, first, second, newest) in [
-        (4, Some(0), None, Ok((0, 0))),
-        (4, None, Some(1), Ok((1, 0))),
-        (4, Some(0), Some(1), Ok((1, 0))),
-        (4, Some(2), Some(1), Ok((2, 0))),
-        (4, Some(2), Some(3), Ok((3, 0))),
-        (4, Some(8), Some(3), Ok((8, 0))),
-        (4, Some(9), Some(3), Ok((3, 0))),
-        (4, Some(2), Some(8), Ok((2, 0))),
-        (4, Some(1), Some(2), Err(Refusal::NotFormatted)),
-        (4, Some(1), None, Err(Refusal::NotFormatted)),
-        (4, None, Some(0), Err(Refusal::NotFormatted)),
-        (4, None, None, Err(Refusal::NotFormatted)),
-        (5, Some(0), Some(1), Err(Refusal::Mismatch)),
-        (3, Some(0), Some(1), Err(Refusal::Mismatch)),
-        (2, None, Some(1), Err(Refusal::Mismatch)),
-        (1, Some(0), None, Err(Refusal::Mismatch)),
-        (1, Some(1), None, Err(Refusal::NotFormatted)),
-        (5, None, None, Err(Refusal::NotFormatted)),
-        (0, None, None, Err(Refusal::NotFormatted)),
-    ] {
-        assert_eq!(rt; read_roots(rt.alloc(), sectors, first, second), newest);
+    assert!(rt; are_read(rt.alloc(), &OF_ITS_SIZE));
+    assert!(rt; are_read(rt.alloc(), &WITHOUT_A_ROOT));
+    for (sectors, (first, second, newest)) in OF_ANOTHER_SIZE {
+        assert!(rt; read_roots(rt.alloc(), sectors, first, second) == newest);
     }
 }
 
@@ -130,9 +169,8 @@ fn the_older_root_is_not_taken_for_a_newer_one_with_a_damaged_tree(rt: HostRunti
         (0, 0, Ok((1, 1))),
         (0, 44, Ok((1, 1))),
     ] {
-        assert_eq!(rt;
-            read_two(rt.alloc(), damaged, offset),
-            answer,
+        assert!(rt;
+            read_two(rt.alloc(), damaged, offset) == answer,
             "{damaged} {offset}"
         );
     }

@@ -1,6 +1,8 @@
 //! The tree beside a plain list, through edits, images and readings, and in regions of fixed size.
 
-ghost use Rattle.std.specs.Prelude.{◌≡◌, ◌≤◌, ◌<◌, IfOk, length};
+ghost use Rattle.std.specs.Prelude.{◌≡◌, ◌≤◌, ◌<◌, IfOk, OnOk, length};
+ghost use Rattle.wb_tree.specs.Mapping.{AreInside};
+ghost use Rattle.wb_trial.specs.Own.{AreOwn};
 
 use super::*;
 use linked_list_allocator::LocalHeap;
@@ -73,8 +75,118 @@ fn reread(global: Global, root: &Root, sectors: &[Option<Node>]) -> Result<Tree<
     Err(Refusal::Busy)
 }
 
-/// Whether pseudo-random edits, with an image after every so many, leave in a tree what they leave in a list, and in
-/// the tree that is read back; and whether each image writes the nodes that changed, and no others.
+/// So many pseudo-random edits at a time.
+#[derive(Clone, Copy)]
+struct Edits {
+    state: u32,
+    count: u32,
+}
+
+/// Edits a tree and a list, and marks each block that this changed.
+fn edit(
+    tree: &mut Tree<Global>,
+    geometry: &Geometry,
+    hints: &mut [Option<u8>],
+    changed: &mut [bool],
+    edits: &mut Edits,
+) -> Result<(), Refusal>
+    requires size { length tree.old.entries ≡ geometry.now.cache_blocks }
+    requires some { 1 ≤ geometry.now.cache_blocks }
+    requires hints { length hints.old ≡ geometry.now.cache_blocks }
+    requires changed { length changed.old ≡ geometry.now.cache_blocks }
+    requires own { AreOwn tree.old.entries }
+    requires inside { AreInside geometry.now.meta_sectors tree.old }
+    ensures size { OnOk result (length tree.new.entries ≡ geometry.now.cache_blocks) }
+    ensures hints { OnOk result (length hints.new ≡ geometry.now.cache_blocks) }
+    ensures changed { OnOk result (length changed.new ≡ geometry.now.cache_blocks) }
+    ensures own { OnOk result (AreOwn tree.new.entries) }
+    ensures inside { OnOk result (AreInside geometry.now.meta_sectors tree.new) }
+{
+    let mut state = edits.state;
+    for _ in 0..edits.count {
+        state = state.wrapping_mul(1_664_525).wrapping_add(1_013_904_223);
+        let block = (state >> 8) % 97 * 1031 % geometry.cache_blocks;
+        let at = block as usize;
+        let hint = hint_by(state);
+        change(tree, block, hint)?;
+        changed[at] = changed[at] || hint != hints[at];
+        hints[at] = hint;
+    }
+    edits.state = state;
+    Ok(())
+}
+
+/// Writes the nodes of an image to their sectors.
+fn store(sectors: &mut [Option<Node>], image: &Image) {
+    for (Place(place), node) in image.nodes.iter() {
+        if (*place as usize) < sectors.len() {
+            sectors[*place as usize] = Some(*node);
+        }
+    }
+}
+
+/// Edits, an image and its reading: whether the tree is then what the list is, and so is the one that is read back, and
+/// whether the image writes the nodes that changed, and no others.
+fn agree_once(
+    global: Global,
+    tree: &mut Tree<Global>,
+    geometry: &Geometry,
+    hints: &mut [Option<u8>],
+    sectors: &mut [Option<Node>],
+    round: u32,
+    edits: &mut Edits,
+) -> Result<bool, Refusal>
+    requires size { length tree.old.entries ≡ geometry.now.cache_blocks }
+    requires some { 1 ≤ geometry.now.cache_blocks }
+    requires few { geometry.now.cache_blocks ≤ 1048576 }
+    requires origin { geometry.now.cache_blocks ≤ geometry.now.origin_blocks }
+    requires hints { length hints.old ≡ geometry.now.cache_blocks }
+    requires own { AreOwn tree.old.entries }
+    requires inside { AreInside geometry.now.meta_sectors tree.old }
+    requires round { round < 6 }
+    ensures size { OnOk result (length tree.new.entries ≡ geometry.now.cache_blocks) }
+    ensures hints { OnOk result (length hints.new ≡ geometry.now.cache_blocks) }
+    ensures own { OnOk result (AreOwn tree.new.entries) }
+    ensures inside { OnOk result (AreInside geometry.now.meta_sectors tree.new) }
+{
+    let mut changed = Vec::new(global);
+    changed.resize(hints.len(), false)?;
+    edit(tree, geometry, hints, &mut changed, edits)?;
+    let count = count_changed(hints, &changed, geometry.depth());
+    let generation = u64::from(round) + 1;
+    let image = plan_at(global, tree, geometry, generation, 2 + PLACES * round)?;
+    store(sectors, &image);
+    let again = reread(global, &image.root, sectors)?;
+    Ok(image.nodes.len() == count && holds(tree, hints) && holds(&again, hints))
+}
+
+/// The same round after round.
+fn agree_over(
+    global: Global,
+    tree: &mut Tree<Global>,
+    geometry: &Geometry,
+    hints: &mut [Option<u8>],
+    sectors: &mut [Option<Node>],
+    count: u32,
+) -> Result<bool, Refusal>
+    requires size { length tree.old.entries ≡ geometry.now.cache_blocks }
+    requires some { 1 ≤ geometry.now.cache_blocks }
+    requires few { geometry.now.cache_blocks ≤ 1048576 }
+    requires origin { geometry.now.cache_blocks ≤ geometry.now.origin_blocks }
+    requires hints { length hints.old ≡ geometry.now.cache_blocks }
+    requires own { AreOwn tree.old.entries }
+    requires inside { AreInside geometry.now.meta_sectors tree.old }
+{
+    let mut edits = Edits { state: 1, count };
+    for round in 0..6 {
+        if !agree_once(global, tree, geometry, hints, sectors, round, &mut edits)? {
+            return Ok(false);
+        }
+    }
+    Ok(true)
+}
+
+/// Whether a tree and a list of so many cache blocks agree through rounds of so many edits.
 fn agree(global: Global, cache_blocks: u32, edits: u32) -> Result<bool, Refusal> {
     let blocks = u64::from(cache_blocks);
     let geometry = Geometry::new(64, blocks, blocks, SECTORS as u64)?;
@@ -83,34 +195,14 @@ fn agree(global: Global, cache_blocks: u32, edits: u32) -> Result<bool, Refusal>
     let mut sectors = Vec::new(global);
     sectors.resize(SECTORS, None)?;
     let mut tree = Tree::new(global, cache_blocks);
-    let mut state: u32 = 1;
-    for round in 0..6 {
-        let mut changed = Vec::new(global);
-        changed.resize(cache_blocks as usize, false)?;
-        for _ in 0..edits {
-            state = state.wrapping_mul(1_664_525).wrapping_add(1_013_904_223);
-            let block = (state >> 8) % 97 * 1031 % cache_blocks;
-            let at = block as usize;
-            let hint = hint_by(state);
-            change(&mut tree, block, hint)?;
-            changed[at] = changed[at] || hint != hints[at];
-            hints[at] = hint;
-        }
-        let count = count_changed(&hints, &changed, geometry.depth());
-        let first = 2 + PLACES * round;
-        let generation = u64::from(round) + 1;
-        let image = plan_at(global, &mut tree, &geometry, generation, first)?;
-        for (Place(place), node) in image.nodes.iter() {
-            if (*place as usize) < sectors.len() {
-                sectors[*place as usize] = Some(*node);
-            }
-        }
-        let again = reread(global, &image.root, &sectors)?;
-        if image.nodes.len() != count || !holds(&tree, &hints) || !holds(&again, &hints) {
-            return Ok(false);
-        }
-    }
-    Ok(true)
+    agree_over(
+        global,
+        &mut tree,
+        &geometry,
+        &mut hints,
+        &mut sectors,
+        edits,
+    )
 }
 
 /// A hint, or none for two of five numbers.

@@ -3,21 +3,36 @@
 use super::*;
 use wb_trial::{change, plan_at};
 
+/// Whether this is the first leaf with the entry of cache block 0.
+fn is_first_leaf(place: Place, leaf: &Node) -> bool {
+    place == Place(2)
+        && (leaf.generation, leaf.level, leaf.index) == (1, 1, 0)
+        && (leaf.words[0], leaf.words[1]) == (1, 0)
+}
+
+/// Whether an image is of the first leaf alone.
+fn is_leaf_alone(image: &Image) -> bool {
+    for (place, leaf) in image.nodes.iter() {
+        if !is_first_leaf(*place, leaf) {
+            return false;
+        }
+    }
+    image.nodes.len() == 1 && image.root.generation == 1 && image.root.top == Some(Place(2))
+}
+
+/// Whether the image of a tree of one entry is of its leaf alone, which stands there from then on.
+fn plans_a_leaf(alloc: Global) -> Result<bool, Refusal> {
+    let geometry = Geometry::new(64, 4, 10, 4)?;
+    let mut tree = Tree::new(alloc, 4);
+    change(&mut tree, 0, Some(0))?;
+    let image = plan_at(alloc, &mut tree, &geometry, 1, 2)?;
+    let places = tree.places(alloc)?;
+    Ok(is_leaf_alone(&image) && places.as_slice() == [Place(2)].as_slice())
+}
+
 #[test]
 fn a_leaf_alone_is_planned(rt: HostRuntime) -> Result<(), Fail> {
-    let geometry = Geometry::new(64, 4, 10, 4)?;
-    let mut tree = Tree::new(rt.alloc(), 4);
-    change(&mut tree, 0, Some(0))?;
-    let image = plan_at(rt.alloc(), &mut tree, &geometry, 1, 2)?;
-    assert_eq!(rt; image.root.generation, 1);
-    assert!(rt; image.root.top == Some(Place(2)));
-    assert!(rt; tree.places(rt.alloc())?.as_slice() == [Place(2)].as_slice());
-    assert_eq!(rt; image.nodes.len(), 1);
-    for (place, leaf) in image.nodes.iter() {
-        assert_eq!(rt; place.0, 2);
-        assert!(rt; (leaf.generation, leaf.level, leaf.index) == (1, 1, 0));
-        assert!(rt; (leaf.words[0], leaf.words[1]) == (1, 0));
-    }
+    assert!(rt; plans_a_leaf(rt.alloc())?);
     Ok(())
 }
 
@@ -90,19 +105,32 @@ fn is_as(image: &Image, row: &Row) -> bool {
     image.nodes.len() == row.written && top == row.top
 }
 
-#[test]
-fn an_image_writes_the_nodes_that_changed(rt: HostRuntime) -> Result<(), Fail> {
+/// Whether the images of a tree, one after the other, are what these rows say.
+fn come_out(alloc: Global, rows: &[Row]) -> Result<bool, Refusal> {
     let geometry = Geometry::new(64, 40, 40, 8)?;
-    let mut tree = Tree::new(rt.alloc(), 40);
-    for row in ROWS {
+    let mut tree = Tree::new(alloc, 40);
+    for row in rows {
+        if row.first < 2 {
+            return Ok(false);
+        }
         change(&mut tree, 0, row.hints.0)?;
         change(&mut tree, 33, row.hints.1)?;
-        assert!(rt; tree.changed_nodes() as usize == row.written);
-        let image = plan_at(rt.alloc(), &mut tree, &geometry, 1, row.first)?;
-        assert!(rt; is_as(&image, &row));
-        assert_eq!(rt; tree.known_nodes() as usize, row.used);
-        assert_eq!(rt; tree.places(rt.alloc())?.len(), row.used);
+        let changed = tree.changed_nodes() as usize;
+        let image = plan_at(alloc, &mut tree, &geometry, 1, row.first)?;
+        let used = tree.places(alloc)?.len();
+        if changed != row.written || used != row.used || !is_as(&image, row) {
+            return Ok(false);
+        }
+        if tree.known_nodes() as usize != row.used {
+            return Ok(false);
+        }
     }
+    Ok(true)
+}
+
+#[test]
+fn an_image_writes_the_nodes_that_changed(rt: HostRuntime) -> Result<(), Fail> {
+    assert!(rt; come_out(rt.alloc(), &ROWS)?);
     Ok(())
 }
 

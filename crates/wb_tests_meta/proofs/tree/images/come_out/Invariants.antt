@@ -1,10 +1,10 @@
 use Rattle.std.proofs.Common.{◌≡◌, length}
 use Rattle.wb_tree.specs.Mapping.{AreInside}
 use Rattle.wb_trial.specs.Own.{AreOwn}
-use Rattle.wb_tests_meta.proofs.tree.images.an_image_writes_the_nodes_that_changed.Given as goal
+use Rattle.wb_tests_meta.proofs.tree.images.come_out.Given as goal
 
 abbrev pub invariant-loop-row : goal.invariant-loop-row
-invariant-loop-row g l = record {
+invariant-loop-row l = record {
   size : length l.tree.entries ≡ 40;
   own : AreOwn l.tree.entries;
   inside : AreInside l.geometry.meta_sectors l.tree;
