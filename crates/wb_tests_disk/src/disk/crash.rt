@@ -1,24 +1,18 @@
 //! Crashes by each kind of choice.
 
-use super::{got, put};
-use std::process::Abort;
+use super::{Step, are_done, got};
+use std::alloc::{AllocError, Global};
 use std::test::Fail;
-use wb_disk::{Base, CrashChoice, Disk, MemDisk, NamedContent};
-use wb_types::Dev;
+use wb_disk::{Base, CrashChoice, MemDisk, NamedContent};
+use wb_types::{Dev, Refusal};
 
-// Sector 1 of a cache device was synced with 2, and then written with 3 and with 4. Sector 0 was never written.
-fn sector_after(
-    rt: &(impl Abort + AllocGlobal),
+/// A choice that names these sectors of devices, each by a position.
+fn choice_of(
+    alloc: Global,
     base: Base,
     named: &[(Dev, u64, u64)],
-) -> Result<(bool, Option<u8>), Fail> {
-    let mut disk = MemDisk::new(rt.alloc(), 2)?;
-    assert!(rt; put(&mut disk, 1, 1) == Ok(()));
-    assert!(rt; put(&mut disk, 1, 2) == Ok(()));
-    assert!(rt; disk.sync() == Ok(()));
-    assert!(rt; put(&mut disk, 1, 3) == Ok(()));
-    assert!(rt; put(&mut disk, 1, 4) == Ok(()));
-    let mut names = Vec::new(rt.alloc());
+) -> Result<CrashChoice, AllocError> {
+    let mut names = Vec::new(alloc);
     for (device, sector, position) in named {
         names.push(NamedContent {
             device: *device,
@@ -26,93 +20,152 @@ fn sector_after(
             position: *position,
         })?;
     }
-    let choice = CrashChoice::new(base, names);
-    let applies = disk.applies(Dev::Cache, &choice);
-    assert!(rt; got(&mut disk, 1) == Ok(4));
-    assert!(rt; disk.stop(Dev::Cache, &choice) == applies);
-    assert!(rt; got(&mut disk, 0) == Ok(0));
-    let kept = got(&mut disk, 1);
+    Ok(CrashChoice::new(base, names))
+}
 
-    // What the crash left is durable, and nothing else is there any more.
-    if applies {
-        for again in [Base::Durable, Base::Newest] {
-            let choice = CrashChoice::new(again, Vec::new(rt.alloc()));
-            assert!(rt; disk.stop(Dev::Cache, &choice));
-            assert!(rt; got(&mut disk, 1) == kept);
+/// Sector 1 was synced with 2, and then written with 3 and with 4. Sector 0 was never written.
+const WRITTEN: [Step; 6] = [
+    Step::Put(1, 1),
+    Step::Put(1, 2),
+    Step::Synced,
+    Step::Put(1, 3),
+    Step::Put(1, 4),
+    Step::Got(1, 4),
+];
+
+/// Whether what a crash left is durable, and nothing else is there any more.
+fn stays(alloc: Global, disk: &mut MemDisk, kept: Option<u8>) -> bool {
+    for base in [Base::Durable, Base::Newest] {
+        let again = CrashChoice::new(base, Vec::new(alloc));
+        if !disk.stop(Dev::Cache, &again) || got(disk, 1).ok() != kept {
+            return false;
         }
     }
-    Ok((applies, kept.ok()))
+    true
+}
+
+/// Whether a choice applies to a cache device that was written so, and what sector 1 holds after a crash by it; none where the crash
+/// goes otherwise than the choice applies, or does not last.
+fn after_crash(
+    alloc: Global,
+    disk: &mut MemDisk,
+    choice: &CrashChoice,
+) -> Option<(bool, Option<u8>)> {
+    let applies = disk.applies(Dev::Cache, choice);
+    if disk.stop(Dev::Cache, choice) != applies || got(disk, 0) != Ok(0) {
+        return None;
+    }
+    let kept = got(disk, 1).ok();
+    (!applies || stays(alloc, disk, kept)).then_some((applies, kept))
+}
+
+fn sector_after(
+    alloc: Global,
+    base: Base,
+    named: &[(Dev, u64, u64)],
+) -> Result<Option<(bool, Option<u8>)>, Refusal> {
+    let choice = choice_of(alloc, base, named)?;
+    let mut disk = MemDisk::new(alloc, 2)?;
+    if !are_done(&mut disk, &WRITTEN) {
+        return Ok(None);
+    }
+    Ok(after_crash(alloc, &mut disk, &choice))
+}
+
+/// The base of a choice, the sectors that it names, whether it applies, and what sector 1 then holds.
+type Row = (Base, &'static [(Dev, u64, u64)], bool, u8);
+
+const BY_NAMES: [Row; 6] = [
+    (Base::Durable, &[], true, 2),
+    (Base::Newest, &[], true, 4),
+    (Base::Durable, &[(Dev::Cache, 1, 1)], true, 3),
+    (
+        Base::Newest,
+        &[(Dev::Cache, 0, 0), (Dev::Cache, 1, 0)],
+        true,
+        2,
+    ),
+    (
+        Base::Durable,
+        &[(Dev::Cache, 1, 1), (Dev::Cache, 1, 2)],
+        true,
+        4,
+    ),
+    (
+        Base::Durable,
+        &[(Dev::Cache, 1, 3), (Dev::Cache, 1, 1)],
+        true,
+        3,
+    ),
+];
+
+/// Names of other devices are of no account to this one.
+const BY_OTHER_NAMES: [Row; 6] = [
+    (
+        Base::Newest,
+        &[(Dev::Cache, 1, 1), (Dev::Cache, 1, 3)],
+        false,
+        4,
+    ),
+    (Base::Newest, &[(Dev::Cache, 0, 1)], false, 4),
+    (
+        Base::Newest,
+        &[(Dev::Cache, 2, 0), (Dev::Cache, 1, 1)],
+        false,
+        4,
+    ),
+    (Base::Durable, &[(Dev::Origin, 1, 1)], true, 2),
+    (
+        Base::Newest,
+        &[(Dev::Cache, 1, 1), (Dev::Metadata, 1, 0)],
+        true,
+        3,
+    ),
+    (
+        Base::Newest,
+        &[(Dev::Origin, 2, 0), (Dev::Metadata, 0, 9)],
+        true,
+        4,
+    ),
+];
+
+/// Whether each choice leaves what its row says.
+fn leave(alloc: Global, rows: &[Row]) -> Result<bool, Refusal> {
+    for (base, named, applies, kept) in rows {
+        if sector_after(alloc, *base, named)? != Some((*applies, Some(*kept))) {
+            return Ok(false);
+        }
+    }
+    Ok(true)
 }
 
 #[test]
 fn each_sector_keeps_its_chosen_content(rt: HostRuntime) -> Result<(), Fail> {
-    let table: [(Base, &[(Dev, u64, u64)], (bool, Option<u8>)); 12] = [
-        (Base::Durable, &[], (true, Some(2))),
-        (Base::Newest, &[], (true, Some(4))),
-        (Base::Durable, &[(Dev::Cache, 1, 1)], (true, Some(3))),
-        (
-            Base::Newest,
-            &[(Dev::Cache, 0, 0), (Dev::Cache, 1, 0)],
-            (true, Some(2)),
-        ),
-        (
-            Base::Durable,
-            &[(Dev::Cache, 1, 1), (Dev::Cache, 1, 2)],
-            (true, Some(4)),
-        ),
-        (
-            Base::Durable,
-            &[(Dev::Cache, 1, 3), (Dev::Cache, 1, 1)],
-            (true, Some(3)),
-        ),
-        (
-            Base::Newest,
-            &[(Dev::Cache, 1, 1), (Dev::Cache, 1, 3)],
-            (false, Some(4)),
-        ),
-        (Base::Newest, &[(Dev::Cache, 0, 1)], (false, Some(4))),
-        (
-            Base::Newest,
-            &[(Dev::Cache, 2, 0), (Dev::Cache, 1, 1)],
-            (false, Some(4)),
-        ),
-        // Names of other devices are of no account to this one.
-        (Base::Durable, &[(Dev::Origin, 1, 1)], (true, Some(2))),
-        (
-            Base::Newest,
-            &[(Dev::Cache, 1, 1), (Dev::Metadata, 1, 0)],
-            (true, Some(3)),
-        ),
-        (
-            Base::Newest,
-            &[(Dev::Origin, 2, 0), (Dev::Metadata, 0, 9)],
-            (true, Some(4)),
-        ),
-    ];
-    for (base, named, want) in table {
-        assert!(rt; sector_after(&rt, base, named)? == want);
-    }
+    assert!(rt; leave(rt.alloc(), &BY_NAMES)?);
+    assert!(rt; leave(rt.alloc(), &BY_OTHER_NAMES)?);
     Ok(())
+}
+
+const NAMED: [(Dev, u64, u64); 3] = [
+    (Dev::Metadata, 0, 0),
+    (Dev::Cache, 0, 1),
+    (Dev::Origin, 0, 2),
+];
+
+/// Whether a device of one sector that was written with 1 and with 2 keeps this byte.
+fn keeps(disk: &mut MemDisk, device: Dev, choice: &CrashChoice, kept: u8) -> bool {
+    are_done(disk, &[Step::Put(0, 1), Step::Put(0, 2)])
+        && disk.stop(device, choice)
+        && are_done(disk, &[Step::Got(0, kept)])
 }
 
 #[test]
 fn one_choice_serves_each_device_by_its_own_names(rt: HostRuntime) -> Result<(), Fail> {
-    let mut named = Vec::new(rt.alloc());
-    for (device, position) in [(Dev::Metadata, 0), (Dev::Cache, 1), (Dev::Origin, 2)] {
-        named.push(NamedContent {
-            device,
-            sector: 0,
-            position,
-        })?;
-    }
-    let choice = CrashChoice::new(Base::Newest, named);
+    let choice = choice_of(rt.alloc(), Base::Newest, &NAMED)?;
     assert!(rt; !choice.names_only(Dev::Origin));
     for (device, kept) in [(Dev::Metadata, 0), (Dev::Cache, 1), (Dev::Origin, 2)] {
         let mut disk = MemDisk::new(rt.alloc(), 1)?;
-        assert!(rt; put(&mut disk, 0, 1) == Ok(()));
-        assert!(rt; put(&mut disk, 0, 2) == Ok(()));
-        assert!(rt; disk.stop(device, &choice));
-        assert!(rt; got(&mut disk, 0) == Ok(kept));
+        assert!(rt; keeps(&mut disk, device, &choice, kept));
     }
     Ok(())
 }

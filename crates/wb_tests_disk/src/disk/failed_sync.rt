@@ -39,10 +39,21 @@ fn a_failed_sync_settles_what_has_landed(rt: HostRuntime) -> Result<(), Fail> {
     ] {
         let choice = CrashChoice::new(base, vec![in rt.alloc(); named]?);
         let mut disk = MemDisk::new(rt.alloc(), 2)?;
-        assert!(rt; fails_and_crashes(&mut disk, &choice, &lost));
-        assert!(rt; holds(&mut disk, first, second) && disk.faults() == 1);
+        assert!(rt;
+            fails_and_crashes(&mut disk, &choice, &lost)
+                && holds(&mut disk, first, second)
+                && disk.faults() == 1
+        );
     }
     Ok(())
+}
+
+/// Whether a choice by which no sync fails leaves a device as it is.
+fn is_kept_whole(disk: &mut MemDisk, choice: &CrashChoice) -> bool {
+    put(disk, 1, 8).is_ok()
+        && !disk.fail_sync(Dev::Cache, choice)
+        && disk.faults() == 0
+        && !choice.may_fail(Dev::Cache, 2)
 }
 
 #[test]
@@ -58,9 +69,7 @@ fn a_sync_cannot_fail_as_no_sync_does(rt: HostRuntime) -> Result<(), Fail> {
     ] {
         let choice = CrashChoice::new(Base::Newest, vec![in rt.alloc(); named]?);
         let mut disk = MemDisk::new(rt.alloc(), 2)?;
-        assert!(rt; put(&mut disk, 1, 8).is_ok());
-        assert!(rt; !disk.fail_sync(Dev::Cache, &choice));
-        assert!(rt; disk.faults() == 0 && !choice.may_fail(Dev::Cache, 2));
+        assert!(rt; is_kept_whole(&mut disk, &choice));
     }
     Ok(())
 }

@@ -6,6 +6,28 @@ use std::cell::Cell;
 use std::test::Fail;
 use std::{fs, io};
 use wb_disk::{Disk, DiskFault, FileDisk};
+use wb_types::Content;
+
+/// Whether a file of three sectors keeps what is written to it.
+fn keeps(disk: &mut impl Disk) -> bool {
+    disk.sectors() == 3
+        && are_done(
+            disk,
+            &[
+                Step::Put(2, 7),
+                Step::Synced,
+                Step::Got(2, 7),
+                Step::Got(1, 0),
+            ],
+        )
+}
+
+/// Whether a file that was cut short while it is open no longer has its last sector.
+fn is_cut_short(disk: &mut impl Disk) -> bool {
+    got(disk, 1) == Ok(0)
+        && got(disk, 2) == Err(DiskFault)
+        && get_extent(disk, 1, &mut [[0; 512]; 2]) == Err(DiskFault)
+}
 
 #[test]
 fn a_file_keeps_what_was_written(rt: HostRuntime) -> Result<(), Fail> {
@@ -13,22 +35,11 @@ fn a_file_keeps_what_was_written(rt: HostRuntime) -> Result<(), Fail> {
     let zeros = vec![in rt.alloc(); 0u8; 512 * 3 + 100]?;
     fs::write(&rt, name, zeros.as_slice())?;
     let mut disk = FileDisk::open(&rt, name)?;
-    assert_eq!(rt; disk.sectors(), 3);
-    let steps = [
-        Step::Put(2, 7),
-        Step::Synced,
-        Step::Got(2, 7),
-        Step::Got(1, 0),
-    ];
-    assert!(rt; are_done(&mut disk, &steps));
+    assert!(rt; keeps(&mut disk));
     let mut other = FileDisk::open(&rt, name)?;
     assert!(rt; got(&mut other, 2) == Ok(7));
-
-    // Cut short while it is open, the file no longer has the sector.
     fs::write(&rt, name, &zeros[..1100])?;
-    assert!(rt; got(&mut other, 1) == Ok(0));
-    assert!(rt; got(&mut other, 2) == Err(DiskFault));
-    assert!(rt; get_extent(&mut other, 1, &mut [[0; 512]; 2]) == Err(DiskFault));
+    assert!(rt; is_cut_short(&mut other));
     fs::remove_file(&rt, name)?;
     assert!(rt; FileDisk::open(&rt, name).is_err());
     assert!(rt; FileDisk::open(&rt, ".").is_err());
@@ -45,31 +56,54 @@ fn fake(piece: usize, fails_at: u32, error: io::ErrorKind) -> FakeFile {
     }
 }
 
+/// A disk over a fake file that does not fail.
+fn sound(piece: usize) -> Result<FileDisk<FakeFile>, DiskFault> {
+    FileDisk::over(fake(piece, 0, io::ErrorKind::Other))
+}
+
 #[test]
 fn pieces_are_put_together(rt: HostRuntime) -> Result<(), Fail> {
+    let steps = [Step::Put(1, 9), Step::Got(0, 0), Step::Got(1, 9)];
     for piece in [1, 100, 512] {
-        let mut disk = FileDisk::over(fake(piece, 0, io::ErrorKind::Other))?;
-        assert_eq!(rt; disk.sectors(), 2);
-        let steps = [Step::Put(1, 9), Step::Got(0, 0), Step::Got(1, 9)];
-        assert!(rt; are_done(&mut disk, &steps));
+        let mut disk = sound(piece)?;
+        assert!(rt; disk.sectors() == 2 && are_done(&mut disk, &steps));
     }
     Ok(())
+}
+
+/// Whether both sectors of a disk are read by one extent as they are said.
+fn has_both(disk: &mut impl Disk, wanted: &[Content; 2]) -> bool {
+    let mut out = [[0; 512]; 2];
+    get_extent(disk, 0, &mut out) == Ok(()) && out == *wanted
+}
+
+/// Whether extents of two sectors, of one and of none are written and read in order.
+fn keeps_extents(disk: &mut impl Disk) -> bool {
+    put_extent(disk, 0, &[[5; 512], [6; 512]]) == Ok(())
+        && are_done(disk, &[Step::Got(0, 5), Step::Got(1, 6)])
+        && put_extent(disk, 1, &[[7; 512]]) == Ok(())
+        && has_both(disk, &[[5; 512], [7; 512]])
+        && put_extent(disk, 2, &[]) == Ok(())
+        && get_extent(disk, 2, &mut []) == Ok(())
 }
 
 #[test]
 fn an_extent_is_its_sectors_in_order(rt: HostRuntime) -> Result<(), Fail> {
     for piece in [1, 100, 512, 700, 1024] {
-        let mut disk = FileDisk::over(fake(piece, 0, io::ErrorKind::Other))?;
-        assert!(rt; put_extent(&mut disk, 0, &[[5; 512], [6; 512]]) == Ok(()));
-        assert!(rt; are_done(&mut disk, &[Step::Got(0, 5), Step::Got(1, 6)]));
-        assert!(rt; put_extent(&mut disk, 1, &[[7; 512]]) == Ok(()));
-        let mut out = [[0; 512]; 2];
-        assert!(rt; get_extent(&mut disk, 0, &mut out) == Ok(()));
-        assert!(rt; out == [[5; 512], [7; 512]]);
-        assert!(rt; put_extent(&mut disk, 2, &[]) == Ok(()));
-        assert!(rt; get_extent(&mut disk, 2, &mut out[..0]) == Ok(()));
+        let mut disk = sound(piece)?;
+        assert!(rt; keeps_extents(&mut disk));
     }
     Ok(())
+}
+
+/// Whether a write of both sectors fails where it is said, and else their reading where that is.
+fn fails_so(disk: &mut impl Disk, writes: bool, reads: bool) -> bool {
+    let wrote = put_extent(disk, 0, &[[5; 512], [6; 512]]);
+    if wrote.is_err() {
+        return writes;
+    }
+    let mut out = [[0; 512]; 2];
+    !writes && get_extent(disk, 0, &mut out).is_err() == reads
 }
 
 // Call 1 measures. One call moves both sectors, or in pieces of 512 bytes two calls, and as many read them.
@@ -77,44 +111,40 @@ fn an_extent_is_its_sectors_in_order(rt: HostRuntime) -> Result<(), Fail> {
 fn an_extent_that_fails_midway_is_a_fault(rt: HostRuntime) -> Result<(), Fail> {
     for (piece, calls) in [(1024, 1), (512, 2)] {
         for fails_at in 2..7 {
-            let file = fake(piece, fails_at, io::ErrorKind::StorageFull);
-            let mut disk = FileDisk::over(file)?;
-            let wrote = put_extent(&mut disk, 0, &[[5; 512], [6; 512]]);
-            assert!(rt; wrote.is_err() == (fails_at < 2 + calls));
-            if wrote.is_ok() {
-                let mut out = [[0; 512]; 2];
-                let read = get_extent(&mut disk, 0, &mut out);
-                assert!(rt; read.is_err() == (fails_at < 2 + 2 * calls));
-            }
+            let mut disk = FileDisk::over(fake(piece, fails_at, io::ErrorKind::StorageFull))?;
+            let (writes, reads) = (fails_at < 2 + calls, fails_at < 2 + 2 * calls);
+            assert!(rt; fails_so(&mut disk, writes, reads));
         }
     }
     Ok(())
 }
 
-// Call 1 measures. In pieces of 100 bytes, calls 2 to 7 write a sector, 8 to 13 read it, and call 14 syncs.
+/// Whether a write, a read and a sync fail where call 1 measures, calls 2 to 7 write a sector, 8 to 13 read it, and call 14
+/// syncs: in pieces of 100 bytes.
+fn ends_at(disk: &mut impl Disk, fails_at: u32) -> bool {
+    if put(disk, 1, 9).is_err() {
+        return 2 <= fails_at && fails_at < 8;
+    }
+    let is_read = got(disk, 1).is_ok();
+    let is_synced = disk.sync().is_ok();
+    let (reads, syncs) = (8 <= fails_at && fails_at < 14, fails_at == 14);
+    !(2 <= fails_at && fails_at < 8) && is_read == !reads && is_synced == !syncs
+}
+
 #[test]
 fn a_step_that_fails_midway_is_a_fault(rt: HostRuntime) -> Result<(), Fail> {
-    for fails_at in 1..16 {
-        let file = fake(100, fails_at, io::ErrorKind::StorageFull);
-        let Ok(mut disk) = FileDisk::over(file) else {
-            assert_eq!(rt; fails_at, 1);
-            continue;
-        };
-        let wrote = put(&mut disk, 1, 9);
-        assert!(rt; wrote.is_err() == (2..8).contains(&fails_at));
-        if wrote.is_ok() {
-            assert!(rt; got(&mut disk, 1).is_err() == (8..14).contains(&fails_at));
-            assert!(rt; disk.sync().is_err() == (fails_at == 14));
-        }
+    assert!(rt; FileDisk::over(fake(100, 1, io::ErrorKind::StorageFull)).is_err());
+    for fails_at in 2..16 {
+        let mut disk = FileDisk::over(fake(100, fails_at, io::ErrorKind::StorageFull))?;
+        assert!(rt; ends_at(&mut disk, fails_at));
     }
     Ok(())
 }
 
 #[test]
 fn a_file_that_moves_nothing_is_a_fault(rt: HostRuntime) -> Result<(), Fail> {
-    let mut disk = FileDisk::over(fake(0, 0, io::ErrorKind::Other))?;
-    assert!(rt; put(&mut disk, 0, 9) == Err(DiskFault));
-    assert!(rt; got(&mut disk, 0) == Err(DiskFault));
+    let mut disk = sound(0)?;
+    assert!(rt; put(&mut disk, 0, 9) == Err(DiskFault) && got(&mut disk, 0) == Err(DiskFault));
     Ok(())
 }
 

@@ -23,23 +23,50 @@ fn a_read_gives_the_latest_write(rt: HostRuntime) -> Result<(), Fail> {
     Ok(())
 }
 
-// With each allocation failing in turn: the sectors before the one that found no memory are written.
+/// Whether an extent lands from the front: the sectors before the one that found no memory are written.
+fn lands(disk: &mut MemDisk) -> bool {
+    let wrote = put_extent(disk, 1, &[[5; 512], [6; 512]]).is_ok();
+    let mut out = [[9; 512]; 4];
+    if get_extent(disk, 0, &mut out).is_err() || (out[0][0], out[3][511]) != (0, 0) {
+        return false;
+    }
+    let landed = (out[1][0], out[2][511], disk.faults());
+    if wrote {
+        landed == (5, 6, 0)
+    } else {
+        landed == (0, 0, 1) || landed == (5, 0, 1)
+    }
+}
+
+// With each allocation failing in turn.
 #[test]
 fn an_extent_lands_from_the_front(rt: HostRuntime) -> Result<(), Fail> {
     let Ok(mut disk) = MemDisk::new(rt.alloc(), 4) else {
         return Ok(());
     };
-    let wrote = put_extent(&mut disk, 1, &[[5; 512], [6; 512]]).is_ok();
-    let mut out = [[9; 512]; 4];
-    let read = get_extent(&mut disk, 0, &mut out).is_ok();
-    assert!(rt; (read, out[0][0], out[3][511]) == (true, 0, 0));
-    let landed = (out[1][0], out[2][511], disk.faults());
-    if wrote {
-        assert!(rt; landed == (5, 6, 0));
-    } else {
-        assert!(rt; landed == (0, 0, 1) || landed == (5, 0, 1));
-    }
+    assert!(rt; lands(&mut disk));
     Ok(())
+}
+
+/// Whether room for a sector is there, and it is then written, or memory is refused; either way without a fault.
+fn has_room(disk: &mut MemDisk) -> bool {
+    if disk.sectors() < 1 {
+        return false;
+    }
+    let is_told = match disk.room(0) {
+        Ok(()) => put(disk, 0, 7).is_ok(),
+        Err(refusal) => refusal == Refusal::Memory,
+    };
+    is_told && disk.faults() == 0
+}
+
+/// Whether a sector is written, or a fault is counted.
+fn counts(disk: &mut MemDisk) -> bool {
+    if put(disk, 1, 8).is_ok() {
+        disk.faults() == 0 && got(disk, 1) == Ok(8)
+    } else {
+        disk.faults() == 1 && got(disk, 1) == Ok(0)
+    }
 }
 
 // Run with each allocation failing in turn: one that is refused at `room` leaves the disk as it was, and one
@@ -49,19 +76,7 @@ fn refused_memory_is_a_counted_fault(rt: HostRuntime) -> Result<(), Fail> {
     let Ok(mut disk) = MemDisk::new(rt.alloc(), 2) else {
         return Ok(());
     };
-    if disk.sectors() == 2 {
-        match disk.room(0) {
-            Ok(()) => assert!(rt; put(&mut disk, 0, 7) == Ok(())),
-            Err(refusal) => assert!(rt; refusal == Refusal::Memory),
-        }
-        assert_eq!(rt; disk.faults(), 0);
-        let (faults, byte) = if put(&mut disk, 1, 8).is_ok() {
-            (0, 8)
-        } else {
-            (1, 0)
-        };
-        assert!(rt; disk.faults() == faults);
-        assert!(rt; got(&mut disk, 1) == Ok(byte));
-    }
+    assert!(rt; has_room(&mut disk));
+    assert!(rt; counts(&mut disk));
     Ok(())
 }
