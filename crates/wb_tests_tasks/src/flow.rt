@@ -11,35 +11,51 @@ use wb_flow::*;
 use wb_tasks::{Answer, drive};
 use wb_types::{OBlock, Refusal};
 
+/// The blocks whose orders a row's flush serves.
+fn serves_of(alloc: Global, row: &Row) -> Result<Vec<OBlock>, AllocError> {
+    let mut serves = Vec::with_capacity(alloc, row.serves.len())?;
+    for block in row.serves {
+        serves.push(*block)?;
+    }
+    Ok(serves)
+}
+
 /// Drives a row's task.
-fn play(alloc: Global, row: &Row) -> Result<(Answer, Noted), Refusal> {
-    let mut noted = Noted::new(alloc, row)?;
-    let answer = match row.task {
+fn play(alloc: Global, noted: &mut Noted, row: &Row) -> Result<Answer, AllocError> {
+    match row.task {
         Task::Flush => {
-            let mut serves = Vec::with_capacity(alloc, row.serves.len())?;
-            for block in row.serves {
-                serves.push(*block).map_err(AllocError::from)?;
-            }
-            drive(&mut FlushTask::new(serves, 3), &mut noted)
+            let serves = serves_of(alloc, row)?;
+            Ok(drive(&mut FlushTask::new(serves, 3), noted))
         }
-        Task::Open => drive(&mut OpenTask::new(4), &mut noted),
-    };
-    Ok((answer, noted))
+        Task::Open => Ok(drive(&mut OpenTask::new(4), noted)),
+    }
+}
+
+/// Whether a row's task goes as the row says.
+fn goes_so(alloc: Global, noted: &mut Noted, row: &Row) -> Result<bool, AllocError> {
+    let answer = play(alloc, noted, row)?;
+    let wants = noted.wants.as_slice().get(row.from..);
+    Ok(answer == row.answer && wants == Some(row.wants) && noted.fail == row.fail)
 }
 
 #[test]
 fn flushes_and_openings_take_the_steps_of_their_tables(rt: HostRuntime) -> Result<(), Fail> {
     for row in &ROWS {
-        let name = row.name;
-        let (answer, noted) = play(rt.alloc(), row)?;
-        assert!(rt; answer == row.answer, "{name}");
-        assert!(rt;
-            noted.wants.as_slice().get(row.from..) == Some(row.wants),
-            "{name}"
-        );
-        assert!(rt; noted.fail == row.fail, "{name}");
+        let mut noted = Noted::new(rt.alloc(), row)?;
+        assert!(rt; goes_so(rt.alloc(), &mut noted, row)?, "{}", row.name);
     }
     Ok(())
+}
+
+/// Whether a row's task ends at the step that fails; a flush that does fails the target.
+fn ends_at(alloc: Global, noted: &mut Noted, row: &Row, fails: u32) -> Result<bool, AllocError> {
+    let answer = play(alloc, noted, row)?;
+    let sets = matches!(row.task, Task::Flush);
+    Ok(
+        matches!(answer, Answer::Refused(Refusal::Io(_)))
+            && noted.moved == fails.saturating_add(1)
+            && noted.fail == u64::from(sets),
+    )
 }
 
 #[test]
@@ -50,15 +66,12 @@ fn each_fault_ends_a_flush_or_an_opening(rt: HostRuntime) -> Result<(), Fail> {
                 fails: Some(fails),
                 ..*row
             };
-            let name = row.name;
-            let (answer, noted) = play(rt.alloc(), &row)?;
+            let mut noted = Noted::new(rt.alloc(), &row)?;
             assert!(rt;
-                matches!(answer, Answer::Refused(Refusal::Io(_))),
-                "{name} {fails}"
+                ends_at(rt.alloc(), &mut noted, &row, fails)?,
+                "{} {fails}",
+                row.name
             );
-            assert!(rt; noted.moved == fails.saturating_add(1), "{name} {fails}");
-            let sets = matches!(row.task, Task::Flush);
-            assert!(rt; noted.fail == u64::from(sets), "{name} {fails}");
         }
     }
     Ok(())

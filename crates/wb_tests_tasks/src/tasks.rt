@@ -10,39 +10,36 @@ use self::migrations::{CACHED, COPIES, DISOWN, GIVE_UP, HOME, PROMOTIONS, REFUSE
 use self::requests::{CACHED_SECTORS, IN_ONE_STEP, READS, SECTORS, WRITES};
 use self::row::{Job, Row};
 use std::alloc::Global;
-use std::process::Abort;
 use std::test::Fail;
 use wb_tasks::*;
-use wb_types::{Extent, Refusal};
+use wb_types::{Dev, Extent, Refusal};
 use wb_words::Word;
 
 /// Drives a row's task.
-fn play(alloc: Global, row: &Row) -> Result<(Answer, Bench), Refusal> {
-    let mut bench = Bench::new(alloc, row)?;
+fn play(bench: &mut Bench, row: &Row) -> Answer {
     let longest = row.longest.max(1);
-    let answer = match row.job {
+    match row.job {
         Job::Read => {
             let task = ReadTask::new(BLOCK_SECTORS, BLOCK, SECTORS, longest);
-            drive(&mut RequestTask::reads(task), &mut bench)
+            drive(&mut RequestTask::reads(task), bench)
         }
         Job::Write => {
             let task = WriteTask::new(BLOCK_SECTORS, BLOCK, SECTORS, longest);
-            drive(&mut RequestTask::writes(task), &mut bench)
+            drive(&mut RequestTask::writes(task), bench)
         }
         Job::Migrate(Migration::Promote(to)) => {
             let mut task = PromoteTask::new(BLOCK_SECTORS, BLOCK, to, longest);
-            drive(&mut task, &mut bench)
+            drive(&mut task, bench)
         }
         Job::Migrate(Migration::Demote) => {
             let mut task = DemoteTask::new(BLOCK_SECTORS, BLOCK, longest);
-            drive(&mut task, &mut bench)
+            drive(&mut task, bench)
         }
         Job::Migrate(Migration::Clean) => {
             let mut task = CleanTask::new(BLOCK_SECTORS, BLOCK, longest);
-            drive(&mut task, &mut bench)
+            drive(&mut task, bench)
         }
-    };
-    Ok((answer, bench))
+    }
 }
 
 /// Whether the words are these.
@@ -71,54 +68,78 @@ fn is_left(bench: &Bench, row: &Row) -> bool {
     holds(&bench.origin, there, origin, 1) && holds(&bench.cache, cached, cache, 2)
 }
 
+/// Whether the wants are what a row says.
+fn has_wanted(wants: &[Want], row: &Row) -> bool {
+    let end = row.from.saturating_add(row.wants.len());
+    wants.get(row.from..end) == Some(row.wants) && wants.len() == end.saturating_add(row.more)
+}
+
+/// Whether a row's task goes as the row says.
+fn goes_so(bench: &mut Bench, row: &Row) -> bool {
+    play(bench, row) == row.answer
+        && has_wanted(&bench.wants, row)
+        && has(bench, row.words)
+        && is_left(bench, row)
+        && bench.is_mapped == row.is_mapped
+        && bench.has_order == row.has_order
+}
+
 /// Drives each row's task, and compares.
-fn compare(rt: &impl Abort, alloc: Global, rows: &[Row]) -> Result<(), Fail> {
+fn compare(alloc: Global, rows: &[Row]) -> Result<(), Fail> {
     for row in rows {
-        let name = row.name;
-        let (answer, bench) = play(alloc, row)?;
-        assert!(rt; answer == row.answer, "{name}");
-        let end = row.from.saturating_add(row.wants.len());
-        assert!(rt;
-            bench.wants.as_slice().get(row.from..end) == Some(row.wants),
-            "{name}"
-        );
-        assert!(rt; bench.wants.len() == end.saturating_add(row.more), "{name}");
-        assert!(rt; has(&bench, row.words), "{name}");
-        assert!(rt; is_left(&bench, row), "{name}");
-        assert!(rt; bench.is_mapped == row.is_mapped, "{name}");
-        assert!(rt; bench.has_order == row.has_order, "{name}");
+        let mut bench = Bench::new(alloc, row)?;
+        if !goes_so(&mut bench, row) {
+            return Err(Fail::from(row.name));
+        }
     }
     Ok(())
 }
 
 #[test]
 fn reads_take_the_steps_of_their_table(rt: HostRuntime) -> Result<(), Fail> {
-    compare(&rt, rt.alloc(), &READS)
+    compare(rt.alloc(), &READS)
 }
 
 #[test]
 fn writes_take_the_steps_of_their_table(rt: HostRuntime) -> Result<(), Fail> {
-    compare(&rt, rt.alloc(), &WRITES)
+    compare(rt.alloc(), &WRITES)
 }
 
 #[test]
 fn requests_take_an_extent_in_one_step(rt: HostRuntime) -> Result<(), Fail> {
-    compare(&rt, rt.alloc(), &IN_ONE_STEP)
+    compare(rt.alloc(), &IN_ONE_STEP)
 }
 
 #[test]
 fn promotions_take_the_steps_of_their_table(rt: HostRuntime) -> Result<(), Fail> {
-    compare(&rt, rt.alloc(), &PROMOTIONS)
+    compare(rt.alloc(), &PROMOTIONS)
 }
 
 #[test]
 fn demotions_and_cleans_take_the_steps_of_their_tables(rt: HostRuntime) -> Result<(), Fail> {
-    compare(&rt, rt.alloc(), &RETURNS)
+    compare(rt.alloc(), &RETURNS)
 }
 
 #[test]
 fn refused_migrations_take_the_steps_of_their_tables(rt: HostRuntime) -> Result<(), Fail> {
-    compare(&rt, rt.alloc(), &REFUSED)
+    compare(rt.alloc(), &REFUSED)
+}
+
+/// Whether a copy ends at the step that fails, of this device: after a fault on a read the block and the order are given up, after
+/// one on a write the target has failed.
+fn ends_at(bench: &mut Bench, row: &Row, fails: u32, device: Dev) -> bool {
+    let is_read = fails % 2 == 0;
+    let parting: &[Want] = if is_read {
+        &[DISOWN, GIVE_UP]
+    } else {
+        &[Want::Cell(CellStep::SetFailed)]
+    };
+    let next = (fails as usize).saturating_add(6);
+    let kept = if is_read { 0 } else { 1 };
+    play(bench, row) == Answer::Refused(Refusal::Io(device))
+        && bench.wants.as_slice().get(next..) == Some(parting)
+        && bench.has_order == !is_read
+        && has(bench, &[(Word::Cell(BLOCK), kept), (Word::Fail, kept)])
 }
 
 #[test]
@@ -130,26 +151,9 @@ fn each_fault_of_a_copy_ends_it(rt: HostRuntime) -> Result<(), Fail> {
                 fails: Some(fails),
                 ..*row
             };
-            let (answer, bench) = play(rt.alloc(), &row)?;
-            let is_read = fails % 2 == 0;
-            let device = if is_read { *from } else { *to };
-            assert!(rt; answer == Answer::Refused(Refusal::Io(device)), "{fails}");
-            let parting: &[Want] = if is_read {
-                &[DISOWN, GIVE_UP]
-            } else {
-                &[Want::Cell(CellStep::SetFailed)]
-            };
-            let next = (fails as usize).saturating_add(6);
-            assert!(rt;
-                bench.wants.as_slice().get(next..) == Some(parting),
-                "{fails}"
-            );
-            assert!(rt; bench.has_order == !is_read, "{fails}");
-            let kept = if is_read { 0 } else { 1 };
-            assert!(rt;
-                has(&bench, &[(Word::Cell(BLOCK), kept), (Word::Fail, kept)]),
-                "{fails}"
-            );
+            let device = if fails % 2 == 0 { *from } else { *to };
+            let mut bench = Bench::new(rt.alloc(), &row)?;
+            assert!(rt; ends_at(&mut bench, &row, fails, device), "{fails}");
         }
     }
     Ok(())

@@ -41,9 +41,17 @@ const FLUSH: Row = Row {
 };
 
 const OPEN: Row = Row {
+    name: "",
     task: Task::Open,
     serves: &[],
-    ..FLUSH
+    nodes: 0,
+    refuses: None,
+    fails: None,
+    answer: Answer::Done,
+    from: 0,
+    wants: &[],
+    device_steps: 0,
+    fail: 0,
 };
 
 const LOOK: Want = Want::Cell(CellStep::Look(Word::Fail));

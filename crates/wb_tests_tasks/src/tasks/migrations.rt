@@ -1,7 +1,7 @@
 //! Migrations, what they meet, and what they want then.
 
 use super::bench::BLOCK;
-use super::row::{Job, PLAIN, Row};
+use super::row::{Job, Row};
 use wb_tasks::*;
 use wb_types::{CBlock, Dev, Extent, Refusal};
 use wb_words::{Access, Word};
@@ -9,8 +9,18 @@ use wb_words::{Access, Word};
 const TO: CBlock = CBlock(1);
 
 const PROMOTE: Row = Row {
+    name: "",
     job: Job::Migrate(Migration::Promote(TO)),
     longest: 64,
+    mapped: None,
+    fails: None,
+    shows: None,
+    is_raced: false,
+    is_full: false,
+    answer: Answer::Done,
+    from: 5,
+    wants: &[],
+    more: 0,
     words: &[
         (Word::Cell(BLOCK), 0),
         (Word::Fail, 0),
@@ -18,26 +28,45 @@ const PROMOTE: Row = Row {
     ],
     holds: Some((1, 1)),
     is_mapped: true,
-    ..PLAIN
+    has_order: false,
 };
 
 const DEMOTE: Row = Row {
+    name: "",
     job: Job::Migrate(Migration::Demote),
-    mapped: Some(true),
     longest: 64,
+    mapped: Some(true),
+    fails: None,
+    shows: None,
+    is_raced: false,
+    is_full: false,
+    answer: Answer::Done,
+    from: 5,
+    wants: &[],
+    more: 0,
     words: &[
         (Word::Cell(BLOCK), 0),
         (Word::Fail, 0),
         (Word::Seal(BLOCK), 0),
     ],
     holds: Some((2, 2)),
-    ..PLAIN
+    is_mapped: false,
+    has_order: false,
 };
 
 const CLEAN: Row = Row {
+    name: "",
     job: Job::Migrate(Migration::Clean),
-    mapped: Some(true),
     longest: 64,
+    mapped: Some(true),
+    fails: None,
+    shows: None,
+    is_raced: false,
+    is_full: false,
+    answer: Answer::Done,
+    from: 5,
+    wants: &[],
+    more: 0,
     words: &[
         (Word::Cell(BLOCK), 0),
         (Word::Fail, 0),
@@ -45,7 +74,7 @@ const CLEAN: Row = Row {
     ],
     holds: Some((2, 2)),
     is_mapped: true,
-    ..PLAIN
+    has_order: false,
 };
 
 /// The sectors of the block, on the origin and in cache block 1: all, and each half.

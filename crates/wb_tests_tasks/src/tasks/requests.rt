@@ -1,7 +1,7 @@
 //! Reads and writes, what they meet, and what they want then.
 
 use super::bench::BLOCK;
-use super::row::{Job, PLAIN, Row};
+use super::row::{Job, Row};
 use wb_tasks::*;
 use wb_types::{CBlock, Dev, Extent, Refusal};
 use wb_words::{Access, Kind, Word};
@@ -12,9 +12,22 @@ pub const SECTORS: Extent = BOTH;
 pub const CACHED_SECTORS: Extent = CACHED_BOTH;
 
 const FREE: Row = Row {
+    name: "",
     job: Job::Read,
+    longest: 1,
+    mapped: None,
+    fails: None,
+    shows: None,
+    is_raced: false,
+    is_full: false,
+    answer: Answer::Done,
+    from: 5,
+    wants: &[],
+    more: 0,
     words: &[(Word::Cell(BLOCK), 0), (Word::Fail, 0)],
-    ..PLAIN
+    holds: Some((1, 2)),
+    is_mapped: false,
+    has_order: false,
 };
 
 /// The block's second and third sector, on the origin and in cache block 1.

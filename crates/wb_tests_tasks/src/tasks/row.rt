@@ -43,22 +43,3 @@ pub struct Row {
     pub is_mapped: bool,
     pub has_order: bool,
 }
-
-pub const PLAIN: Row = Row {
-    name: "",
-    job: Job::Read,
-    longest: 1,
-    mapped: None,
-    fails: None,
-    shows: None,
-    is_raced: false,
-    is_full: false,
-    answer: Answer::Done,
-    from: 5,
-    wants: &[],
-    more: 0,
-    words: &[],
-    holds: Some((1, 2)),
-    is_mapped: false,
-    has_order: false,
-};
