@@ -58,11 +58,17 @@ fn serves(alloc: Global, bound: u32) -> bool
     let Ok(mut members) = BitSet::new(alloc, bound) else {
         return false;
     };
-    let size = members.size();
-    let filled = fills(&mut members, &[bound - 1, bound / 2, 0]);
-    let found = finds_onward(&members, bound);
-    let emptied = empties(&mut members, &[0, bound / 2, bound - 1]);
-    size == bound && filled && found && emptied && !members.has(bound)
+    serves_all(&mut members, bound)
+}
+
+fn serves_all(members: &mut BitSet, bound: usize) -> bool
+    requires { 0 < bound }
+{
+    members.size() == bound
+        && fills(members, &[bound - 1, bound / 2, 0])
+        && finds_onward(members, bound)
+        && empties(members, &[0, bound / 2, bound - 1])
+        && !members.has(bound)
 }
 
 #[test]

@@ -13,7 +13,9 @@ enum Call {
 }
 
 /// Each call, the order that it answers, and the sectors of all live orders after it.
-const CALLS: [(Call, Option<Order>, u64); 14] = [
+type Line = (Call, Option<Order>, u64);
+
+const GIVEN: [Line; 8] = [
     (Call::Take, None, 0),
     (Call::Give(2, Order::Clean(OBlock(5)), true), None, 64),
     (
@@ -35,6 +37,9 @@ const CALLS: [(Call, Option<Order>, u64); 14] = [
         None,
         192,
     ),
+];
+
+const TAKEN: [Line; 6] = [
     (Call::Take, Some(Order::Clean(OBlock(5))), 192),
     (Call::End(2), None, 128),
     (Call::End(1), None, 64),
@@ -65,16 +70,23 @@ fn end(orders: &mut LiveOrders, c: CBlock) {
     }
 }
 
-fn answers(orders: &mut LiveOrders, call: Call, order: Option<Order>, cost: u64) -> bool {
-    answer(orders, call) == order && orders.cost() == cost
+/// The number of the first call that is answered otherwise.
+fn first_wrong(orders: &mut LiveOrders, lines: &[Line]) -> Option<usize> {
+    for (number, (call, order, cost)) in lines.iter().enumerate() {
+        if answer(orders, *call) != *order || orders.cost() != *cost {
+            return Some(number);
+        }
+    }
+    None
 }
 
 #[test]
 fn orders_come_and_go(rt: HostRuntime) -> Result<(), Refusal> {
     let mut orders = LiveOrders::new(rt.alloc(), 3, 8)?;
-    for (call, order, cost) in CALLS {
-        assert!(rt; answers(&mut orders, call, order, cost));
-    }
+    let wrong = first_wrong(&mut orders, &GIVEN);
+    assert!(rt; wrong.is_none(), "call {wrong:?}");
+    let wrong = first_wrong(&mut orders, &TAKEN);
+    assert!(rt; wrong.is_none(), "call {wrong:?}");
     assert!(rt; orders.given() == 4);
     assert!(rt; orders.busy() == [false, false, false, false, true, false, false, true].as_slice());
     Ok(())

@@ -204,17 +204,27 @@ fn play<P: Policy>(alloc: Global, caches: bool, steps: u32) -> Result<Option<u32
     let mut both = Beside::<P>::new(alloc, caches)?;
     let mut busy = vec![in alloc; false; 24]?;
     let mut dirty = vec![in alloc; false; 8]?;
+    go_over(&mut both, alloc, &mut busy, &mut dirty, steps)
+}
+
+fn go_over<P: Policy>(
+    both: &mut Beside<P>,
+    alloc: Global,
+    busy: &mut [bool],
+    dirty: &mut [bool],
+    steps: u32,
+) -> Result<Option<u32>, Refusal> {
     let mut numbers = Numbers { state: 7 };
     let mut orders = 0u32;
     for _ in 0..steps {
-        change_one(busy.as_mut_slice(), &mut numbers, 4);
-        change_one(dirty.as_mut_slice(), &mut numbers, 2);
+        change_one(busy, &mut numbers, 4);
+        change_one(dirty, &mut numbers, 2);
         let known = Known {
             mode: mode(numbers.below(16)),
             least_free: both.plain.least_free(),
             room: room(numbers.below(8)),
-            busy: busy.as_slice(),
-            dirty: dirty.as_slice(),
+            busy,
+            dirty,
         };
         match both.step(alloc, &mut numbers, &known)? {
             Some(given) => orders = orders.wrapping_add(given),

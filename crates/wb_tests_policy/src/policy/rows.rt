@@ -56,7 +56,10 @@ fn mapped_blocks_are_placed_by_hint_then_by_cache_block(rt: HostRuntime) -> Resu
 }
 
 /// Block, least free cache block, room, order.
-const SETTLED: [(u32, Option<CBlock>, u64, Option<Order>); 14] = [
+type Access = (u32, Option<CBlock>, u64, Option<Order>);
+
+/// Blocks 0 and 1 come in.
+const FIRST_TWO: [Access; 4] = [
     (0, Some(CBlock(0)), 64, None),
     (
         0,
@@ -71,6 +74,10 @@ const SETTLED: [(u32, Option<CBlock>, u64, Option<Order>); 14] = [
         64,
         Some(Order::Promote(OBlock(1), CBlock(1))),
     ),
+];
+
+/// Blocks 2 and 3 come in, once there is room.
+const NEXT_TWO: [Access; 5] = [
     (2, Some(CBlock(2)), 64, None),
     (2, Some(CBlock(2)), 63, None),
     (
@@ -86,6 +93,10 @@ const SETTLED: [(u32, Option<CBlock>, u64, Option<Order>); 14] = [
         64,
         Some(Order::Promote(OBlock(3), CBlock(3))),
     ),
+];
+
+/// The cache is full.
+const REPLACING: [Access; 5] = [
     (4, None, 128, None),
     (4, None, 128, None),
     (4, None, 127, None),
@@ -98,21 +109,37 @@ const SETTLED: [(u32, Option<CBlock>, u64, Option<Order>); 14] = [
     (0, None, 128, None),
 ];
 
-#[test]
-fn a_full_cache_replaces_only_by_a_greater_estimate(rt: HostRuntime) -> Result<(), Fail> {
-    let mut tiny = policy::<TinyLfu>(rt.alloc(), NO_ENTRIES)?;
-    for (line, (block, free, room, want)) in SETTLED.iter().enumerate() {
-        let order = settle(&mut tiny, *block, *free, *room, &[]);
-        assert!(rt; order == *want, "in line {line}");
+/// The number of the first access that is answered otherwise; a promotion is carried out.
+fn first_wrong(tiny: &mut TinyLfu, accesses: &[Access]) -> Result<Option<usize>, Refusal> {
+    for (number, (block, free, room, want)) in accesses.iter().enumerate() {
+        let order = settle(tiny, *block, *free, *room, &[]);
+        if order != *want {
+            return Ok(Some(number));
+        }
         if let Some(Order::Promote(b, c)) = order {
             tiny.mapped(b, c)?;
         }
+    }
+    Ok(None)
+}
+
+#[test]
+fn a_full_cache_replaces_only_by_a_greater_estimate(rt: HostRuntime) -> Result<(), Fail> {
+    let mut tiny = policy::<TinyLfu>(rt.alloc(), NO_ENTRIES)?;
+    for (number, accesses) in [&FIRST_TWO[..], &NEXT_TWO[..], &REPLACING[..]]
+        .iter()
+        .enumerate()
+    {
+        let wrong = first_wrong(&mut tiny, accesses)?;
+        assert!(rt; wrong.is_none(), "table {number}, line {wrong:?}");
     }
     Ok(())
 }
 
 /// A setting, whether it is taken, and the value of `promote_min` then.
-const SETTINGS: [(Key, u64, bool, u64); 7] = [
+type Setting = (Key, u64, bool, u64);
+
+const SETTINGS: [Setting; 7] = [
     (Key::PromoteMin, 0, false, 2),
     (Key::PromoteMin, 18, false, 2),
     (Key::PromoteMin, 258, false, 2),
@@ -129,25 +156,35 @@ fn answers(answer: Result<(), Refusal>, is_taken: bool) -> bool {
     }
 }
 
+/// Whether each setting is taken or not, as it says.
+fn takes(tiny: &mut TinyLfu, settings: &[Setting]) -> bool {
+    for (key, value, is_taken, then) in settings {
+        if !answers(tiny.set(*key, *value), *is_taken) || tiny.shown() != ("tinylfu", Some(*then)) {
+            return false;
+        }
+    }
+    true
+}
+
 #[test]
 fn the_least_estimate_of_a_promotion_is_a_setting(rt: HostRuntime) -> Result<(), Fail> {
     let mut tiny = policy::<TinyLfu>(rt.alloc(), NO_ENTRIES)?;
-    for (key, value, is_taken, then) in &SETTINGS {
-        assert!(rt; answers(tiny.set(*key, *value), *is_taken));
-        assert!(rt; tiny.shown() == ("tinylfu", Some(*then)));
-    }
+    assert!(rt; takes(&mut tiny, &SETTINGS));
     let order = settle(&mut tiny, 0, Some(CBlock(0)), 64, &[]);
     assert!(rt; order == Some(Order::Promote(OBlock(0), CBlock(0))));
     Ok(())
 }
 
+/// Whether a policy is shown so, and has no setting.
+fn has_no_setting<P: Policy>(alloc: Global, name: &str) -> Result<bool, Refusal> {
+    let mut policy = policy::<P>(alloc, NO_ENTRIES)?;
+    Ok(policy.set(Key::PromoteMin, 2) == Err(Refusal::BadMessage) && policy.shown() == (name, None))
+}
+
 #[test]
 fn other_policies_have_no_setting(rt: HostRuntime) -> Result<(), Fail> {
-    let mut cleaner = policy::<Cleaner>(rt.alloc(), NO_ENTRIES)?;
-    let mut quiet = policy::<Quiet>(rt.alloc(), NO_ENTRIES)?;
-    assert!(rt; cleaner.set(Key::PromoteMin, 2) == Err(Refusal::BadMessage));
-    assert!(rt; quiet.set(Key::PromoteMin, 2) == Err(Refusal::BadMessage));
-    assert!(rt; (cleaner.shown(), quiet.shown()) == (("cleaner", None), ("quiet", None)));
+    assert!(rt; has_no_setting::<Cleaner>(rt.alloc(), "cleaner")?);
+    assert!(rt; has_no_setting::<Quiet>(rt.alloc(), "quiet")?);
     Ok(())
 }
 
@@ -202,14 +239,25 @@ fn with_orders(alloc: Global, text: &str) -> Result<Vec<bool>, AllocError> {
     Ok(busy)
 }
 
+/// Whether a tick of a policy gives what a line says.
+fn gives<P: Policy>(
+    policy: &mut P,
+    alloc: Global,
+    mode: Mode,
+    line: &Line,
+) -> Result<bool, AllocError> {
+    let (dirty, live, room, given, want) = line;
+    let mut seen = blocks(alloc, dirty)?;
+    let busy = with_orders(alloc, live)?;
+    let order = tick(policy, mode, *room, busy.as_slice(), &mut seen, *given)?;
+    Ok(order == want.map(|b| Order::Clean(OBlock(b))))
+}
+
 /// Whether a policy gives what these lines say.
-fn gives<P: Policy>(alloc: Global, mode: Mode, lines: &[Line]) -> Result<bool, Refusal> {
+fn gives_each<P: Policy>(alloc: Global, mode: Mode, lines: &[Line]) -> Result<bool, Refusal> {
     let mut policy = policy::<P>(alloc, PLACED)?;
-    for (dirty, live, room, given, want) in lines {
-        let mut seen = blocks(alloc, dirty)?;
-        let busy = with_orders(alloc, live)?;
-        let order = tick(&mut policy, mode, *room, busy.as_slice(), &mut seen, *given)?;
-        if order != want.map(|b| Order::Clean(OBlock(b))) {
+    for line in lines {
+        if !gives(&mut policy, alloc, mode, line)? {
             return Ok(false);
         }
     }
@@ -219,10 +267,10 @@ fn gives<P: Policy>(alloc: Global, mode: Mode, lines: &[Line]) -> Result<bool, R
 #[test]
 fn ticks(rt: HostRuntime) -> Result<(), Fail> {
     let alloc = rt.alloc();
-    assert!(rt; gives::<TinyLfu>(alloc, Mode::Writeback, &TINY_TICKS)?);
-    assert!(rt; gives::<TinyLfu>(alloc, Mode::Passthrough, &NO_TICKS)?);
-    assert!(rt; gives::<Cleaner>(alloc, Mode::Writethrough, &CLEANER_TICKS)?);
-    assert!(rt; gives::<Cleaner>(alloc, Mode::Passthrough, &NO_TICKS)?);
-    assert!(rt; gives::<Quiet>(alloc, Mode::Writeback, &NO_TICKS)?);
+    assert!(rt; gives_each::<TinyLfu>(alloc, Mode::Writeback, &TINY_TICKS)?);
+    assert!(rt; gives_each::<TinyLfu>(alloc, Mode::Passthrough, &NO_TICKS)?);
+    assert!(rt; gives_each::<Cleaner>(alloc, Mode::Writethrough, &CLEANER_TICKS)?);
+    assert!(rt; gives_each::<Cleaner>(alloc, Mode::Passthrough, &NO_TICKS)?);
+    assert!(rt; gives_each::<Quiet>(alloc, Mode::Writeback, &NO_TICKS)?);
     Ok(())
 }

@@ -35,17 +35,34 @@ fn leaves(alloc: Global, acts: &[Act], shown: Holding) -> bool {
     let Ok(mut space) = space_of(alloc, 3, true, &[]) else {
         return false;
     };
+    leaves_so(&mut space, acts, shown)
+}
+
+fn leaves_so(space: &mut Space, acts: &[Act], shown: Holding) -> bool {
     for act in acts {
-        if !perform(&mut space, *act) {
+        if !perform(space, *act) {
             return false;
         }
     }
-    is_held(&space, 1, shown) && is_held(&space, 0, Holding::Mapped)
+    is_held(space, 1, shown) && is_held(space, 0, Holding::Mapped)
+}
+
+/// Acts, and what the block is held for after them.
+type Row<'a> = (&'a [Act], Holding);
+
+/// The number of the first row that comes out otherwise.
+fn first_wrong(alloc: Global, rows: &[Row<'_>]) -> Option<usize> {
+    for (number, (acts, shown)) in rows.iter().enumerate() {
+        if !leaves(alloc, acts, *shown) {
+            return Some(number);
+        }
+    }
+    None
 }
 
 #[test]
 fn a_removed_block_waits_for_a_commit_that_began_later(rt: HostRuntime) {
-    let table: [(&[Act], Holding); 9] = [
+    let table: [Row; 9] = [
         (&[Act::Remove], Holding::Quarantined),
         (&[Act::Remove, Act::Begin], Holding::Quarantined),
         (&[Act::Remove, Act::Begin, Act::End], Holding::Free),
@@ -65,14 +82,13 @@ fn a_removed_block_waits_for_a_commit_that_began_later(rt: HostRuntime) {
             Holding::Free,
         ),
     ];
-    for (acts, shown) in table {
-        assert!(rt; leaves(rt.alloc(), acts, shown), "{shown:?}");
-    }
+    let wrong = first_wrong(rt.alloc(), &table);
+    assert!(rt; wrong.is_none(), "row {wrong:?}");
 }
 
 #[test]
 fn a_kept_block_is_reserved_after_its_quarantine(rt: HostRuntime) {
-    let table: [(&[Act], Holding); 6] = [
+    let table: [Row; 6] = [
         (&[Act::Keep, Act::Begin], Holding::Quarantined),
         (&[Act::Keep, Act::Begin, Act::End], Holding::Reserved),
         (&[Act::Begin, Act::Keep, Act::End], Holding::Quarantined),
@@ -89,14 +105,13 @@ fn a_kept_block_is_reserved_after_its_quarantine(rt: HostRuntime) {
             Holding::Free,
         ),
     ];
-    for (acts, shown) in table {
-        assert!(rt; leaves(rt.alloc(), acts, shown), "{shown:?}");
-    }
+    let wrong = first_wrong(rt.alloc(), &table);
+    assert!(rt; wrong.is_none(), "row {wrong:?}");
 }
 
 #[test]
 fn a_block_given_back_in_quarantine_stays_there(rt: HostRuntime) {
-    let table: [(&[Act], Holding); 4] = [
+    let table: [Row; 4] = [
         (&[Act::Keep, Act::GiveBack], Holding::Quarantined),
         (
             &[Act::Keep, Act::GiveBack, Act::Begin, Act::End],
@@ -111,7 +126,6 @@ fn a_block_given_back_in_quarantine_stays_there(rt: HostRuntime) {
             Holding::Reserved,
         ),
     ];
-    for (acts, shown) in table {
-        assert!(rt; leaves(rt.alloc(), acts, shown), "{shown:?}");
-    }
+    let wrong = first_wrong(rt.alloc(), &table);
+    assert!(rt; wrong.is_none(), "row {wrong:?}");
 }
