@@ -1,12 +1,12 @@
 //! A connection that several serve beside one another.
 
-ghost use Rattle.std.specs.Prelude.{◌≡◌, ◌≢◌, ℕ, List, Option, Ok, Err, true, false, OnOk, OnErr, IfOk, IfErr, is_some};
+ghost use Rattle.std.specs.Prelude.{◌≡◌, ◌≢◌, ◌<◌, ◌+◌, ◌^◌, ℕ, List, Option, Ok, Err, true, false, OnOk, OnErr, IfOk, IfErr, is_some};
 ghost use Rattle.std.specs.Option.{IfSome};
 ghost use Rattle.std.specs.Io.KnownBytes.{Consumes, Appends};
 ghost use Rattle.wb_nbd.specs.Answers.{spelling};
 ghost use Rattle.wb_nbd.specs.Handshakes.{AgreesOn, lines};
 ghost use Rattle.wb_nbd.specs.Jobs.{AsksFor};
-ghost use Rattle.wb_nbd.specs.Serving.{ServesAll, Serves};
+ghost use Rattle.wb_nbd.specs.Serving.{ServesAll, Serves, with_taken};
 
 use crate::answer::Answer;
 use crate::broken::Broken;
@@ -42,6 +42,13 @@ struct Input<R> {
 struct Output<W> {
     writer: W,
     broken: bool,
+}
+
+/// How many requests one who serves has taken, and how many replies it has written.
+#[derive(Clone, Copy)]
+struct Turns {
+    taken: u64,
+    sent: u64,
 }
 
 /// A connection to one client. Whoever serves it takes the next request under one lock, and writes its reply under another: so
@@ -85,52 +92,66 @@ impl<R: Read, W: Write> Connection<R, W> {
         ensures ended { OnOk result (ServesAll E.size E.acts export.old export.new) }
         ensures broken { IfErr result (λ broken. broken ≢ Broken.Writer → ServesAll E.size E.acts export.old export.new) }
     {
+        let mut turns = Turns { taken: 0, sent: 0 };
         for _ in 0..u64::MAX {
-            if !self.take_turn(rt, alloc, export)? {
+            if !self.take_turn(rt, alloc, export, &mut turns)? {
                 return Ok(());
             }
         }
         Err(Broken::Count)
     }
 
-    /// Serves the next request, if any comes before the end.
+    /// Serves the next request, if any comes before the end: one request is taken, and one reply written.
     fn take_turn<C: Wait, E: Export>(
         &self,
         rt: &C,
         alloc: Global,
         export: &mut E,
+        turns: &mut Turns,
     ) -> Result<bool, Broken>
+        requires few { (turns.old.taken + 1 < 2 ^ 64) × (turns.old.sent + 1 < 2 ^ 64) }
         ensures turn { IfOk result (λ goes_on. goes_on ≡ true → Serves E.size E.acts export.old export.new) }
-        ensures end { IfOk result (λ goes_on. goes_on ≡ false → export.new ≡ export.old) }
+        ensures counted { IfOk result (λ goes_on. goes_on ≡ true → turns.new ≡ record { taken = turns.old.taken + 1; sent = turns.old.sent + 1 }) }
+        ensures end { IfOk result (λ goes_on. goes_on ≡ false → (export.new ≡ export.old) × (turns.new ≡ turns.old)) }
         ensures broken { IfErr result (λ broken. broken ≢ Broken.Writer → export.new ≡ export.old) }
     {
         let size = export.sectors();
-        let Some(job) = self.take(rt, alloc, size)? else {
+        let Some(job) = self.take(rt, alloc, size, turns)? else {
             return Ok(false);
         };
         let answer = perform(alloc, export, job);
-        self.send(rt, &answer)?;
+        self.send(rt, &answer, turns)?;
         Ok(true)
     }
 
     /// The next job on an export of so many sectors; none where the client ended the connection.
-    fn take<C: Wait>(&self, rt: &C, alloc: Global, size: u64) -> Result<Option<Job>, Broken>
-        ensures { IfOk result (λ asked. IfSome asked (λ job. (input left : Option (List ℕ)) × (bytes : List ℕ) × Consumes input left bytes × AsksFor size bytes job)) }
+    fn take<C: Wait>(
+        &self,
+        rt: &C,
+        alloc: Global,
+        size: u64,
+        turns: &mut Turns,
+    ) -> Result<Option<Job>, Broken>
+        requires few { turns.old.taken + 1 < 2 ^ 64 }
+        ensures counted { IfOk result (λ asked. turns.new ≡ with_taken asked turns.old) }
+        ensures asked { IfOk result (λ asked. IfSome asked (λ job. (input left : Option (List ℕ)) × (bytes : List ℕ) × Consumes input left bytes × AsksFor size bytes job)) }
     {
         let mut input = self.input.lock(rt);
         if let Phase::New = input.phase {
             let mut output = self.output.lock(rt);
             input.greet(&self.terms, &mut output.writer);
         }
-        input.take(alloc, size)
+        input.take(alloc, size, turns)
     }
 
     /// Writes a reply, once others are out.
-    fn send<C: Wait>(&self, rt: &C, answer: &Answer) -> Result<(), Broken>
+    fn send<C: Wait>(&self, rt: &C, answer: &Answer, turns: &mut Turns) -> Result<(), Broken>
+        requires few { turns.old.sent + 1 < 2 ^ 64 }
+        ensures counted { OnOk result (turns.new ≡ record turns.old { sent = turns.old.sent + 1 }) }
         ensures sent { OnOk result ((held then : Option (List ℕ)) × Appends held then (spelling answer.now)) }
         ensures refused { IfErr result (λ broken. broken ≡ Broken.Writer) }
     {
-        self.output.lock(rt).send(answer)
+        self.output.lock(rt).send(answer, turns)
     }
 }
 
@@ -147,7 +168,14 @@ impl<R: Read> Input<R> {
     }
 
     /// The next job, if requests come; where none does, the connection is over.
-    fn take(&mut self, alloc: Global, size: u64) -> Result<Option<Job>, Broken>
+    fn take(
+        &mut self,
+        alloc: Global,
+        size: u64,
+        turns: &mut Turns,
+    ) -> Result<Option<Job>, Broken>
+        requires few { turns.old.taken + 1 < 2 ^ 64 }
+        ensures counted { IfOk result (λ asked. turns.new ≡ with_taken asked turns.old) }
         ensures job { IfOk result (λ asked. IfSome asked (λ job. (bytes : List ℕ) × Consumes (R.remaining self.old.reader) (R.remaining self.new.reader) bytes × AsksFor size bytes job)) }
         ensures open { IfOk result (λ asked. is_some asked ≡ true → (self.old.phase ≡ Phase.Open) × (self.new.phase ≡ Phase.Open)) }
         ensures over { IfOk result (λ asked. is_some asked ≡ false → self.new.phase ≡ Phase.Over (Ok tt)) }
@@ -160,7 +188,7 @@ impl<R: Read> Input<R> {
             Phase::Over(Err(broken)) => Err(broken),
         };
         match told {
-            Ok(Some(_)) => {}
+            Ok(Some(_)) => turns.taken += 1,
             Ok(None) => self.phase = Phase::Over(Ok(())),
             Err(broken) => self.phase = Phase::Over(Err(broken)),
         }
@@ -170,7 +198,9 @@ impl<R: Read> Input<R> {
 
 impl<W: Write> Output<W> {
     /// Writes a reply, unless an earlier one could not be written.
-    fn send(&mut self, answer: &Answer) -> Result<(), Broken>
+    fn send(&mut self, answer: &Answer, turns: &mut Turns) -> Result<(), Broken>
+        requires few { turns.old.sent + 1 < 2 ^ 64 }
+        ensures counted { OnOk result (turns.new ≡ record turns.old { sent = turns.old.sent + 1 }) }
         ensures sent { OnOk result (Appends (W.contents self.old.writer) (W.contents self.new.writer) (spelling answer.now)) }
         ensures refused { IfErr result (λ broken. (broken ≡ Broken.Writer) × (self.new.broken ≡ true)) }
         ensures after { self.old.broken ≡ true → OnErr result (W.contents self.new.writer ≡ W.contents self.old.writer) }
@@ -179,7 +209,10 @@ impl<W: Write> Output<W> {
             return Err(Broken::Writer);
         }
         let told = answer.send(&mut self.writer);
-        self.broken = told.is_err();
+        match told {
+            Ok(()) => turns.sent += 1,
+            Err(_) => self.broken = true,
+        }
         told
     }
 }
