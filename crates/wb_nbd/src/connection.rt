@@ -180,6 +180,7 @@ impl<R: Read> Input<R> {
         ensures open { IfOk result (λ asked. is_some asked ≡ true → (self.old.phase ≡ Phase.Open) × (self.new.phase ≡ Phase.Open)) }
         ensures over { IfOk result (λ asked. is_some asked ≡ false → self.new.phase ≡ Phase.Over (Ok tt)) }
         ensures broken { IfErr result (λ broken. self.new.phase ≡ Phase.Over (Err broken)) }
+        ensures ended { (told : _) → self.old.phase ≡ Phase.Over told → self.new ≡ self.old }
     {
         let told = match self.phase {
             Phase::New => Err(Broken::Magic),
