@@ -55,14 +55,13 @@ struct Turns {
 /// requests are done beside one another, and replies go out whole, in any order.
 #[derive(Drop)]
 pub struct Connection<R, W> {
-    terms: Terms,
     input: Mutex<Input<R>>,
     output: Mutex<Output<W>>,
 }
 
 impl<R: Read, W: Write> Connection<R, W> {
     /// A connection that has not begun.
-    pub fn new(terms: Terms, reader: R, writer: W) -> Connection<R, W> {
+    pub fn new(reader: R, writer: W) -> Connection<R, W> {
         let input = Input {
             reader,
             phase: Phase::New,
@@ -72,14 +71,13 @@ impl<R: Read, W: Write> Connection<R, W> {
             broken: false,
         };
         Connection {
-            terms,
             input: Mutex::new(input),
             output: Mutex::new(output),
         }
     }
 
-    /// Serves requests, beside whoever else does, until the client ends the connection or it breaks. Who comes first shakes hands.
-    /// What was taken is answered before this ends.
+    /// Serves requests, beside whoever else does, until the client ends the connection or it breaks. Who comes first shakes hands, and
+    /// tells the client these terms. What was taken is answered before this ends.
     ///
     /// The causes are those of `shake_hands` and `take_job`, which all who serve are told, and `Writer` where a reply could not be
     /// written: then it may be that its job was done. Others who serve are told so at their next reply.
@@ -87,11 +85,13 @@ impl<R: Read, W: Write> Connection<R, W> {
         &self,
         rt: &C,
         alloc: Global,
+        terms: &Terms,
         export: &mut E,
     ) -> Result<(), Broken>
         ensures ended { OnOk result (ServesAll E.size E.acts export.old export.new) }
         ensures broken { IfErr result (λ broken. broken ≢ Broken.Writer → ServesAll E.size E.acts export.old export.new) }
     {
+        self.greet(rt, terms);
         let mut turns = Turns { taken: 0, sent: 0 };
         for _ in 0..u64::MAX {
             if !self.take_turn(rt, alloc, export, &mut turns)? {
@@ -124,6 +124,15 @@ impl<R: Read, W: Write> Connection<R, W> {
         Ok(true)
     }
 
+    /// Shakes hands with a client that was not greeted yet.
+    fn greet<C: Wait>(&self, rt: &C, terms: &Terms) {
+        let mut input = self.input.lock(rt);
+        if let Phase::New = input.phase {
+            let mut output = self.output.lock(rt);
+            input.greet(terms, &mut output.writer);
+        }
+    }
+
     /// The next job on an export of so many sectors; none where the client ended the connection.
     fn take<C: Wait>(
         &self,
@@ -136,12 +145,7 @@ impl<R: Read, W: Write> Connection<R, W> {
         ensures counted { IfOk result (λ asked. turns.new ≡ with_taken asked turns.old) }
         ensures asked { IfOk result (λ asked. IfSome asked (λ job. (input left : Option (List ℕ)) × (bytes : List ℕ) × Consumes input left bytes × AsksFor size bytes job)) }
     {
-        let mut input = self.input.lock(rt);
-        if let Phase::New = input.phase {
-            let mut output = self.output.lock(rt);
-            input.greet(&self.terms, &mut output.writer);
-        }
-        input.take(alloc, size, turns)
+        self.input.lock(rt).take(alloc, size, turns)
     }
 
     /// Writes a reply, once others are out.
@@ -168,12 +172,7 @@ impl<R: Read> Input<R> {
     }
 
     /// The next job, if requests come; where none does, the connection is over.
-    fn take(
-        &mut self,
-        alloc: Global,
-        size: u64,
-        turns: &mut Turns,
-    ) -> Result<Option<Job>, Broken>
+    fn take(&mut self, alloc: Global, size: u64, turns: &mut Turns) -> Result<Option<Job>, Broken>
         requires few { turns.old.taken + 1 < 2 ^ 64 }
         ensures counted { IfOk result (λ asked. turns.new ≡ with_taken asked turns.old) }
         ensures job { IfOk result (λ asked. IfSome asked (λ job. (bytes : List ℕ) × Consumes (R.remaining self.old.reader) (R.remaining self.new.reader) bytes × AsksFor size bytes job)) }

@@ -106,7 +106,7 @@ fn serve_by_two<R: Threads + Wait + Sync>(
         bytes: &bytes,
         most,
     };
-    let connection = Connection::new(TERMS, READS_AND_FLUSHES, writer);
+    let connection = Connection::new(READS_AND_FLUSHES, writer);
     let (one, other) = join(
         rt,
         || -> Result<(), Broken> { serve(rt, alloc, &connection, &flushed, &bell) },
@@ -124,7 +124,7 @@ fn serve<R: Wait>(
     bell: &Condvar,
 ) -> Result<(), Broken> {
     let mut export = Gated { rt, flushed, bell };
-    connection.serve(rt, alloc, &mut export)
+    connection.serve(rt, alloc, &TERMS, &mut export)
 }
 
 #[test]

@@ -12,7 +12,7 @@ pub returns-clause-turn : goal.returns-clause-turn
 returns-clause-turn g c goes =
     let size : ℕ = g.E.Export.size c.args.export.now in
     let taken : (input left : Option (List ℕ)) × (bytes : List ℕ) × Consumes input left bytes × AsksFor c.sectors-size.result bytes c.in-Some.job
-        = subst (λ (asked : Option Job). IfSome asked (λ job. (input left : Option (List ℕ)) × (bytes : List ℕ) × Consumes input left bytes × AsksFor c.sectors-size.result bytes job)) c.in-Some.is c.in_ok-job.ensures.asked in
+    = subst (λ (asked : Option Job). IfSome asked (λ job. (input left : Option (List ℕ)) × (bytes : List ℕ) × Consumes input left bytes × AsksFor c.sectors-size.result bytes job)) c.in-Some.is c.in_ok-job.ensures.asked in
     let asked : AsksFor size taken.2 c.in-Some.job = subst (λ (n : ℕ). AsksFor n taken.2 c.in-Some.job) c.sectors-size.ensures taken.4 in
     let fits : Fits size c.in-Some.job.task = asked_fits size asked.request asked.payload c.in-Some.job.task asked.task in
     let sent = c.in_ok-send.ensures.sent in
