@@ -36,26 +36,37 @@ fn devices_of(disks: Disks<FileDisk>) -> Devices<FileDisk> {
     }
 }
 
+/// The files of a table that was read, locked for as long as they are held.
+pub(crate) fn open_named<'a, R: Files<File = File>>(
+    rt: &R,
+    table: &Table<'a>,
+) -> Result<Devices<FileDisk>, Unserved<'a>> {
+    match Disks::open(rt, table) {
+        Ok(disks) => Ok(devices_of(disks)),
+        Err(unopened) => Err(Unserved::Unopened(unopened)),
+    }
+}
+
 /// The files of a table once more, for another client; they are locked already.
 pub(crate) fn open_again<R: Files<File = File>>(
     rt: &R,
     table: &str,
 ) -> Result<Devices<FileDisk>, DiskFault> {
-    let Ok(
-        Table {
-            metadata,
-            cache,
-            origin,
-            ..
-        },
-    ) = read_table(table)
-    else {
-        return Err(DiskFault);
-    };
+    match read_table(table) {
+        Ok(table) => open_unlocked(rt, &table),
+        Err(_) => Err(DiskFault),
+    }
+}
+
+/// The files of a table for another client, without a lock.
+pub(crate) fn open_unlocked<R: Files<File = File>>(
+    rt: &R,
+    table: &Table<'_>,
+) -> Result<Devices<FileDisk>, DiskFault> {
     Ok(Devices {
-        metadata: FileDisk::open(rt, metadata)?,
-        cache: FileDisk::open(rt, cache)?,
-        origin: FileDisk::open(rt, origin)?,
+        metadata: FileDisk::open(rt, table.metadata)?,
+        cache: FileDisk::open(rt, table.cache)?,
+        origin: FileDisk::open(rt, table.origin)?,
     })
 }
 

@@ -1,6 +1,6 @@
 //! Serving the target of a table.
 
-use crate::opening::{open_again, open_devices, open_target};
+use crate::opening::{open_again, open_devices, open_named, open_target, open_unlocked};
 use crate::served::{Served, Service};
 use crate::unserved::Unserved;
 use std::alloc::{AllocError, Global};
@@ -11,6 +11,7 @@ use std::thread::Threads;
 use wb_devices::Devices;
 use wb_disk::{Disk, FileDisk};
 use wb_policy::Policy;
+use wb_table::Table;
 use wb_target::{Client, Errand, Returned, Sent, Target};
 use wb_types::{Dev, Refusal};
 
@@ -31,12 +32,7 @@ pub fn serve_alone<'a, R: Files<File = File>, T: Wait, S: Service + Drop>(
 
 /// As `serve_alone`, with another service beside it, by a client of its own with files of its own. Where no thread can be made the
 /// first is done before the other. What the first told.
-pub fn serve_beside<
-    'a,
-    R: Files<File = File>,
-    T: Threads + Wait + Sync,
-    S: Service + Send + Drop,
->(
+pub fn serve_beside<'a, R: Files<File = File>, T: Threads + Wait + Sync, S: Service + Send + Drop>(
     rt: &R,
     waits: &T,
     alloc: Global,
@@ -48,8 +44,32 @@ pub fn serve_beside<
     let Ok(others) = open_again(rt, table) else {
         return Err(Unserved::Refused(Refusal::Io(Dev::Metadata)));
     };
-    serve_both(waits, alloc, block, (devices, service), (others, other))
-        .map_err(|refusal| Unserved::Refused(refusal))
+    serve_both(waits, alloc, block, (devices, service), (others, other)).map_err(
+        |refusal| Unserved::Refused(refusal),
+    )
+}
+
+/// Opens the cache over the files of a table that was read, has one client do a service, and then several, each with files of its
+/// own, theirs beside one another: what the first told, and each of the others in order, or why it had no client.
+pub fn serve_each<
+    'a,
+    R: Files<File = File>,
+    T: Threads + Wait + Sync,
+    F: Service + Drop,
+    S: Service + Send + Drop,
+>(
+    rt: &R,
+    waits: &T,
+    alloc: Global,
+    table: &Table<'a>,
+    first: F,
+    services: Vec<S>,
+) -> Result<(F::Told, Vec<Result<S::Told, Refusal>>), Unserved<'a>> {
+    let devices = open_named(rt, table)?;
+    let errands = errands_of(rt, alloc, table, services)?;
+    serve_first(waits, alloc, devices, table.block, first, errands).map_err(
+        |refusal| Unserved::Refused(refusal),
+    )
 }
 
 /// Opens the cache on these devices and has one client do a service.
@@ -90,6 +110,20 @@ fn serve_both<T: Threads + Wait + Sync, S: Service + Send + Drop>(
     let (devices, target) = open_target(alloc, devices, block)?;
     let sent = both(alloc, sent(devices, service), sent(others, other))?;
     first_told(target.together(waits, sent)?)
+}
+
+/// Opens the cache on these devices, has one client do the first service, and the others theirs beside one another.
+fn serve_first<T: Threads + Wait + Sync, F: Service + Drop, S: Service + Send + Drop>(
+    waits: &T,
+    alloc: Global,
+    devices: Devices<FileDisk>,
+    block: u64,
+    first: F,
+    errands: Vec<Sent<FileDisk, Doing<S>>>,
+) -> Result<(F::Told, Vec<Result<S::Told, Refusal>>), Refusal> {
+    let (devices, target) = open_target(alloc, devices, block)?;
+    let told = serve_by(waits, &target, devices, first)?;
+    Ok((told, all_told(alloc, target.together(waits, errands)?)?))
 }
 
 /// A service, to be done as an errand.
@@ -140,4 +174,36 @@ fn first_told<X: Drop>(returned: Vec<Returned<FileDisk, X>>) -> Result<X, Refusa
         Some(Returned { told, .. }) => told,
         None => Err(Refusal::Memory),
     }
+}
+
+/// An errand for each service, with files of its own.
+fn errands_of<'a, R: Files<File = File>, S: Service + Drop>(
+    rt: &R,
+    alloc: Global,
+    table: &Table<'a>,
+    services: Vec<S>,
+) -> Result<Vec<Sent<FileDisk, Doing<S>>>, Unserved<'a>> {
+    let mut errands = Vec::new(alloc);
+    for service in services {
+        let Ok(devices) = open_unlocked(rt, table) else {
+            return Err(Unserved::Refused(Refusal::Io(Dev::Metadata)));
+        };
+        if errands.push(sent(devices, service)).is_err() {
+            return Err(Unserved::Refused(Refusal::Memory));
+        }
+    }
+    Ok(errands)
+}
+
+/// What each errand told, in order.
+fn all_told<X: Drop>(
+    alloc: Global,
+    returned: Vec<Returned<FileDisk, X>>,
+) -> Result<Vec<Result<X, Refusal>>, AllocError> {
+    let mut all = Vec::new(alloc);
+    for one in returned {
+        let Returned { told, .. } = one;
+        all.push(told).map_err(|_| AllocError)?;
+    }
+    Ok(all)
 }

@@ -142,22 +142,14 @@ fn try_write<C: Served>(
 }
 
 /// Tells how the cache is, on a line.
-fn status<R: Wait, C: Served>(
-    rt: &R,
-    client: &C,
-    text: &mut String,
-) -> Result<(), Refusal> {
+fn status<R: Wait, C: Served>(rt: &R, client: &C, text: &mut String) -> Result<(), Refusal> {
     client.status(rt, text)?;
     text.push_str("\n")?;
     Ok(())
 }
 
 /// Carries out an order, if any waits, and says which.
-fn work<R: Wait, C: Served>(
-    rt: &R,
-    client: &mut C,
-    text: &mut String,
-) -> Result<(), Refusal> {
+fn work<R: Wait, C: Served>(rt: &R, client: &mut C, text: &mut String) -> Result<(), Refusal> {
     let Some(order) = client.work_one(rt)? else {
         text.push_str("idle\n")?;
         return Ok(());

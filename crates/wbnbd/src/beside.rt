@@ -111,12 +111,7 @@ fn talk<'r, 'c, 'p, R: Wait, S: Served, I: Read, O: Write>(
 
 /// Carries out orders until the connection has ended or the target has failed. A tick that there is no memory or no generation for
 /// is left out.
-fn work<R: Wait, S: Served, C: Clock>(
-    rt: &R,
-    client: &mut S,
-    clock: &C,
-    pace: &Pace,
-) {
+fn work<R: Wait, S: Served, C: Clock>(rt: &R, client: &mut S, clock: &C, pace: &Pace) {
     let gate = UntilTick { clock, pace };
     for _ in rt.forever() {
         if client.worker(rt, &gate).is_err() || pace.has_ended() {
