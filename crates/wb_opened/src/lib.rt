@@ -8,5 +8,5 @@ mod serving;
 mod unserved;
 
 pub use served::{Served, Service};
-pub use serving::{serve_alone, serve_beside, serve_each};
+pub use serving::{serve_all, serve_alone, serve_each};
 pub use unserved::Unserved;

@@ -8,7 +8,7 @@ use wb_devices::Devices;
 use wb_disk::{DiskFault, FileDisk};
 use wb_files::{Disks, open_table};
 use wb_policy::TinyLfu;
-use wb_table::{Table, read_table};
+use wb_table::Table;
 use wb_target::Target;
 use wb_types::{Mode, Refusal};
 
@@ -44,17 +44,6 @@ pub(crate) fn open_named<'a, R: Files<File = File>>(
     match Disks::open(rt, table) {
         Ok(disks) => Ok(devices_of(disks)),
         Err(unopened) => Err(Unserved::Unopened(unopened)),
-    }
-}
-
-/// The files of a table once more, for another client; they are locked already.
-pub(crate) fn open_again<R: Files<File = File>>(
-    rt: &R,
-    table: &str,
-) -> Result<Devices<FileDisk>, DiskFault> {
-    match read_table(table) {
-        Ok(table) => open_unlocked(rt, &table),
-        Err(_) => Err(DiskFault),
     }
 }
 

@@ -1,6 +1,6 @@
 //! Serving the target of a table.
 
-use crate::opening::{open_again, open_devices, open_named, open_target, open_unlocked};
+use crate::opening::{open_devices, open_named, open_target, open_unlocked};
 use crate::served::{Served, Service};
 use crate::unserved::Unserved;
 use std::alloc::{AllocError, Global};
@@ -11,7 +11,7 @@ use std::thread::Threads;
 use wb_devices::Devices;
 use wb_disk::{Disk, FileDisk};
 use wb_policy::Policy;
-use wb_table::Table;
+use wb_table::{Table, read_table};
 use wb_target::{Client, Errand, Returned, Sent, Target};
 use wb_types::{Dev, Refusal};
 
@@ -30,23 +30,21 @@ pub fn serve_alone<'a, R: Files<File = File>, T: Wait, S: Service + Drop>(
     serve_on(waits, alloc, devices, block, service).map_err(|refusal| Unserved::Refused(refusal))
 }
 
-/// As `serve_alone`, with another service beside it, by a client of its own with files of its own. Where no thread can be made the
-/// first is done before the other. What the first told.
-pub fn serve_beside<'a, R: Files<File = File>, T: Threads + Wait + Sync, S: Service + Send + Drop>(
+/// As `serve_alone`, by several who do their services beside one another, each by a client of its own with files of its own and on a
+/// thread of its own; where no thread can be made, one is done after the other. What each told, in order, or why it had no client.
+pub fn serve_all<'a, R: Files<File = File>, T: Threads + Wait + Sync, S: Service + Send + Drop>(
     rt: &R,
     waits: &T,
     alloc: Global,
     table: &'a str,
-    service: S,
-    other: S,
-) -> Result<S::Told, Unserved<'a>> {
+    services: Vec<S>,
+) -> Result<Vec<Result<S::Told, Refusal>>, Unserved<'a>> {
     let (devices, block) = open_devices(rt, table)?;
-    let Ok(others) = open_again(rt, table) else {
-        return Err(Unserved::Refused(Refusal::Io(Dev::Metadata)));
+    let Ok(table) = read_table(table) else {
+        return Err(Unserved::Refused(Refusal::BadTable));
     };
-    serve_both(waits, alloc, block, (devices, service), (others, other)).map_err(
-        |refusal| Unserved::Refused(refusal),
-    )
+    let errands = errands_of(rt, alloc, &table, services)?;
+    serve_rest(waits, alloc, devices, block, errands).map_err(|refusal| Unserved::Refused(refusal))
 }
 
 /// Opens the cache over the files of a table that was read, has one client do a service, and then several, each with files of its
@@ -97,19 +95,18 @@ fn serve_by<T: Wait, D: Disk + Drop, P: Policy, S: Service + Drop>(
     }
 }
 
-/// Opens the cache on the first devices, and has two clients do their services beside one another: what the first told.
-fn serve_both<T: Threads + Wait + Sync, S: Service + Send + Drop>(
+/// Opens the cache on these devices, which are kept open as long, and has clients do services beside one another.
+fn serve_rest<T: Threads + Wait + Sync, S: Service + Send + Drop>(
     waits: &T,
     alloc: Global,
+    devices: Devices<FileDisk>,
     block: u64,
-    first: (Devices<FileDisk>, S),
-    other: (Devices<FileDisk>, S),
-) -> Result<S::Told, Refusal> {
-    let (devices, service) = first;
-    let (others, other) = other;
+    errands: Vec<Sent<FileDisk, Doing<S>>>,
+) -> Result<Vec<Result<S::Told, Refusal>>, Refusal> {
     let (devices, target) = open_target(alloc, devices, block)?;
-    let sent = both(alloc, sent(devices, service), sent(others, other))?;
-    first_told(target.together(waits, sent)?)
+    let told = all_told(alloc, target.together(waits, errands)?)?;
+    drop(devices);
+    Ok(told)
 }
 
 /// Opens the cache on these devices, has one client do the first service, and the others theirs beside one another.
@@ -151,28 +148,6 @@ fn sent<S>(devices: Devices<FileDisk>, service: S) -> Sent<FileDisk, Doing<S>> {
     Sent {
         devices,
         errand: Doing { service },
-    }
-}
-
-/// Two errands, the first of which may be done without the other.
-fn both<E: Drop>(
-    alloc: Global,
-    first: Sent<FileDisk, E>,
-    other: Sent<FileDisk, E>,
-) -> Result<Vec<Sent<FileDisk, E>>, AllocError> {
-    let mut sent = Vec::with_capacity(alloc, 2)?;
-    sent.push(first).map_err(|_| AllocError)?;
-    sent.push(other).map_err(|_| AllocError)?;
-    Ok(sent)
-}
-
-/// What the first errand told, or why it was not done.
-fn first_told<X: Drop>(returned: Vec<Returned<FileDisk, X>>) -> Result<X, Refusal> {
-    let mut returned = returned;
-    returned.truncate(1);
-    match returned.pop() {
-        Some(Returned { told, .. }) => told,
-        None => Err(Refusal::Memory),
     }
 }
 

@@ -1,14 +1,14 @@
-//! What is done beside one another: a connection is served, and orders are carried out.
+//! What is done beside one another: a connection is served by several, and orders are carried out.
 
 ghost use Rattle.std.specs.Prelude.{◌≡◌, ◌*◌};
 
 use crate::lent::Lent;
-use crate::pace::{Connection, Pace, UntilTick};
+use crate::pace::{Pace, Place, UntilTick};
 use std::alloc::Global;
 use std::io::{Read, Write};
 use std::sync::Wait;
 use std::time::Clock;
-use wb_nbd::{Agreed, Broken, MOST_BYTES, Terms, shake_hands};
+use wb_nbd::{Broken, Connection, MOST_BYTES, Terms};
 use wb_opened::{Served, Service};
 use wb_types::{Geometry, Refusal, SECTOR_BYTES};
 
@@ -17,7 +17,7 @@ use wb_types::{Geometry, Refusal, SECTOR_BYTES};
 pub enum Beside<'a, C, I, O> {
     /// To serve the one connection.
     Serve(Peer<'a, I, O>),
-    /// To carry out orders until the connection has ended.
+    /// To carry out orders until all who serve it have ended.
     Work(&'a C, &'a Pace),
 }
 
@@ -25,9 +25,8 @@ pub enum Beside<'a, C, I, O> {
 #[derive(Drop)]
 pub struct Peer<'a, I, O> {
     pub alloc: Global,
-    pub reader: I,
-    pub writer: O,
-    pub connection: Connection<'a>,
+    pub connection: &'a Connection<I, O>,
+    pub place: Place<'a>,
 }
 
 /// How it went.
@@ -35,13 +34,13 @@ pub struct Peer<'a, I, O> {
 pub enum Told {
     Served {
         connection: Result<(), Broken>,
-        /// The flush at its end.
+        /// The flush at its end, by who ends last.
         flushed: Result<(), Refusal>,
     },
     Worked,
 }
 
-impl<'a, C: Clock, I: Read + Drop, O: Write + Drop> Service for Beside<'a, C, I, O> {
+impl<'a, C: Clock, I: Read, O: Write> Service for Beside<'a, C, I, O> {
     type Told = Told;
 
     fn serve<R: Wait, S: Served>(self, rt: &R, client: &mut S) -> Told {
@@ -55,43 +54,41 @@ impl<'a, C: Clock, I: Read + Drop, O: Write + Drop> Service for Beside<'a, C, I,
     }
 }
 
-/// Serves a connection, and makes durable what was written; then the worker beside may end.
-fn serve<R: Wait, S: Served, I: Read + Drop, O: Write + Drop>(
+/// Serves a connection beside others; who ends last makes durable what was written.
+fn serve<R: Wait, S: Served, I: Read, O: Write>(
     rt: &R,
     client: &mut S,
     peer: Peer<'_, I, O>,
 ) -> Told {
     let Peer {
         alloc,
-        mut reader,
-        mut writer,
         connection,
+        place,
     } = peer;
-    let pace = connection.pace;
-    let terms = terms_of(&client.geometry());
-    let agreed = shake_hands(&terms, &mut reader, &mut writer);
-    let talked = match agreed {
-        Ok(Agreed::Serve) => talk(rt, client, pace, alloc, &mut reader, &mut writer),
-        Ok(Agreed::Abort) => Ok(()),
-        Err(broken) => Err(broken),
+    let pace = place.pace;
+    pace.enter();
+    let connection = talk(rt, client, pace, alloc, connection);
+    let flushed = if pace.leave() {
+        client.flush(rt)
+    } else {
+        Ok(())
     };
-    let flushed = client.flush(rt);
-    drop(connection);
+    drop(place);
     Told::Served {
-        connection: talked,
+        connection,
         flushed,
     }
 }
 
 /// Serves requests until the connection ends or breaks.
-fn talk<'r, 'c, 'p, R: Wait, S: Served, I: Read, O: Write>(
-    rt: &'r R,
-    client: &'c mut S,
-    pace: &'p Pace,
+fn talk<R: Wait, S: Served, I: Read, O: Write>(
+    rt: &R,
+    client: &mut S,
+    pace: &Pace,
     alloc: Global,
-    reader: &mut I,
-    writer: &mut O,
+    connection: &Connection<I, O>,
 ) -> Result<(), Broken> {
+    let terms = terms_of(&client.geometry());
     let size = client.geometry().origin_sectors();
     let mut lent = Lent {
         rt,
@@ -99,7 +96,7 @@ fn talk<'r, 'c, 'p, R: Wait, S: Served, I: Read, O: Write>(
         pace,
         size,
     };
-    let ended = lent.serve(alloc, reader, writer);
+    let ended = connection.serve(rt, alloc, &terms, &mut lent);
     let Lent {
         rt: _,
         client: _,
@@ -109,7 +106,7 @@ fn talk<'r, 'c, 'p, R: Wait, S: Served, I: Read, O: Write>(
     ended
 }
 
-/// Carries out orders until the connection has ended or the target has failed. A tick that there is no memory or no generation for
+/// Carries out orders until all who serve have ended or the target has failed. A tick that there is no memory or no generation for
 /// is left out.
 fn work<R: Wait, S: Served, C: Clock>(rt: &R, client: &mut S, clock: &C, pace: &Pace) {
     let gate = UntilTick { clock, pace };

@@ -3,10 +3,8 @@
 ghost use Rattle.std.specs.Prelude.{◌≡◌};
 
 use crate::pace::Pace;
-use std::alloc::Global;
-use std::io::{Read, Write};
 use std::sync::Wait;
-use wb_nbd::{Broken, Errno, Export, transmit};
+use wb_nbd::{Errno, Export};
 use wb_opened::Served;
 use wb_types::{Content, Refusal, Sector};
 
@@ -50,18 +48,6 @@ impl<'r, 'c, 'p, R: Wait, C: Served> Export for Lent<'r, 'c, 'p, R, C> {
             Ok(()) => Ok(()),
             Err(refusal) => Err(errno_of(refusal)),
         }
-    }
-}
-
-impl<'r, 'c, 'p, R: Wait, C: Served> Lent<'r, 'c, 'p, R, C> {
-    /// Serves requests, one after the other, until the connection ends or breaks.
-    pub fn serve<I: Read, O: Write>(
-        &mut self,
-        alloc: Global,
-        reader: &mut I,
-        writer: &mut O,
-    ) -> Result<(), Broken> {
-        transmit(alloc, self, reader, writer)
     }
 }
 
