@@ -35,12 +35,18 @@ impl<'t, D: Disk + Drop, P: Policy> Served for Client<'t, D, P> {
 
     #[tactic(auto, using(crate::proofs::Inside::not_outside))]
     fn try_read(&mut self, at: Sector, out: &mut [Content]) -> Result<(), Refusal> {
-        self.port.try_read(at, out)
+        match self.port.try_read(at, out) {
+            Ok(()) => Ok(()),
+            Err(refusal) => Err(refusal),
+        }
     }
 
     #[tactic(auto, using(crate::proofs::Inside::not_outside))]
     fn try_write(&mut self, at: Sector, from: &[Content]) -> Result<(), Refusal> {
-        self.port.try_write(at, from)
+        match self.port.try_write(at, from) {
+            Ok(()) => Ok(()),
+            Err(refusal) => Err(refusal),
+        }
     }
 
     fn settle<R: Wait>(&mut self, rt: &R) {

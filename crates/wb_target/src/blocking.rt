@@ -122,10 +122,11 @@ impl<'t, D: Disk + Drop, P: Policy> Client<'t, D, P> {
                     return Ok(());
                 }
                 Err(refusal) => {
-                    if refusal != Refusal::Busy {
-                        return Err(refusal);
+                    if refusal == Refusal::Busy {
+                        thread::yield_now();
+                        continue;
                     }
-                    thread::yield_now();
+                    return Err(refusal);
                 }
             }
         }
@@ -150,10 +151,11 @@ impl<'t, D: Disk + Drop, P: Policy> Client<'t, D, P> {
                     return Ok(());
                 }
                 Err(refusal) => {
-                    if refusal != Refusal::Busy {
-                        return Err(refusal);
+                    if refusal == Refusal::Busy {
+                        thread::yield_now();
+                        continue;
                     }
-                    thread::yield_now();
+                    return Err(refusal);
                 }
             }
         }
