@@ -14,6 +14,7 @@ import time
 
 READ, WRITE, END, FLUSH = 0, 1, 2, 3
 SECTORS = 4096
+DEPTH = 16
 
 
 def request(command, cookie, sector, count):
@@ -52,11 +53,16 @@ class Server:
             data += more
         return data
 
+    def answered(self):
+        """Takes a reply without data in, and gives its cookie."""
+        magic, error, cookie = struct.unpack(">IIQ", self.take(16))
+        assert magic == 0x67446698, "no reply"
+        assert error == 0, f"error {error}"
+        return cookie
+
     def ask(self, command, sector=0, count=0, payload=b""):
         self.send(request(command, 1, sector, count) + payload)
-        magic, error, cookie = struct.unpack(">IIQ", self.take(16))
-        assert magic == 0x67446698 and cookie == 1, "no reply to the request"
-        assert error == 0, f"error {error}"
+        assert self.answered() == 1, "no reply to the request"
         return self.take(count * 512) if command == READ else b""
 
     def end(self):
@@ -70,20 +76,31 @@ def content(number):
 
 
 def load(server, written, durable, number):
-    """Writes and flushes until the server is gone; gives the number of the next write."""
+    """Writes and flushes, up to DEPTH requests at once, until the server is gone; gives the number of the last write.
+
+    No two writes to one sector are under way at once, so which of them is later is known."""
+    under_way, cookie = {}, 0
     try:
         while True:
-            if random.random() < 0.02:
-                before = dict(written)
-                server.ask(FLUSH)
-                durable.update(before)
-            else:
+            while len(under_way) < DEPTH:
+                cookie += 1
+                if random.random() < 0.02:
+                    under_way[cookie] = (FLUSH, dict(written))
+                    server.send(request(FLUSH, cookie, 0, 0))
+                    continue
                 # Half of them to few sectors, so that their blocks come into the cache.
                 sector = random.randrange(256 if random.random() < 0.5 else SECTORS)
+                if any(what == (WRITE, sector) for what, _ in under_way.values()):
+                    continue
                 number += 1
                 # It may land without an answer, so it counts as a later write from now on.
-                server.ask(WRITE, sector, 1, content(number))
-                written[sector] = number
+                under_way[cookie] = ((WRITE, sector), number)
+                server.send(request(WRITE, cookie, sector, 1) + content(number))
+            what, value = under_way.pop(server.answered())
+            if what == FLUSH:
+                durable.update(value)
+            else:
+                written[what[1]] = value
     except Gone:
         return number
 

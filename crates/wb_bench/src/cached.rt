@@ -1,22 +1,20 @@
 //! Requests of a target's clients on blocks that are cached, to be timed.
 
-ghost use Rattle.std.specs.Prelude.{◌≡◌, ◌≤◌};
-
-use crate::clock::passed;
+use crate::clock::passed_by;
 use crate::shares::Crowd;
 use std::alloc::Global;
 use std::sync::Wait;
 use std::thread::Threads;
-use std::time::Instant;
-use wb_devices::Devices;
-use wb_disk::{Disk, FileDisk};
-use wb_policy::{Policy, TinyLfu};
-use wb_port::UNSETTLED;
-use wb_target::{Client, Errand, Sent, Target};
-use wb_types::{Content, Mode, SECTOR_BYTES, Sector};
+use std::time::{Clock, Instant};
+use wb_opened::{Served, Service, Unserved, serve_each};
+use wb_table::Table;
+use wb_types::{Content, Refusal, SECTOR_BYTES, Sector};
 
 /// Sectors of a block: 32 KiB.
 pub const BLOCK: u64 = 64;
+
+/// How many accesses are settled at once.
+const UNSETTLED: u64 = 32;
 
 /// Which call is timed.
 #[derive(Clone, Copy, Debug, PartialEq, Eq)]
@@ -51,83 +49,136 @@ pub struct Took {
     pub serving: u64,
 }
 
-/// What one client asks, over so many blocks from `first` on.
-#[derive(Clone, Copy, Debug)]
-struct Load {
+/// What one client asks, over an equal part of the cached blocks.
+#[derive(Drop)]
+struct Load<'c, C> {
+    clock: &'c C,
     alloc: Global,
     call: Call,
     sectors: u64,
     requests: u64,
-    first: u64,
-    blocks: u64,
+    /// Which of the clients it is, and how many there are.
+    number: u64,
+    clients: u64,
 }
 
-impl Errand for Load {
-    type Told = Option<u64>;
+/// The requests that were answered, and the nanoseconds that they took.
+#[derive(Clone, Copy, Debug)]
+struct Answered {
+    requests: u64,
+    serving: u64,
+}
 
-    ghost tells = { λ load told. Unit {0} };
+impl<'c, C: Clock> Service for Load<'c, C> {
+    type Told = Option<Answered>;
 
-    fn run<R: Wait, D: Disk + Drop, P: Policy>(
-        self,
-        rt: &R,
-        client: &mut Client<'_, D, P>,
-    ) -> Option<u64> {
+    fn serve<R: Wait, S: Served>(self, rt: &R, client: &mut S) -> Option<Answered> {
+        let share = (u64::from(client.geometry().cache_blocks) / self.clients.max(1)).max(1);
+        let first = self.number.wrapping_mul(share);
         let mut contents = vec![in self.alloc; [0x5a; SECTOR_BYTES]; self.sectors as usize].ok()?;
+        let start = Instant::now(self.clock).ok()?;
         for number in 0..self.requests {
-            let block = self.first.wrapping_add(number.checked_rem(self.blocks)?);
+            let block = first.wrapping_add(number % share);
             let at = Sector(block.wrapping_mul(BLOCK));
             ask(rt, client, self.call, at, contents.as_mut_slice())?;
+            if number % UNSETTLED == UNSETTLED - 1 {
+                client.settle(rt);
+            }
         }
-        Some(self.requests)
+        Some(Answered {
+            requests: self.requests,
+            serving: passed_by(self.clock, &start),
+        })
     }
 }
 
 /// Makes one request; None where it is not answered done.
-fn ask<R: Wait, D: Disk + Drop, P: Policy>(
+fn ask<R: Wait, S: Served>(
     rt: &R,
-    client: &mut Client<'_, D, P>,
+    client: &mut S,
     call: Call,
     at: Sector,
     contents: &mut [Content],
 ) -> Option<()> {
     match call {
-        Call::TryRead => client.port.try_read(at, contents).ok()?,
-        Call::TryWrite => client.port.try_write(at, contents).ok()?,
-        Call::Read => client.read(rt, at, contents).ok()?,
-        Call::Write => client.write(rt, at, contents).ok()?,
+        Call::TryRead => client.try_read(at, contents).ok(),
+        Call::TryWrite => client.try_write(at, contents).ok(),
+        Call::Read => client.read(rt, at, contents).ok(),
+        Call::Write => client.write(rt, at, contents).ok(),
     }
-    if client.port.accesses.len() >= UNSETTLED {
+}
+
+/// What promotes a block of the origin for each block of the cache.
+#[derive(Drop)]
+struct Fill<'c, C> {
+    clock: &'c C,
+}
+
+impl<'c, C: Clock> Service for Fill<'c, C> {
+    type Told = Result<(u64, u64), &'static str>;
+
+    /// Reads so many blocks twice each, and carries out the orders: how many there were, and how long they took.
+    fn serve<R: Wait, S: Served>(self, rt: &R, client: &mut S) -> Result<(u64, u64), &'static str> {
+        let mut sector = [[0; SECTOR_BYTES]];
+        let (mut promotions, mut promoting): (u64, u64) = (0, 0);
+        for block in 0..u64::from(client.geometry().cache_blocks) {
+            let at = Sector(block.wrapping_mul(BLOCK));
+            for _ in 0..2 {
+                if client.read(rt, at, &mut sector).is_err() {
+                    return Err("a block cannot be read");
+                }
+            }
+            let Ok(start) = Instant::now(self.clock) else {
+                return Err("no clock");
+            };
+            match client.work_one(rt) {
+                Ok(Some(_)) => promotions = promotions.wrapping_add(1),
+                Ok(None) => {}
+                Err(_) => return Err("an order failed"),
+            }
+            promoting = promoting.wrapping_add(passed_by(self.clock, &start));
+        }
         client.settle(rt);
+        Ok((promotions, promoting))
     }
-    Some(())
 }
 
 /// Promotes a block of the origin for each block of the cache, and then makes the requests: how long each took, or why nothing did.
-pub fn time_cached<R: Threads + Wait + Sync>(
+/// The requests took as long as the client that was slowest.
+pub fn time_cached<R: Threads + Wait + Clock + Sync>(
     rt: &HostRuntime,
     threads: &R,
     asked: &Cached<'_>,
 ) -> Result<Took, &'static str> {
     let alloc = rt.alloc();
-    let devices = open_files(rt, asked)?;
-    let blocks = devices.cache.sectors() / BLOCK;
-    let (devices, opened) = Target::<TinyLfu>::open(alloc, devices, BLOCK, Mode::Writeback, &[]);
-    let Ok(target) = opened else {
-        return Err("the cache cannot be opened");
+    let table = Table {
+        metadata: asked.metadata,
+        cache: asked.cache,
+        origin: asked.origin,
+        block: BLOCK,
     };
-    let (promotions, promoting) = fill(rt, threads, &target, devices, blocks)?;
-    let errands = errands_of(rt, asked, blocks)?;
-    let Ok(start) = Instant::now(rt) else {
-        return Err("no clock");
-    };
-    let Ok(returned) = target.together(threads, errands) else {
-        return Err("out of memory");
-    };
-    let serving = passed(rt, &start);
-    let mut requests: u64 = 0;
-    for back in returned.as_slice() {
-        match back.told {
-            Ok(Some(done)) => requests = requests.wrapping_add(done),
+    let loads = loads_of(threads, alloc, asked)?;
+    let fill = Fill { clock: threads };
+    match serve_each(rt, threads, alloc, &table, fill, loads) {
+        Ok((filled, answered)) => sum_up(filled?, answered.as_slice()),
+        Err(Unserved::Unopened(_)) => Err("a file cannot be opened"),
+        Err(Unserved::Refused(_)) => Err("the cache cannot be opened"),
+    }
+}
+
+/// How long all took.
+fn sum_up(
+    filled: (u64, u64),
+    answered: &[Result<Option<Answered>, Refusal>],
+) -> Result<Took, &'static str> {
+    let (promotions, promoting) = filled;
+    let (mut requests, mut serving): (u64, u64) = (0, 0);
+    for one in answered {
+        match one {
+            Ok(Some(done)) => {
+                requests = requests.wrapping_add(done.requests);
+                serving = serving.max(done.serving);
+            }
             _ => return Err("a request failed"),
         }
     }
@@ -139,76 +190,27 @@ pub fn time_cached<R: Threads + Wait + Sync>(
     })
 }
 
-/// The three devices over the files.
-fn open_files(rt: &HostRuntime, asked: &Cached<'_>) -> Result<Devices<FileDisk>, &'static str> {
-    Ok(Devices {
-        metadata: open_file(rt, asked.metadata)?,
-        cache: open_file(rt, asked.cache)?,
-        origin: open_file(rt, asked.origin)?,
-    })
-}
-
-fn open_file(rt: &HostRuntime, path: &str) -> Result<FileDisk, &'static str> {
-    FileDisk::open(rt, path).map_err(|_| "a file cannot be opened")
-}
-
-/// Reads so many blocks twice each, and carries out the orders: how many there were, and how long they took.
-fn fill<R: Wait, P: Policy>(
-    rt: &HostRuntime,
-    waits: &R,
-    target: &Target<P>,
-    devices: Devices<FileDisk>,
-    blocks: u64,
-) -> Result<(u64, u64), &'static str> {
-    let Ok(mut client) = target.client(waits, devices) else {
-        return Err("there is no client");
-    };
-    let mut sector = [[0; SECTOR_BYTES]];
-    let (mut promotions, mut promoting): (u64, u64) = (0, 0);
-    for block in 0..blocks {
-        let at = Sector(block.wrapping_mul(BLOCK));
-        for _ in 0..2 {
-            if client.read(waits, at, &mut sector).is_err() {
-                return Err("a block cannot be read");
-            }
-        }
-        let Ok(start) = Instant::now(rt) else {
-            return Err("no clock");
-        };
-        match client.work_one(waits) {
-            Ok(Some(_)) => promotions = promotions.wrapping_add(1),
-            Ok(None) => {}
-            Err(_) => return Err("an order failed"),
-        }
-        promoting = promoting.wrapping_add(passed(rt, &start));
-    }
-    let _ = target.retire(waits, client);
-    Ok((promotions, promoting))
-}
-
-/// The load of each client, over an equal part of the cached blocks, with devices of its own.
-fn errands_of(
-    rt: &HostRuntime,
+/// The load of each client.
+fn loads_of<'c, C>(
+    clock: &'c C,
+    alloc: Global,
     asked: &Cached<'_>,
-    blocks: u64,
-) -> Result<Vec<Sent<FileDisk, Load>>, &'static str> {
-    let alloc = rt.alloc();
+) -> Result<Vec<Load<'c, C>>, &'static str> {
     let clients = asked.crowd.count();
-    let share = (blocks / clients).max(1);
-    let mut errands = Vec::new(alloc);
+    let mut loads = Vec::new(alloc);
     for number in 0..clients {
-        let errand = Load {
+        let load = Load {
+            clock,
             alloc,
             call: asked.call,
             sectors: asked.sectors,
             requests: asked.requests,
-            first: number.wrapping_mul(share),
-            blocks: share,
+            number,
+            clients,
         };
-        let devices = open_files(rt, asked)?;
-        if errands.push(Sent { devices, errand }).is_err() {
+        if loads.push(load).is_err() {
             return Err("out of memory");
         }
     }
-    Ok(errands)
+    Ok(loads)
 }

@@ -16,7 +16,8 @@
 //! round, or sets so many blocks and plans an image, and prints the sum of the hints found, or of the nodes written.
 //! `wb_bench METADATA CACHE ORIGIN try_read|try_write|read|write SECTORS REQUESTS 1|2|4` opens a formatted cache with blocks of 64
 //! sectors, promotes a block of the origin for each of its own, and makes so many requests by each of so many clients, on threads
-//! and cached blocks of their own; it prints how many promotions there were and their nanoseconds, and so of the requests.
+//! and cached blocks of their own; it prints how many promotions there were and their nanoseconds, and so of the requests, by the
+//! client that took longest.
 //! `wb_bench FILE mapping CACHE_BLOCKS` makes the file a metadata device that holds a full mapping of so many cache
 //! blocks, and `wb_bench FILE state` reads what it stands for; both print the number of nodes.
 #![tactic(auto)]

@@ -6,6 +6,7 @@ pub mod Acts
 pub mod Jobs
 pub mod Performing
 pub mod Talking
+pub mod Serving
 pub mod Options
 pub mod Terms
 pub mod Handshakes

@@ -6,6 +6,7 @@
 mod answer;
 mod broken;
 mod bytes;
+mod connection;
 mod errno;
 mod export;
 mod handshake;
@@ -21,6 +22,7 @@ mod words;
 
 pub use answer::Answer;
 pub use broken::Broken;
+pub use connection::Connection;
 pub use errno::Errno;
 pub use export::Export;
 pub use handshake::{Agreed, shake_hands};

@@ -1,6 +1,7 @@
 pub mod Readying
 pub mod Tasks
 pub mod Tries
+pub mod Busy
 pub mod Parts
 pub mod Trying
 pub mod Carried

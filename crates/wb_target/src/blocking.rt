@@ -25,6 +25,7 @@ impl<'t, D: Disk + Drop, P: Policy> Client<'t, D, P> {
     pub fn read<R: Wait>(&mut self, rt: &R, at: Sector, out: &mut [Content]) -> Result<(), Stopped>
         ensures inside { OnOk result (IsInside self.old.port.geometry at.0 (length out.old)) }
         ensures read { OnOk result ((parts : ℕ) × InParts (ReadCame D.tells D.size D.contents D.faults self.old.port.geometry) self.old.port.geometry.block None parts at.0 self.old.port.hand out.old self.new.port.hand out.new) }
+        ensures waits { IfErr result (λ stopped. stopped.refusal ≢ Refusal.Busy) }
         ensures stopped { IfErr result (λ stopped. IsStopped (ReadCame D.tells D.size D.contents D.faults self.old.port.geometry) self.old.port.geometry at.0 stopped self.old.port.hand out.old self.new.port.hand out.new) }
         ensures target { self.new.target ≡ self.old.target }
         ensures geometry { self.new.port.geometry ≡ self.old.port.geometry }
@@ -56,6 +57,7 @@ impl<'t, D: Disk + Drop, P: Policy> Client<'t, D, P> {
     pub fn write<R: Wait>(&mut self, rt: &R, at: Sector, from: &[Content]) -> Result<(), Stopped>
         ensures inside { OnOk result (IsInside self.old.port.geometry at.0 (length from.now)) }
         ensures written { OnOk result ((parts : ℕ) × InParts (WriteCame D.tells D.size D.contents D.faults self.old.port.geometry) self.old.port.geometry.block None parts at.0 self.old.port.hand from.now self.new.port.hand from.now) }
+        ensures waits { IfErr result (λ stopped. stopped.refusal ≢ Refusal.Busy) }
         ensures stopped { IfErr result (λ stopped. IsStopped (WriteCame D.tells D.size D.contents D.faults self.old.port.geometry) self.old.port.geometry at.0 stopped self.old.port.hand from.now self.new.port.hand from.now) }
         ensures target { self.new.target ≡ self.old.target }
         ensures geometry { self.new.port.geometry ≡ self.old.port.geometry }
@@ -106,6 +108,7 @@ impl<'t, D: Disk + Drop, P: Policy> Client<'t, D, P> {
         requires inside { IsInside self.old.port.geometry at.0 (length out.old) }
         requires fits { at.0 % self.old.port.geometry.block + length out.old ≤ self.old.port.geometry.block }
         ensures read { OnOk result (CameTo (ReadCame D.tells D.size D.contents D.faults self.old.port.geometry) None (record { first = at.0; count = length out.old }) (self.old.port.hand, out.old) (self.new.port.hand, out.new)) }
+        ensures waits { IfErr result (λ refusal. refusal ≢ Refusal.Busy) }
         ensures refused { IfErr result (λ refusal. (refusal ≢ Refusal.Range) × CameTo (ReadCame D.tells D.size D.contents D.faults self.old.port.geometry) (Some refusal) (record { first = at.0; count = length out.old }) (self.old.port.hand, out.old) (self.new.port.hand, out.new)) }
         ensures target { self.new.target ≡ self.old.target }
         ensures geometry { self.new.port.geometry ≡ self.old.port.geometry }
@@ -114,11 +117,16 @@ impl<'t, D: Disk + Drop, P: Policy> Client<'t, D, P> {
         self.settle(rt);
         for _ in rt.forever() {
             match self.port.try_read(at, out) {
-                Err(Refusal::Busy) => thread::yield_now(),
-                Err(refusal) => return Err(refusal),
                 Ok(()) => {
                     self.settle(rt);
                     return Ok(());
+                }
+                Err(refusal) => {
+                    if refusal == Refusal::Busy {
+                        thread::yield_now();
+                        continue;
+                    }
+                    return Err(refusal);
                 }
             }
         }
@@ -130,6 +138,7 @@ impl<'t, D: Disk + Drop, P: Policy> Client<'t, D, P> {
         requires inside { IsInside self.old.port.geometry at.0 (length from.now) }
         requires fits { at.0 % self.old.port.geometry.block + length from.now ≤ self.old.port.geometry.block }
         ensures written { OnOk result (CameTo (WriteCame D.tells D.size D.contents D.faults self.old.port.geometry) None (record { first = at.0; count = length from.now }) (self.old.port.hand, from.now) (self.new.port.hand, from.now)) }
+        ensures waits { IfErr result (λ refusal. refusal ≢ Refusal.Busy) }
         ensures refused { IfErr result (λ refusal. (refusal ≢ Refusal.Range) × CameTo (WriteCame D.tells D.size D.contents D.faults self.old.port.geometry) (Some refusal) (record { first = at.0; count = length from.now }) (self.old.port.hand, from.now) (self.new.port.hand, from.now)) }
         ensures target { self.new.target ≡ self.old.target }
         ensures geometry { self.new.port.geometry ≡ self.old.port.geometry }
@@ -137,11 +146,16 @@ impl<'t, D: Disk + Drop, P: Policy> Client<'t, D, P> {
         self.settle(rt);
         for _ in rt.forever() {
             match self.port.try_write(at, from) {
-                Err(Refusal::Busy) => thread::yield_now(),
-                Err(refusal) => return Err(refusal),
                 Ok(()) => {
                     self.settle(rt);
                     return Ok(());
+                }
+                Err(refusal) => {
+                    if refusal == Refusal::Busy {
+                        thread::yield_now();
+                        continue;
+                    }
+                    return Err(refusal);
                 }
             }
         }

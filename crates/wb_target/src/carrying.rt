@@ -208,6 +208,8 @@ impl<'t, D: Disk + Drop, P: Policy> Client<'t, D, P> {
     pub fn work_one<R: Wait>(&mut self, rt: &R) -> Result<Option<Order>, Refusal>
         ensures carried { IfOk result (λ told. IfSome told (λ order. (begun : _) × HasBegun (state_of self.old.port) begun × WereDone (Runs D.tells D.size D.contents D.faults self.old.port.geometry.origin_blocks) (jobs_of self.old.port.geometry order) begun (state_of self.new.port))) }
         ensures idle { IfOk result (λ told. IfNone told (HasBegun (state_of self.old.port) (state_of self.new.port))) }
+        ensures target { self.new.target ≡ self.old.target }
+        ensures geometry { self.new.port.geometry ≡ self.old.port.geometry }
     {
         if self.port.has_failed() {
             return Err(Refusal::Failed);
@@ -231,6 +233,8 @@ impl<'t, D: Disk + Drop, P: Policy> Client<'t, D, P> {
     pub fn flush<R: Wait>(&mut self, rt: &R) -> Result<Flushed, Refusal>
         ensures flushed { OnOk result (WasDone (Runs D.tells D.size D.contents D.faults self.old.port.geometry.origin_blocks) (flush_of self.old.port.geometry None) (state_of self.old.port) (state_of self.new.port)) }
         ensures synced { OnOk result (D.tells → AreSynced D.contents self.new.port.hand.devices) }
+        ensures target { self.new.target ≡ self.old.target }
+        ensures geometry { self.new.port.geometry ≡ self.old.port.geometry }
     {
         let target = self.target;
         flush(rt, target, &OpenGate, &mut self.port, &[], None)?;
@@ -245,6 +249,8 @@ impl<'t, D: Disk + Drop, P: Policy> Client<'t, D, P> {
     pub fn tick<R: Wait>(&mut self, rt: &R) -> Result<Flushed, Refusal>
         ensures flushed { OnOk result (WasDone (Runs D.tells D.size D.contents D.faults self.old.port.geometry.origin_blocks) (flush_of self.old.port.geometry None) (looked_at_fail 0 (state_of self.old.port)) (state_of self.new.port)) }
         ensures synced { OnOk result (D.tells → AreSynced D.contents self.new.port.hand.devices) }
+        ensures target { self.new.target ≡ self.old.target }
+        ensures geometry { self.new.port.geometry ≡ self.old.port.geometry }
     {
         if self.port.has_failed() {
             return Err(Refusal::Failed);

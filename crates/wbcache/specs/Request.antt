@@ -1,11 +1,7 @@
-use Rattle.std.specs.Prelude.{◌<◌, ◌≤◌, ◌+◌, ℕ}
+use Rattle.std.specs.Prelude.{ℕ}
+use Rattle.wb_opened.specs.Inside.{IsInside}
 use Rattle.wbcache.specs.declared.line.Line.{Line}
 use Rattle.wbcache.specs.declared.line.Line.TheVariants.{Read, Write, TryRead, TryWrite}
-
--- A request over so many sectors from the first on has at least one, and all of them lie on an origin of this size.
-pub record IsInside (first count sectors : ℕ) : Type 0 where
-  pub some : 0 < count
-  pub within : first + count ≤ sectors
 
 -- a line that asks for sectors
 abbrev pub IsRequest : Line → Type 0

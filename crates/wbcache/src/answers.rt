@@ -1,7 +1,8 @@
 //! What a client answers to the lines of a script.
 
 ghost use Rattle.std.specs.Prelude.{◌≡◌, ◌<◌, ◌≤◌, ◌+◌, ◌*◌, IfOk, IfErr, OnErr, IsErrOf, length, replicate};
-ghost use Rattle.wbcache.specs.Request.{IsInside, IsRequest, AsksInside};
+ghost use Rattle.wb_opened.specs.Inside.{IsInside};
+ghost use Rattle.wbcache.specs.Request.{IsRequest, AsksInside};
 
 use crate::fill::Fill;
 use crate::line::Line;
@@ -10,9 +11,8 @@ use crate::progress::Progress;
 use std::alloc::Global;
 use std::fmt::Write;
 use std::sync::Wait;
-use wb_disk::Disk;
-use wb_policy::{Order, Policy};
-use wb_target::Client;
+use wb_opened::Served;
+use wb_policy::Order;
 use wb_types::{CBlock, Content, Geometry, OBlock, Refusal, SECTOR_BYTES, Sector};
 
 /// Does what a line asks, and adds what it is answered to the text. After a refusal the text may have what was read so far;
@@ -21,16 +21,16 @@ use wb_types::{CBlock, Content, Geometry, OBlock, Refusal, SECTOR_BYTES, Sector}
 /// `Range` for no sector, or one outside the origin; `Crosses` for sectors of more than one block, where one alone may be asked
 /// for; `Defer` where too many accesses are unsettled; `Busy` where a block is in use; `Io` where a step failed, `Failed` after a
 /// write or sync that failed so, `Memory` where there is none, and `GenerationEnd` where no further commit can be.
-pub fn answer<R: Wait, D: Disk + Drop, P: Policy>(
+pub fn answer<R: Wait, C: Served>(
     rt: &R,
     alloc: Global,
-    client: &mut Client<'_, D, P>,
+    client: &mut C,
     asked: Line,
     text: &mut String,
     progress: &mut Progress<'_>,
 ) -> Result<(), Refusal>
-    ensures outside { IsRequest asked → ¬ AsksInside asked (client.old.port.geometry.block * client.old.port.geometry.origin_blocks) → IsErrOf result Refusal.Range }
-    ensures inside { IsRequest asked → IsErrOf result Refusal.Range → ¬ AsksInside asked (client.old.port.geometry.block * client.old.port.geometry.origin_blocks) }
+    ensures outside { IsRequest asked → ¬ AsksInside asked ((C.sizes client.old).block * (C.sizes client.old).origin_blocks) → IsErrOf result Refusal.Range }
+    ensures inside { IsRequest asked → IsErrOf result Refusal.Range → ¬ AsksInside asked ((C.sizes client.old).block * (C.sizes client.old).origin_blocks) }
 {
     match asked {
         Line::Nothing => return Ok(()),
@@ -41,40 +41,35 @@ pub fn answer<R: Wait, D: Disk + Drop, P: Policy>(
         Line::Write { at, count, fill } => write(rt, alloc, client, at, count, fill, progress)?,
         Line::TryWrite { at, count, fill } => try_write(alloc, client, at, count, fill)?,
         Line::Settle => client.settle(rt),
-        Line::Flush => {
-            client.flush(rt)?;
-        }
-        Line::Tick => {
-            client.tick(rt)?;
-        }
+        Line::Flush => client.flush(rt)?,
+        Line::Tick => client.tick(rt)?,
     }
     text.push_str("ok\n")?;
     Ok(())
 }
 
 /// Reads block by block.
-#[tactic(auto, using(crate::proofs::Ranges::not_outside))]
-fn read<R: Wait, D: Disk + Drop, P: Policy>(
+#[tactic(auto, using(crate::proofs::Ranges::not_refused))]
+fn read<R: Wait, C: Served>(
     rt: &R,
     alloc: Global,
-    client: &mut Client<'_, D, P>,
+    client: &mut C,
     at: Sector,
     count: u64,
     text: &mut String,
     progress: &mut Progress<'_>,
 ) -> Result<(), Refusal>
-    ensures outside { ¬ IsInside at.0 count (client.old.port.geometry.block * client.old.port.geometry.origin_blocks) → IsErrOf result Refusal.Range }
-    ensures inside { IsErrOf result Refusal.Range → ¬ IsInside at.0 count (client.old.port.geometry.block * client.old.port.geometry.origin_blocks) }
+    ensures outside { ¬ IsInside at.0 count ((C.sizes client.old).block * (C.sizes client.old).origin_blocks) → IsErrOf result Refusal.Range }
+    ensures inside { IsErrOf result Refusal.Range → ¬ IsInside at.0 count ((C.sizes client.old).block * (C.sizes client.old).origin_blocks) }
 {
-    let end = end_of(&client.port.geometry, at, count)?;
+    let geometry = client.geometry();
+    let end = end_of(&geometry, at, count)?;
     progress.begin();
     let Sector(mut first) = at;
     while first < end {
-        let part = first_part(client.port.geometry.block, first, end);
+        let part = first_part(geometry.block, first, end);
         let mut contents = filled(alloc, part.count, 0)?;
-        if let Err(stopped) = client.read(rt, Sector(first), contents.as_mut_slice()) {
-            return Err(stopped.refusal);
-        }
+        client.read(rt, Sector(first), contents.as_mut_slice())?;
         show(first, contents.as_slice(), text)?;
         first += part.count;
         progress.reach(count.saturating_sub(end - first), count);
@@ -83,28 +78,27 @@ fn read<R: Wait, D: Disk + Drop, P: Policy>(
 }
 
 /// Writes block by block.
-#[tactic(auto, using(crate::proofs::Ranges::not_outside))]
-fn write<R: Wait, D: Disk + Drop, P: Policy>(
+#[tactic(auto, using(crate::proofs::Ranges::not_refused))]
+fn write<R: Wait, C: Served>(
     rt: &R,
     alloc: Global,
-    client: &mut Client<'_, D, P>,
+    client: &mut C,
     at: Sector,
     count: u64,
     fill: u8,
     progress: &mut Progress<'_>,
 ) -> Result<(), Refusal>
-    ensures outside { ¬ IsInside at.0 count (client.old.port.geometry.block * client.old.port.geometry.origin_blocks) → IsErrOf result Refusal.Range }
-    ensures inside { IsErrOf result Refusal.Range → ¬ IsInside at.0 count (client.old.port.geometry.block * client.old.port.geometry.origin_blocks) }
+    ensures outside { ¬ IsInside at.0 count ((C.sizes client.old).block * (C.sizes client.old).origin_blocks) → IsErrOf result Refusal.Range }
+    ensures inside { IsErrOf result Refusal.Range → ¬ IsInside at.0 count ((C.sizes client.old).block * (C.sizes client.old).origin_blocks) }
 {
-    let end = end_of(&client.port.geometry, at, count)?;
+    let geometry = client.geometry();
+    let end = end_of(&geometry, at, count)?;
     progress.begin();
     let Sector(mut first) = at;
     while first < end {
-        let part = first_part(client.port.geometry.block, first, end);
+        let part = first_part(geometry.block, first, end);
         let contents = filled(alloc, part.count, fill)?;
-        if let Err(stopped) = client.write(rt, Sector(first), contents.as_slice()) {
-            return Err(stopped.refusal);
-        }
+        client.write(rt, Sector(first), contents.as_slice())?;
         first += part.count;
         progress.reach(count.saturating_sub(end - first), count);
     }
@@ -112,63 +106,50 @@ fn write<R: Wait, D: Disk + Drop, P: Policy>(
 }
 
 /// Reads sectors of one block, if that can be had without waiting.
-#[tactic(auto, using(crate::proofs::Ranges::not_outside))]
-fn try_read<D: Disk + Drop, P: Policy>(
+#[tactic(auto, using(crate::proofs::Ranges::not_refused))]
+fn try_read<C: Served>(
     alloc: Global,
-    client: &mut Client<'_, D, P>,
+    client: &mut C,
     at: Sector,
     count: u64,
     text: &mut String,
 ) -> Result<(), Refusal>
-    ensures outside { ¬ IsInside at.0 count (client.old.port.geometry.block * client.old.port.geometry.origin_blocks) → IsErrOf result Refusal.Range }
-    ensures inside { IsErrOf result Refusal.Range → ¬ IsInside at.0 count (client.old.port.geometry.block * client.old.port.geometry.origin_blocks) }
+    ensures outside { ¬ IsInside at.0 count ((C.sizes client.old).block * (C.sizes client.old).origin_blocks) → IsErrOf result Refusal.Range }
+    ensures inside { IsErrOf result Refusal.Range → ¬ IsInside at.0 count ((C.sizes client.old).block * (C.sizes client.old).origin_blocks) }
 {
-    in_one_block(&client.port.geometry, at, count)?;
+    in_one_block(&client.geometry(), at, count)?;
     let mut contents = filled(alloc, count, 0)?;
-    if let Err(refusal) = client.port.try_read(at, contents.as_mut_slice()) {
-        return Err(refusal);
-    }
+    client.try_read(at, contents.as_mut_slice())?;
     let Sector(first) = at;
     show(first, contents.as_slice(), text)
 }
 
 /// Writes sectors of one block, if that can be done without waiting.
-#[tactic(auto, using(crate::proofs::Ranges::not_outside))]
-fn try_write<D: Disk + Drop, P: Policy>(
+#[tactic(auto, using(crate::proofs::Ranges::not_refused))]
+fn try_write<C: Served>(
     alloc: Global,
-    client: &mut Client<'_, D, P>,
+    client: &mut C,
     at: Sector,
     count: u64,
     fill: u8,
 ) -> Result<(), Refusal>
-    ensures outside { ¬ IsInside at.0 count (client.old.port.geometry.block * client.old.port.geometry.origin_blocks) → IsErrOf result Refusal.Range }
-    ensures inside { IsErrOf result Refusal.Range → ¬ IsInside at.0 count (client.old.port.geometry.block * client.old.port.geometry.origin_blocks) }
+    ensures outside { ¬ IsInside at.0 count ((C.sizes client.old).block * (C.sizes client.old).origin_blocks) → IsErrOf result Refusal.Range }
+    ensures inside { IsErrOf result Refusal.Range → ¬ IsInside at.0 count ((C.sizes client.old).block * (C.sizes client.old).origin_blocks) }
 {
-    in_one_block(&client.port.geometry, at, count)?;
+    in_one_block(&client.geometry(), at, count)?;
     let contents = filled(alloc, count, fill)?;
-    if let Err(refusal) = client.port.try_write(at, contents.as_slice()) {
-        return Err(refusal);
-    }
-    Ok(())
+    client.try_write(at, contents.as_slice())
 }
 
 /// Tells how the cache is, on a line.
-fn status<R: Wait, D: Disk + Drop, P: Policy>(
-    rt: &R,
-    client: &Client<'_, D, P>,
-    text: &mut String,
-) -> Result<(), Refusal> {
-    client.target().status(rt, text)?;
+fn status<R: Wait, C: Served>(rt: &R, client: &C, text: &mut String) -> Result<(), Refusal> {
+    client.status(rt, text)?;
     text.push_str("\n")?;
     Ok(())
 }
 
 /// Carries out an order, if any waits, and says which.
-fn work<R: Wait, D: Disk + Drop, P: Policy>(
-    rt: &R,
-    client: &mut Client<'_, D, P>,
-    text: &mut String,
-) -> Result<(), Refusal> {
+fn work<R: Wait, C: Served>(rt: &R, client: &mut C, text: &mut String) -> Result<(), Refusal> {
     let Some(order) = client.work_one(rt)? else {
         text.push_str("idle\n")?;
         return Ok(());

@@ -1,8 +1,11 @@
 //! How a run of the program ended.
 
-use crate::output::{StreamFailed, exit_code};
+use crate::output::{StreamFailed, exit_code, refuse};
 use crate::reason::Reason;
 use crate::status::Status;
+use std::alloc::Global;
+use std::io::Write;
+use wb_opened::Unserved;
 
 /// The exit status, and why it is not 0 as far as that is known.
 #[derive(Drop)]
@@ -23,4 +26,10 @@ impl<'a> Ended<'a> {
             reason,
         }
     }
+}
+
+/// Prints a refusal after which nothing else is printed.
+pub fn refused<'a, W: Write>(alloc: Global, unserved: Unserved<'a>, writer: &mut W) -> Ended<'a> {
+    let printed = refuse(alloc, unserved.refusal(), writer);
+    Ended::new(printed, Some(Reason::Unserved(unserved)))
 }

@@ -1,8 +1,7 @@
 //! Formatting of a target's metadata.
 
-use crate::ended::Ended;
-use crate::output::{StreamFailed, print, print_refusal, refuse};
-use crate::reason::Reason;
+use crate::ended::{Ended, refused};
+use crate::output::{StreamFailed, print, print_refusal};
 use crate::status::Status;
 use std::alloc::Global;
 use std::fmt::Write as _;
@@ -10,6 +9,7 @@ use std::fs::File;
 use std::io::Write;
 use std::rt::Files;
 use wb_files::{Disks, open_table};
+use wb_opened::Unserved;
 use wb_types::{Geometry, Refusal};
 
 /// Formats the metadata over the files of a table, prints `formatted <cache blocks> <origin blocks>` or the refusal,
@@ -27,8 +27,7 @@ pub fn format_files<'a, R: Files<File = File>, W: Write>(
     let (disks, geometry) = match open_table(rt, table) {
         Ok(opened) => opened,
         Err(unopened) => {
-            let printed = refuse(alloc, unopened.refusal(), writer);
-            return Ended::new(printed, Some(Reason::Unopened(unopened)));
+            return refused(alloc, Unserved::Unopened(unopened), writer);
         }
     };
     let Disks {
@@ -40,10 +39,7 @@ pub fn format_files<'a, R: Files<File = File>, W: Write>(
     drop((cache, origin));
     match formatted {
         Ok(()) => Ended::new(report(alloc, &geometry, writer), None),
-        Err(refusal) => {
-            let printed = refuse(alloc, refusal, writer);
-            Ended::new(printed, Some(Reason::Refused(refusal)))
-        }
+        Err(refusal) => refused(alloc, Unserved::Refused(refusal), writer),
     }
 }
 

@@ -4,15 +4,12 @@ use crate::output::StreamFailed;
 use crate::tally::Tally;
 use std::fmt;
 use std::fmt::{Display, Formatter};
-use wb_files::Unopened;
-use wb_types::Refusal;
+use wb_opened::Unserved;
 
 /// Why a run or a formatting did not end well.
 #[derive(Drop)]
 pub enum Reason<'a> {
-    Unopened(Unopened<'a>),
-    /// A step of an open device failed, or memory was refused.
-    Refused(Refusal),
+    Unserved(Unserved<'a>),
     /// Lines of a script were refused.
     Lines(Tally),
     Stream(StreamFailed),
@@ -21,11 +18,7 @@ pub enum Reason<'a> {
 impl<'a> Display for Reason<'a> {
     fn fmt<W: fmt::Write>(&self, f: &mut Formatter<W>) -> fmt::Result {
         match self {
-            Reason::Unopened(unopened) => write!(f, "{unopened}"),
-            Reason::Refused(Refusal::Io(device)) => {
-                write!(f, "{device} file: a read, a write or a sync failed")
-            }
-            Reason::Refused(refusal) => write!(f, "{refusal}"),
+            Reason::Unserved(unserved) => write!(f, "{unserved}"),
             Reason::Lines(tally) => write!(f, "{tally}"),
             Reason::Stream(StreamFailed::Reader) => write!(f, "the script cannot be read further"),
             Reason::Stream(StreamFailed::Writer) => write!(f, "an answer cannot be written"),

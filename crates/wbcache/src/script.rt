@@ -1,7 +1,7 @@
 //! Scripts: a line in, its answer out.
 
 use crate::answers::answer;
-use crate::ended::Ended;
+use crate::ended::{Ended, refused};
 use crate::line::{Line, read_line};
 use crate::output::{StreamFailed, print, print_bad_line, print_refusal, refuse};
 use crate::progress::Progress;
@@ -13,12 +13,8 @@ use std::fs::File;
 use std::io::{BufRead, ErrorKind, Read, Write};
 use std::rt::Files;
 use std::sync::Wait;
-use wb_devices::Devices;
-use wb_disk::{Disk, FileDisk};
-use wb_files::{Disks, open_table};
-use wb_policy::{Policy, TinyLfu};
-use wb_target::{Client, Target};
-use wb_types::{Geometry, Mode, Refusal};
+use wb_opened::{Served, Service, serve_alone};
+use wb_types::Refusal;
 
 /// Room for an answer of one line, made before the first line is read.
 const ONE_LINE: usize = 64;
@@ -41,91 +37,68 @@ pub fn run<'a, R: Files<File = File>, T: Wait, I: BufRead, W: Write>(
     writer: &mut W,
     progress: &mut Progress<'_>,
 ) -> Ended<'a> {
-    let (disks, geometry) = match open_table(rt, table) {
-        Ok(opened) => opened,
-        Err(unopened) => {
-            let printed = refuse(alloc, unopened.refusal(), writer);
-            return Ended::new(printed, Some(Reason::Unopened(unopened)));
-        }
+    let script = Script {
+        alloc,
+        reader,
+        writer: &mut *writer,
+        progress,
     };
-    match open_target(alloc, disks, &geometry) {
-        Ok((devices, target)) => {
-            progress.opened(&geometry, target.counts(waits).mapped, target.dirty(waits));
-            serve(waits, alloc, &target, devices, reader, writer, progress)
-        }
-        Err(refusal) => refused(alloc, refusal, writer),
+    match serve_alone(rt, waits, alloc, table, script) {
+        Ok(played) => played.ended(),
+        Err(unserved) => refused(alloc, unserved, writer),
     }
 }
 
-/// Opens the cache on these devices.
-fn open_target(
+/// A script that is to be played.
+#[derive(Drop)]
+struct Script<'s, 'p, I, W> {
     alloc: Global,
-    disks: Disks<FileDisk>,
-    geometry: &Geometry,
-) -> Result<(Devices<FileDisk>, Target<TinyLfu>), Refusal> {
-    let Disks {
-        metadata,
-        cache,
-        origin,
-    } = disks;
-    let devices = Devices {
-        metadata,
-        cache,
-        origin,
-    };
-    let block = u64::from(geometry.block);
-    let (devices, opened) = Target::open(alloc, devices, block, Mode::Writeback, &[]);
-    Ok((devices, opened?))
+    reader: &'s mut I,
+    writer: &'s mut W,
+    progress: &'s mut Progress<'p>,
 }
 
-/// Plays a script with one client.
-fn serve<'a, R: Wait, D: Disk + Drop, P: Policy, I: BufRead, W: Write>(
-    rt: &R,
-    alloc: Global,
-    target: &Target<P>,
-    devices: Devices<D>,
-    reader: &mut I,
-    writer: &mut W,
-    progress: &mut Progress<'_>,
-) -> Ended<'a> {
-    match target.client(rt, devices) {
-        Ok(mut client) => play_all(rt, alloc, &mut client, reader, writer, progress),
-        Err((_, refusal)) => refused(alloc, refusal, writer),
+/// How a script was played, and the lines of it that were refused.
+#[derive(Clone, Copy)]
+struct Played {
+    status: Result<Status, StreamFailed>,
+    tally: Tally,
+}
+
+impl Played {
+    /// The end of the run, with the refused lines as its reason.
+    fn ended<'a>(self) -> Ended<'a> {
+        let reason = if self.tally.first.is_some() {
+            Some(Reason::Lines(self.tally))
+        } else {
+            None
+        };
+        Ended::new(self.status, reason)
     }
 }
 
-/// Prints a refusal after which no script is played.
-fn refused<'a, W: Write>(alloc: Global, refusal: Refusal, writer: &mut W) -> Ended<'a> {
-    Ended::new(
-        refuse(alloc, refusal, writer),
-        Some(Reason::Refused(refusal)),
-    )
-}
+impl<'s, 'p, I: BufRead, W: Write> Service for Script<'s, 'p, I, W> {
+    type Told = Played;
 
-/// Plays a script, and gives the refused lines as its reason.
-fn play_all<'a, R: Wait, D: Disk + Drop, P: Policy, I: BufRead, W: Write>(
-    rt: &R,
-    alloc: Global,
-    client: &mut Client<'_, D, P>,
-    reader: &mut I,
-    writer: &mut W,
-    progress: &mut Progress<'_>,
-) -> Ended<'a> {
-    let mut tally = Tally::new();
-    let played = play(rt, alloc, client, reader, writer, &mut tally, progress);
-    let reason = if tally.first.is_some() {
-        Some(Reason::Lines(tally))
-    } else {
-        None
-    };
-    Ended::new(played, reason)
+    fn serve<R: Wait, C: Served>(self, rt: &R, client: &mut C) -> Played {
+        let Script {
+            alloc,
+            reader,
+            writer,
+            progress,
+        } = self;
+        progress.opened(&client.geometry(), client.mapped(rt), client.dirty(rt));
+        let mut tally = Tally::new();
+        let status = play(rt, alloc, client, reader, writer, &mut tally, progress);
+        Played { status, tally }
+    }
 }
 
 /// Plays the lines of a script with a client, and counts those that are refused.
-fn play<R: Wait, D: Disk + Drop, P: Policy, I: BufRead, W: Write>(
+fn play<R: Wait, C: Served, I: BufRead, W: Write>(
     rt: &R,
     alloc: Global,
-    client: &mut Client<'_, D, P>,
+    client: &mut C,
     reader: &mut I,
     writer: &mut W,
     tally: &mut Tally,

@@ -1,34 +1,32 @@
-//! What is done beside one another: a connection is served, and orders are carried out.
+//! What is done beside one another: a connection is served by several, and orders are carried out.
+
+ghost use Rattle.std.specs.Prelude.{◌≡◌, ◌*◌};
 
 use crate::lent::Lent;
-use crate::pace::{Connection, Pace, UntilTick};
+use crate::pace::{Pace, Place, UntilTick};
 use std::alloc::Global;
 use std::io::{Read, Write};
 use std::sync::Wait;
 use std::time::Clock;
-use wb_disk::Disk;
-use wb_nbd::{Agreed, Broken, Terms, shake_hands};
-use wb_policy::Policy;
-use wb_target::{Client, Errand};
-use wb_types::Refusal;
+use wb_nbd::{Broken, Connection, MOST_BYTES, Terms};
+use wb_opened::{Served, Service};
+use wb_types::{Geometry, Refusal, SECTOR_BYTES};
 
 /// What a client of the target does.
 #[derive(Drop)]
 pub enum Beside<'a, C, I, O> {
     /// To serve the one connection.
-    Serve(Service<'a, I, O>),
-    /// To carry out orders until the connection has ended.
+    Serve(Peer<'a, I, O>),
+    /// To carry out orders until all who serve it have ended.
     Work(&'a C, &'a Pace),
 }
 
-/// A connection that is to be served.
+/// The other end of a connection that is to be served.
 #[derive(Drop)]
-pub struct Service<'a, I, O> {
+pub struct Peer<'a, I, O> {
     pub alloc: Global,
-    pub terms: Terms,
-    pub reader: I,
-    pub writer: O,
-    pub connection: Connection<'a>,
+    pub connection: &'a Connection<I, O>,
+    pub place: Place<'a>,
 }
 
 /// How it went.
@@ -36,24 +34,18 @@ pub struct Service<'a, I, O> {
 pub enum Told {
     Served {
         connection: Result<(), Broken>,
-        /// The flush at its end.
+        /// The flush at its end, by who ends last.
         flushed: Result<(), Refusal>,
     },
     Worked,
 }
 
-impl<'a, C: Clock, I: Read + Drop, O: Write + Drop> Errand for Beside<'a, C, I, O> {
+impl<'a, C: Clock, I: Read, O: Write> Service for Beside<'a, C, I, O> {
     type Told = Told;
 
-    ghost tells = { λ beside told. Unit {0} };
-
-    fn run<R: Wait, D: Disk + Drop, P: Policy>(
-        self,
-        rt: &R,
-        client: &mut Client<'_, D, P>,
-    ) -> Told {
+    fn serve<R: Wait, S: Served>(self, rt: &R, client: &mut S) -> Told {
         match self {
-            Beside::Serve(service) => serve(rt, client, service),
+            Beside::Serve(peer) => serve(rt, client, peer),
             Beside::Work(clock, pace) => {
                 work(rt, client, clock, pace);
                 Told::Worked
@@ -62,54 +54,49 @@ impl<'a, C: Clock, I: Read + Drop, O: Write + Drop> Errand for Beside<'a, C, I, 
     }
 }
 
-/// Serves a connection, and makes durable what was written; then the worker beside may end.
-fn serve<R: Wait, D: Disk + Drop, P: Policy, I: Read + Drop, O: Write + Drop>(
+/// Serves a connection beside others; who ends last makes durable what was written.
+fn serve<R: Wait, S: Served, I: Read, O: Write>(
     rt: &R,
-    client: &mut Client<'_, D, P>,
-    service: Service<'_, I, O>,
+    client: &mut S,
+    peer: Peer<'_, I, O>,
 ) -> Told {
-    let Service {
+    let Peer {
         alloc,
-        terms,
-        mut reader,
-        mut writer,
         connection,
-    } = service;
-    let pace = connection.pace;
-    let agreed = shake_hands(&terms, &mut reader, &mut writer);
-    let talked = match agreed {
-        Ok(Agreed::Serve) => talk(rt, client, pace, alloc, &mut reader, &mut writer),
-        Ok(Agreed::Abort) => Ok(()),
-        Err(broken) => Err(broken),
+        place,
+    } = peer;
+    let pace = place.pace;
+    pace.enter();
+    let connection = talk(rt, client, pace, alloc, connection);
+    let flushed = if pace.leave() {
+        client.flush(rt)
+    } else {
+        Ok(())
     };
-    let flushed = match client.flush(rt) {
-        Ok(_) => Ok(()),
-        Err(refusal) => Err(refusal),
-    };
-    drop(connection);
+    drop(place);
     Told::Served {
-        connection: talked,
+        connection,
         flushed,
     }
 }
 
 /// Serves requests until the connection ends or breaks.
-fn talk<'r, 'c, 't, 'p, R: Wait, D: Disk + Drop, P: Policy, I: Read, O: Write>(
-    rt: &'r R,
-    client: &'c mut Client<'t, D, P>,
-    pace: &'p Pace,
+fn talk<R: Wait, S: Served, I: Read, O: Write>(
+    rt: &R,
+    client: &mut S,
+    pace: &Pace,
     alloc: Global,
-    reader: &mut I,
-    writer: &mut O,
+    connection: &Connection<I, O>,
 ) -> Result<(), Broken> {
-    let size = client.port.geometry.origin_sectors();
+    let terms = terms_of(&client.geometry());
+    let size = client.geometry().origin_sectors();
     let mut lent = Lent {
         rt,
         client,
         pace,
         size,
     };
-    let ended = lent.serve(alloc, reader, writer);
+    let ended = connection.serve(rt, alloc, &terms, &mut lent);
     let Lent {
         rt: _,
         client: _,
@@ -119,14 +106,9 @@ fn talk<'r, 'c, 't, 'p, R: Wait, D: Disk + Drop, P: Policy, I: Read, O: Write>(
     ended
 }
 
-/// Carries out orders until the connection has ended or the target has failed. A tick that there is no memory or no generation for
+/// Carries out orders until all who serve have ended or the target has failed. A tick that there is no memory or no generation for
 /// is left out.
-fn work<R: Wait, D: Disk + Drop, P: Policy, C: Clock>(
-    rt: &R,
-    client: &mut Client<'_, D, P>,
-    clock: &C,
-    pace: &Pace,
-) {
+fn work<R: Wait, S: Served, C: Clock>(rt: &R, client: &mut S, clock: &C, pace: &Pace) {
     let gate = UntilTick { clock, pace };
     for _ in rt.forever() {
         if client.worker(rt, &gate).is_err() || pace.has_ended() {
@@ -134,5 +116,21 @@ fn work<R: Wait, D: Disk + Drop, P: Policy, C: Clock>(
         }
         pace.begin_anew();
         let _ = client.tick(rt);
+    }
+}
+
+/// What a client is told of the origin: a request is best of one block, where its size is a power of two, and else of the greatest
+/// power of two that divides it.
+fn terms_of(geometry: &Geometry) -> Terms
+    ensures { result.size ≡ geometry.now.block * geometry.now.origin_blocks * 512 }
+{
+    let block = u64::from(geometry.block) * SECTOR_BYTES as u64;
+    let mut preferred = u64::from(MOST_BYTES);
+    while preferred > 512 && block % preferred != 0 {
+        preferred /= 2;
+    }
+    Terms {
+        size: geometry.origin_sectors() * SECTOR_BYTES as u64,
+        preferred: preferred as u32,
     }
 }

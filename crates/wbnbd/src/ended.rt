@@ -4,8 +4,8 @@ ghost use Rattle.std.specs.Prelude.{◌≡◌};
 
 use std::fmt;
 use std::fmt::{Display, Formatter};
-use wb_files::Unopened;
 use wb_nbd::Broken;
+use wb_opened::Unserved;
 use wb_types::Refusal;
 
 /// The exit status of a connection that broke, or a stream that failed.
@@ -21,9 +21,7 @@ pub struct Ended<'a> {
 /// Why a run did not end well.
 #[derive(Drop)]
 pub enum Reason<'a> {
-    Unopened(Unopened<'a>),
-    /// There is no memory, or a step of an open device failed.
-    Refused(Refusal),
+    Unserved(Unserved<'a>),
     Broken(Broken),
 }
 
@@ -38,20 +36,17 @@ impl<'a> Ended<'a> {
         }
     }
 
-    /// The files of the table cannot serve.
-    pub fn unopened(unopened: Unopened<'a>) -> Ended<'a> {
+    /// The files of the table cannot serve, or the target was not opened.
+    pub fn unserved(unserved: Unserved<'a>) -> Ended<'a> {
         Ended {
-            code: code_of(unopened.refusal()),
-            reason: Some(Reason::Unopened(unopened)),
+            code: code_of(unserved.refusal()),
+            reason: Some(Reason::Unserved(unserved)),
         }
     }
 
-    /// The target was not opened, or the last flush was refused.
+    /// There is no memory, or the last flush was refused.
     pub fn refused(refusal: Refusal) -> Ended<'a> {
-        Ended {
-            code: code_of(refusal),
-            reason: Some(Reason::Refused(refusal)),
-        }
+        Ended::unserved(Unserved::Refused(refusal))
     }
 
     /// The connection broke.
@@ -76,11 +71,7 @@ fn code_of(refusal: Refusal) -> u8 {
 impl<'a> Display for Reason<'a> {
     fn fmt<W: fmt::Write>(&self, f: &mut Formatter<W>) -> fmt::Result {
         match self {
-            Reason::Unopened(unopened) => write!(f, "{unopened}"),
-            Reason::Refused(Refusal::Io(device)) => {
-                write!(f, "{device} file: a read, a write or a sync failed")
-            }
-            Reason::Refused(refusal) => write!(f, "{refusal}"),
+            Reason::Unserved(unserved) => write!(f, "{unserved}"),
             Reason::Broken(broken) => write!(f, "{broken}"),
         }
     }

@@ -3,26 +3,22 @@
 ghost use Rattle.std.specs.Prelude.{◌≡◌};
 
 use crate::pace::Pace;
-use std::alloc::Global;
-use std::io::{Read, Write};
 use std::sync::Wait;
-use wb_disk::Disk;
-use wb_nbd::{Broken, Errno, Export, transmit};
-use wb_policy::Policy;
-use wb_target::Client;
+use wb_nbd::{Errno, Export};
+use wb_opened::Served;
 use wb_types::{Content, Refusal, Sector};
 
 /// A client of a target, that requests are done by.
 #[derive(Drop)]
-pub struct Lent<'r, 'c, 't, 'p, R, D, P: Policy> {
+pub struct Lent<'r, 'c, 'p, R, C> {
     pub rt: &'r R,
-    pub client: &'c mut Client<'t, D, P>,
+    pub client: &'c mut C,
     pub pace: &'p Pace,
     /// The sectors of the origin.
     pub size: u64,
 }
 
-impl<'r, 'c, 't, 'p, R: Wait, D: Disk + Drop, P: Policy> Export for Lent<'r, 'c, 't, 'p, R, D, P> {
+impl<'r, 'c, 'p, R: Wait, C: Served> Export for Lent<'r, 'c, 'p, R, C> {
     ghost size = { λ lent. lent.size };
 
     ghost acts = { λ old act new. Unit {0} };
@@ -35,7 +31,7 @@ impl<'r, 'c, 't, 'p, R: Wait, D: Disk + Drop, P: Policy> Export for Lent<'r, 'c,
         self.pace.count();
         match self.client.read(self.rt, at, out) {
             Ok(()) => Ok(()),
-            Err(stopped) => Err(errno_of(stopped.refusal)),
+            Err(refusal) => Err(errno_of(refusal)),
         }
     }
 
@@ -43,27 +39,15 @@ impl<'r, 'c, 't, 'p, R: Wait, D: Disk + Drop, P: Policy> Export for Lent<'r, 'c,
         self.pace.count();
         match self.client.write(self.rt, at, from) {
             Ok(()) => Ok(()),
-            Err(stopped) => Err(errno_of(stopped.refusal)),
+            Err(refusal) => Err(errno_of(refusal)),
         }
     }
 
     fn flush(&mut self) -> Result<(), Errno> {
         match self.client.flush(self.rt) {
-            Ok(_) => Ok(()),
+            Ok(()) => Ok(()),
             Err(refusal) => Err(errno_of(refusal)),
         }
-    }
-}
-
-impl<'r, 'c, 't, 'p, R: Wait, D: Disk + Drop, P: Policy> Lent<'r, 'c, 't, 'p, R, D, P> {
-    /// Serves requests, one after the other, until the connection ends or breaks.
-    pub fn serve<I: Read, O: Write>(
-        &mut self,
-        alloc: Global,
-        reader: &mut I,
-        writer: &mut O,
-    ) -> Result<(), Broken> {
-        transmit(alloc, self, reader, writer)
     }
 }
 

@@ -13,18 +13,24 @@ const TICK: u64 = 4096;
 /// How long a worker rests where no order waits: a millisecond.
 const REST: u64 = 1;
 
-/// What a worker knows of who serves: how many requests there were since the last tick, and whether the connection has ended.
+/// What a worker and those who serve know of one another.
 #[derive(Drop)]
 pub struct Pace {
+    /// How many requests there were since the last tick.
     requests: AtomicU64,
-    ended: AtomicU64,
+    /// How many who are to serve have not ended.
+    left: AtomicU64,
+    /// How many serve now.
+    serving: AtomicU64,
 }
 
 impl Pace {
-    pub fn new() -> Pace {
+    /// So many are to serve.
+    pub fn new(servers: u64) -> Pace {
         Pace {
             requests: AtomicU64::new(0),
-            ended: AtomicU64::new(0),
+            left: AtomicU64::new(servers),
+            serving: AtomicU64::new(0),
         }
     }
 
@@ -33,13 +39,19 @@ impl Pace {
         self.requests.fetch_add(1, Ordering::SeqCst);
     }
 
-    /// The connection has ended.
-    pub fn end(&self) {
-        self.ended.store(1, Ordering::SeqCst);
+    /// One begins to serve.
+    pub fn enter(&self) {
+        self.serving.fetch_add(1, Ordering::SeqCst);
     }
 
+    /// One has served: whether no other does now.
+    pub fn leave(&self) -> bool {
+        self.serving.fetch_sub(1, Ordering::SeqCst) == 1
+    }
+
+    /// Whether all who were to serve have ended.
     pub fn has_ended(&self) -> bool {
-        self.ended.load(Ordering::SeqCst) != 0
+        self.left.load(Ordering::SeqCst) == 0
     }
 
     /// Whether a tick is due.
@@ -53,15 +65,15 @@ impl Pace {
     }
 }
 
-/// A connection that is to be served: once it is let go it has ended, and was perhaps never served.
-pub struct Connection<'a> {
+/// The place of one who is to serve: once it is let go its holder has ended, and perhaps never served.
+pub struct Place<'a> {
     pub pace: &'a Pace,
 }
 
-impl<'a> Drop for Connection<'a> {
+impl<'a> Drop for Place<'a> {
     fn drop(self) {
-        self.pace.end();
-        let Connection { pace: _ } = self;
+        self.pace.left.fetch_sub(1, Ordering::SeqCst);
+        let Place { pace: _ } = self;
     }
 }
 

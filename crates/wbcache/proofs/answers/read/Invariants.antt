@@ -4,8 +4,8 @@ use Rattle.wbcache.proofs.answers.read.Given as goal
 abbrev pub invariant-loop-first : goal.invariant-loop-first
 invariant-loop-first g l = record {
   within : l.first ≤ l.end;
-  inside : l.end ≤ l.client.port.geometry.block * l.client.port.geometry.origin_blocks;
-  geometry : l.client.port.geometry ≡ l.initial.client.port.geometry;
+  inside : l.end ≤ l.geometry.block * l.geometry.origin_blocks;
+  sizes : g.C.Served.sizes l.client ≡ l.geometry;
 }
 
 abbrev pub decreases-loop-first : goal.decreases-loop-first

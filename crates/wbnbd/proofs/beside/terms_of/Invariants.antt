@@ -1,5 +1,5 @@
 use Rattle.std.proofs.Common.{◌≤◌}
-use Rattle.wbnbd.proofs.server.terms_of.Given as goal
+use Rattle.wbnbd.proofs.beside.terms_of.Given as goal
 
 abbrev pub decreases-loop-preferred : goal.decreases-loop-preferred
 decreases-loop-preferred l = l.preferred

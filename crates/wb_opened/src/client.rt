@@ -1,0 +1,89 @@
+//! A client of a target, as who stands above it sees it.
+
+ghost use Rattle.std.specs.Prelude.{◌≡◌, ◌*◌, IfErr, length};
+ghost use Rattle.wb_opened.specs.Inside.{IsInside};
+
+use crate::served::Served;
+use std::sync::Wait;
+use wb_disk::Disk;
+use wb_policy::{Order, Policy};
+use wb_target::{Client, Gate};
+use wb_types::{Content, Geometry, Refusal, Sector};
+
+impl<'t, D: Disk + Drop, P: Policy> Served for Client<'t, D, P> {
+    ghost sizes = { λ client. client.port.geometry };
+
+    fn geometry(&self) -> Geometry {
+        self.port.geometry
+    }
+
+    #[tactic(auto, using(crate::proofs::Inside::not_outside))]
+    fn read<R: Wait>(&mut self, rt: &R, at: Sector, out: &mut [Content]) -> Result<(), Refusal> {
+        match Client::read(self, rt, at, out) {
+            Ok(()) => Ok(()),
+            Err(stopped) => Err(stopped.refusal),
+        }
+    }
+
+    #[tactic(auto, using(crate::proofs::Inside::not_outside))]
+    fn write<R: Wait>(&mut self, rt: &R, at: Sector, from: &[Content]) -> Result<(), Refusal> {
+        match Client::write(self, rt, at, from) {
+            Ok(()) => Ok(()),
+            Err(stopped) => Err(stopped.refusal),
+        }
+    }
+
+    #[tactic(auto, using(crate::proofs::Inside::not_outside))]
+    fn try_read(&mut self, at: Sector, out: &mut [Content]) -> Result<(), Refusal> {
+        match self.port.try_read(at, out) {
+            Ok(()) => Ok(()),
+            Err(refusal) => Err(refusal),
+        }
+    }
+
+    #[tactic(auto, using(crate::proofs::Inside::not_outside))]
+    fn try_write(&mut self, at: Sector, from: &[Content]) -> Result<(), Refusal> {
+        match self.port.try_write(at, from) {
+            Ok(()) => Ok(()),
+            Err(refusal) => Err(refusal),
+        }
+    }
+
+    fn settle<R: Wait>(&mut self, rt: &R) {
+        Client::settle(self, rt)
+    }
+
+    fn flush<R: Wait>(&mut self, rt: &R) -> Result<(), Refusal> {
+        match Client::flush(self, rt) {
+            Ok(_) => Ok(()),
+            Err(refusal) => Err(refusal),
+        }
+    }
+
+    fn tick<R: Wait>(&mut self, rt: &R) -> Result<(), Refusal> {
+        match Client::tick(self, rt) {
+            Ok(_) => Ok(()),
+            Err(refusal) => Err(refusal),
+        }
+    }
+
+    fn work_one<R: Wait>(&mut self, rt: &R) -> Result<Option<Order>, Refusal> {
+        Client::work_one(self, rt)
+    }
+
+    fn worker<R: Wait, G: Gate>(&mut self, rt: &R, gate: &G) -> Result<(), Refusal> {
+        Client::worker(self, rt, gate)
+    }
+
+    fn status<R: Wait>(&self, rt: &R, text: &mut String) -> Result<(), Refusal> {
+        self.target().status(rt, text)
+    }
+
+    fn mapped<R: Wait>(&self, rt: &R) -> u32 {
+        self.target().counts(rt).mapped
+    }
+
+    fn dirty<R: Wait>(&self, rt: &R) -> u32 {
+        self.target().dirty(rt)
+    }
+}

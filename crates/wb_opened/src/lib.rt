@@ -1,0 +1,12 @@
+//! A target of files, opened by its table and served by its clients.
+#![tactic(auto)]
+
+mod client;
+mod opening;
+mod served;
+mod serving;
+mod unserved;
+
+pub use served::{Served, Service};
+pub use serving::{serve_all, serve_alone, serve_each};
+pub use unserved::Unserved;

@@ -1,0 +1,70 @@
+//! Opening a target over the files of a table.
+
+use crate::unserved::Unserved;
+use std::alloc::Global;
+use std::fs::File;
+use std::rt::Files;
+use wb_devices::Devices;
+use wb_disk::{DiskFault, FileDisk};
+use wb_files::{Disks, open_table};
+use wb_policy::TinyLfu;
+use wb_table::Table;
+use wb_target::Target;
+use wb_types::{Mode, Refusal};
+
+/// The files of a table, locked for as long as they are held, and the sectors of a block.
+pub(crate) fn open_devices<'a, R: Files<File = File>>(
+    rt: &R,
+    table: &'a str,
+) -> Result<(Devices<FileDisk>, u64), Unserved<'a>> {
+    match open_table(rt, table) {
+        Ok((disks, geometry)) => Ok((devices_of(disks), u64::from(geometry.block))),
+        Err(unopened) => Err(Unserved::Unopened(unopened)),
+    }
+}
+
+fn devices_of(disks: Disks<FileDisk>) -> Devices<FileDisk> {
+    let Disks {
+        metadata,
+        cache,
+        origin,
+    } = disks;
+    Devices {
+        metadata,
+        cache,
+        origin,
+    }
+}
+
+/// The files of a table that was read, locked for as long as they are held.
+pub(crate) fn open_named<'a, R: Files<File = File>>(
+    rt: &R,
+    table: &Table<'a>,
+) -> Result<Devices<FileDisk>, Unserved<'a>> {
+    match Disks::open(rt, table) {
+        Ok(disks) => Ok(devices_of(disks)),
+        Err(unopened) => Err(Unserved::Unopened(unopened)),
+    }
+}
+
+/// The files of a table for another client, without a lock.
+pub(crate) fn open_unlocked<R: Files<File = File>>(
+    rt: &R,
+    table: &Table<'_>,
+) -> Result<Devices<FileDisk>, DiskFault> {
+    Ok(Devices {
+        metadata: FileDisk::open(rt, table.metadata)?,
+        cache: FileDisk::open(rt, table.cache)?,
+        origin: FileDisk::open(rt, table.origin)?,
+    })
+}
+
+/// Opens the cache on these devices, in write-back mode with TinyLFU.
+pub(crate) fn open_target(
+    alloc: Global,
+    devices: Devices<FileDisk>,
+    block: u64,
+) -> Result<(Devices<FileDisk>, Target<TinyLfu>), Refusal> {
+    let (devices, opened) = Target::open(alloc, devices, block, Mode::Writeback, &[]);
+    Ok((devices, opened?))
+}

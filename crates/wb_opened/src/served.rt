@@ -1,0 +1,76 @@
+//! What a target is to who stands above it: what its clients can be asked, and what is done by one of them.
+
+ghost use Rattle.std.specs.Prelude.{◌≡◌, ◌*◌, IfErr, length};
+ghost use Rattle.wb_types.specs.declared.geometry.Geometry.{Geometry as Sizes};
+ghost use Rattle.wb_opened.specs.Inside.{IsInside};
+
+use std::sync::Wait;
+use wb_policy::Order;
+use wb_target::Gate;
+use wb_types::{Content, Geometry, Refusal, Sector};
+
+/// An opened target, by one of its clients.
+pub trait Served {
+    /// Its sizes.
+    ghost sizes: { Self → Sizes };
+
+    /// Its sizes.
+    fn geometry(&self) -> Geometry
+        ensures { result ≡ sizes self.now };
+
+    /// Reads sectors, block by block; a block that is busy is tried again. After a refusal the slice may hold any contents.
+    ///
+    /// `Range` for no sector, or one outside the origin, before any block; `Failed`, `Io` and `Memory` where a block met them.
+    fn read<R: Wait>(&mut self, rt: &R, at: Sector, out: &mut [Content]) -> Result<(), Refusal>
+        ensures range { IfErr result (λ refusal. refusal ≡ Refusal.Range → ¬ IsInside at.0 (length out.old) ((sizes self.old).block * (sizes self.old).origin_blocks)) }
+        ensures sizes { sizes self.new ≡ sizes self.old };
+
+    /// Writes sectors, block by block; a block that is busy is tried again. Finished blocks stay where a later one is refused.
+    ///
+    /// `Range` as `read`; `Failed`, `Worn` and `Io` where a block met them.
+    fn write<R: Wait>(&mut self, rt: &R, at: Sector, from: &[Content]) -> Result<(), Refusal>
+        ensures range { IfErr result (λ refusal. refusal ≡ Refusal.Range → ¬ IsInside at.0 (length from.now) ((sizes self.old).block * (sizes self.old).origin_blocks)) }
+        ensures sizes { sizes self.new ≡ sizes self.old };
+
+    /// Reads sectors of one block without waiting: `Range`, `Crosses`, `Defer` where 32 accesses are unsettled, `Busy`, `Failed`
+    /// and `Io`.
+    fn try_read(&mut self, at: Sector, out: &mut [Content]) -> Result<(), Refusal>
+        ensures range { IfErr result (λ refusal. refusal ≡ Refusal.Range → ¬ IsInside at.0 (length out.old) ((sizes self.old).block * (sizes self.old).origin_blocks)) };
+
+    /// Writes sectors of one block without waiting, refused as `try_read`, and `Worn`.
+    fn try_write(&mut self, at: Sector, from: &[Content]) -> Result<(), Refusal>
+        ensures range { IfErr result (λ refusal. refusal ≡ Refusal.Range → ¬ IsInside at.0 (length from.now) ((sizes self.old).block * (sizes self.old).origin_blocks)) };
+
+    /// Tells the policy of each access so far, in order.
+    fn settle<R: Wait>(&mut self, rt: &R);
+
+    /// Makes durable all that was finished before it: `Failed`, `Io`, `Memory`, and `GenerationEnd`.
+    fn flush<R: Wait>(&mut self, rt: &R) -> Result<(), Refusal>;
+
+    /// The policy's tick, and then a flush, refused as that.
+    fn tick<R: Wait>(&mut self, rt: &R) -> Result<(), Refusal>;
+
+    /// Carries out the order that waits longest, if any, and says which: `Failed`, `Io`, `Memory`, and `GenerationEnd`.
+    fn work_one<R: Wait>(&mut self, rt: &R) -> Result<Option<Order>, Refusal>;
+
+    /// Carries out orders until the gate ends it: `Failed` and `Io`.
+    fn worker<R: Wait, G: Gate>(&mut self, rt: &R, gate: &G) -> Result<(), Refusal>;
+
+    /// Adds the status line, with no end of line: `Memory`.
+    fn status<R: Wait>(&self, rt: &R, text: &mut String) -> Result<(), Refusal>;
+
+    /// How many cache blocks are mapped.
+    fn mapped<R: Wait>(&self, rt: &R) -> u32;
+
+    /// How many of them are dirty: a look at each cache block, under the lock.
+    fn dirty<R: Wait>(&self, rt: &R) -> u32;
+}
+
+/// What is done by a client of an opened target.
+pub trait Service {
+    /// What it tells at its end.
+    type Told: Send + Drop;
+
+    /// Does it.
+    fn serve<R: Wait, C: Served>(self, rt: &R, client: &mut C) -> Self::Told;
+}

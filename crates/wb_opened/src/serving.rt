@@ -1,0 +1,184 @@
+//! Serving the target of a table.
+
+use crate::opening::{open_devices, open_named, open_target, open_unlocked};
+use crate::served::{Served, Service};
+use crate::unserved::Unserved;
+use std::alloc::{AllocError, Global};
+use std::fs::File;
+use std::rt::Files;
+use std::sync::Wait;
+use std::thread::Threads;
+use wb_devices::Devices;
+use wb_disk::{Disk, FileDisk};
+use wb_policy::Policy;
+use wb_table::{Table, read_table};
+use wb_target::{Client, Errand, Returned, Sent, Target};
+use wb_types::{Dev, Refusal};
+
+/// Opens the cache over the files of a table, in write-back mode with TinyLFU, and has one client do a service: what it told. The
+/// files are locked as long. Nothing is flushed at the end, which leaves the cache without the clean flag.
+///
+/// An error where the files cannot serve, the opening is refused or there is no memory for a client.
+pub fn serve_alone<'a, R: Files<File = File>, T: Wait, S: Service + Drop>(
+    rt: &R,
+    waits: &T,
+    alloc: Global,
+    table: &'a str,
+    service: S,
+) -> Result<S::Told, Unserved<'a>> {
+    let (devices, block) = open_devices(rt, table)?;
+    serve_on(waits, alloc, devices, block, service).map_err(|refusal| Unserved::Refused(refusal))
+}
+
+/// As `serve_alone`, by several who do their services beside one another, each by a client of its own with files of its own and on a
+/// thread of its own; where no thread can be made, one is done after the other. What each told, in order, or why it had no client.
+pub fn serve_all<'a, R: Files<File = File>, T: Threads + Wait + Sync, S: Service + Send + Drop>(
+    rt: &R,
+    waits: &T,
+    alloc: Global,
+    table: &'a str,
+    services: Vec<S>,
+) -> Result<Vec<Result<S::Told, Refusal>>, Unserved<'a>> {
+    let (devices, block) = open_devices(rt, table)?;
+    let Ok(table) = read_table(table) else {
+        return Err(Unserved::Refused(Refusal::BadTable));
+    };
+    let errands = errands_of(rt, alloc, &table, services)?;
+    serve_rest(waits, alloc, devices, block, errands).map_err(|refusal| Unserved::Refused(refusal))
+}
+
+/// Opens the cache over the files of a table that was read, has one client do a service, and then several, each with files of its
+/// own, theirs beside one another: what the first told, and each of the others in order, or why it had no client.
+pub fn serve_each<
+    'a,
+    R: Files<File = File>,
+    T: Threads + Wait + Sync,
+    F: Service + Drop,
+    S: Service + Send + Drop,
+>(
+    rt: &R,
+    waits: &T,
+    alloc: Global,
+    table: &Table<'a>,
+    first: F,
+    services: Vec<S>,
+) -> Result<(F::Told, Vec<Result<S::Told, Refusal>>), Unserved<'a>> {
+    let devices = open_named(rt, table)?;
+    let errands = errands_of(rt, alloc, table, services)?;
+    serve_first(waits, alloc, devices, table.block, first, errands).map_err(
+        |refusal| Unserved::Refused(refusal),
+    )
+}
+
+/// Opens the cache on these devices and has one client do a service.
+fn serve_on<T: Wait, S: Service + Drop>(
+    waits: &T,
+    alloc: Global,
+    devices: Devices<FileDisk>,
+    block: u64,
+    service: S,
+) -> Result<S::Told, Refusal> {
+    let (devices, target) = open_target(alloc, devices, block)?;
+    serve_by(waits, &target, devices, service)
+}
+
+/// Has a client of a target do a service.
+fn serve_by<T: Wait, D: Disk + Drop, P: Policy, S: Service + Drop>(
+    waits: &T,
+    target: &Target<P>,
+    devices: Devices<D>,
+    service: S,
+) -> Result<S::Told, Refusal> {
+    match target.client(waits, devices) {
+        Ok(mut client) => Ok(service.serve(waits, &mut client)),
+        Err((_, refusal)) => Err(refusal),
+    }
+}
+
+/// Opens the cache on these devices, which are kept open as long, and has clients do services beside one another.
+fn serve_rest<T: Threads + Wait + Sync, S: Service + Send + Drop>(
+    waits: &T,
+    alloc: Global,
+    devices: Devices<FileDisk>,
+    block: u64,
+    errands: Vec<Sent<FileDisk, Doing<S>>>,
+) -> Result<Vec<Result<S::Told, Refusal>>, Refusal> {
+    let (devices, target) = open_target(alloc, devices, block)?;
+    let told = all_told(alloc, target.together(waits, errands)?)?;
+    drop(devices);
+    Ok(told)
+}
+
+/// Opens the cache on these devices, has one client do the first service, and the others theirs beside one another.
+fn serve_first<T: Threads + Wait + Sync, F: Service + Drop, S: Service + Send + Drop>(
+    waits: &T,
+    alloc: Global,
+    devices: Devices<FileDisk>,
+    block: u64,
+    first: F,
+    errands: Vec<Sent<FileDisk, Doing<S>>>,
+) -> Result<(F::Told, Vec<Result<S::Told, Refusal>>), Refusal> {
+    let (devices, target) = open_target(alloc, devices, block)?;
+    let told = serve_by(waits, &target, devices, first)?;
+    Ok((told, all_told(alloc, target.together(waits, errands)?)?))
+}
+
+/// A service, to be done as an errand.
+#[derive(Drop)]
+struct Doing<S> {
+    service: S,
+}
+
+impl<S: Service> Errand for Doing<S> {
+    type Told = S::Told;
+
+    ghost tells = { λ doing told. Unit {0} };
+
+    fn run<R: Wait, D: Disk + Drop, P: Policy>(
+        self,
+        rt: &R,
+        client: &mut Client<'_, D, P>,
+    ) -> S::Told {
+        let Doing { service } = self;
+        service.serve(rt, client)
+    }
+}
+
+fn sent<S>(devices: Devices<FileDisk>, service: S) -> Sent<FileDisk, Doing<S>> {
+    Sent {
+        devices,
+        errand: Doing { service },
+    }
+}
+
+/// An errand for each service, with files of its own.
+fn errands_of<'a, R: Files<File = File>, S: Service + Drop>(
+    rt: &R,
+    alloc: Global,
+    table: &Table<'a>,
+    services: Vec<S>,
+) -> Result<Vec<Sent<FileDisk, Doing<S>>>, Unserved<'a>> {
+    let mut errands = Vec::new(alloc);
+    for service in services {
+        let Ok(devices) = open_unlocked(rt, table) else {
+            return Err(Unserved::Refused(Refusal::Io(Dev::Metadata)));
+        };
+        if errands.push(sent(devices, service)).is_err() {
+            return Err(Unserved::Refused(Refusal::Memory));
+        }
+    }
+    Ok(errands)
+}
+
+/// What each errand told, in order.
+fn all_told<X: Drop>(
+    alloc: Global,
+    returned: Vec<Returned<FileDisk, X>>,
+) -> Result<Vec<Result<X, Refusal>>, AllocError> {
+    let mut all = Vec::new(alloc);
+    for one in returned {
+        let Returned { told, .. } = one;
+        all.push(told).map_err(|_| AllocError)?;
+    }
+    Ok(all)
+}

@@ -1,0 +1,37 @@
+//! Why a target of files was not served, for who reads standard error.
+
+use std::fmt;
+use std::fmt::{Display, Formatter};
+use wb_files::Unopened;
+use wb_types::Refusal;
+
+/// Why a target of files was not served.
+#[derive(Drop)]
+pub enum Unserved<'a> {
+    /// The files of its table cannot serve.
+    Unopened(Unopened<'a>),
+    /// There is no memory, or a step of an open device failed, or what the devices hold is no target of this table.
+    Refused(Refusal),
+}
+
+impl<'a> Unserved<'a> {
+    /// What is printed for it.
+    pub fn refusal(&self) -> Refusal {
+        match self {
+            Unserved::Unopened(unopened) => unopened.refusal(),
+            Unserved::Refused(refusal) => *refusal,
+        }
+    }
+}
+
+impl<'a> Display for Unserved<'a> {
+    fn fmt<W: fmt::Write>(&self, f: &mut Formatter<W>) -> fmt::Result {
+        match self {
+            Unserved::Unopened(unopened) => write!(f, "{unopened}"),
+            Unserved::Refused(Refusal::Io(device)) => {
+                write!(f, "{device} file: a read, a write or a sync failed")
+            }
+            Unserved::Refused(refusal) => write!(f, "{refusal}"),
+        }
+    }
+}
