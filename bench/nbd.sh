@@ -28,7 +28,7 @@ truncate -s 64M "$work/plain.img"
 table="cache $work/m.img $work/c.img $work/o.img 64 0 tinylfu 0"
 "$cache" format "$table" >"$work/said"
 
-python3 "$top/bench/inetd.py" "$work/wbnbd.sock" "$server" "$table" &
+python3 "$top/bench/inetd.py" "$work/wbnbd.sock" "$server" "$table" 2>"$work/told_by_server" &
 servers=$!
 nbdkit -f --unix "$work/file.sock" file "$work/plain.img" &
 servers="$servers $!"
@@ -43,7 +43,7 @@ load() { # server, what fio is told: requests a second
   shift
   fio --name=load --ioengine=nbd --uri="nbd+unix:///?socket=$work/$name.sock" --size=12M --group_reporting \
     --output-format=terse --terse-version=3 "$@" >"$work/told" 2>"$work/errors"
-  awk -F';' '{ printf "%d\n", $8 + $49 }' "$work/told"
+  awk -F';' 'NF > 100 { printf "%d\n", $8 + $49 }' "$work/told"
 }
 
 # All blocks that are asked for are cached first, and all pages of the other file written.
