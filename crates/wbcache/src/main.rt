@@ -60,7 +60,6 @@ fn serve<T: Wait>(rt: &HostRuntime, waits: &T) -> u8 {
         Asked::Format(table) => format::format_files(rt, alloc, table, &mut io::writer(rt)),
         Asked::Run(table) => match BufReader::new(alloc, rt.reader()) {
             Ok(mut reader) => {
-                let mut progress = Progress::new(rt, verbose);
                 script::run(
                     rt,
                     waits,
@@ -68,7 +67,7 @@ fn serve<T: Wait>(rt: &HostRuntime, waits: &T) -> u8 {
                     table,
                     &mut reader,
                     &mut io::writer(rt),
-                    &mut progress,
+                    Progress::new(rt, verbose),
                 )
             }
             Err(_) => return no_memory(rt),

@@ -35,7 +35,7 @@ pub fn run<'a, R: Files<File = File>, T: Wait, I: BufRead, W: Write>(
     table: &'a str,
     reader: &mut I,
     writer: &mut W,
-    progress: &mut Progress<'_>,
+    progress: Progress<'_>,
 ) -> Ended<'a> {
     let script = Script {
         alloc,
@@ -51,11 +51,11 @@ pub fn run<'a, R: Files<File = File>, T: Wait, I: BufRead, W: Write>(
 
 /// A script that is to be played.
 #[derive(Drop)]
-struct Script<'s, 'p, I, W> {
+struct Script<'s, I, W> {
     alloc: Global,
     reader: &'s mut I,
     writer: &'s mut W,
-    progress: &'s mut Progress<'p>,
+    progress: Progress<'s>,
 }
 
 /// How a script was played, and the lines of it that were refused.
@@ -77,7 +77,7 @@ impl Played {
     }
 }
 
-impl<'s, 'p, I: BufRead, W: Write> Service for Script<'s, 'p, I, W> {
+impl<'s, I: BufRead, W: Write> Service for Script<'s, I, W> {
     type Told = Played;
 
     fn serve<R: Wait, C: Served>(self, rt: &R, client: &mut C) -> Played {
@@ -85,11 +85,11 @@ impl<'s, 'p, I: BufRead, W: Write> Service for Script<'s, 'p, I, W> {
             alloc,
             reader,
             writer,
-            progress,
+            mut progress,
         } = self;
         progress.opened(&client.geometry(), client.mapped(rt), client.dirty(rt));
         let mut tally = Tally::new();
-        let status = play(rt, alloc, client, reader, writer, &mut tally, progress);
+        let status = play(rt, alloc, client, reader, writer, &mut tally, &mut progress);
         Played { status, tally }
     }
 }
