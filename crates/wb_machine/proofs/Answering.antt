@@ -1,5 +1,5 @@
 -- The answer of an opening.
-use Rattle.std.proofs.Common.{◌≡◌, ◌<◌, ℕ, zero, suc, true, List, [], ◌∷◌, Option, Some, None, refl, sym, ap, subst, ◌∙◌, length, length-set, map, replicate, slice_set}
+use Rattle.std.proofs.Common.{◌≡◌, ◌<◌, ℕ, true, List, [], Option, Some, None, refl, sym, ap, subst, ◌∙◌, length, length-set, replicate, slice_set}
 use Rattle.wb_types.specs.declared.mode.Mode.TheVariants.{Writeback}
 use Rattle.wb_policy.specs.declared.quiet.Quiet.{Quiet}
 use Rattle.std.specs.declared.alloc.Global.{Global}

@@ -1,5 +1,5 @@
 -- Whether a bit of the fail word is set, after a step on the shared words.
-use Rattle.std.proofs.Common.{◌≡◌, ◌≤◌, ◌==◌, ◌||◌, ℕ, zero, suc, Bool, true, false, refl, sym, ap, ◌∙◌, arith, bit_or, if◌then◌else◌}
+use Rattle.std.proofs.Common.{◌≡◌, ◌≤◌, ◌==◌, ◌||◌, ℕ, zero, suc, Bool, true, false, refl, ap, ◌∙◌, arith, bit_or, if◌then◌else◌}
 use Rattle.std.proofs.lemmas.Nat.{le_or_r}
 use Rattle.wb_types.specs.declared.number.OBlock.{OBlock}
 use Rattle.wb_words.specs.declared.word.Kind.{Kind}

@@ -1,7 +1,7 @@
 -- Members and their cards.
-use Rattle.std.proofs.Common.{◌≡◌, ◌≤◌, ℕ, zero, suc, Bool, true, false, List, [], ◌∷◌, Option, Some, None, refl, sym, ap, subst, ◌∙◌, arith, slice_get, slice_set, slice_index_or, length, replicate, is_some}
+use Rattle.std.proofs.Common.{◌≡◌, ◌≤◌, ℕ, zero, suc, true, false, List, [], ◌∷◌, Option, Some, None, refl, sym, ap, ◌∙◌, arith, slice_get, slice_set, slice_index_or, length, replicate, is_some}
 use Rattle.std.proofs.Common.{Result, Ok, Err, OnErr, IfErr}
-use Rattle.std.specs.Result.{IsErr, IsErrAnd}
+use Rattle.std.specs.Result.{IsErrAnd}
 use Rattle.wb_machine.specs.declared.halt.Halt.{Halt}
 use Rattle.wb_machine.specs.declared.halt.Halt.TheVariants.{Beyond}
 use Rattle.wb_words.specs.declared.card.Card.{Card}
@@ -11,7 +11,7 @@ use Rattle.wb_runs.specs.declared.job.Job.{Job}
 use Rattle.wb_runs.specs.States.{Actor, resting}
 use Rattle.wb_runs.specs.Happenings.{OfSome}
 use Rattle.wb_machine.specs.declared.member.Member.{Member}
-use Rattle.wb_machine.specs.Members.{free, seat, seated, works, works_there}
+use Rattle.wb_machine.specs.Members.{free, seat, seated, works_there}
 
 -- a list in which an element was set to itself
 pub set_same : {X : Type 0} (xs : List X) (i : ℕ) (x : X) → slice_get xs i ≡ Some x → slice_set xs i x ≡ xs

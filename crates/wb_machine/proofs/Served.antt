@@ -1,19 +1,17 @@
 -- What an event does over a target that stands is what wb_runs says.
-use Rattle.std.proofs.Common.{◌≡◌, ◌≤◌, ◌<◌, ◌+◌, ◌⊎◌, inl, inr, ℕ, zero, suc, Bool, true, false, List, [], ◌∷◌, Option, Some, None, refl, sym, ap, subst, ◌∙◌, arith, slice_get, slice_set, slice_index_or, length, length-set}
+use Rattle.std.proofs.Common.{◌≡◌, ◌≤◌, ◌<◌, ◌+◌, inl, inr, ℕ, zero, suc, true, false, List, [], ◌∷◌, Option, Some, None, refl, sym, ap, subst, ◌∙◌, arith, slice_get, slice_set, slice_index_or, length, length-set}
 use Rattle.std.specs.declared.alloc.Global.{Global}
-use Rattle.wb_types.specs.declared.geometry.Geometry.{Geometry}
 use Rattle.wb_types.specs.declared.refusal.Refusal.{Refusal}
 use Rattle.wb_types.specs.declared.mode.Dev.{Dev}
 use Rattle.wb_types.specs.declared.mode.Dev.TheVariants.{Metadata, Cache, Origin}
 use Rattle.wb_types.specs.declared.extent.Extent.{Extent}
 use Rattle.wb_types.proofs.Cutting.{pieces_cut}
-use Rattle.wb_disk.specs.Device.{Content as Bytes, History, Gives as GivesOne}
+use Rattle.wb_disk.specs.Device.{Content as Bytes, History}
 use Rattle.wb_disk.specs.Extents.{GivesEach, written_each, written_where}
 use Rattle.wb_disk.specs.declared.crash_choice.Base.TheVariants.{Newest}
 use Rattle.wb_disk.specs.Memory.{Memory}
 use Rattle.wb_disk.specs.Crash.{Choice}
-use Rattle.wb_disk.specs.Failing.{MayFail, lands}
-use Rattle.wb_words.specs.declared.card.Card.{Card}
+use Rattle.wb_disk.specs.Failing.{lands}
 use Rattle.wb_words.specs.Cards.{blank_card}
 use Rattle.wb_words.specs.Effects.{card_after, result_of}
 use Rattle.wb_words.specs.declared.step.CellStep.{CellStep}
@@ -36,20 +34,20 @@ use Rattle.wb_runs.specs.declared.job.Job.{Job}
 use Rattle.wb_runs.specs.declared.job.Job.TheVariants.{Read, Write, Flush, Open}
 use Rattle.wb_runs.specs.declared.event.Event.TheVariants.{Start, Step, FaultStep}
 use Rattle.wb_runs.specs.declared.event.What.{What}
-use Rattle.wb_runs.specs.declared.event.What.TheVariants.{Skipped, Refused, Started, Stepped}
+use Rattle.wb_runs.specs.declared.event.What.TheVariants.{Skipped, Started}
 use Rattle.wb_runs.specs.States.{Shape, Actor, Stands, with_device}
-use Rattle.wb_runs.specs.Happenings.{Chosen, Plain, Cut, Begins, Reaches, Puts, Commits, Opened, AtWork, OfSome, DoesNotApply, DoesOpen, Gives, Falters, MayFailAt, HasTask, StartGives, extent_of, job_refusal, task_job}
-use Rattle.wb_runs.specs.Effects.{after_what, card_then, commit_then, desk_then, devices_then, device_done, device_failed, stepped, task_then, went, with_actor, words_then}
-use Rattle.wb_runs.specs.Holding.{AllSuited, AreUsedRightly}
+use Rattle.wb_runs.specs.Happenings.{Chosen, Plain, Cut, Opened, AtWork, OfSome, DoesNotApply, DoesOpen, Gives, Falters, MayFailAt, StartGives, job_refusal, task_job}
+use Rattle.wb_runs.specs.Effects.{after_what, card_then, commit_then, desk_then, devices_then, device_done, device_failed, task_then, went, words_then}
+use Rattle.wb_runs.specs.Holding.{AreUsedRightly}
 use Rattle.wb_runs.specs.Progress.{IsFree}
 use Rattle.wb_machine.specs.declared.member.Member.{Member}
 use Rattle.wb_machine.specs.declared.phase.Phase.{Phase}
 use Rattle.wb_machine.specs.declared.phase.Phase.TheVariants.{Closed, Underway, Standing}
 use Rattle.wb_machine.specs.declared.target.Target.{Target}
 use Rattle.wb_machine.specs.Life.{Now, Happens, contents_of, is_request_step, state_of, wants_target}
-use Rattle.wb_machine.specs.Members.{free, seat, seated}
-use Rattle.wb_machine.specs.Serving.{AllCan, AreServed, CanStep, FailsOrRests, IsBeyond, IsPossible, IsServed, NothingFails, Opens, Performs, Reads, Rests, StepFails, Steps, StepsOn, Writes, crew_then, cut_for, done_by, failed_by, over, start_of, started_or, task_given}
-use Rattle.wb_machine.proofs.Members.{absent, seat_at, set_both, set_same, set_task, somebody}
+use Rattle.wb_machine.specs.Members.{seated}
+use Rattle.wb_machine.specs.Serving.{AllCan, CanStep, FailsOrRests, IsBeyond, IsPossible, IsServed, NothingFails, Opens, Steps, crew_then, cut_for, over, start_of, started_or, task_given}
+use Rattle.wb_machine.proofs.Members.{seat_at, set_both, set_same, set_task, somebody}
 use Rattle.wb_machine.proofs.Openings.{passes}
 
 -- ---- what every run gives to a state

@@ -8,7 +8,7 @@ use Rattle.wb_types.specs.declared.refusal.Refusal.{Refusal}
 use Rattle.wb_disk.specs.Device.{Content as Bytes, History}
 use Rattle.wb_disk.specs.Memory.{Memory}
 use Rattle.wb_disk.specs.Crash.{Choice}
-use Rattle.wb_disk.specs.Failing.{MayFail, lands}
+use Rattle.wb_disk.specs.Failing.{lands}
 use Rattle.wb_words.specs.SharedWords.{flag}
 use Rattle.wb_words.specs.declared.step.CellStep.{CellStep}
 use Rattle.wb_words.specs.declared.step.CellStep.TheVariants.{SetFailed, SetSuspended}
@@ -16,7 +16,6 @@ use Rattle.wb_cells.specs.Crews.{CrewState, crew_after}
 use Rattle.wb_policy.specs.declared.quiet.Quiet.{Quiet}
 use Rattle.wb_tasks.specs.Plan.{Plan, table, want, device_of}
 use Rattle.wb_tasks.specs.Ready.{HoldsBlocks}
-use Rattle.wb_tasks.specs.declared.step.DeviceStep.{DeviceStep}
 use Rattle.wb_tasks.specs.declared.step.DeviceStep.TheVariants.{Read as ReadExtent, Write as WriteExtent}
 use Rattle.wb_tasks.specs.declared.step.Answer.TheVariants.{Done as Finished}
 use Rattle.wb_tasks.specs.declared.step.Want.{Want}
@@ -29,12 +28,12 @@ use Rattle.wb_runs.specs.declared.job.Job.{Job}
 use Rattle.wb_runs.specs.declared.job.Job.TheVariants.{Read, Write, Open}
 use Rattle.wb_runs.specs.declared.event.What.{What}
 use Rattle.wb_runs.specs.declared.event.What.TheVariants.{Skipped, Refused, Started, Stepped}
-use Rattle.wb_runs.specs.States.{Shape, Actor, Stands, with_device}
+use Rattle.wb_runs.specs.States.{Shape, Actor, Stands}
 use Rattle.wb_runs.specs.Happenings.{Gives, MayFailAt, Plain, Falters, extent_of, job_refusal, task_job}
 use Rattle.wb_runs.specs.Holding.{AllSuited}
-use Rattle.wb_runs.specs.Effects.{contents_for, device_done, device_failed, devices_then, task_then}
+use Rattle.wb_runs.specs.Effects.{device_done, device_failed, devices_then, task_then}
 use Rattle.wb_machine.specs.declared.phase.Phase.{Phase}
-use Rattle.wb_machine.specs.declared.phase.Phase.TheVariants.{Closed, Underway, Standing}
+use Rattle.wb_machine.specs.declared.phase.Phase.TheVariants.{Standing}
 use Rattle.wb_machine.specs.declared.target.Target.{Target}
 use Rattle.wb_machine.specs.Life.{Now, contents_of, is_request_step}
 use Rattle.wb_machine.specs.Members.{seated}

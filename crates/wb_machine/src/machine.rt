@@ -86,7 +86,7 @@ impl Machine {
     }
 
     /// One event. It adds one record, which says what the event did. Where the record or what the step writes wants more memory
-    /// than there is, or the event is a step that the machine cannot do yet, nothing has changed.
+    /// than there is, or the event is a step that the machine cannot do yet, nothing that it holds has changed; there may be room for more.
     pub fn event(&mut self, event: Event) -> Result<(), Halt>
         ensures ok { OnOk result (GoesOn self.old event self.new) }
         ensures err { OnErr result (self.new ≡ self.old) }

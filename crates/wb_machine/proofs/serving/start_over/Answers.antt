@@ -1,4 +1,4 @@
-use Rattle.std.proofs.Common.{◌∙◌, arith, inl, length-set, refl, sym}
+use Rattle.std.proofs.Common.{◌∙◌, arith, inl, length-set, refl}
 use Rattle.std.proofs.lemmas.Option.{slice_get_past, slice_get_read}
 use Rattle.wb_runs.specs.declared.event.Event.TheVariants.{Start}
 use Rattle.wb_machine.specs.declared.machine.TheConstants.{ACTORS}
