@@ -1,5 +1,5 @@
 -- The answer of an opening.
-use Rattle.std.proofs.Common.{◌≡◌, ◌<◌, ℕ, zero, suc, true, List, [], ◌∷◌, Option, Some, None, refl, sym, ap, subst, ◌∙◌, length, length-set, map, replicate, slice_set}
+use Rattle.std.proofs.Common.{◌≡◌, ◌<◌, ℕ, true, List, [], Option, Some, None, refl, sym, ap, subst, ◌∙◌, length, length-set, replicate, slice_set}
 use Rattle.wb_types.specs.declared.mode.Mode.TheVariants.{Writeback}
 use Rattle.wb_policy.specs.declared.quiet.Quiet.{Quiet}
 use Rattle.std.specs.declared.alloc.Global.{Global}
@@ -31,23 +31,13 @@ use Rattle.wb_machine.specs.declared.making.Made.{Made}
 use Rattle.wb_machine.specs.declared.opener.Opener.{Opener}
 use Rattle.wb_machine.specs.declared.phase.Phase.{Phase}
 use Rattle.wb_machine.specs.declared.phase.Phase.TheVariants.{Closed, Underway, Standing}
-use Rattle.wb_machine.specs.Life.{Happens, IsThere, Now, actors_of, answered, at_rest, contents_of, device_step_of, opening_actor, shape_of, stands_by, state_of}
+use Rattle.wb_machine.specs.Life.{Happens, IsThere, Now, actors_of, answered, contents_of, device_step_of, opening_actor, shape_of, stands_by, state_of}
 use Rattle.wb_machine.specs.Making.{HasMade, IsMade, read_of, reading_by, reading_of}
+use Rattle.wb_machine.specs.Members.{free, seated}
+use Rattle.wb_machine.specs.declared.member.Member.{Member}
 use Rattle.wb_machine.specs.Standing.{Point, AtEnd, AtRefusal, HasMadeThere, HasReadAll, HasComeTo, StandsAt, StandsSo, plan_from}
+use Rattle.wb_machine.proofs.Members.{all_free}
 use Rattle.wb_machine.proofs.Openings.{busy, length_replicate, set_replicate, set_twice, there}
-
-map_set : {X Y : Type 0} (f : X → Y) (xs : List X) (i : ℕ) (x : X) → map f (slice_set xs i x) ≡ slice_set (map f xs) i (f x)
-map_set f [] i x = refl
-map_set f (y ∷ ys) zero x = refl
-map_set f (y ∷ ys) (suc i) x = ap (λ zs. f y ∷ zs) (map_set f ys i x)
-
-map_replicate : {X Y : Type 0} (f : X → Y) (n : ℕ) (x : X) → map f (replicate n x) ≡ replicate n (f x)
-map_replicate f zero x = refl
-map_replicate f (suc n) x = ap (λ zs. f x ∷ zs) (map_replicate f n x)
-
--- who opened has sealed its blocks, and nobody else has a card yet
-cards_then : (n a : ℕ) (card : Card) (cards : List Card) → cards ≡ slice_set (replicate n blank_card) a card → map at_rest cards ≡ slice_set (replicate n resting) a (at_rest card)
-cards_then n a card cards e = ap (λ (cs : List Card). map at_rest cs) e ∙ map_set at_rest (replicate n blank_card) a card ∙ ap (λ (xs : List Actor). slice_set xs a (at_rest card)) (map_replicate at_rest n blank_card)
 
 -- the target is the one that was made
 target_is : (g : Geometry) (n a : ℕ) (made : Made) → IsMade g n a made → record { words = made.target.crew.words; desk = made.target.desk } ≡ target_over (shape_of g n) Writeback made.target.desk.policy (read_of made)
@@ -60,23 +50,29 @@ module _ (g : Geometry) (n : ℕ) (devices : Devices Memory) (o : Opener) (made 
   abbrev over : Option Made → Now
   over m = record { devices = contents_of devices; commit = o.opening.commit; phase = Opens Writeback (reading_by m o.opening.reading); actors = actors_of n (Underway o) }
 
-  abbrev standing : Target Quiet → List Actor → Now
-  standing t xs = record { devices = contents_of devices; commit = None; phase = Stands t; actors = xs }
+  abbrev standing : Option RunningCommit → Target Quiet → List Actor → Now
+  standing commit t xs = record { devices = contents_of devices; commit = commit; phase = Stands t; actors = xs }
 
   abbrev card : Card
   card = card_by (fresh_words g.origin_blocks) blank_card (seals_of (read_of made))
 
-  actors : IsMade g n o.actor made → map at_rest made.target.crew.cards ≡ slice_set (actors_of n (Underway o)) o.actor (at_rest card)
-  actors is = cards_then n o.actor card made.target.crew.cards is.cards_are ∙ sym (set_twice (replicate n resting) o.actor (opening_actor o.task) (at_rest card))
+  -- with nothing to do, and this card
+  abbrev rested : Actor
+  rested = record { task = None; card = card }
+
+  actors : IsMade g n o.actor made → seated made.members.items made.target.crew.cards ≡ slice_set (actors_of n (Underway o)) o.actor rested
+  actors is = ap (λ (ms : List Member). seated ms made.target.crew.cards) is.members_are ∙ ap (λ (cs : List Card). seated (replicate n free) cs) is.cards_are
+      ∙ all_free n o.actor card ∙ sym (set_twice (replicate n resting) o.actor (opening_actor o.task) rested)
 
   -- its answer, which is done
   pub opened : o.actor < n → want o.task ≡ End Finished → o.made ≡ Some made → IsMade g n o.actor made → is_all_done o.opening.commit ≡ true →
-      Happens shape (state_of n devices (Underway o)) (Step o.actor) (Stepped (End Finished) Done) [] (state_of n devices (Standing made.target))
-  opened h next made_is is done = subst (λ (m : Option Made). Happens shape (over m) (Step o.actor) (Stepped (End Finished) Done) [] (state_of n devices (Standing made.target))) (sym made_is) (record {
+      Happens shape (state_of n devices (Underway o)) (Step o.actor) (Stepped (End Finished) Done) [] (state_of n devices (Standing made.target made.members))
+  opened h next made_is is done = subst (λ (m : Option Made). Happens shape (over m) (Step o.actor) (Stepped (End Finished) Done) [] (state_of n devices (Standing made.target made.members))) (sym made_is) (record {
     chosen = Opened made.target.desk.policy;
     may = busy n o _ h (sym next, (refl, refl, (tt, done)));
-    leads = ap (λ (xs : List Actor). standing (record { words = made.target.crew.words; desk = made.target.desk }) xs) (actors is)
-        ∙ ap (λ (t : Target Quiet). standing t (slice_set (actors_of n (Underway o)) o.actor (at_rest card))) (target_is g n o.actor made is)
+    leads = ap (λ (commit : Option RunningCommit). standing commit (record { words = made.target.crew.words; desk = made.target.desk }) (seated made.members.items made.target.crew.cards)) is.commit_is
+        ∙ ap (λ (xs : List Actor). standing None (record { words = made.target.crew.words; desk = made.target.desk }) xs) (actors is)
+        ∙ ap (λ (t : Target Quiet). standing None t (slice_set (actors_of n (Underway o)) o.actor rested)) (target_is g n o.actor made is)
         ∙ sym (ap (λ (x : Option Actor). with_actor (over (Some made)) x (λ y. stepped shape (over (Some made)) o.actor y (End Finished) Done (Opened made.target.desk.policy) (λ step. device_done {P = Quiet} {A = Global} (job_of y.task) step (Opened made.target.desk.policy)))) (there n o h));
   })
 
@@ -100,10 +96,10 @@ pub record Answers (g : Geometry) (n : ℕ) (devices : Devices Memory) (o : Open
 answers_done : (g : Geometry) (n : ℕ) (devices : Devices Memory) (o : Opener) → o.actor < n → want o.task ≡ End Finished → is_all_done o.opening.commit ≡ true → (made : Option Made) → o.made ≡ made → HasMade g n o.actor made → Answers g n devices o (answered (Underway o))
 answers_done g n devices o h next done None made_is is = absurd is
 answers_done g n devices o h next done (Some made) made_is is =
-    let stood : stands_by (want o.task) o.made ≡ Standing made.target = ap (λ (w : Want). stands_by w o.made) next ∙ ap (λ (m : Option Made). stands_by (End Finished) m) made_is in
+    let stood : stands_by (want o.task) o.made ≡ Standing made.target made.members = ap (λ (w : Want). stands_by w o.made) next ∙ ap (λ (m : Option Made). stands_by (End Finished) m) made_is in
     subst (Answers g n devices o) (sym stood) (record {
-      happens = subst (λ (w : Want). Happens (shape_of g n) (state_of n devices (Underway o)) (Step o.actor) (Stepped w Done) [] (state_of n devices (Standing made.target))) (sym next) (opened g n devices o made h next made_is is done);
-      is_there = ap length is.cards_are ∙ length-set (replicate n blank_card) o.actor _ ∙ length_replicate n blank_card;
+      happens = subst (λ (w : Want). Happens (shape_of g n) (state_of n devices (Underway o)) (Step o.actor) (Stepped w Done) [] (state_of n devices (Standing made.target made.members))) (sym next) (opened g n devices o made h next made_is is done);
+      is_there = (ap length is.cards_are ∙ length-set (replicate n blank_card) o.actor _ ∙ length_replicate n blank_card, ap length is.members_are ∙ length_replicate n free);
       so = record { blocks = is.blocks_are; failed = is.failed_is };
     })
 

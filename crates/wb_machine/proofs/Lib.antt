@@ -1,7 +1,11 @@
-pub mod Openings
 pub mod Commits
+pub mod Members
+pub mod Openings
 pub mod Standing
-pub mod Wherever
 pub mod Reaching
-pub mod Seals
+pub mod Served
+pub mod Wherever
 pub mod Answering
+pub mod Seals
+pub mod Landing
+pub mod Flags

@@ -1,13 +1,11 @@
 -- What an event does to an opening is what wb_runs says.
-use Rattle.std.proofs.Common.{◌≡◌, ◌≢◌, ◌≤◌, ◌<◌, ◌⊎◌, ◌&&◌, not, inl, inr, ℕ, zero, suc, Bool, true, false, map, List, [], ◌∷◌, Option, Some, None, refl, sym, ap, subst, ◌∙◌, arith, slice_get, slice_set, length, length-set, replicate}
-use Rattle.std.proofs.lemmas.List.{length-map}
+use Rattle.std.proofs.Common.{◌≡◌, ◌≢◌, ◌≤◌, ◌<◌, ◌⊎◌, not, inl, inr, ℕ, zero, suc, Bool, true, false, List, [], ◌∷◌, Option, Some, None, refl, sym, ap, subst, ◌∙◌, arith, slice_get, slice_set, length, length-set, replicate}
 use Rattle.std.proofs.lemmas.Option.{slice_get_past}
 use Rattle.std.proofs.lemmas.Bool.{eqb-false, eqb-true}
 use Rattle.std.specs.Bool.{OnTrue, OnFalse}
 use Rattle.std.specs.declared.alloc.Global.{Global}
 use Rattle.wb_types.specs.declared.geometry.Geometry.{Geometry}
 use Rattle.wb_words.specs.SharedWords.{flag}
-use Rattle.wb_words.specs.declared.card.Card.{Card}
 use Rattle.wb_types.specs.declared.mode.Mode.TheVariants.{Writeback}
 use Rattle.wb_types.specs.declared.mode.Dev.{Dev}
 use Rattle.wb_types.specs.declared.mode.Dev.TheVariants.{Metadata, Cache, Origin}
@@ -43,9 +41,10 @@ use Rattle.wb_runs.specs.Effects.{after_what, all_crashed, all_resting, job_of, 
 use Rattle.wb_machine.specs.declared.opener.Opener.{Opener}
 use Rattle.wb_machine.specs.declared.phase.Phase.{Phase}
 use Rattle.wb_machine.specs.declared.phase.Phase.TheVariants.{Closed, Underway, Standing}
-use Rattle.wb_machine.specs.Life.{Now, Happens, FailsOn, IsThere, at_rest, device_step_of, actors_of, contents_of, is_opening, is_sound, opening_actor, opens, phase_of, reading_synced, reading_failed, stands, state_of, wants_target}
+use Rattle.wb_machine.specs.Life.{Now, Happens, FailsOn, IsThere, device_step_of, actors_of, contents_of, is_busy, is_opening, is_sound, opening_actor, phase_of, reading_synced, reading_failed, stands, state_of, wants_target}
 use Rattle.wb_machine.specs.Making.{reading_of}
 use Rattle.wb_machine.specs.Standing.{StandsSo}
+use Rattle.wb_machine.proofs.Members.{busy_there, idle_there, length_seated}
 
 -- ---- lists of one actor that opens, beside others that rest
 
@@ -92,7 +91,7 @@ resting_all (x ∷ xs) = ap (λ ys. resting ∷ ys) (resting_all xs)
 many : (n : ℕ) (o : Phase) → IsThere n o → length (actors_of n o) ≡ n
 many n Closed h = length_replicate n resting
 many n (Underway o) h = length-set (replicate n resting) o.actor (opening_actor o.task) ∙ length_replicate n resting
-many n (Standing t) h = length-map t.crew.cards at_rest ∙ h
+many n (Standing t members) h = length_seated members.items t.crew.cards (h.1 ∙ sym h.0) ∙ h.0
 
 pub all_rest : (n : ℕ) (o : Phase) → IsThere n o → all_resting (actors_of n o) ≡ replicate n resting
 all_rest n o h = resting_all (actors_of n o) ∙ ap (λ k. replicate k resting) (many n o h)
@@ -108,24 +107,20 @@ rests zero a P h = h
 rests (suc n) zero P h = h
 rests (suc n) (suc a) P h = rests n a P h
 
-rests_with : (cards : List Card) (a : ℕ) (P : Job × Plan → Type 0) → OfSome (slice_get (map at_rest cards) a) (λ (x : Actor). OfSome x.task P) → ⊥
-rests_with [] a P h = h
-rests_with (c ∷ cs) zero P h = h
-rests_with (c ∷ cs) (suc a) P h = rests_with cs a P h
-
 pub idle_beside : (n : ℕ) (o : Opener) (a : ℕ) (P : Job × Plan → Type 0) → o.actor ≢ a → OfSome (slice_get (actors_of n (Underway o)) a) (λ (x : Actor). OfSome x.task P) → ⊥
 idle_beside n o a P e h = rests n a P (subst (λ (x : Option Actor). OfSome x (λ (y : Actor). OfSome y.task P)) (get_beside (replicate n resting) o.actor a (opening_actor o.task) e) h)
 
--- who does not open is at nothing
-pub idle : (n : ℕ) (o : Phase) (a : ℕ) (P : Job × Plan → Type 0) → opens a o ≡ false → OfSome (slice_get (actors_of n o) a) (λ (x : Actor). OfSome x.task P) → ⊥
+-- who has no task is at nothing
+pub idle : (n : ℕ) (o : Phase) (a : ℕ) (P : Job × Plan → Type 0) → is_busy a o ≡ false → OfSome (slice_get (actors_of n o) a) (λ (x : Actor). OfSome x.task P) → ⊥
 idle n Closed a P e h = rests n a P h
 idle n (Underway o) a P e h = idle_beside n o a P (eqb-false o.actor a e) h
-idle n (Standing t) a P e h = rests_with t.crew.cards a P h
+idle n (Standing t members) a P e h = idle_there members.items t.crew.cards a P e h
 
-pub nobody_opens : (o : Phase) (a : ℕ) → ((x : Opener) → o ≡ Underway x → ⊥) → opens a o ≡ false
-nobody_opens Closed a h = refl
-nobody_opens (Underway x) a h = absurd (h x refl)
-nobody_opens (Standing t) a h = refl
+-- where neither an opening is at work nor a target stands, nobody has one
+pub nobody_opens : (o : Phase) (a : ℕ) → stands o ≡ false → ((x : Opener) → o ≡ Underway x → ⊥) → is_busy a o ≡ false
+nobody_opens Closed a e h = refl
+nobody_opens (Underway x) a e h = absurd (h x refl)
+nobody_opens (Standing t members) a e h = absurd (cc)
 
 -- and who opens is at its opening
 pub busy : (n : ℕ) (o : Opener) (P : Job × Plan → Type 0) → o.actor < n → P (Open Writeback, o.task) → OfSome (slice_get (actors_of n (Underway o)) o.actor) (λ (x : Actor). OfSome x.task P)
@@ -159,30 +154,36 @@ has_not true e f = cc
 pub nobody_starts : (devices : Devices Memory) (n : ℕ) (o : Phase) → IsThere n o → (a : ℕ) (job : Job) → n ≤ a → DoesNotApply (state_of n devices o) (Start a job)
 nobody_starts devices n o t a job h = inl (slice_get_past (actors_of n o) a (let l = many n o t in omega (arith, l)))
 
-pub opener_starts : (devices : Devices Memory) (n : ℕ) (o : Phase) (a : ℕ) (job : Job) → IsThere n o → opens a o ≡ true → DoesNotApply (state_of n devices o) (Start a job)
-opener_starts devices n (Underway o) a job h e =
+pub busy_starts : (devices : Devices Memory) (n : ℕ) (o : Phase) (a : ℕ) (job : Job) → IsThere n o → is_busy a o ≡ true → DoesNotApply (state_of n devices o) (Start a job)
+busy_starts devices n Closed a job h e = absurd (cc)
+busy_starts devices n (Underway o) a job h e =
     let same : o.actor ≡ a = eqb-true o.actor a e in
     inr (inl (subst (λ k. OfSome (slice_get (actors_of n (Underway o)) k) (λ (x : Actor). OfSome x.task (λ doing. Unit {0}))) same (busy n o (λ doing. Unit {0}) h tt)))
-opener_starts devices n o a job h e = absurd (cc)
+busy_starts devices n (Standing t members) a job h e = inr (inl (busy_there members.items t.crew.cards a (let l = h.0 in let k = h.1 in omega (arith, l, k)) e))
 
--- no job but an opening in this mode starts where no target stands
-pub no_target : (devices : Devices Memory) (n : ℕ) (o : Phase) (a : ℕ) (job : Job) → is_opening job ≡ false → stands o && wants_target job ≡ false → DoesNotApply (state_of n devices o) (Start a job)
-no_target devices n o a (Open Writeback) e f = absurd (cc)
-no_target devices n o a (Open mode) e f = inr (inr (inr (λ same. cc)))
+-- no opening in another mode starts
+pub no_mode : (devices : Devices Memory) (n : ℕ) (o : Phase) (a : ℕ) (job : Job) → is_opening job ≡ false → wants_target job ≡ false → DoesNotApply (state_of n devices o) (Start a job)
+no_mode devices n o a (Open Writeback) e f = absurd (cc)
+no_mode devices n o a (Open mode) e f = inr (inr (inr (λ same. cc)))
+no_mode devices n o a job e f = absurd (cc)
+
+-- no other job starts where no target stands
+pub no_target : (devices : Devices Memory) (n : ℕ) (o : Phase) (a : ℕ) (job : Job) → stands o ≡ false → wants_target job ≡ true → DoesNotApply (state_of n devices o) (Start a job)
+no_target devices n o a (Open mode) e f = absurd (cc)
 no_target devices n Closed a job e f = inr (inr (λ t. t))
 no_target devices n (Underway o) a job e f = inr (inr (λ t. t))
-no_target devices n (Standing t) a job e f = absurd (cc)
+no_target devices n (Standing t members) a job e f = absurd (cc)
+
+pub not_standing : (o : Phase) → ((t : _) (members : _) → o ≡ Standing t members → ⊥) → stands o ≡ false
+not_standing Closed h = refl
+not_standing (Underway o) h = refl
+not_standing (Standing t members) h = absurd (h t members refl)
 
 -- nor does one over a target that has not failed
 pub too_early : (g : Geometry) (devices : Devices Memory) (n : ℕ) (o : Phase) → StandsSo g n o → (a : ℕ) (job : Job) → is_opening job ≡ true → is_sound o ≡ true → DoesNotApply (state_of n devices o) (Start a job)
-too_early g devices n (Standing t) s a (Open Writeback) e f = inr (inr (inl (calm t.crew.words.fail (sym s.failed ∙ sym (not_true t.failed f)))))
-too_early g devices n (Standing t) s a job e f = absurd (cc)
+too_early g devices n (Standing t members) s a (Open Writeback) e f = inr (inr (inl (calm t.crew.words.fail (sym s.failed ∙ sym (not_true t.failed f)))))
+too_early g devices n (Standing t members) s a job e f = absurd (cc)
 too_early g devices n o s a job e f = absurd (cc)
-
--- what is to start over a target is beyond it
-pub not_yet : (devices : Devices Memory) (n : ℕ) (o : Phase) (job : Job) → stands o && wants_target job ≡ true → OfTarget (phase_of o) (λ t. wants_target job ≡ true)
-not_yet devices n (Standing t) job e = e
-not_yet devices n o job e = absurd (cc)
 
 begun_state : (n : ℕ) (devices : Devices Memory) (o : Phase) → IsThere n o → (a : ℕ) (plan : Plan) (new : Opener) → new.actor ≡ a → new.task ≡ plan → reading_of new ≡ None → new.opening.commit ≡ None →
     state_of n devices (Underway new) ≡ record { devices = contents_of devices; commit = None; phase = Opens Writeback None; actors = slice_set (all_resting (actors_of n o)) a (opening_actor plan) }
@@ -192,9 +193,9 @@ no_standing : (g : Geometry) (n : ℕ) (o : Phase) → StandsSo g n o → is_sou
 no_standing g n o s f (inr d) = d refl
 no_standing g n Closed s f (inl t) = t
 no_standing g n (Underway o) s f (inl t) = t
-no_standing g n (Standing x) s f (inl t) = has_not x.failed f (s.failed ∙ ap flag t)
+no_standing g n (Standing x members) s f (inl t) = has_not x.failed f (s.failed ∙ ap flag t)
 
-pub starts : (shape : Shape) (devices : Devices Memory) (n : ℕ) (o : Phase) → IsThere n o → StandsSo shape.geometry n o → (a : ℕ) (job : Job) (what : What) (new : Opener) → is_opening job ≡ true → a < n → opens a o ≡ false → is_sound o ≡ false →
+pub starts : (shape : Shape) (devices : Devices Memory) (n : ℕ) (o : Phase) → IsThere n o → StandsSo shape.geometry n o → (a : ℕ) (job : Job) (what : What) (new : Opener) → is_opening job ≡ true → a < n → is_busy a o ≡ false → is_sound o ≡ false →
     new.actor ≡ a → new.task ≡ table (Opening shape.geometry.meta_sectors) → reading_of new ≡ None → new.opening.commit ≡ None → what ≡ Started →
     Happens shape (state_of n devices o) (Start a job) what [] (state_of n devices (Underway new))
 starts shape devices n o is_there so a (Open Writeback) what new j h i calm e f g k s = rw s (record {

@@ -1,10 +1,9 @@
 -- A machine that has gone on by one record.
 use Rattle.std.proofs.Common.{◌≡◌, ◌∙◌, ◌++◌, ◌∷◌, [], List, refl, sym, ap, subst}
 use Rattle.std.proofs.lemmas.List.{map-append}
-use Rattle.wb_disk.specs.Device.{Content as Bytes}
 use Rattle.wb_runs.specs.declared.event.Record.{Record}
 use Rattle.wb_runs.specs.States.{Shape, start}
-use Rattle.wb_runs.specs.Happenings.{May, MayBe}
+use Rattle.wb_runs.specs.Happenings.{May}
 use Rattle.wb_runs.specs.Effects.{after_happening, after_all, IsRun}
 use Rattle.wb_machine.specs.Life.{Happened, Happens, IsReached, GoesOn, Now}
 
@@ -17,12 +16,12 @@ after_more : (shape : Shape) (w : Now) (hs : List Happened) (h : Happened) → a
 after_more shape w [] h = refl
 after_more shape w (q ∷ hs) h = after_more shape (after_happening shape w q) hs h
 
-module _ (shape : Shape) (trace trace' : List Record) (w w' : Now) (r : Record) (none : r.read.items ≡ []) (happens : Happens shape w r.event r.what [] w') (told : trace' ≡ trace ++ r ∷ []) where
+module _ (shape : Shape) (trace trace' : List Record) (w w' : Now) (r : Record) (happens : Happens shape w r.event r.what r.read.items w') (told : trace' ≡ trace ++ r ∷ []) where
   abbrev happening : Happened
   happening = record { record_is = r; chosen = happens.chosen }
 
   may : May shape w happening
-  may = subst (λ (read : List Bytes). MayBe shape w r.event r.what read happens.chosen) (sym none) happens.may
+  may = happens.may
 
   pub reached : IsReached (record { shape = shape; trace = trace; state = w }) → IsReached (record { shape = shape; trace = trace'; state = w' })
   reached i = record {

@@ -20,6 +20,7 @@ use Rattle.wb_cells.specs.Crews.{CrewState, card_of, crew_after}
 use Rattle.wb_runs.specs.Effects.{card_by, sealing_steps, seals_of, words_by}
 use Rattle.wb_machine.specs.declared.making.Made.{Made}
 use Rattle.wb_machine.specs.Making.{AllFree, IsMade, block_seals, crew_by, read_of}
+use Rattle.wb_machine.specs.Members.{free}
 
 -- ---- steps, one after the other
 
@@ -99,8 +100,8 @@ as_many crew a (step ∷ steps) = as_many (crew_after crew a step) a steps ∙ l
 pub made_so : (g : Geometry) (n a : ℕ) (made : Made) (tree : Mapping) (crew : CrewState) → a < n
     → made.target.desk ≡ opened g (made.root.generation + 1) tree made.used.items Writeback made.target.desk.policy (threshold_of None) (count_by is_some made.target.desk.tree.entries)
     → made.target.crew ≡ crew_by crew a (sealing_steps made.root.clean 0 tree.entries)
-    → crew.words ≡ fresh_words g.origin_blocks → crew.cards ≡ replicate n blank_card → crew.blocks ≡ g.origin_blocks → made.target.failed ≡ false → IsMade g n a made
-made_so g n a made tree crew h desk sealed fresh cards blocks failed =
+    → crew.words ≡ fresh_words g.origin_blocks → crew.cards ≡ replicate n blank_card → crew.blocks ≡ g.origin_blocks → made.target.failed ≡ false → made.target.commit ≡ None → made.members.items ≡ replicate n free → IsMade g n a made
+made_so g n a made tree crew h desk sealed fresh cards blocks failed commit members =
     let seals = sealing_steps made.root.clean 0 tree.entries in
     let words = fresh_words g.origin_blocks in
     let same : made.target.desk.tree ≡ tree = ap (λ (d : DeskState Quiet). d.tree) desk in
@@ -118,4 +119,6 @@ made_so g n a made tree crew h desk sealed fresh cards blocks failed =
           ∙ ap (λ (ss : List CellStep). slice_set (replicate n blank_card) a (card_by words blank_card ss)) steps;
       blocks_are = ap (λ (k : CrewState). k.blocks) sealed ∙ blocks_stay crew a seals ∙ blocks;
       failed_is = failed ∙ sym (ap (λ (w : Words). flag w.fail) words_so ∙ ap flag (fail_stays words made.root.clean 0 tree.entries));
+      commit_is = commit;
+      members_are = members;
     }

@@ -1,4 +1,6 @@
 pub mod Life
 pub mod Log
 pub mod Making
+pub mod Members
+pub mod Serving
 pub mod Standing

@@ -1,5 +1,5 @@
 -- A machine that runs, as its callers see it, and what an event does to it, by the definitions of wb_runs.
-use Rattle.std.specs.Prelude.{◌≡◌, ◌<◌, ◌==◌, ◌++◌, ◌∷◌, [], ℕ, Bool, true, false, not, List, Option, Some, None, IfSome, length, map, replicate, slice_set}
+use Rattle.std.specs.Prelude.{◌≡◌, ◌<◌, ◌==◌, ◌++◌, ◌∷◌, [], ℕ, Bool, true, false, not, List, Option, Some, None, IfSome, length, replicate, slice_set}
 use Rattle.std.specs.declared.alloc.Global.{Global}
 use Rattle.wb_types.specs.declared.geometry.Geometry.{Geometry}
 use Rattle.wb_types.specs.declared.mode.Dev.{Dev}
@@ -10,7 +10,6 @@ use Rattle.wb_disk.specs.Memory.{Memory}
 use Rattle.wb_disk.specs.Crash.{Choice}
 use Rattle.wb_disk.specs.Failing.{lands, synced_where}
 use Rattle.wb_words.specs.Cards.{blank_card}
-use Rattle.wb_words.specs.declared.card.Card.{Card}
 use Rattle.wb_format.specs.Layout.{SpellsRoot}
 use Rattle.wb_format.specs.declared.root.Root.{Root}
 use Rattle.wb_meta.specs.Formats.{IsFormatted}
@@ -25,23 +24,24 @@ use Rattle.wb_devices.specs.Moving.{device_in}
 use Rattle.wb_devices.specs.declared.running.RunningCommit.{RunningCommit}
 use Rattle.wb_tasks.specs.Plan.{Plan, want}
 use Rattle.wb_tasks.specs.declared.step.DeviceStep.{DeviceStep}
-use Rattle.wb_tasks.specs.declared.step.DeviceStep.TheVariants.{Sync, ReadMetadata, WriteRoot}
+use Rattle.wb_tasks.specs.declared.step.DeviceStep.TheVariants.{Read as ReadExtent, Write as WriteExtent, Sync, ReadMetadata, WriteRoot}
 use Rattle.wb_tasks.specs.declared.step.Want.{Want}
-use Rattle.wb_tasks.specs.declared.step.Want.TheVariants.{Device, End}
+use Rattle.wb_tasks.specs.declared.step.Want.TheVariants.{Cell, Device, End}
 use Rattle.wb_tasks.specs.declared.step.Answer.TheVariants.{Done as Finished}
 use Rattle.wb_runs.specs.declared.job.Job.{Job}
-use Rattle.wb_runs.specs.declared.job.Job.TheVariants.{Open}
+use Rattle.wb_runs.specs.declared.job.Job.TheVariants.{Flush, Open}
 use Rattle.wb_runs.specs.declared.event.Event.{Event}
-use Rattle.wb_runs.specs.declared.event.Event.TheVariants.{Start}
+use Rattle.wb_runs.specs.declared.event.Event.TheVariants.{Start, Step, FaultStep}
 use Rattle.wb_runs.specs.declared.event.What.{What}
 use Rattle.wb_runs.specs.declared.event.Record.{Record}
 use Rattle.wb_runs.specs.States.{Shape, State, Actor, Phase as RunPhase, Stands, Gone, Opens, OfTarget, resting, start, with_device}
-use Rattle.wb_runs.specs.Happenings.{Chosen, Happening, LandedOr, MayBe, May}
+use Rattle.wb_runs.specs.Happenings.{AtWork, Chosen, Happening, LandedOr, MayBe, May}
 use Rattle.wb_runs.specs.Effects.{after_what, after_happening, after_all, IsRun, records_of}
 use Rattle.wb_machine.specs.declared.making.Made.{Made}
 use Rattle.wb_machine.specs.declared.phase.Phase.{Phase}
 use Rattle.wb_machine.specs.declared.phase.Phase.TheVariants.{Closed, Underway, Standing}
 use Rattle.wb_machine.specs.Making.{reading_of}
+use Rattle.wb_machine.specs.Members.{seated, works_there}
 
 -- The policy of its targets orders nothing.
 abbrev pub Now : Type 0
@@ -69,58 +69,55 @@ contents_of devices = record { metadata = devices.metadata.contents; cache = dev
 abbrev pub opening_actor : Plan → Actor
 opening_actor plan = record { task = Some (Open Writeback, plan); card = blank_card }
 
--- who is at nothing, with this card
-abbrev pub at_rest : Card → Actor
-at_rest card = record { task = None; card = card }
-
--- Beside who opens nobody is at anything. Of a target everybody keeps a card.
+-- Beside who opens nobody is at anything. Over a target each is at what its member is at, and has a card.
 abbrev pub actors_of : ℕ → Phase → List Actor
 actors_of actors Closed = replicate actors resting
 actors_of actors (Underway opener) = slice_set (replicate actors resting) opener.actor (opening_actor opener.task)
-actors_of actors (Standing target) = map at_rest target.crew.cards
+actors_of actors (Standing target members) = seated members.items target.crew.cards
 
 abbrev pub phase_of : Phase → RunPhase Quiet Global
 phase_of Closed = Gone
 phase_of (Underway opener) = Opens Writeback (reading_of opener)
-phase_of (Standing target) = Stands (record { words = target.crew.words; desk = target.desk })
+phase_of (Standing target members) = Stands (record { words = target.crew.words; desk = target.desk })
 
--- the commit of an opening's root, once all was read
+-- the commit of an opening's root, once all was read, or that of a flush
 abbrev pub commit_of : Phase → Option RunningCommit
 commit_of Closed = None
 commit_of (Underway opener) = opener.opening.commit
-commit_of (Standing target) = None
+commit_of (Standing target members) = target.commit
 
 abbrev pub state_of : ℕ → Devices Memory → Phase → Now
 state_of actors devices phase = record { devices = contents_of devices; commit = commit_of phase; phase = phase_of phase; actors = actors_of actors phase }
 
--- who opens is one of so many, and a target has a card for each
+-- who opens is one of so many, and a target has a card and a member for each
 abbrev pub IsThere : ℕ → Phase → Type 0
 IsThere actors Closed = Unit {0}
 IsThere actors (Underway opener) = opener.actor < actors
-IsThere actors (Standing target) = length target.crew.cards ≡ actors
+IsThere actors (Standing target members) = (length target.crew.cards ≡ actors) × (length members.items ≡ actors)
 
 -- a target stands once an opening was answered done
 abbrev pub stands_by : Want → Option Made → Phase
-stands_by (End Finished) (Some made) = Standing made.target
+stands_by (End Finished) (Some made) = Standing made.target made.members
 stands_by next made = Closed
 
 abbrev pub answered : Phase → Phase
 answered (Underway opener) = stands_by (want opener.task) opener.made
 answered phase = Closed
 
--- this actor opens
-abbrev pub opens : ℕ → Phase → Bool
-opens a (Underway opener) = opener.actor == a
-opens a phase = false
+-- this actor has a task: it opens, or its member is at something
+abbrev pub is_busy : ℕ → Phase → Bool
+is_busy a Closed = false
+is_busy a (Underway opener) = opener.actor == a
+is_busy a (Standing target members) = works_there members.items a
 
 -- a target stands
 abbrev pub stands : Phase → Bool
-stands (Standing target) = true
+stands (Standing target members) = true
 stands phase = false
 
 -- one that has not failed
 abbrev pub is_sound : Phase → Bool
-is_sound (Standing target) = not target.failed
+is_sound (Standing target members) = not target.failed
 is_sound phase = false
 
 -- a job that may start where no target stands that has not failed
@@ -216,7 +213,17 @@ device_step_of (Device (ReadMetadata left)) = Some (ReadMetadata left)
 device_step_of (Device WriteRoot) = Some WriteRoot
 device_step_of next = None
 
--- what is to start over a target that stands, but for an opening
+-- a step of a read or write, or an answer
+abbrev pub is_request_step : Want → Bool
+is_request_step (Cell step) = true
+is_request_step (Device (ReadExtent device e)) = true
+is_request_step (Device (WriteExtent device e)) = true
+is_request_step (End answer) = true
+is_request_step next = false
+
+-- a flush over a target that stands, and a step of one
 abbrev pub IsGap : Now → Event → Type 0
-IsGap w (Start a job) = OfTarget w.phase (λ t. wants_target job ≡ true)
+IsGap w (Start a job) = OfTarget w.phase (λ t. job ≡ Flush)
+IsGap w (Step a) = OfTarget w.phase (λ t. AtWork w a (λ job plan. is_request_step (want plan) ≡ false))
+IsGap w (FaultStep a choice) = OfTarget w.phase (λ t. AtWork w a (λ job plan. is_request_step (want plan) ≡ false))
 IsGap w event = ⊥

@@ -21,6 +21,7 @@ use Rattle.wb_tasks.specs.declared.step.Got.TheVariants.{Done}
 use Rattle.wb_runs.specs.Effects.{card_by, seals_of, words_by}
 use Rattle.wb_machine.specs.declared.making.Made.{Made}
 use Rattle.wb_machine.specs.declared.opener.Opener.{Opener}
+use Rattle.wb_machine.specs.Members.{free}
 
 -- ---- steps of one actor of a crew
 
@@ -51,13 +52,16 @@ reading_by (Some made) reading = Some (AllRead (read_of made))
 abbrev pub reading_of : Opener → Option (ReadSteps Global)
 reading_of o = reading_by o.made o.opening.reading
 
--- The target of what was read, by a root of the next generation, for so many actors of whom this one has sealed its blocks.
+-- The target of what was read, by a root of the next generation, for so many actors of whom this one has sealed its blocks. Nobody
+-- is at anything.
 pub record IsMade (g : Geometry) (actors actor : ℕ) (made : Made) : Type 0 where
   pub desk_is : made.target.desk ≡ opened g (made.root.generation + 1) made.target.desk.tree made.used.items Writeback made.target.desk.policy (threshold_of None) (count_by is_some made.target.desk.tree.entries)
   pub words_are : made.target.crew.words ≡ words_by (fresh_words g.origin_blocks) (seals_of (read_of made))
   pub cards_are : made.target.crew.cards ≡ slice_set (replicate actors blank_card) actor (card_by (fresh_words g.origin_blocks) blank_card (seals_of (read_of made)))
   pub blocks_are : made.target.crew.blocks ≡ g.origin_blocks
   pub failed_is : made.target.failed ≡ flag made.target.crew.words.fail
+  pub commit_is : made.target.commit ≡ None
+  pub members_are : made.members.items ≡ replicate actors free
 
 -- it was made
 abbrev pub HasMade : Geometry → ℕ → ℕ → Option Made → Type 0

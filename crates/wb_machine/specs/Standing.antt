@@ -109,7 +109,7 @@ pub record IsWhole (g : Geometry) (target : Target) : Type 0 where
 abbrev pub StandsSo : Geometry → ℕ → Phase → Type 0
 StandsSo g actors Closed = Unit {0}
 StandsSo g actors (Underway opener) = StandsAt g actors opener
-StandsSo g actors (Standing target) = IsWhole g target
+StandsSo g actors (Standing target members) = IsWhole g target
 
 -- The metadata device is of this geometry, and what is there is sound.
 pub record IsSound (g : Geometry) (actors : ℕ) (devices : Devices Memory) (phase : Phase) : Type 0 where

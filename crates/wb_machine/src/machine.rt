@@ -11,12 +11,13 @@ ghost use Rattle.wb_runs.specs.States.{start};
 ghost use Rattle.wb_machine.specs.declared.halt.Halt.TheVariants.{Beyond};
 ghost use Rattle.wb_machine.specs.declared.machine.TheConstants.{ACTORS};
 ghost use Rattle.wb_machine.specs.Life.{GoesOn, Happens, IsGap, IsReached, IsThere, shape_of, state_of};
+ghost use Rattle.wb_machine.specs.Serving.{IsServed};
 ghost use Rattle.wb_machine.specs.Standing.{IsSound};
 
 use crate::halt::Halt;
+use crate::outcome::Outcome;
 use crate::phase::Phase;
-use crate::starting::start;
-use crate::stepping::{falter, step};
+use crate::serving::{falter, start, step};
 use crate::stopping::stop;
 use crate::trace::Trace;
 use std::alloc::Global;
@@ -26,8 +27,8 @@ use wb_disk::MemDisk;
 use wb_meta::format;
 use wb_policy::Quiet;
 use wb_runs::{
-    Event, Record, What, every_crash_is_consistent, every_opening_shows_allowed,
-    openings_refuse_by_cause, reads_give_the_latest_write,
+    Event, Record, every_crash_is_consistent, every_opening_shows_allowed, never_stuck,
+    openings_refuse_by_cause, reads_give_the_latest_write, words_are_used_rightly,
 };
 use wb_types::{Geometry, Refusal};
 
@@ -85,7 +86,7 @@ impl Machine {
     }
 
     /// One event. It adds one record, which says what the event did. Where the record or what the step writes wants more memory
-    /// than there is, or the event is a step that the machine cannot do yet, nothing has changed.
+    /// than there is, or the event is a step that the machine cannot do yet, nothing that it holds has changed; there may be room for more.
     pub fn event(&mut self, event: Event) -> Result<(), Halt>
         ensures ok { OnOk result (GoesOn self.old event self.new) }
         ensures err { OnErr result (self.new ≡ self.old) }
@@ -94,18 +95,16 @@ impl Machine {
         if self.trace.reserve().is_err() {
             return Err(Halt::Memory);
         }
-        let what = happen(
+        never_stuck::<Quiet, Global>();
+        words_are_used_rightly::<Quiet, Global>();
+        let Outcome { what, read } = happen(
             &self.geometry,
             self.alloc,
             &mut self.devices,
             &mut self.phase,
             &event,
         )?;
-        self.trace.push_reserved(Record {
-            event,
-            what,
-            read: Vec::new(self.alloc),
-        });
+        self.trace.push_reserved(Record { event, what, read });
         Ok(())
     }
 
@@ -128,26 +127,33 @@ impl Machine {
     }
 }
 
-/// What an event does to the parts of a machine.
+/// What an event does to the parts of a machine, and what it reads.
 fn happen(
     geometry: &Geometry,
     alloc: Global,
     devices: &mut Devices<MemDisk>,
     phase: &mut Phase,
     event: &Event,
-) -> Result<What, Halt>
+) -> Result<Outcome, Halt>
     requires there { IsThere ACTORS phase.old }
     requires sound { IsSound geometry.now ACTORS devices.old phase.old }
+    requires served { IsServed geometry.now devices.old phase.old }
     ensures there { IsThere ACTORS phase.new }
     ensures sound { IsSound geometry.now ACTORS devices.new phase.new }
-    ensures ok { IfOk result (λ what. Happens (shape_of geometry.now ACTORS) (state_of ACTORS devices.old phase.old) event.now what [] (state_of ACTORS devices.new phase.new)) }
-    ensures err { OnErr result ((devices.new ≡ devices.old) × (phase.new ≡ phase.old)) }
+    ensures ok { IfOk result (λ done. Happens (shape_of geometry.now ACTORS) (state_of ACTORS devices.old phase.old) event.now done.what done.read.items (state_of ACTORS devices.new phase.new)) }
+    ensures err { OnErr result (state_of ACTORS devices.new phase.new ≡ state_of ACTORS devices.old phase.old) }
     ensures gap { IfErr result (λ halt. halt ≡ Beyond → IsGap (state_of ACTORS devices.old phase.old) event.now) }
 {
     match event {
-        Event::Start(a, job) => start(geometry, alloc, devices, phase, *a, job),
-        Event::Step(a) => step(geometry, devices, phase, *a),
-        Event::FaultStep(a, choice) => falter(geometry, devices, phase, *a, choice),
-        Event::Stop(choice) => Ok(stop(devices, phase, choice)),
+        Event::Start(a, job) => {
+            let what = start(geometry, alloc, devices, phase, *a, job)?;
+            Ok(Outcome::told(alloc, what))
+        }
+        Event::Step(a) => step(geometry, alloc, devices, phase, *a),
+        Event::FaultStep(a, choice) => {
+            let what = falter(geometry, devices, phase, *a, choice)?;
+            Ok(Outcome::told(alloc, what))
+        }
+        Event::Stop(choice) => Ok(Outcome::told(alloc, stop(devices, phase, choice))),
     }
 }

@@ -1,13 +1,15 @@
 //! What an opening makes of what it has read.
 
-ghost use Rattle.std.specs.Prelude.{◌≡◌, ◌<◌, IfOk, IfErr};
+ghost use Rattle.std.specs.Prelude.{◌≡◌, ◌<◌, IfOk, IfErr, replicate};
 ghost use Rattle.wb_types.specs.declared.refusal.Refusal.TheVariants.{Memory};
 ghost use Rattle.wb_meta.specs.Openings.{reopened};
 ghost use Rattle.wb_meta.specs.Reads.{FitsDevice};
 ghost use Rattle.wb_machine.specs.declared.machine.TheConstants.{ACTORS};
 ghost use Rattle.wb_machine.specs.Making.{IsMade, read_of};
+ghost use Rattle.wb_machine.specs.Members.{free};
 
 use crate::machine::ACTORS;
+use crate::member::Member;
 use crate::sealing::seal_all;
 use crate::target::Target;
 use std::alloc::{AllocError, Global};
@@ -18,13 +20,14 @@ use wb_meta::State;
 use wb_policy::Quiet;
 use wb_types::{Mode, Place, Refusal};
 
-/// The target that stands once the opening is answered done, which wants no more memory, and the root and the places that were
-/// read; the tree that was read is the desk's.
+/// The target that stands once the opening is answered done, and its actors, which wants no more memory, and the root and the
+/// places that were read; the tree that was read is the desk's.
 #[derive(Drop)]
 pub struct Made {
     pub root: Root,
     pub used: Vec<Place>,
     pub target: Target,
+    pub members: Vec<Member>,
 }
 
 /// The target over what an actor's opening has read, by the root that comes next. `Memory` where there is none for it.
@@ -44,6 +47,7 @@ pub(crate) fn make(
     let State { root, tree, used } = state;
     let geometry = root.geometry;
     let places = copied(alloc, &used)?;
+    let members = resting_members(alloc)?;
     let mut crew = Crew::new(alloc, geometry.origin_blocks, ACTORS)?;
     seal_all(&mut crew, actor, &geometry, root.clean, &tree);
     let state = State {
@@ -56,8 +60,14 @@ pub(crate) fn make(
         crew,
         desk,
         failed: false,
+        commit: None,
     };
-    Ok(Made { root, used, target })
+    Ok(Made {
+        root,
+        used,
+        target,
+        members,
+    })
 }
 
 /// These places once more.
@@ -67,4 +77,18 @@ fn copied(alloc: Global, places: &Vec<Place>) -> Result<Vec<Place>, AllocError>
     let mut copy = Vec::new(alloc);
     copy.extend_from_slice(places.as_slice())?;
     Ok(copy)
+}
+
+/// A member for each actor, with nothing to do.
+fn resting_members(alloc: Global) -> Result<Vec<Member>, Refusal>
+    ensures members { IfOk result (λ members. members.items ≡ replicate ACTORS free) }
+    ensures refusal { IfErr result (λ refusal. refusal ≡ Memory) }
+{
+    let mut members = Vec::new(alloc);
+    for _ in 0..ACTORS {
+        members
+            .push(Member::resting())
+            .map_err(|_| Refusal::Memory)?;
+    }
+    Ok(members)
 }

@@ -1,14 +1,15 @@
-//! Starts.
+//! Starts of openings.
 
-ghost use Rattle.std.specs.Prelude.{◌≡◌, [], IfOk, IfErr, OnErr};
+ghost use Rattle.std.specs.Prelude.{◌≡◌, ◌<◌, [], false, length};
 ghost use Rattle.wb_runs.specs.declared.event.Event.TheVariants.{Start};
-ghost use Rattle.wb_machine.specs.declared.halt.Halt.TheVariants.{Beyond};
 ghost use Rattle.wb_machine.specs.declared.machine.TheConstants.{ACTORS};
-ghost use Rattle.wb_machine.specs.Life.{Happens, IsGap, IsThere, is_opening, is_sound, opens, shape_of, stands, state_of, wants_target};
+ghost use Rattle.wb_machine.specs.declared.phase.Phase.TheVariants.{Underway};
+ghost use Rattle.wb_machine.specs.Life.{Happens, IsThere, is_busy, is_opening, is_sound, shape_of, state_of, wants_target};
+ghost use Rattle.wb_machine.specs.Members.{works_there};
 ghost use Rattle.wb_machine.specs.Standing.{IsSound};
 
-use crate::halt::Halt;
 use crate::machine::ACTORS;
+use crate::member::Member;
 use crate::opener::Opener;
 use crate::phase::Phase;
 use std::alloc::Global;
@@ -18,34 +19,30 @@ use wb_flow::OpenTask;
 use wb_runs::{Job, What};
 use wb_types::{Geometry, Mode};
 
-/// An actor gets a job, if it has none. Where no target stands only an opening starts, in write-back mode, and what another actor
-/// was opening is given up; over one that stands an opening starts once it has failed, and then ends it.
-pub(crate) fn start(
+/// An actor gets an opening, if it has no task. It starts in write-back mode, and what another actor was opening is given up; over
+/// a target that stands it starts once that has failed, and ends it and what everybody was at.
+pub(crate) fn open(
     geometry: &Geometry,
     alloc: Global,
     devices: &Devices<MemDisk>,
     phase: &mut Phase,
     actor: usize,
     job: &Job,
-) -> Result<What, Halt>
+) -> What
     requires there { IsThere ACTORS phase.old }
     requires sound { IsSound geometry.now ACTORS devices.now phase.old }
+    requires opening { wants_target job.now ≡ false }
     ensures there { IsThere ACTORS phase.new }
     ensures sound { IsSound geometry.now ACTORS devices.now phase.new }
-    ensures ok { IfOk result (λ what. Happens (shape_of geometry.now ACTORS) (state_of ACTORS devices.now phase.old) (Start actor job.now) what [] (state_of ACTORS devices.now phase.new)) }
-    ensures err { OnErr result (phase.new ≡ phase.old) }
-    ensures gap { IfErr result (λ halt. (halt ≡ Beyond) × IsGap (state_of ACTORS devices.now phase.old) (Start actor job.now)) }
+    ensures does { Happens (shape_of geometry.now ACTORS) (state_of ACTORS devices.now phase.old) (Start actor job.now) result [] (state_of ACTORS devices.now phase.new) }
 {
-    if actor >= ACTORS || opens(phase, actor) {
-        return Ok(What::Skipped);
-    }
-    if stands(phase) && wants_target(job) {
-        return Err(Halt::Beyond);
+    if actor >= ACTORS || is_busy(phase, actor) {
+        return What::Skipped;
     }
     if !is_opening(job) || is_sound(phase) {
-        return Ok(What::Skipped);
+        return What::Skipped;
     }
-    *phase = Phase::Underway(Opener {
+    let opener = Opener {
         actor,
         task: OpenTask::reading(geometry.meta_sectors),
         opening: Opening {
@@ -55,8 +52,16 @@ pub(crate) fn start(
             commit: None,
         },
         made: None,
-    });
-    Ok(What::Started)
+    };
+    put_opener(phase, opener);
+    What::Started
+}
+
+/// An opening at work in place of what stands.
+fn put_opener(phase: &mut Phase, opener: Opener)
+    ensures { phase.new ≡ Underway opener }
+{
+    *phase = Phase::Underway(opener);
 }
 
 /// Whether the job is an opening in write-back mode.
@@ -66,28 +71,25 @@ fn is_opening(job: &Job) -> bool
     matches!(job, Job::Open(Mode::Writeback))
 }
 
-/// Whether this actor opens.
-fn opens(phase: &Phase, actor: usize) -> bool
-    ensures { result ≡ opens actor phase.now }
+/// Whether this actor has a task.
+fn is_busy(phase: &Phase, actor: usize) -> bool
+    requires there { IsThere ACTORS phase.now }
+    requires inside { actor < ACTORS }
+    ensures { result ≡ is_busy actor phase.now }
 {
     match phase {
+        Phase::Closed => false,
         Phase::Underway(opener) => opener.actor == actor,
-        Phase::Closed | Phase::Standing(_) => false,
+        Phase::Standing(_, members) => works(members, actor),
     }
 }
 
-/// Whether the job is one of a target that stands.
-fn wants_target(job: &Job) -> bool
-    ensures { result ≡ wants_target job.now }
+/// Whether this member is at something.
+fn works(members: &Vec<Member>, actor: usize) -> bool
+    requires { actor < length members.now.items }
+    ensures { result ≡ works_there members.now.items actor }
 {
-    !matches!(job, Job::Open(_))
-}
-
-/// Whether a target stands.
-fn stands(phase: &Phase) -> bool
-    ensures { result ≡ stands phase.now }
-{
-    matches!(phase, Phase::Standing(_))
+    members[actor].task.is_some()
 }
 
 /// Whether one stands that has not failed.
@@ -95,7 +97,7 @@ fn is_sound(phase: &Phase) -> bool
     ensures { result ≡ is_sound phase.now }
 {
     match phase {
-        Phase::Standing(target) => !target.failed,
+        Phase::Standing(target, _) => !target.failed,
         Phase::Closed | Phase::Underway(_) => false,
     }
 }

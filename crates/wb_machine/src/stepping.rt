@@ -1,10 +1,10 @@
 //! Steps of an opening, done and failed.
 
-ghost use Rattle.std.specs.Prelude.{◌≡◌, [], IfOk, IfErr, OnErr};
+ghost use Rattle.std.specs.Prelude.{◌≡◌, [], false, IfOk, IfErr, OnErr};
 ghost use Rattle.wb_runs.specs.declared.event.Event.TheVariants.{Step, FaultStep};
 ghost use Rattle.wb_machine.specs.declared.halt.Halt.TheVariants.{Memory};
 ghost use Rattle.wb_machine.specs.declared.machine.TheConstants.{ACTORS};
-ghost use Rattle.wb_machine.specs.Life.{Happens, IsThere, answered, device_step_of, shape_of, stands_by, state_of};
+ghost use Rattle.wb_machine.specs.Life.{Happens, IsThere, answered, device_step_of, shape_of, stands, stands_by, state_of};
 ghost use Rattle.wb_machine.specs.Standing.{IsSound};
 
 use crate::halt::Halt;
@@ -18,8 +18,8 @@ use wb_runs::What;
 use wb_tasks::{Answer, DeviceStep, Got, Want};
 use wb_types::Geometry;
 
-/// The next step of an actor's opening, if it opens.
-pub(crate) fn step(
+/// The next step of an actor's opening, if it opens. No target stands.
+pub(crate) fn step_opening(
     geometry: &Geometry,
     devices: &mut Devices<MemDisk>,
     phase: &mut Phase,
@@ -27,6 +27,7 @@ pub(crate) fn step(
 ) -> Result<What, Halt>
     requires there { IsThere ACTORS phase.old }
     requires sound { IsSound geometry.now ACTORS devices.old phase.old }
+    requires no_target { stands phase.old ≡ false }
     ensures there { IsThere ACTORS phase.new }
     ensures sound { IsSound geometry.now ACTORS devices.new phase.new }
     ensures ok { IfOk result (λ what. Happens (shape_of geometry.now ACTORS) (state_of ACTORS devices.old phase.old) (Step actor) what [] (state_of ACTORS devices.new phase.new)) }
@@ -62,13 +63,13 @@ fn stands_by(want: Want, made: Option<Made>) -> Phase
     ensures { result ≡ stands_by want made }
 {
     match (want, made) {
-        (Want::End(Answer::Done), Some(made)) => Phase::Standing(made.target),
+        (Want::End(Answer::Done), Some(made)) => Phase::Standing(made.target, made.members),
         _ => Phase::Closed,
     }
 }
 
-/// The next step of an actor's opening, which is on a device, fails as the choice says.
-pub(crate) fn falter(
+/// The next step of an actor's opening, which is on a device, fails as the choice says. No target stands.
+pub(crate) fn fail_opening(
     geometry: &Geometry,
     devices: &mut Devices<MemDisk>,
     phase: &mut Phase,
@@ -77,6 +78,7 @@ pub(crate) fn falter(
 ) -> Result<What, Halt>
     requires there { IsThere ACTORS phase.old }
     requires sound { IsSound geometry.now ACTORS devices.old phase.old }
+    requires no_target { stands phase.old ≡ false }
     ensures there { IsThere ACTORS phase.new }
     ensures sound { IsSound geometry.now ACTORS devices.new phase.new }
     ensures ok { IfOk result (λ what. Happens (shape_of geometry.now ACTORS) (state_of ACTORS devices.old phase.old) (FaultStep actor choice.now) what [] (state_of ACTORS devices.new phase.new)) }

@@ -2,14 +2,16 @@
 
 use wb_cells::Crew;
 use wb_desk::Desk;
+use wb_devices::RunningCommit;
 use wb_policy::Quiet;
 
-/// What stands from an opening's answer to a crash or the next opening's start: the shared words, with a card for each actor, and a
-/// desk whose policy orders nothing.
+/// What stands from an opening's answer to a crash or the next opening's start: the shared words, with a card for each actor, a
+/// desk whose policy orders nothing, and the commit that runs, if one does that no fault has stopped.
 #[derive(Drop)]
 pub struct Target {
     pub crew: Crew,
     pub desk: Desk<Quiet>,
     /// Whether a bit of the fail word is set.
     pub failed: bool,
+    pub commit: Option<RunningCommit>,
 }

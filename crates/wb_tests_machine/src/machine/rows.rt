@@ -26,9 +26,9 @@ pub struct Row {
     pub lines: &'static [(Line, What)],
 }
 
-const OPEN: Job = Job::Open(Mode::Writeback);
+pub const OPEN: Job = Job::Open(Mode::Writeback);
 
-const FIRST_SECTOR: Extent = Extent { first: 0, count: 1 };
+pub const FIRST_SECTOR: Extent = Extent { first: 0, count: 1 };
 
 const METADATA: Want = Want::Device(DeviceStep::Sync(Dev::Metadata));
 
@@ -45,12 +45,12 @@ const ROOT: Want = Want::Device(DeviceStep::WriteRoot);
 
 const METADATA_FAILED: Want = Want::End(Answer::Refused(Refusal::Io(Dev::Metadata)));
 
-const OPENED: Want = Want::End(Answer::Done);
+pub const OPENED: Want = Want::End(Answer::Done);
 
 const CACHE_FAILED: Want = Want::End(Answer::Refused(Refusal::Io(Dev::Cache)));
 
-/// An opening up to its answer, and what would start over its target.
-pub const OVER_A_TARGET: [(Line, What); 10] = [
+/// An opening up to its answer.
+pub const OPENING: [(Line, What); 9] = [
     (Line::Start(0, OPEN), What::Started),
     (Line::Step(0), What::Stepped(METADATA, Got::Done)),
     (Line::Step(0), What::Stepped(CACHE, Got::Done)),
@@ -60,7 +60,6 @@ pub const OVER_A_TARGET: [(Line, What); 10] = [
     (Line::Step(0), What::Stepped(ROOT, Got::Done)),
     (Line::Step(0), What::Stepped(METADATA, Got::Done)),
     (Line::Step(0), What::Stepped(OPENED, Got::Done)),
-    (Line::Start(0, Job::Flush), What::Started),
 ];
 
 pub const ROWS: [Row; 18] = [

@@ -9,11 +9,11 @@ use Rattle.wb_machine.specs.declared.phase.Phase.TheVariants.{Underway}
 use Rattle.wb_machine.specs.Making.{reading_of}
 use Rattle.wb_machine.specs.Standing.{StandsSo}
 use Rattle.wb_machine.proofs.Standing.{failed_size, failed_stands, finds, never_fails}
-use Rattle.wb_machine.proofs.stepping.falter.Goals as goal
+use Rattle.wb_machine.proofs.stepping.fail_opening.Goals as goal
 
 pub returns-in_default-clause-ok : goal.returns-in_default-clause-ok
 returns-in_default-clause-ok c = passes (shape_of c.args.geometry.now ACTORS) (state_of ACTORS c.args.devices.now c.args.phase.now) (FaultStep c.args.actor c.args.choice.now) _
-    (idle ACTORS c.args.phase.now c.args.actor _ (nobody_opens c.args.phase.now c.args.actor c.in_default.not-Underway)) refl
+    (idle ACTORS c.args.phase.now c.args.actor _ (nobody_opens c.args.phase.now c.args.actor c.requires.no_target c.in_default.not-Underway)) refl
 
 pub returns-then-opener-actor-clause-ok : goal.returns-then-opener-actor-clause-ok
 returns-then-opener-actor-clause-ok c = rw c.in-Underway.is (passes (shape_of c.args.geometry.now ACTORS) (state_of ACTORS c.args.devices.now (Underway c.in-Underway.opener)) (FaultStep c.args.actor c.args.choice.now) _

@@ -6,11 +6,11 @@ use Rattle.wb_machine.specs.Life.{IsThere, device_step_of, shape_of, state_of}
 use Rattle.wb_machine.specs.Standing.{StandsSo}
 use Rattle.wb_machine.proofs.Answering.{answers}
 use Rattle.wb_machine.proofs.Openings.{idle, idle_beside, is_device_step, nobody_opens, passes}
-use Rattle.wb_machine.proofs.stepping.step.Goals as goal
+use Rattle.wb_machine.proofs.stepping.step_opening.Goals as goal
 
 pub returns-in_default-clause-ok : goal.returns-in_default-clause-ok
 returns-in_default-clause-ok c = passes (shape_of c.args.geometry.now ACTORS) (state_of ACTORS c.args.devices.now c.args.phase.now) (Step c.args.actor) _
-    (idle ACTORS c.args.phase.now c.args.actor _ (nobody_opens c.args.phase.now c.args.actor c.in_default.not-Underway)) refl
+    (idle ACTORS c.args.phase.now c.args.actor _ (nobody_opens c.args.phase.now c.args.actor c.requires.no_target c.in_default.not-Underway)) refl
 
 pub returns-then-opener-actor-clause-ok : goal.returns-then-opener-actor-clause-ok
 returns-then-opener-actor-clause-ok c = rw c.in-Underway.is (passes (shape_of c.args.geometry.now ACTORS) (state_of ACTORS c.args.devices.now (Underway c.in-Underway.opener)) (Step c.args.actor) _
