@@ -20,7 +20,7 @@ servers=
 trap 'kill $servers 2>/dev/null; rm -rf "$work"' EXIT
 trap 'exit 1' HUP INT TERM
 
-# A cache of 512 blocks of 32 KiB over an origin of 64 MiB, of which the first 12 MiB are asked for.
+# A cache of 1,024 blocks of 32 KiB over an origin of 64 MiB, of which the first 12 MiB are asked for.
 truncate -s 32M "$work/c.img"
 truncate -s 64M "$work/o.img"
 truncate -s 64K "$work/m.img"
