@@ -1,16 +1,14 @@
 //! Openings by hand, and what they answer.
 
-mod requests;
 mod rows;
 
-use self::requests::{FLUSH, ROWS as REQUESTS, SEVENS, TO_THE_READ, WRITE_AND_READ};
-use self::rows::{Line, OPENING, ROWS};
+use self::rows::{FLUSH, Line, OPENING, ROWS};
 use std::alloc::Global;
 use std::test::Fail;
 use wb_disk::{Base, CrashChoice, NamedContent};
 use wb_machine::Machine;
 use wb_runs::{Event, What};
-use wb_types::{Content, Dev, Geometry, Refusal};
+use wb_types::{Dev, Geometry, Refusal};
 
 /// Ten blocks of 64 sectors, and a cache of four.
 fn small_machine(alloc: Global) -> Result<Machine, Refusal> {
@@ -96,46 +94,6 @@ fn play_over(alloc: Global, lines: &[(Line, What)]) -> Result<Option<usize>, Ref
         None => go_over(&mut machine, alloc, lines),
         Some(_) => Ok(Some(0)),
     }
-}
-
-/// How many of the last event's contents are these, and how many it read.
-fn last_read(machine: &Machine, content: &Content) -> (usize, usize) {
-    match machine.trace().records().last() {
-        Some(record) => {
-            let mut same = 0;
-            for read in record.read.iter() {
-                if read == content {
-                    same += 1;
-                }
-            }
-            (same, record.read.len())
-        }
-        None => (0, 0),
-    }
-}
-
-#[test]
-fn requests_go_as_their_rows_say(rt: HostRuntime) -> Result<(), Fail> {
-    for row in &REQUESTS {
-        assert!(rt; play_over(rt.alloc(), row.lines)? == None, "{}", row.name);
-    }
-    Ok(())
-}
-
-#[test]
-fn a_write_and_a_read_behind_it_go_to_their_answers(rt: HostRuntime) -> Result<(), Fail> {
-    assert!(rt; play_over(rt.alloc(), &WRITE_AND_READ)? == None);
-    Ok(())
-}
-
-/// The step that reads gives the one content that was written.
-#[test]
-fn a_read_is_given_what_was_written(rt: HostRuntime) -> Result<(), Fail> {
-    let mut machine = small_machine(rt.alloc())?;
-    assert!(rt; go_over(&mut machine, rt.alloc(), &OPENING)? == None);
-    assert!(rt; go_over(&mut machine, rt.alloc(), &WRITE_AND_READ[..TO_THE_READ])? == None);
-    assert!(rt; last_read(&machine, &SEVENS) == (1, 1));
-    Ok(())
 }
 
 /// A flush does not start yet: the machine cannot do it, and has no record of it.

@@ -26,9 +26,9 @@ pub struct Row {
     pub lines: &'static [(Line, What)],
 }
 
-pub const OPEN: Job = Job::Open(Mode::Writeback);
+const OPEN: Job = Job::Open(Mode::Writeback);
 
-pub const FIRST_SECTOR: Extent = Extent { first: 0, count: 1 };
+const FIRST_SECTOR: Extent = Extent { first: 0, count: 1 };
 
 const METADATA: Want = Want::Device(DeviceStep::Sync(Dev::Metadata));
 
@@ -45,7 +45,7 @@ const ROOT: Want = Want::Device(DeviceStep::WriteRoot);
 
 const METADATA_FAILED: Want = Want::End(Answer::Refused(Refusal::Io(Dev::Metadata)));
 
-pub const OPENED: Want = Want::End(Answer::Done);
+const OPENED: Want = Want::End(Answer::Done);
 
 const CACHE_FAILED: Want = Want::End(Answer::Refused(Refusal::Io(Dev::Cache)));
 
@@ -61,6 +61,9 @@ pub const OPENING: [(Line, What); 9] = [
     (Line::Step(0), What::Stepped(METADATA, Got::Done)),
     (Line::Step(0), What::Stepped(OPENED, Got::Done)),
 ];
+
+/// A flush, which does not start yet.
+pub const FLUSH: [(Line, What); 1] = [(Line::Start(0, Job::Flush), What::Started)];
 
 pub const ROWS: [Row; 18] = [
     Row {
