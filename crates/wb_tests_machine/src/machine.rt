@@ -2,7 +2,7 @@
 
 mod rows;
 
-use self::rows::{FLUSH, Line, OPENING, ROWS};
+use self::rows::{Line, OVER_A_TARGET, ROWS};
 use std::alloc::Global;
 use std::test::Fail;
 use wb_disk::{Base, CrashChoice, NamedContent};
@@ -87,18 +87,9 @@ fn openings_go_as_their_rows_say(rt: HostRuntime) -> Result<(), Fail> {
     Ok(())
 }
 
-/// The first line over a target that was just opened that goes another way, if there is one.
-fn play_over(alloc: Global, lines: &[(Line, What)]) -> Result<Option<usize>, Refusal> {
-    let mut machine = small_machine(alloc)?;
-    match go_over(&mut machine, alloc, &OPENING)? {
-        None => go_over(&mut machine, alloc, lines),
-        Some(_) => Ok(Some(0)),
-    }
-}
-
-/// A flush does not start yet: the machine cannot do it, and has no record of it.
+/// Over a target that stands no flush starts yet: the machine cannot do it, and has no record of it.
 #[test]
-fn no_flush_starts_yet(rt: HostRuntime) -> Result<(), Fail> {
-    assert!(rt; play_over(rt.alloc(), &FLUSH)? == Some(0));
+fn no_flush_starts_over_a_target_yet(rt: HostRuntime) -> Result<(), Fail> {
+    assert!(rt; play(rt.alloc(), &OVER_A_TARGET)? == Some(9));
     Ok(())
 }

@@ -49,8 +49,8 @@ const OPENED: Want = Want::End(Answer::Done);
 
 const CACHE_FAILED: Want = Want::End(Answer::Refused(Refusal::Io(Dev::Cache)));
 
-/// An opening up to its answer.
-pub const OPENING: [(Line, What); 9] = [
+/// An opening up to its answer, and what would start over its target.
+pub const OVER_A_TARGET: [(Line, What); 10] = [
     (Line::Start(0, OPEN), What::Started),
     (Line::Step(0), What::Stepped(METADATA, Got::Done)),
     (Line::Step(0), What::Stepped(CACHE, Got::Done)),
@@ -60,10 +60,8 @@ pub const OPENING: [(Line, What); 9] = [
     (Line::Step(0), What::Stepped(ROOT, Got::Done)),
     (Line::Step(0), What::Stepped(METADATA, Got::Done)),
     (Line::Step(0), What::Stepped(OPENED, Got::Done)),
+    (Line::Start(0, Job::Flush), What::Started),
 ];
-
-/// A flush, which does not start yet.
-pub const FLUSH: [(Line, What); 1] = [(Line::Start(0, Job::Flush), What::Started)];
 
 pub const ROWS: [Row; 18] = [
     Row {
