@@ -1,7 +1,7 @@
 #!/bin/sh
-# Times reads and writes of cached blocks by wbnbd, beside nbdkit's file plugin and its cache filter on a file of the same size, by fio over a
-# socket: in turn, medians of five, requests a second. It wants fio with its nbd engine, nbdkit and python3. Files are made in
-# WORK (/dev/shm). See bench/README.md.
+# Times reads and writes of cached blocks by wbnbd, beside nbdkit's file plugin and its cache filter on a file of the same size, and
+# beside its null plugin, which moves nothing and so shows what the socket and the client take by themselves; by fio, in turn, medians of
+# five, requests a second. It wants fio with its nbd engine, nbdkit and python3. Files are made in WORK (/dev/shm). See bench/README.md.
 #
 #     sh bench/nbd.sh [WBCACHE WBNBD]
 set -eu
@@ -34,7 +34,9 @@ nbdkit -f --unix "$work/file.sock" file "$work/plain.img" &
 servers="$servers $!"
 nbdkit -f --unix "$work/filter.sock" --filter=cache file "$work/plain.img" &
 servers="$servers $!"
-for name in wbnbd file filter; do
+nbdkit -f --unix "$work/null.sock" null 64M &
+servers="$servers $!"
+for name in wbnbd file filter null; do
   while ! test -S "$work/$name.sock"; do sleep 0.1; done
 done
 
@@ -53,19 +55,19 @@ done
 for turn in 1 2 3 4 5 6; do load wbnbd --rw=read --bs=4k >"$work/said"; done
 echo status | "$cache" run "$table"
 
-printf '%-26s %10s %10s %10s %12s %12s\n' 'requests a second' wbnbd file filter wbnbd/file wbnbd/filter
+printf '%-26s %10s %10s %10s %10s %12s %12s %12s\n' 'requests a second' wbnbd file filter null wbnbd/file wbnbd/filter null/filter
 for size in 4k 64k; do
   for depth in 1 16; do
     for way in randread randwrite; do
       rm -f "$work"/*.rates
       for turn in 1 2 3 4 5; do
-        for name in wbnbd file filter; do
+        for name in wbnbd file filter null; do
           load "$name" --rw=$way --bs=$size --iodepth=$depth --runtime=1 --time_based >>"$work/$name.rates"
         done
       done
-      for name in wbnbd file filter; do sort -n "$work/$name.rates" | sed -n 3p >"$work/$name.median"; done
-      paste "$work/wbnbd.median" "$work/file.median" "$work/filter.median" | awk -v name="$way $size, depth $depth" \
-        '{ printf "%-26s %10d %10d %10d %12.2f %12.2f\n", name, $1, $2, $3, $1 / $2, $1 / $3 }'
+      for name in wbnbd file filter null; do sort -n "$work/$name.rates" | sed -n 3p >"$work/$name.median"; done
+      paste "$work/wbnbd.median" "$work/file.median" "$work/filter.median" "$work/null.median" | awk -v name="$way $size, depth $depth" \
+        '{ printf "%-26s %10d %10d %10d %10d %12.2f %12.2f %12.2f\n", name, $1, $2, $3, $4, $1 / $2, $1 / $3, $4 / $3 }'
     done
   done
 done

@@ -13,8 +13,11 @@ use wb_types::{Content, Refusal, SECTOR_BYTES, Sector};
 /// Sectors of a block: 32 KiB.
 pub const BLOCK: u64 = 64;
 
-/// How many accesses are settled at once.
+/// How many accesses are settled at once, at most.
 const UNSETTLED: u64 = 32;
+
+/// After so many a client settles them if nobody else is at the desk.
+const SETTLED_EARLY: u64 = 8;
 
 /// Which call is timed.
 #[derive(Clone, Copy, Debug, PartialEq, Eq)]
@@ -81,14 +84,22 @@ impl<'c, C: Clock> Service for Load<'c, C> {
             let block = first.wrapping_add(number % share);
             let at = Sector(block.wrapping_mul(BLOCK));
             ask(rt, client, self.call, at, contents.as_mut_slice())?;
-            if number % UNSETTLED == UNSETTLED - 1 {
-                client.settle(rt);
-            }
+            settle_at(rt, client, number);
         }
         Some(Answered {
             requests: self.requests,
             serving: passed_by(self.clock, &start),
         })
+    }
+}
+
+/// Settles accesses after the request of this number: early where that needs no waiting, and before there are too many.
+fn settle_at<R: Wait, S: Served>(rt: &R, client: &mut S, number: u64) {
+    if number % SETTLED_EARLY == SETTLED_EARLY - 1
+        && !client.try_settle()
+        && number % UNSETTLED == UNSETTLED - 1
+    {
+        client.settle(rt);
     }
 }
 

@@ -1,6 +1,7 @@
 //! A client of a target, as who stands above it sees it.
 
 ghost use Rattle.std.specs.Prelude.{◌≡◌, ◌*◌, IfErr, length};
+ghost use Rattle.wb_opened.specs.Deeds.{ClientDid};
 ghost use Rattle.wb_opened.specs.Inside.{IsInside};
 
 use crate::served::Served;
@@ -12,6 +13,8 @@ use wb_types::{Content, Geometry, Refusal, Sector};
 
 impl<'t, D: Disk + Drop, P: Policy> Served for Client<'t, D, P> {
     ghost sizes = { λ client. client.port.geometry };
+
+    ghost did = { ClientDid D.tells D.size D.contents D.faults };
 
     fn geometry(&self) -> Geometry {
         self.port.geometry
@@ -51,6 +54,10 @@ impl<'t, D: Disk + Drop, P: Policy> Served for Client<'t, D, P> {
 
     fn settle<R: Wait>(&mut self, rt: &R) {
         Client::settle(self, rt)
+    }
+
+    fn try_settle(&mut self) -> bool {
+        Client::try_settle(self)
     }
 
     fn flush<R: Wait>(&mut self, rt: &R) -> Result<(), Refusal> {

@@ -1,7 +1,8 @@
 //! What a target is to who stands above it: what its clients can be asked, and what is done by one of them.
 
-ghost use Rattle.std.specs.Prelude.{◌≡◌, ◌*◌, IfErr, length};
+ghost use Rattle.std.specs.Prelude.{◌≡◌, ◌*◌, OnOk, IfErr, length};
 ghost use Rattle.wb_types.specs.declared.geometry.Geometry.{Geometry as Sizes};
+ghost use Rattle.wb_opened.specs.Deeds.{Deed, Read, Wrote, Flushed};
 ghost use Rattle.wb_opened.specs.Inside.{IsInside};
 
 use std::sync::Wait;
@@ -14,6 +15,9 @@ pub trait Served {
     /// Its sizes.
     ghost sizes: { Self → Sizes };
 
+    /// Whether a call that was answered done, and was this, may lead from one client to another.
+    ghost did: { Self → Deed → Self → Type 0 };
+
     /// Its sizes.
     fn geometry(&self) -> Geometry
         ensures { result ≡ sizes self.now };
@@ -22,6 +26,7 @@ pub trait Served {
     ///
     /// `Range` for no sector, or one outside the origin, before any block; `Failed`, `Io` and `Memory` where a block met them.
     fn read<R: Wait>(&mut self, rt: &R, at: Sector, out: &mut [Content]) -> Result<(), Refusal>
+        ensures done { OnOk result (did self.old (Read at.0 out.new) self.new) }
         ensures range { IfErr result (λ refusal. refusal ≡ Refusal.Range → ¬ IsInside at.0 (length out.old) ((sizes self.old).block * (sizes self.old).origin_blocks)) }
         ensures sizes { sizes self.new ≡ sizes self.old };
 
@@ -29,6 +34,7 @@ pub trait Served {
     ///
     /// `Range` as `read`; `Failed`, `Worn` and `Io` where a block met them.
     fn write<R: Wait>(&mut self, rt: &R, at: Sector, from: &[Content]) -> Result<(), Refusal>
+        ensures done { OnOk result (did self.old (Wrote at.0 from.now) self.new) }
         ensures range { IfErr result (λ refusal. refusal ≡ Refusal.Range → ¬ IsInside at.0 (length from.now) ((sizes self.old).block * (sizes self.old).origin_blocks)) }
         ensures sizes { sizes self.new ≡ sizes self.old };
 
@@ -44,8 +50,13 @@ pub trait Served {
     /// Tells the policy of each access so far, in order.
     fn settle<R: Wait>(&mut self, rt: &R);
 
+    /// The same if nobody else is at the desk now, and waits for nobody: whether none is unsettled.
+    fn try_settle(&mut self) -> bool;
+
     /// Makes durable all that was finished before it: `Failed`, `Io`, `Memory`, and `GenerationEnd`.
-    fn flush<R: Wait>(&mut self, rt: &R) -> Result<(), Refusal>;
+    fn flush<R: Wait>(&mut self, rt: &R) -> Result<(), Refusal>
+        ensures done { OnOk result (did self.old Flushed self.new) }
+        ensures sizes { sizes self.new ≡ sizes self.old };
 
     /// The policy's tick, and then a flush, refused as that.
     fn tick<R: Wait>(&mut self, rt: &R) -> Result<(), Refusal>;

@@ -9,3 +9,4 @@ pub mod Syncing
 pub mod Knowing
 pub mod Written
 pub mod Sending
+pub mod Turns

@@ -1,10 +1,18 @@
--- How a worker ends.
-use Rattle.std.specs.Prelude.{◌≡◌, ◌⊎◌, Bool, false}
+-- What a worker does, and how it ends.
+use Rattle.std.specs.Prelude.{◌≡◌, ◌≢◌, ◌<◌, ◌⊎◌, ℕ, List, [], ◌∷◌, Bool, true, false, length}
+use Rattle.wb_types.specs.declared.geometry.Geometry.{Geometry}
 use Rattle.wb_types.specs.declared.mode.Dev.{Dev}
 use Rattle.wb_types.specs.declared.refusal.Refusal.{Refusal}
-use Rattle.wb_types.specs.declared.refusal.Refusal.TheVariants.{Io, Failed}
+use Rattle.wb_types.specs.declared.refusal.Refusal.TheVariants.{Io, Failed, Busy, Memory}
+use Rattle.wb_policy.specs.declared.order.Order.{Order as CacheOrder}
+use Rattle.wb_tasks.specs.Tables.{TaskJob, Flushing}
+use Rattle.wb_tasks.specs.declared.step.Answer.{Answer}
+use Rattle.wb_tasks.specs.declared.step.Answer.TheVariants.{Refused as Refuses}
 use Rattle.wb_target.specs.declared.gate.Point.{Point}
 use Rattle.wb_target.specs.declared.gate.Point.TheVariants.{Order, Idle}
+use Rattle.wb_target.specs.Tries.{Tried, EndedAfter}
+use Rattle.wb_target.specs.Works.{WorkState}
+use Rattle.wb_target.specs.Carried.{looked_at_fail, WasDone, WereDone, jobs_of, IsThere}
 
 -- the gate said no before an order, or where none waited
 abbrev pub IsEndedBy : {G : Type 0} → (G → Point → Bool → Type 0) → G → Type 0
@@ -13,3 +21,75 @@ IsEndedBy answers gate = answers gate Order false ⊎ answers gate Idle false
 -- why a worker is refused: the target has failed, or a step of its own on a device
 abbrev pub IsFailure : Refusal → Type 0
 IsFailure refusal = (refusal ≡ Failed) ⊎ ((device : Dev) × (refusal ≡ Io device))
+
+-- ---- jobs and orders that are given up
+
+-- A job was refused: after runs that were refused as busy, if any, another was refused for this reason, and then the fail word was looked at.
+abbrev pub WasRefused : {D : Type 0} → (TaskJob → WorkState D → Answer → WorkState D → Type 0) → TaskJob → Refusal → WorkState D → WorkState D → Type 0
+WasRefused {D} runs job refusal old new =
+    (refusal ≢ Busy) × ((mid : WorkState D) × (word : ℕ) × EndedAfter (λ s t. runs job s (Refuses Busy) t) (λ s t. runs job s (Refuses refusal) t) old mid × (new ≡ looked_at_fail word mid))
+
+-- A flush may not have begun, for want of memory: what was done before are runs that were refused as busy.
+abbrev pub DidNotBegin : {D : Type 0} → (TaskJob → WorkState D → Answer → WorkState D → Type 0) → TaskJob → Refusal → WorkState D → WorkState D → Type 0
+DidNotBegin {D} runs (Flushing serves most) refusal old new = (refusal ≡ Memory) × ((tries : List (WorkState D)) × Tried (λ s t. runs (Flushing serves most) s (Refuses Busy) t) old tries new)
+DidNotBegin runs job refusal old new = ⊥
+
+-- Of these jobs some were done, one after the other, and the next one was given up.
+abbrev pub GaveUpAmong : {D : Type 0} → (TaskJob → WorkState D → Answer → WorkState D → Type 0) → List TaskJob → Refusal → WorkState D → WorkState D → Type 0
+GaveUpAmong runs [] refusal old new = ⊥
+GaveUpAmong {D} runs (job ∷ jobs) refusal old new =
+    WasRefused runs job refusal old new ⊎ DidNotBegin runs job refusal old new ⊎ ((mid : WorkState D) × WasDone runs job old mid × GaveUpAmong runs jobs refusal mid new)
+
+-- ---- a worker's turns
+
+-- it has a buffer now, its own, or a new one where it had none and there is memory
+pub record HasBuffer {D : Type 0} (old new : WorkState D) : Type 0 where
+  pub hand : new.hand ≡ old.hand
+  pub commit : new.commit ≡ old.commit
+  pub kept : 0 < length old.buffer → new.buffer ≡ old.buffer
+
+-- An order was taken, and each job of it was done; or one was given up, and the fail word was looked at then, and clear; or it was given back
+-- as it was, since there was no buffer, or since its blocks are not there.
+pub data Took {D : Type 0} (runs : TaskJob → WorkState D → Answer → WorkState D → Type 0) (geometry : Geometry) (old new : WorkState D) : Type 0 where
+  Carried : (order : CacheOrder) → (begun : WorkState D) → HasBuffer old begun → WereDone runs (jobs_of geometry order) begun new → Took runs geometry old new
+  GaveUp : (order : CacheOrder) → (refusal : Refusal) → (begun mid : WorkState D) → HasBuffer old begun → GaveUpAmong runs (jobs_of geometry order) refusal begun mid → new ≡ looked_at_fail 0 mid → Took runs geometry old new
+  GaveBack : (order : CacheOrder) → HasBuffer old new → (length old.buffer ≡ 0) ⊎ ¬ IsThere geometry order → Took runs geometry old new
+
+-- A turn begins with a look at the fail word, which is clear, and a yes of the gate before an order. Then one was taken; or none waited, and
+-- the gate said yes again.
+pub data Turn {D G : Type 0} (runs : TaskJob → WorkState D → Answer → WorkState D → Type 0) (geometry : Geometry) (answers : G → Point → Bool → Type 0) (gate : G) (old new : WorkState D) : Type 0 where
+  Works : answers gate Order true → Took runs geometry (looked_at_fail 0 old) new → Turn runs geometry answers gate old new
+  Idles : answers gate Order true → answers gate Idle true → new ≡ looked_at_fail 0 old → Turn runs geometry answers gate old new
+
+-- After turns, if any, the fail word was clear, and the gate said no.
+pub record EndedBy {D G : Type 0} (runs : TaskJob → WorkState D → Answer → WorkState D → Type 0) (geometry : Geometry) (answers : G → Point → Bool → Type 0) (gate : G) (old new : WorkState D) : Type 0 where
+  pub turns : List (WorkState D)
+  pub last : WorkState D
+  pub took : Tried (Turn runs geometry answers gate) old turns last
+  pub new_is : new ≡ looked_at_fail 0 last
+  pub no : IsEndedBy answers gate
+
+-- An order was taken, and given up at a job of it; then the fail word was looked at, and set.
+pub record StoppedAt {D : Type 0} (runs : TaskJob → WorkState D → Answer → WorkState D → Type 0) (geometry : Geometry) (old new : WorkState D) : Type 0 where
+  pub order : CacheOrder
+  pub cause : Refusal
+  pub begun : WorkState D
+  pub mid : WorkState D
+  pub word : ℕ
+  pub buffer : HasBuffer old begun
+  pub gave_up : GaveUpAmong runs (jobs_of geometry order) cause begun mid
+  pub set : 0 < word
+  pub new_is : new ≡ looked_at_fail word mid
+
+-- The fail word was set when a turn was to begin; or it was clear then, and set behind an order that was taken.
+abbrev pub SawFailure : {D G : Type 0} → (TaskJob → WorkState D → Answer → WorkState D → Type 0) → Geometry → (G → Point → Bool → Type 0) → G → Refusal → WorkState D → WorkState D → Type 0
+SawFailure runs geometry answers gate refusal old new =
+    ((refusal ≡ Failed) × ((word : ℕ) × (0 < word) × (new ≡ looked_at_fail word old)))
+    ⊎ (answers gate Order true × StoppedAt runs geometry (looked_at_fail 0 old) new)
+
+-- After turns, if any, it was so.
+pub record FailedAfter {D G : Type 0} (runs : TaskJob → WorkState D → Answer → WorkState D → Type 0) (geometry : Geometry) (answers : G → Point → Bool → Type 0) (gate : G) (refusal : Refusal) (old new : WorkState D) : Type 0 where
+  pub turns : List (WorkState D)
+  pub last : WorkState D
+  pub took : Tried (Turn runs geometry answers gate) old turns last
+  pub saw : SawFailure runs geometry answers gate refusal last new

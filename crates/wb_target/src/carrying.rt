@@ -1,12 +1,13 @@
 //! Orders carried out, and flushes, by a client on its own thread.
 
-ghost use Rattle.std.specs.Prelude.{◌≡◌, ◌<◌, OnOk, IfOk, IfSome, IfNone, Some, None, length};
-ghost use Rattle.std.specs.Bool.{OnTrue};
+ghost use Rattle.std.specs.Prelude.{◌≡◌, ◌<◌, ◌⊎◌, ℕ, OnOk, OnErr, IfOk, IfErr, IfSome, IfNone, Some, None, length};
+ghost use Rattle.std.specs.Bool.{OnTrue, OnFalse};
 ghost use Rattle.wb_tasks.specs.Tables.{TaskJob};
 ghost use Rattle.wb_tasks.specs.Plan.{table};
 ghost use Rattle.wb_stage.specs.Jobs.{MayRun};
 ghost use Rattle.wb_target.specs.Works.{WasPerformed};
 ghost use Rattle.wb_target.specs.Carried.{state_of, looked_at_fail, HasBegun, Runs, WasDone, WereDone, migration_of, serving, flush_of, jobs_of, IsThere, AreSynced};
+ghost use Rattle.wb_target.specs.Workers.{WasRefused, DidNotBegin, GaveUpAmong};
 
 use crate::client::Client;
 use crate::gate::{Gate, OpenGate};
@@ -57,6 +58,7 @@ fn work<R: Wait, D: Disk + Drop, P: Policy, G: Gate, T: Task>(
 
 /// Where the target has failed, whoever waits for its commit is told.
 fn note_failure<R: Wait, D: Disk + Drop, P: Policy>(rt: &R, target: &Target<P>, port: &mut Port<D>)
+    ensures looked { (word : ℕ) × (state_of port.new ≡ looked_at_fail word (state_of port.old)) }
     ensures geometry { port.new.geometry ≡ port.old.geometry }
 {
     if port.has_failed() {
@@ -67,6 +69,7 @@ fn note_failure<R: Wait, D: Disk + Drop, P: Policy>(rt: &R, target: &Target<P>, 
 /// A buffer for the steps of migrations, if it has none; `Memory` where there is none for it.
 pub(crate) fn take_buffer<D>(alloc: Global, port: &mut Port<D>) -> Result<(), Refusal>
     ensures kept { 0 < length port.old.buffer.items → port.new.buffer.items ≡ port.old.buffer.items }
+    ensures lacked { OnErr result (length port.old.buffer.items ≡ 0) }
     ensures hand { port.new.hand ≡ port.old.hand }
     ensures commit { port.new.commit ≡ port.old.commit }
     ensures geometry { port.new.geometry ≡ port.old.geometry }
@@ -89,6 +92,7 @@ fn migrate<R: Wait, D: Disk + Drop, P: Policy, G: Gate>(
 ) -> Result<(), Refusal>
     requires { block.0 < port.old.geometry.origin_blocks }
     ensures done { OnOk result (WasDone (Runs D.tells D.size D.contents D.faults port.old.geometry.origin_blocks) (migration_of port.old.geometry migration block) (state_of port.old) (state_of port.new)) }
+    ensures refused { IfErr result (λ refusal. WasRefused (Runs D.tells D.size D.contents D.faults port.old.geometry.origin_blocks) (migration_of port.old.geometry migration block) refusal (state_of port.old) (state_of port.new)) }
     ensures geometry { port.new.geometry ≡ port.old.geometry }
 {
     let held = [order];
@@ -96,8 +100,11 @@ fn migrate<R: Wait, D: Disk + Drop, P: Policy, G: Gate>(
         let mut task = MigrationTask::new(migration, port.geometry.block, block, LONGEST);
         match work(rt, target, gate, port, &held, &mut task) {
             Answer::Done => return Ok(()),
-            Answer::Refused(Refusal::Busy) => thread::yield_now(),
             Answer::Refused(refusal) => {
+                if refusal == Refusal::Busy {
+                    thread::yield_now();
+                    continue;
+                }
                 note_failure(rt, target, port);
                 return Err(refusal);
             }
@@ -117,6 +124,7 @@ fn flush<R: Wait, D: Disk + Drop, P: Policy, G: Gate>(
     serves: Option<OBlock>,
 ) -> Result<(), Refusal>
     ensures done { OnOk result (WasDone (Runs D.tells D.size D.contents D.faults port.old.geometry.origin_blocks) (flush_of port.old.geometry serves) (state_of port.old) (state_of port.new)) }
+    ensures refused { IfErr result (λ refusal. WasRefused (Runs D.tells D.size D.contents D.faults port.old.geometry.origin_blocks) (flush_of port.old.geometry serves) refusal (state_of port.old) (state_of port.new) ⊎ DidNotBegin (Runs D.tells D.size D.contents D.faults port.old.geometry.origin_blocks) (flush_of port.old.geometry serves) refusal (state_of port.old) (state_of port.new)) }
     ensures geometry { port.new.geometry ≡ port.old.geometry }
 {
     let most = port.geometry.node_count();
@@ -131,8 +139,11 @@ fn flush<R: Wait, D: Disk + Drop, P: Policy, G: Gate>(
         let mut task = FlushTask::new(blocks, most);
         match work(rt, target, gate, port, held, &mut task) {
             Answer::Done => return Ok(()),
-            Answer::Refused(Refusal::Busy) => target.await_commit(rt),
             Answer::Refused(refusal) => {
+                if refusal == Refusal::Busy {
+                    target.await_commit(rt);
+                    continue;
+                }
                 note_failure(rt, target, port);
                 return Err(refusal);
             }
@@ -143,7 +154,8 @@ fn flush<R: Wait, D: Disk + Drop, P: Policy, G: Gate>(
 
 /// The block of the order that a flush serves, if any.
 fn served(alloc: Global, block: Option<OBlock>) -> Result<Vec<OBlock>, Refusal>
-    ensures { IfOk result (λ blocks. blocks.items ≡ serving block) }
+    ensures blocks { IfOk result (λ blocks. blocks.items ≡ serving block) }
+    ensures refused { IfErr result (λ refusal. refusal ≡ Refusal.Memory) }
 {
     let mut blocks = Vec::new(alloc);
     if let Some(block) = block {
@@ -169,6 +181,7 @@ pub(crate) fn carry_out<R: Wait, D: Disk + Drop, P: Policy, G: Gate>(
 ) -> Result<(), Refusal>
     requires { IsThere port.old.geometry order }
     ensures carried { OnOk result (WereDone (Runs D.tells D.size D.contents D.faults port.old.geometry.origin_blocks) (jobs_of port.old.geometry order) (state_of port.old) (state_of port.new)) }
+    ensures given_up { IfErr result (λ refusal. GaveUpAmong (Runs D.tells D.size D.contents D.faults port.old.geometry.origin_blocks) (jobs_of port.old.geometry order) refusal (state_of port.old) (state_of port.new)) }
     ensures geometry { port.new.geometry ≡ port.old.geometry }
 {
     match order {
@@ -187,7 +200,8 @@ pub(crate) fn carry_out<R: Wait, D: Disk + Drop, P: Policy, G: Gate>(
 
 /// Whether an order's blocks are there. All are; the lock cannot say of which cache the desk under it is.
 pub(crate) fn is_there(geometry: &Geometry, order: Order) -> bool
-    ensures { OnTrue result (IsThere geometry.now order) }
+    ensures there { OnTrue result (IsThere geometry.now order) }
+    ensures absent { OnFalse result (¬ IsThere geometry.now order) }
 {
     match order {
         Order::Promote(block, _) | Order::Demote(block) | Order::Clean(block) => {

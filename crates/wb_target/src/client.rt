@@ -1,6 +1,7 @@
 //! A client of a target.
 
 ghost use Rattle.std.specs.Prelude.{◌≡◌, []};
+ghost use Rattle.std.specs.Bool.{OnTrue, OnFalse};
 
 use crate::target::Target;
 use std::sync::Wait;
@@ -40,6 +41,20 @@ impl<'t, D: Disk + Drop, P: Policy> Client<'t, D, P> {
         let target = self.target;
         settle_all(rt, target, &mut self.port);
     }
+
+    /// Settles its accesses if nobody else is at the desk now, and waits for nobody: whether none is unsettled. A client that asks so from
+    /// time to time seldom has to wait in `settle`.
+    pub fn try_settle(&mut self) -> bool
+        ensures target { self.new.target ≡ self.old.target }
+        ensures settled { OnTrue result (self.new.port.accesses.items ≡ []) }
+        ensures kept { OnFalse result (self.new.port ≡ self.old.port) }
+        ensures hand { self.new.port.hand ≡ self.old.port.hand }
+        ensures geometry { self.new.port.geometry ≡ self.old.port.geometry }
+        ensures cells { self.new.port.cells ≡ self.old.port.cells }
+    {
+        let target = self.target;
+        try_settle_all(target, &mut self.port)
+    }
 }
 
 /// Settles a port's accesses.
@@ -53,4 +68,19 @@ fn settle_all<R: Wait, D: Disk + Drop, P: Policy>(rt: &R, target: &Target<P>, po
         target.settle(rt, port.accesses.as_slice());
         port.accesses.clear();
     }
+}
+
+/// Settles a port's accesses if nobody else is at the desk: whether none is unsettled.
+fn try_settle_all<D: Disk + Drop, P: Policy>(target: &Target<P>, port: &mut Port<D>) -> bool
+    ensures settled { OnTrue result (port.new.accesses.items ≡ []) }
+    ensures kept { OnFalse result (port.new ≡ port.old) }
+    ensures hand { port.new.hand ≡ port.old.hand }
+    ensures geometry { port.new.geometry ≡ port.old.geometry }
+    ensures cells { port.new.cells ≡ port.old.cells }
+{
+    if !target.try_settle(port.accesses.as_slice()) {
+        return false;
+    }
+    port.accesses.clear();
+    true
 }

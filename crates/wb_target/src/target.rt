@@ -97,6 +97,17 @@ impl<P: Policy> Target<P> {
         self.bell.notify_all();
     }
 
+    /// Tells the policy of accesses, in order, if nobody else has the lock now: whether it did.
+    pub(crate) fn try_settle(&self, accesses: &[OBlock]) -> bool {
+        let Some(mut office) = self.office.try_lock() else {
+            return false;
+        };
+        office.desk.settle(accesses);
+        drop(office);
+        self.bell.notify_all();
+        true
+    }
+
     /// The order that waits longest, if any.
     pub(crate) fn take_order<R: Wait>(&self, rt: &R) -> Option<Order> {
         self.office.lock(rt).desk.next_order()

@@ -1,13 +1,16 @@
 //! Workers: clients that carry out orders on their own thread, as long as a gate lets them.
 
-ghost use Rattle.std.specs.Prelude.{◌≡◌, OnOk, IfErr, true};
+ghost use Rattle.std.specs.Prelude.{◌≡◌, ◌⊎◌, OnOk, IfOk, IfErr, true, false, length};
+ghost use Rattle.std.specs.Bool.{OnTrue, OnFalse};
 ghost use Rattle.wb_target.specs.declared.gate.Point.TheVariants.{Order as BeforeOrder};
-ghost use Rattle.wb_target.specs.Workers.{IsEndedBy, IsFailure};
+ghost use Rattle.wb_target.specs.Carried.{state_of, Runs, IsThere};
+ghost use Rattle.wb_target.specs.Workers.{IsFailure, HasBuffer, EndedBy, FailedAfter, Took, StoppedAt};
 
 use crate::carrying::{carry_out, is_there, take_buffer};
 use crate::client::Client;
 use crate::gate::{Gate, Point};
 use crate::target::Target;
+use std::alloc::Global;
 use std::sync::Wait;
 use std::thread;
 use wb_disk::Disk;
@@ -22,8 +25,9 @@ impl<'t, D: Disk + Drop, P: Policy> Client<'t, D, P> {
     ///
     /// `Failed` where the target has failed; `Io` where a write or sync of its own failed.
     pub fn worker<R: Wait, G: Gate>(&mut self, rt: &R, gate: &G) -> Result<(), Refusal>
-        ensures ended { OnOk result (IsEndedBy G.answers gate.now) }
+        ensures ended { OnOk result (EndedBy (Runs D.tells D.size D.contents D.faults self.old.port.geometry.origin_blocks) self.old.port.geometry G.answers gate.now (state_of self.old.port) (state_of self.new.port)) }
         ensures refused { IfErr result IsFailure }
+        ensures failed { IfErr result (λ refusal. FailedAfter (Runs D.tells D.size D.contents D.faults self.old.port.geometry.origin_blocks) self.old.port.geometry G.answers gate.now refusal (state_of self.old.port) (state_of self.new.port)) }
         ensures target { self.new.target ≡ self.old.target }
         ensures geometry { self.new.port.geometry ≡ self.old.port.geometry }
     {
@@ -39,8 +43,9 @@ fn work_off<R: Wait, D: Disk + Drop, P: Policy, G: Gate>(
     gate: &G,
     port: &mut Port<D>,
 ) -> Result<(), Refusal>
-    ensures ended { OnOk result (IsEndedBy G.answers gate.now) }
+    ensures ended { OnOk result (EndedBy (Runs D.tells D.size D.contents D.faults port.old.geometry.origin_blocks) port.old.geometry G.answers gate.now (state_of port.old) (state_of port.new)) }
     ensures refused { IfErr result IsFailure }
+    ensures failed { IfErr result (λ refusal. FailedAfter (Runs D.tells D.size D.contents D.faults port.old.geometry.origin_blocks) port.old.geometry G.answers gate.now refusal (state_of port.old) (state_of port.new)) }
     ensures geometry { port.new.geometry ≡ port.old.geometry }
 {
     for _ in rt.forever() {
@@ -70,13 +75,16 @@ fn take_turn<R: Wait, D: Disk + Drop, P: Policy, G: Gate>(
     port: &mut Port<D>,
 ) -> Result<bool, Refusal>
     requires let_by { G.answers gate.now BeforeOrder true }
+    ensures took { IfOk result (λ took. took ≡ true → Took (Runs D.tells D.size D.contents D.faults port.old.geometry.origin_blocks) port.old.geometry (state_of port.old) (state_of port.new)) }
+    ensures none_waits { IfOk result (λ took. took ≡ false → state_of port.new ≡ state_of port.old) }
     ensures refused { IfErr result IsFailure }
+    ensures stopped { IfErr result (λ refusal. StoppedAt (Runs D.tells D.size D.contents D.faults port.old.geometry.origin_blocks) port.old.geometry (state_of port.old) (state_of port.new)) }
     ensures geometry { port.new.geometry ≡ port.old.geometry }
 {
     let Some(order) = target.take_order(rt) else {
         return Ok(false);
     };
-    if take_buffer(target.alloc, port).is_err() || !is_there(&port.geometry, order) {
+    if !is_ready(target.alloc, port, order) {
         target.release(rt, &[order], block_of(order));
         return Ok(true);
     }
@@ -85,6 +93,19 @@ fn take_turn<R: Wait, D: Disk + Drop, P: Policy, G: Gate>(
         Err(_) if !port.has_failed() => Ok(true),
         Err(Refusal::Io(device)) => Err(Refusal::Io(device)),
         Err(_) => Err(Refusal::Failed),
+    }
+}
+
+/// Whether an order that was taken can be begun: there is a buffer, its own or a new one, and its blocks are there.
+fn is_ready<D>(alloc: Global, port: &mut Port<D>, order: Order) -> bool
+    ensures buffer { HasBuffer (state_of port.old) (state_of port.new) }
+    ensures there { OnTrue result (IsThere port.new.geometry order) }
+    ensures not { OnFalse result ((length port.old.buffer.items ≡ 0) ⊎ ¬ IsThere port.old.geometry order) }
+    ensures geometry { port.new.geometry ≡ port.old.geometry }
+{
+    match take_buffer(alloc, port) {
+        Ok(()) => is_there(&port.geometry, order),
+        Err(_) => false,
     }
 }
 

@@ -1,6 +1,7 @@
 //! The origin of a target, as an export.
 
 ghost use Rattle.std.specs.Prelude.{◌≡◌};
+ghost use Rattle.wbnbd.specs.Lending.{DoneBy};
 
 use crate::pace::Pace;
 use std::sync::Wait;
@@ -21,7 +22,7 @@ pub struct Lent<'r, 'c, 'p, R, C> {
 impl<'r, 'c, 'p, R: Wait, C: Served> Export for Lent<'r, 'c, 'p, R, C> {
     ghost size = { λ lent. lent.size };
 
-    ghost acts = { λ old act new. Unit {0} };
+    ghost acts = { λ old act new. DoneBy C.did old.client.now act new.client.now };
 
     fn sectors(&self) -> u64 {
         self.size

@@ -1,7 +1,9 @@
 use Rattle.std.proofs.Common.{ap}
 use Rattle.wb_tasks.specs.declared.step.Migration.TheVariants.{Promote, Demote, Clean}
 use Rattle.wb_target.specs.Carried.{state_of, Runs, migration_of, jobs_of}
+use Rattle.wb_meta.proofs.Loaded.{IfErr-handed}
 use Rattle.wb_target.proofs.Carried.{one_done, replaced}
+use Rattle.wb_target.proofs.Turns.{flush_given_up, promotion_given_up}
 use Rattle.wb_target.proofs.carrying.carry_out.Goals as goal
 
 pub returns-in-Promote-clause-carried : goal.returns-in-Promote-clause-carried
@@ -27,3 +29,21 @@ returns-in_ok-flush-in-Replace-clause-carried g c =
     let p = c.migrate-in-Replace-2 in
     replaced g.D.Disk.tells g.D.Disk.size g.D.Disk.contents g.D.Disk.faults p.result c.args.order r.victim r.block r.to c.args.port.now.geometry d.new.port.geometry f.new.port.geometry (state_of c.args.port.now) (state_of d.new.port) (state_of f.new.port) (state_of p.new.port) r.is d.ensures.geometry f.ensures.geometry
     c.in_ok-migrate-in-Replace.ensures.done c.in_ok-flush-in-Replace.ensures.done p.ensures.done
+
+pub returns-in_err-flush-in-Replace-clause-given_up : goal.returns-in_err-flush-in-Replace-clause-given_up
+returns-in_err-flush-in-Replace-clause-given_up g c =
+    let r = c.in-Replace in
+    let d = c.migrate-in-Replace in
+    let f = c.flush in
+    let e = c.in_err-flush-in-Replace in
+    IfErr-handed c.from_residual-in_err-flush-in-Replace.result e.field-0.0 _ c.from_residual-in_err-flush-in-Replace.ensures.1
+    (flush_given_up g.D.Disk.tells g.D.Disk.size g.D.Disk.contents g.D.Disk.faults c.args.order r.victim r.block r.to c.args.port.now.geometry r.is e.field-0.0 d.new.port.geometry (state_of c.args.port.now) (state_of d.new.port) (state_of f.new.port) d.ensures.geometry c.in_ok-migrate-in-Replace.ensures.done e.ensures.refused)
+
+pub returns-in_ok-flush-in-Replace-clause-given_up : goal.returns-in_ok-flush-in-Replace-clause-given_up
+returns-in_ok-flush-in-Replace-clause-given_up g c =
+    let r = c.in-Replace in
+    let d = c.migrate-in-Replace in
+    let f = c.flush in
+    let p = c.migrate-in-Replace-2 in
+    promotion_given_up g.D.Disk.tells g.D.Disk.size g.D.Disk.contents g.D.Disk.faults c.args.order r.victim r.block r.to c.args.port.now.geometry r.is p.result d.new.port.geometry f.new.port.geometry (state_of c.args.port.now) (state_of d.new.port) (state_of f.new.port) (state_of p.new.port) d.ensures.geometry f.ensures.geometry
+    c.in_ok-migrate-in-Replace.ensures.done c.in_ok-flush-in-Replace.ensures.done p.ensures.refused
