@@ -1,5 +1,5 @@
 -- What compares equal to busy is busy, and nothing else is.
-use Rattle.std.proofs.Common.{◌≡◌, ◌≢◌, ◌∙◌, Bool, true, false, refl, sym, subst, rules}
+use Rattle.std.proofs.Common.{◌≡◌, ◌≢◌, ◌∙◌, true, false, refl, sym, subst, rules}
 use borrow.Author.Tests.{tests}
 use Rattle.wb_types.specs.declared.refusal.Refusal.{Refusal}
 use Rattle.wb_types.specs.declared.refusal.Refusal.TheVariants.{Range, Crosses, Busy, Defer, Io, Failed, Memory, Worn, Geometry, NotFormatted, Damaged, Mismatch, NotClean, BadMessage, WrongMode, BadTable, GenerationEnd}

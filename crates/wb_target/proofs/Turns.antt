@@ -1,5 +1,5 @@
 -- What becomes of an order that is given up, and of a worker's turns.
-use Rattle.std.proofs.Common.{◌≡◌, ◌≢◌, ◌∙◌, ◌<◌, ◌⊎◌, inl, inr, ℕ, Bool, true, List, [], ◌∷◌, Some, Result, length, refl, sym, ap, subst}
+use Rattle.std.proofs.Common.{◌≡◌, ◌≢◌, ◌∙◌, ◌<◌, ◌⊎◌, inl, inr, ℕ, Bool, true, List, [], ◌∷◌, Some, Result, sym, ap, subst}
 use Rattle.std.proofs.lemmas.Result.{IfErr-weaker}
 use Rattle.std.specs.Prelude.{IfErr}
 use Rattle.wb_types.specs.declared.geometry.Geometry.{Geometry}

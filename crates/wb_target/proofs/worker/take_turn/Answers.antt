@@ -1,4 +1,3 @@
-use Rattle.std.proofs.Common.{◌∙◌, inl, refl}
 use Rattle.std.proofs.lemmas.Result.{IfErr-at_err}
 use Rattle.wb_target.specs.Carried.{state_of, Runs, jobs_of}
 use Rattle.wb_target.specs.Workers.{GaveUpAmong, Carried, GaveUp, GaveBack}
