@@ -26,8 +26,8 @@ pub enum Act {
     CrashOf(Dev, u64, u64),
 }
 
-/// A task whose steps are listed: an opening over what was formatted, and a read and a write of the first sector over words that
-/// nobody has changed.
+/// A task whose steps are listed: an opening over what was formatted in write-back mode, and a read and a write of the first
+/// sector over words that nobody has changed.
 #[derive(Clone, Copy)]
 pub enum Task {
     Open,
@@ -39,7 +39,9 @@ pub enum Task {
 pub enum Line {
     /// This happens, and does this.
     Does(Act, What),
-    /// An actor's next steps are the first ones of this task, so many.
+    /// An actor is given this task, and its next steps are the first ones of it, so many.
+    Begins(usize, Task, usize),
+    /// Its next steps are those.
     Steps(usize, Task, usize),
     /// The last step read one sector full of this byte.
     Gives(u8),

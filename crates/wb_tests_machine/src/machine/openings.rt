@@ -14,9 +14,8 @@ const METADATA_FAILED: Want = Want::End(Answer::Refused(Refusal::Io(Dev::Metadat
 const CACHE_FAILED: Want = Want::End(Answer::Refused(Refusal::Io(Dev::Cache)));
 
 /// A flush over a target that stands.
-pub const OVER_A_TARGET: [Line; 3] = [
-    Line::Does(Act::Open(0, Mode::Writeback), What::Started),
-    Line::Steps(0, Task::Open, 8),
+pub const OVER_A_TARGET: [Line; 2] = [
+    Line::Begins(0, Task::Open, 8),
     Line::Does(Act::Flush(0), What::Started),
 ];
 
@@ -37,8 +36,7 @@ pub const OPENINGS: [Row; 6] = [
     Row {
         name: "an opening syncs the metadata, the cache and the origin",
         lines: &[
-            Line::Does(Act::Open(3, Mode::Writeback), What::Started),
-            Line::Steps(3, Task::Open, 1),
+            Line::Begins(3, Task::Open, 1),
             Line::Does(Act::Step(2), What::Skipped),
             Line::Does(Act::Step(3), What::Stepped(CACHE, Got::Done)),
             Line::Does(Act::Step(3), What::Stepped(ORIGIN, Got::Done)),
@@ -47,8 +45,7 @@ pub const OPENINGS: [Row; 6] = [
     Row {
         name: "an opening reads both slots of metadata that were formatted",
         lines: &[
-            Line::Does(Act::Open(0, Mode::Writeback), What::Started),
-            Line::Steps(0, Task::Open, 5),
+            Line::Begins(0, Task::Open, 5),
             Line::Does(Act::Crash, What::Stopped),
             Line::Does(Act::Step(0), What::Skipped),
         ],
@@ -56,8 +53,7 @@ pub const OPENINGS: [Row; 6] = [
     Row {
         name: "an opening writes its root into the other slot, and makes it durable",
         lines: &[
-            Line::Does(Act::Open(0, Mode::Writeback), What::Started),
-            Line::Steps(0, Task::Open, 5),
+            Line::Begins(0, Task::Open, 5),
             Line::Does(Act::CrashOf(Dev::Metadata, 1, 1), What::Skipped),
             Line::Does(Act::Step(0), What::Stepped(ROOT, Got::Done)),
             Line::Does(Act::Step(1), What::Skipped),
@@ -70,8 +66,7 @@ pub const OPENINGS: [Row; 6] = [
     Row {
         name: "an opening is answered done, and no other starts over its target",
         lines: &[
-            Line::Does(Act::Open(5, Mode::Writeback), What::Started),
-            Line::Steps(5, Task::Open, 7),
+            Line::Begins(5, Task::Open, 7),
             Line::Does(Act::Fault(5, Base::Newest), What::Skipped),
             Line::Does(Act::Step(5), What::Stepped(DONE, Got::Done)),
             Line::Does(Act::Step(5), What::Skipped),
@@ -85,8 +80,7 @@ pub const OPENINGS: [Row; 6] = [
     Row {
         name: "an opening gives up the one that was at work",
         lines: &[
-            Line::Does(Act::Open(0, Mode::Writeback), What::Started),
-            Line::Steps(0, Task::Open, 1),
+            Line::Begins(0, Task::Open, 1),
             Line::Does(Act::Open(1, Mode::Writeback), What::Started),
             Line::Does(Act::Step(0), What::Skipped),
             Line::Steps(1, Task::Open, 1),
@@ -99,8 +93,7 @@ pub const FAILURES: [Row; 5] = [
     Row {
         name: "a sync that fails refuses the opening, and another may begin",
         lines: &[
-            Line::Does(Act::Open(0, Mode::Writeback), What::Started),
-            Line::Steps(0, Task::Open, 1),
+            Line::Begins(0, Task::Open, 1),
             Line::Does(
                 Act::Fault(0, Base::Durable),
                 What::Stepped(CACHE, Got::Fault),
@@ -119,8 +112,7 @@ pub const FAILURES: [Row; 5] = [
     Row {
         name: "a read of metadata that fails refuses the opening",
         lines: &[
-            Line::Does(Act::Open(0, Mode::Writeback), What::Started),
-            Line::Steps(0, Task::Open, 3),
+            Line::Begins(0, Task::Open, 3),
             Line::Does(
                 Act::Fault(0, Base::Newest),
                 What::Stepped(FIRST_READ, Got::Fault),
@@ -134,8 +126,7 @@ pub const FAILURES: [Row; 5] = [
     Row {
         name: "a read that fails behind one that was done refuses the opening",
         lines: &[
-            Line::Does(Act::Open(0, Mode::Writeback), What::Started),
-            Line::Steps(0, Task::Open, 4),
+            Line::Begins(0, Task::Open, 4),
             Line::Does(
                 Act::Fault(0, Base::Durable),
                 What::Stepped(SECOND_READ, Got::Fault),
@@ -146,8 +137,7 @@ pub const FAILURES: [Row; 5] = [
     Row {
         name: "a failing read names sectors of the metadata, with 0 or 1",
         lines: &[
-            Line::Does(Act::Open(0, Mode::Writeback), What::Started),
-            Line::Steps(0, Task::Open, 3),
+            Line::Begins(0, Task::Open, 3),
             Line::Does(Act::FaultOf(0, Dev::Cache, 0, 1), What::Skipped),
             Line::Does(Act::FaultOf(0, Dev::Metadata, 4, 1), What::Skipped),
             Line::Does(Act::FaultOf(0, Dev::Metadata, 3, 2), What::Skipped),
@@ -178,8 +168,7 @@ pub const ROOTS: [Row; 3] = [
     Row {
         name: "a write of the root that fails has landed where it is said",
         lines: &[
-            Line::Does(Act::Open(0, Mode::Writeback), What::Started),
-            Line::Steps(0, Task::Open, 5),
+            Line::Begins(0, Task::Open, 5),
             Line::Does(
                 Act::FaultOf(0, Dev::Metadata, 1, 1),
                 What::Stepped(ROOT, Got::Fault),
@@ -193,8 +182,7 @@ pub const ROOTS: [Row; 3] = [
     Row {
         name: "a write of the root that fails has not landed where it is said",
         lines: &[
-            Line::Does(Act::Open(0, Mode::Writeback), What::Started),
-            Line::Steps(0, Task::Open, 5),
+            Line::Begins(0, Task::Open, 5),
             Line::Does(Act::FaultOf(0, Dev::Cache, 1, 0), What::Skipped),
             Line::Does(
                 Act::FaultOf(0, Dev::Metadata, 1, 0),
@@ -207,8 +195,7 @@ pub const ROOTS: [Row; 3] = [
     Row {
         name: "a sync of the root that fails refuses the opening, whose root a crash may keep",
         lines: &[
-            Line::Does(Act::Open(0, Mode::Writeback), What::Started),
-            Line::Steps(0, Task::Open, 6),
+            Line::Begins(0, Task::Open, 6),
             Line::Does(
                 Act::Fault(0, Base::Durable),
                 What::Stepped(METADATA, Got::Fault),
@@ -225,12 +212,10 @@ pub const CRASHES: [Row; 4] = [
     Row {
         name: "a crash ends the target, and the next opening is answered done over its root",
         lines: &[
-            Line::Does(Act::Open(0, Mode::Writeback), What::Started),
-            Line::Steps(0, Task::Open, 8),
+            Line::Begins(0, Task::Open, 8),
             Line::Does(Act::Crash, What::Stopped),
             Line::Does(Act::Flush(0), What::Skipped),
-            Line::Does(Act::Open(63, Mode::Writeback), What::Started),
-            Line::Steps(63, Task::Open, 5),
+            Line::Begins(63, Task::Open, 5),
             Line::Does(Act::CrashOf(Dev::Metadata, 0, 1), What::Skipped),
             Line::Does(Act::Step(63), What::Stepped(ROOT, Got::Done)),
             Line::Does(Act::Step(63), What::Stepped(METADATA, Got::Done)),
@@ -240,11 +225,9 @@ pub const CRASHES: [Row; 4] = [
     Row {
         name: "a root that a crash has kept is the one over which the next opening writes",
         lines: &[
-            Line::Does(Act::Open(0, Mode::Writeback), What::Started),
-            Line::Steps(0, Task::Open, 6),
+            Line::Begins(0, Task::Open, 6),
             Line::Does(Act::CrashOf(Dev::Metadata, 1, 1), What::Stopped),
-            Line::Does(Act::Open(0, Mode::Writeback), What::Started),
-            Line::Steps(0, Task::Open, 5),
+            Line::Begins(0, Task::Open, 5),
             Line::Does(Act::CrashOf(Dev::Metadata, 0, 1), What::Skipped),
             Line::Does(Act::Step(0), What::Stepped(ROOT, Got::Done)),
             Line::Does(Act::CrashOf(Dev::Metadata, 0, 1), What::Stopped),
@@ -253,11 +236,9 @@ pub const CRASHES: [Row; 4] = [
     Row {
         name: "a root that a crash has not kept is written once more",
         lines: &[
-            Line::Does(Act::Open(0, Mode::Writeback), What::Started),
-            Line::Steps(0, Task::Open, 6),
+            Line::Begins(0, Task::Open, 6),
             Line::Does(Act::CrashOf(Dev::Metadata, 1, 0), What::Stopped),
-            Line::Does(Act::Open(0, Mode::Writeback), What::Started),
-            Line::Steps(0, Task::Open, 5),
+            Line::Begins(0, Task::Open, 5),
             Line::Does(Act::CrashOf(Dev::Metadata, 1, 1), What::Skipped),
             Line::Does(Act::Step(0), What::Stepped(ROOT, Got::Done)),
             Line::Does(Act::CrashOf(Dev::Metadata, 1, 1), What::Stopped),

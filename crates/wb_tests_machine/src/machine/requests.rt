@@ -25,14 +25,11 @@ const FAILED: Want = Want::End(Answer::Refused(Refusal::Failed));
 const ORIGIN_FAILED: Want = Want::End(Answer::Refused(Refusal::Io(Dev::Origin)));
 
 /// A write by actor 1 and then a read by actor 2, each up to its answer.
-pub const WRITE_AND_READ: [Line; 12] = [
-    Line::Does(Act::Open(0, Mode::Writeback), What::Started),
-    Line::Steps(0, Task::Open, 8),
-    Line::Does(Act::Write(1, FIRST_SECTOR), What::Started),
-    Line::Steps(1, Task::Write, 10),
+pub const WRITE_AND_READ: [Line; 9] = [
+    Line::Begins(0, Task::Open, 8),
+    Line::Begins(1, Task::Write, 10),
     Line::Does(Act::Step(1), What::Skipped),
-    Line::Does(Act::Read(2, FIRST_SECTOR), What::Started),
-    Line::Steps(2, Task::Read, 4),
+    Line::Begins(2, Task::Read, 4),
     Line::Does(Act::Step(2), What::Stepped(LOOK_NUMBER, Got::Word(1))),
     Line::Does(Act::Step(2), What::Stepped(READ_FIRST, Got::Done)),
     Line::Does(Act::Step(2), What::Stepped(COUNT_READ, Got::Done)),
@@ -41,13 +38,10 @@ pub const WRITE_AND_READ: [Line; 12] = [
 ];
 
 /// The same up to the step that reads, and what it gives.
-pub const WRITTEN_AND_GIVEN: [Line; 9] = [
-    Line::Does(Act::Open(0, Mode::Writeback), What::Started),
-    Line::Steps(0, Task::Open, 8),
-    Line::Does(Act::Write(1, FIRST_SECTOR), What::Started),
-    Line::Steps(1, Task::Write, 10),
-    Line::Does(Act::Read(2, FIRST_SECTOR), What::Started),
-    Line::Steps(2, Task::Read, 4),
+pub const WRITTEN_AND_GIVEN: [Line; 6] = [
+    Line::Begins(0, Task::Open, 8),
+    Line::Begins(1, Task::Write, 10),
+    Line::Begins(2, Task::Read, 4),
     Line::Does(Act::Step(2), What::Stepped(LOOK_NUMBER, Got::Word(1))),
     Line::Does(Act::Step(2), What::Stepped(READ_FIRST, Got::Done)),
     Line::Gives(7),
@@ -57,8 +51,7 @@ pub const REQUESTS: [Row; 5] = [
     Row {
         name: "a read or write is refused for its sectors, and a busy actor gets no other job",
         lines: &[
-            Line::Does(Act::Open(0, Mode::Writeback), What::Started),
-            Line::Steps(0, Task::Open, 8),
+            Line::Begins(0, Task::Open, 8),
             Line::Does(
                 Act::Read(
                     0,
@@ -95,8 +88,7 @@ pub const REQUESTS: [Row; 5] = [
     Row {
         name: "a read takes one sector after the other",
         lines: &[
-            Line::Does(Act::Open(0, Mode::Writeback), What::Started),
-            Line::Steps(0, Task::Open, 8),
+            Line::Begins(0, Task::Open, 8),
             Line::Does(Act::Read(0, Extent { first: 0, count: 2 }), What::Started),
             Line::Steps(0, Task::Read, 6),
             Line::Does(Act::Step(0), What::Stepped(READ_SECOND, Got::Done)),
@@ -106,17 +98,13 @@ pub const REQUESTS: [Row; 5] = [
     Row {
         name: "a read beside a write of its block is refused as busy, and one that loses its exchange, too",
         lines: &[
-            Line::Does(Act::Open(0, Mode::Writeback), What::Started),
-            Line::Steps(0, Task::Open, 8),
-            Line::Does(Act::Write(1, FIRST_SECTOR), What::Started),
-            Line::Steps(1, Task::Write, 2),
-            Line::Does(Act::Read(3, FIRST_SECTOR), What::Started),
-            Line::Steps(3, Task::Read, 2),
+            Line::Begins(0, Task::Open, 8),
+            Line::Begins(1, Task::Write, 2),
+            Line::Begins(3, Task::Read, 2),
             Line::Does(Act::Step(1), What::Stepped(OWN, Got::Done)),
             Line::Does(Act::Step(3), What::Stepped(SHARE, Got::Lost)),
             Line::Does(Act::Step(3), What::Stepped(BUSY, Got::Done)),
-            Line::Does(Act::Read(2, FIRST_SECTOR), What::Started),
-            Line::Steps(2, Task::Read, 1),
+            Line::Begins(2, Task::Read, 1),
             Line::Does(Act::Step(2), What::Stepped(LOOK_LOCK, Got::Word(1))),
             Line::Does(Act::Step(2), What::Stepped(BUSY, Got::Done)),
         ],
@@ -124,12 +112,9 @@ pub const REQUESTS: [Row; 5] = [
     Row {
         name: "two share a block",
         lines: &[
-            Line::Does(Act::Open(0, Mode::Writeback), What::Started),
-            Line::Steps(0, Task::Open, 8),
-            Line::Does(Act::Read(1, FIRST_SECTOR), What::Started),
-            Line::Steps(1, Task::Read, 3),
-            Line::Does(Act::Read(2, FIRST_SECTOR), What::Started),
-            Line::Steps(2, Task::Read, 1),
+            Line::Begins(0, Task::Open, 8),
+            Line::Begins(1, Task::Read, 3),
+            Line::Begins(2, Task::Read, 1),
             Line::Does(Act::Step(2), What::Stepped(LOOK_LOCK, Got::Word(2))),
             Line::Does(Act::Step(2), What::Stepped(SHARE_THE_SHARED, Got::Done)),
         ],
@@ -137,8 +122,7 @@ pub const REQUESTS: [Row; 5] = [
     Row {
         name: "a crash ends requests",
         lines: &[
-            Line::Does(Act::Open(0, Mode::Writeback), What::Started),
-            Line::Steps(0, Task::Open, 8),
+            Line::Begins(0, Task::Open, 8),
             Line::Does(Act::Read(0, FIRST_SECTOR), What::Started),
             Line::Does(Act::Write(1, FIRST_SECTOR), What::Started),
             Line::Does(Act::Crash, What::Stopped),
@@ -154,8 +138,7 @@ pub const FAILED_REQUESTS: [Row; 4] = [
     Row {
         name: "a read that fails gives its block back",
         lines: &[
-            Line::Does(Act::Open(0, Mode::Writeback), What::Started),
-            Line::Steps(0, Task::Open, 8),
+            Line::Begins(0, Task::Open, 8),
             Line::Does(Act::Read(0, FIRST_SECTOR), What::Started),
             Line::Does(Act::Fault(0, Base::Newest), What::Skipped),
             Line::Steps(0, Task::Read, 5),
@@ -172,10 +155,8 @@ pub const FAILED_REQUESTS: [Row; 4] = [
     Row {
         name: "a write that fails keeps its block, and fails the target, over which then an opening starts",
         lines: &[
-            Line::Does(Act::Open(0, Mode::Writeback), What::Started),
-            Line::Steps(0, Task::Open, 8),
-            Line::Does(Act::Write(1, FIRST_SECTOR), What::Started),
-            Line::Steps(1, Task::Write, 5),
+            Line::Begins(0, Task::Open, 8),
+            Line::Begins(1, Task::Write, 5),
             Line::Does(
                 Act::FaultOf(1, Dev::Origin, 0, 1),
                 What::Stepped(WRITE_FIRST, Got::Fault),
@@ -194,10 +175,8 @@ pub const FAILED_REQUESTS: [Row; 4] = [
     Row {
         name: "a write that fails has not landed where it is said",
         lines: &[
-            Line::Does(Act::Open(0, Mode::Writeback), What::Started),
-            Line::Steps(0, Task::Open, 8),
-            Line::Does(Act::Write(1, FIRST_SECTOR), What::Started),
-            Line::Steps(1, Task::Write, 5),
+            Line::Begins(0, Task::Open, 8),
+            Line::Begins(1, Task::Write, 5),
             Line::Does(
                 Act::FaultOf(1, Dev::Origin, 0, 0),
                 What::Stepped(WRITE_FIRST, Got::Fault),
@@ -208,10 +187,8 @@ pub const FAILED_REQUESTS: [Row; 4] = [
     Row {
         name: "a write that was done may be lost to a crash, or kept",
         lines: &[
-            Line::Does(Act::Open(0, Mode::Writeback), What::Started),
-            Line::Steps(0, Task::Open, 8),
-            Line::Does(Act::Write(1, FIRST_SECTOR), What::Started),
-            Line::Steps(1, Task::Write, 6),
+            Line::Begins(0, Task::Open, 8),
+            Line::Begins(1, Task::Write, 6),
             Line::Does(Act::CrashOf(Dev::Origin, 0, 2), What::Skipped),
             Line::Does(Act::CrashOf(Dev::Origin, 0, 0), What::Stopped),
             Line::Does(Act::Step(1), What::Skipped),
