@@ -1,14 +1,19 @@
-//! Openings by hand, and what they answer.
+//! What happens to a small machine by hand, and what it does.
 
-mod rows;
+mod line;
+mod openings;
+mod requests;
 
-use self::rows::{Line, OVER_A_TARGET, ROWS};
+use self::line::{Act, FIRST_SECTOR, Line, OPENING, READING, Row, Task, WRITING};
+use self::openings::{CRASHES, FAILURES, OPENINGS, OVER_A_TARGET, ROOTS};
+use self::requests::{FAILED_REQUESTS, REQUESTS, WRITE_AND_READ, WRITTEN_AND_GIVEN};
 use std::alloc::Global;
 use std::test::Fail;
 use wb_disk::{Base, CrashChoice, NamedContent};
 use wb_machine::Machine;
-use wb_runs::{Event, What};
-use wb_types::{Dev, Geometry, Refusal};
+use wb_runs::{Event, Job, What};
+use wb_tasks::{Got, Want};
+use wb_types::{Content, Dev, Extent, Geometry, Mode, Refusal, SECTOR_BYTES};
 
 /// Ten blocks of 64 sectors, and a cache of four.
 fn small_machine(alloc: Global) -> Result<Machine, Refusal> {
@@ -33,18 +38,21 @@ fn named(alloc: Global, device: Dev, sector: u64, position: u64) -> Result<Crash
     Ok(CrashChoice::new(Base::Newest, names))
 }
 
-/// What a line is as an event.
-fn event_of(alloc: Global, line: Line) -> Result<Event, Refusal> {
-    match line {
-        Line::Start(actor, job) => Ok(Event::Start(actor, job)),
-        Line::Step(actor) => Ok(Event::Step(actor)),
-        Line::Fault(actor, base) => Ok(Event::FaultStep(actor, unnamed(alloc, base))),
-        Line::FaultOf(actor, device, sector, position) => Ok(Event::FaultStep(
+/// What is to happen, as an event.
+fn event_of(alloc: Global, act: Act) -> Result<Event, Refusal> {
+    match act {
+        Act::Open(actor, mode) => Ok(Event::Start(actor, Job::Open(mode))),
+        Act::Read(actor, sectors) => Ok(Event::Start(actor, Job::Read(sectors))),
+        Act::Write(actor, sectors) => Ok(Event::Start(actor, write(sectors))),
+        Act::Flush(actor) => Ok(Event::Start(actor, Job::Flush)),
+        Act::Step(actor) => Ok(Event::Step(actor)),
+        Act::Fault(actor, base) => Ok(Event::FaultStep(actor, unnamed(alloc, base))),
+        Act::FaultOf(actor, device, sector, position) => Ok(Event::FaultStep(
             actor,
             named(alloc, device, sector, position)?,
         )),
-        Line::Crash => Ok(Event::Stop(unnamed(alloc, Base::Newest))),
-        Line::CrashOf(device, sector, position) => {
+        Act::Crash => Ok(Event::Stop(unnamed(alloc, Base::Newest))),
+        Act::CrashOf(device, sector, position) => {
             Ok(Event::Stop(named(alloc, device, sector, position)?))
         }
     }
@@ -58,38 +66,162 @@ fn last(machine: &Machine) -> What {
     }
 }
 
-/// The first line of a row that a small machine cannot do, or after which something else happened, if there is one.
-fn play(alloc: Global, lines: &[(Line, What)]) -> Result<Option<usize>, Refusal> {
-    let mut machine = small_machine(alloc)?;
-    go_over(&mut machine, alloc, lines)
+/// Whether the machine can do this event, and does so.
+fn does(machine: &mut Machine, event: Event, what: What) -> bool {
+    machine.event(event).is_ok() && last(machine) == what
 }
 
-/// The same of a machine that is lent.
-fn go_over(
+/// Whether an actor's next steps are these, with these results.
+fn steps(machine: &mut Machine, actor: usize, wants: &[(Want, Got)]) -> bool {
+    for (want, got) in wants {
+        if !does(machine, Event::Step(actor), What::Stepped(*want, *got)) {
+            return false;
+        }
+    }
+    true
+}
+
+/// Whether these contents are one, and each byte of it this one.
+fn is_one_of(contents: &[Content], byte: u8) -> bool {
+    contents.len() == 1
+        && contents
+            .iter()
+            .all(|content| *content == [byte; SECTOR_BYTES])
+}
+
+/// Whether the last event read one sector full of this byte.
+fn has_read(machine: &Machine, byte: u8) -> bool {
+    match machine.trace().records().last() {
+        Some(record) => is_one_of(record.read.as_slice(), byte),
+        None => false,
+    }
+}
+
+/// A write of sevens.
+fn write(sectors: Extent) -> Job {
+    Job::Write(sectors, [7; SECTOR_BYTES])
+}
+
+fn job_of(task: Task) -> Job {
+    match task {
+        Task::Open => Job::Open(Mode::Writeback),
+        Task::Read => Job::Read(FIRST_SECTOR),
+        Task::Write => write(FIRST_SECTOR),
+    }
+}
+
+/// The steps of a task.
+fn steps_of(task: Task) -> &'static [(Want, Got)] {
+    match task {
+        Task::Open => &OPENING,
+        Task::Read => &READING,
+        Task::Write => &WRITING,
+    }
+}
+
+/// Whether an actor's next steps are the first ones of a task, so many.
+fn steps_as(machine: &mut Machine, actor: usize, task: Task, count: usize) -> bool {
+    match steps_of(task).get(..count) {
+        Some(wants) => steps(machine, actor, wants),
+        None => false,
+    }
+}
+
+/// Whether an actor is given a task, and its next steps are the first ones of it, so many.
+fn begins(machine: &mut Machine, actor: usize, task: Task, count: usize) -> bool {
+    let start = Event::Start(actor, job_of(task));
+    does(machine, start, What::Started) && steps_as(machine, actor, task, count)
+}
+
+/// Whether a line goes as it says.
+fn goes(machine: &mut Machine, alloc: Global, line: &Line) -> Result<bool, Refusal> {
+    match line {
+        Line::Does(act, what) => {
+            let event = event_of(alloc, *act)?;
+            Ok(does(machine, event, *what))
+        }
+        Line::Begins(actor, task, count) => Ok(begins(machine, *actor, *task, *count)),
+        Line::Steps(actor, task, count) => Ok(steps_as(machine, *actor, *task, *count)),
+        Line::Gives(byte) => Ok(has_read(machine, *byte)),
+    }
+}
+
+/// The number of the first line that does not go as it says, if there is one.
+fn first_other(
     machine: &mut Machine,
     alloc: Global,
-    lines: &[(Line, What)],
+    lines: &[Line],
 ) -> Result<Option<usize>, Refusal> {
     for (number, line) in lines.iter().enumerate() {
-        let event = event_of(alloc, line.0)?;
-        if machine.event(event).is_err() || last(machine) != line.1 {
+        if !goes(machine, alloc, line)? {
             return Ok(Some(number));
         }
     }
     Ok(None)
 }
 
+/// The same of a small machine.
+fn play(alloc: Global, lines: &[Line]) -> Result<Option<usize>, Refusal> {
+    let mut machine = small_machine(alloc)?;
+    first_other(&mut machine, alloc, lines)
+}
+
+/// Plays each row, and fails by the name of one that does not go as it says.
+fn compare(alloc: Global, rows: &[Row]) -> Result<(), Fail> {
+    for row in rows {
+        if play(alloc, row.lines)? != None {
+            return Err(Fail::from(row.name));
+        }
+    }
+    Ok(())
+}
+
 #[test]
 fn openings_go_as_their_rows_say(rt: HostRuntime) -> Result<(), Fail> {
-    for row in &ROWS {
-        assert!(rt; play(rt.alloc(), row.lines)? == None, "{}", row.name);
-    }
+    compare(rt.alloc(), &OPENINGS)
+}
+
+#[test]
+fn failed_openings_go_as_their_rows_say(rt: HostRuntime) -> Result<(), Fail> {
+    compare(rt.alloc(), &FAILURES)
+}
+
+#[test]
+fn openings_whose_root_fails_go_as_their_rows_say(rt: HostRuntime) -> Result<(), Fail> {
+    compare(rt.alloc(), &ROOTS)
+}
+
+#[test]
+fn openings_beside_crashes_go_as_their_rows_say(rt: HostRuntime) -> Result<(), Fail> {
+    compare(rt.alloc(), &CRASHES)
+}
+
+#[test]
+fn requests_go_as_their_rows_say(rt: HostRuntime) -> Result<(), Fail> {
+    compare(rt.alloc(), &REQUESTS)
+}
+
+#[test]
+fn failed_requests_go_as_their_rows_say(rt: HostRuntime) -> Result<(), Fail> {
+    compare(rt.alloc(), &FAILED_REQUESTS)
+}
+
+#[test]
+fn a_write_and_a_read_behind_it_go_to_their_answers(rt: HostRuntime) -> Result<(), Fail> {
+    assert!(rt; play(rt.alloc(), &WRITE_AND_READ)? == None);
+    Ok(())
+}
+
+/// The step that reads gives the one content that was written.
+#[test]
+fn a_read_is_given_what_was_written(rt: HostRuntime) -> Result<(), Fail> {
+    assert!(rt; play(rt.alloc(), &WRITTEN_AND_GIVEN)? == None);
     Ok(())
 }
 
 /// Over a target that stands no flush starts yet: the machine cannot do it, and has no record of it.
 #[test]
 fn no_flush_starts_over_a_target_yet(rt: HostRuntime) -> Result<(), Fail> {
-    assert!(rt; play(rt.alloc(), &OVER_A_TARGET)? == Some(9));
+    assert!(rt; play(rt.alloc(), &OVER_A_TARGET)? == Some(1));
     Ok(())
 }

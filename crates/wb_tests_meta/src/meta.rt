@@ -137,11 +137,42 @@ fn a_formatting_is_for_the_size_of_its_device(rt: HostRuntime) -> Result<(), Fai
     Ok(())
 }
 
+/// What is asked of a formatted device and the image of its first commit.
+#[derive(Clone, Copy)]
+enum Question<'a> {
+    /// Whether they write the sectors that stand above.
+    Writes,
+    /// Whether the device is then read by these sectors, each beside whether the root is known before it.
+    ReadBy(&'a [(u64, bool)]),
+}
+
+/// The answer of both.
+// Letting them go is dear to prove: this function alone does.
+fn answered(alloc: Global, question: Question<'_>) -> Result<bool, Refusal> {
+    let (mut disk, image) = formatted(alloc)?;
+    answer(alloc, &mut disk, &image, question)
+}
+
+fn answer(
+    alloc: Global,
+    disk: &mut MemDisk,
+    image: &Image,
+    question: Question<'_>,
+) -> Result<bool, Refusal> {
+    match question {
+        Question::Writes => writes(disk, image),
+        Question::ReadBy(sectors) => reading::is_read_then(alloc, disk, image, sectors),
+    }
+}
+
+fn writes(disk: &mut MemDisk, image: &Image) -> Result<bool, Refusal> {
+    let begins = has_sectors(disk, &[&FORMATTED, &[]]);
+    let steps = takes_steps(disk, image, &FIRST_COMMIT)?;
+    Ok(begins && steps && has_sectors(disk, &[&FORMATTED, &COMMITTED, &LEAF, &[]]))
+}
+
 #[test]
 fn formatting_and_a_first_commit_write_these_sectors(rt: HostRuntime) -> Result<(), Fail> {
-    let (mut disk, image) = formatted(rt.alloc())?;
-    assert!(rt; has_sectors(&mut disk, &[&FORMATTED, &[]]));
-    assert!(rt; takes_steps(&mut disk, &image, &FIRST_COMMIT)?);
-    assert!(rt; has_sectors(&mut disk, &[&FORMATTED, &COMMITTED, &LEAF, &[]]));
+    assert!(rt; answered(rt.alloc(), Question::Writes)?);
     Ok(())
 }

@@ -3,6 +3,7 @@
 ghost use Rattle.std.specs.Prelude.{◌≡◌};
 
 use crate::fixture::{Cache, Job, hinder, opened, play};
+use crate::questions::{Question, answered};
 use std::alloc::Global;
 use std::test::Fail;
 use wb_tasks::Answer;
@@ -11,7 +12,7 @@ use wb_types::{CBlock, Dev, OBlock, Refusal};
 /// A job after others, and the calls of a device that it makes, by steps of at most 16 sectors. After a fault at each of them
 /// the job is done when it is tried again, or the target has failed.
 #[derive(Clone, Copy)]
-struct Row {
+pub struct Row {
     name: &'static str,
     before: &'static [Job],
     job: Job,
@@ -137,7 +138,7 @@ pub fn prepare(cache: &mut Cache, jobs: &[Job]) -> bool
 }
 
 /// Whether a fault at this call ends the job so, and it ends so when it is tried again: with the order that it kept, if any.
-fn ends_so(cache: &mut Cache, row: &Row, number: u64) -> bool
+pub fn ends_so(cache: &mut Cache, row: &Row, number: u64) -> bool
     requires { cache.old.stage.crew.blocks ≡ 10 }
 {
     if !prepare(cache, row.before) {
@@ -158,8 +159,7 @@ fn ends_so(cache: &mut Cache, row: &Row, number: u64) -> bool
 fn compare(alloc: Global, rows: &[Row]) -> Result<(), Fail> {
     for row in rows {
         for number in 0..row.calls {
-            let mut cache = opened(alloc)?;
-            if !ends_so(&mut cache, row, number) {
+            if !answered(opened(alloc), Question::EndsSo(row, number))? {
                 return Err(Fail::from(row.name));
             }
         }

@@ -12,6 +12,8 @@ mod fixture;
 #[cfg(test)]
 mod openings;
 #[cfg(test)]
+mod questions;
+#[cfg(test)]
 mod refusals;
 #[cfg(test)]
 mod runs;

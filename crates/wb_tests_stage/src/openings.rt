@@ -2,6 +2,7 @@
 
 use crate::counting::Counting;
 use crate::fixture::{Stage, blank, closed, device_steps, fail, formatted};
+use crate::questions::{Opens, does_open};
 use std::alloc::Global;
 use std::test::Fail;
 use wb_devices::Opening;
@@ -30,7 +31,7 @@ pub fn found(stage: &Stage) -> Option<(u64, usize)> {
 }
 
 /// An opening of an empty mapping: three syncs, two slots, the root, and a sync.
-fn takes_seven_steps(alloc: Global, stage: &mut Stage) -> bool {
+pub fn takes_seven_steps(alloc: Global, stage: &mut Stage) -> bool {
     let before = device_steps(&stage.devices);
     open_again(alloc, stage) == Answer::Done
         && device_steps(&stage.devices) == before.saturating_add(7)
@@ -38,16 +39,20 @@ fn takes_seven_steps(alloc: Global, stage: &mut Stage) -> bool {
 }
 
 /// A fault at this call ends an opening, which is done when it is tried again.
-fn fails_once(alloc: Global, stage: &mut Stage, device: Dev, number: u64) -> bool {
+pub fn fails_once(alloc: Global, stage: &mut Stage, device: Dev, number: u64) -> bool {
     fail(&mut stage.devices, device, number);
     open_again(alloc, stage) == Answer::Refused(Refusal::Io(device))
         && open_again(alloc, stage) == Answer::Done
 }
 
+/// A stage over devices that are formatted.
+fn unopened(alloc: Global) -> Result<Stage, Refusal> {
+    closed(alloc, formatted(alloc)?)
+}
+
 #[test]
 fn an_opening_takes_these_steps_on_devices(rt: HostRuntime) -> Result<(), Fail> {
-    let mut stage = closed(rt.alloc(), formatted(rt.alloc())?)?;
-    assert!(rt; takes_seven_steps(rt.alloc(), &mut stage));
+    assert!(rt; does_open(rt.alloc(), unopened(rt.alloc()), Opens::InSevenSteps)?);
     Ok(())
 }
 
@@ -55,8 +60,8 @@ fn an_opening_takes_these_steps_on_devices(rt: HostRuntime) -> Result<(), Fail> 
 fn each_fault_ends_an_opening(rt: HostRuntime) -> Result<(), Fail> {
     for (device, calls) in [(Dev::Metadata, 5), (Dev::Cache, 1), (Dev::Origin, 1)] {
         for number in 0..calls {
-            let mut stage = closed(rt.alloc(), formatted(rt.alloc())?)?;
-            assert!(rt; fails_once(rt.alloc(), &mut stage, device, number));
+            let at = Opens::AtTheSecond(device, number);
+            assert!(rt; does_open(rt.alloc(), unopened(rt.alloc()), at)?);
         }
     }
     Ok(())
@@ -84,38 +89,50 @@ pub fn renumber(metadata: &mut Counting, generation: u64) -> bool {
 }
 
 /// An opening is refused so after this many calls of the metadata device: nothing was written.
-fn is_refused(alloc: Global, stage: &mut Stage, refusal: Refusal, calls: u64) -> bool {
+pub fn is_refused(alloc: Global, stage: &mut Stage, refusal: Refusal, calls: u64) -> bool {
     let before = stage.devices.metadata.calls;
     open_again(alloc, stage) == Answer::Refused(refusal)
         && stage.devices.metadata.calls == before.saturating_add(calls)
         && found(stage).is_none()
 }
 
+/// A stage over blank devices.
+fn unformatted(alloc: Global) -> Result<Stage, Refusal> {
+    closed(alloc, blank(alloc, 4)?)
+}
+
 #[test]
 fn metadata_without_a_root_are_not_opened(rt: HostRuntime) -> Result<(), Fail> {
-    let mut stage = closed(rt.alloc(), blank(rt.alloc(), 4)?)?;
-    assert!(rt; is_refused(rt.alloc(), &mut stage, Refusal::NotFormatted, 3));
+    let never = Opens::Never(Refusal::NotFormatted, 3);
+    assert!(rt; does_open(rt.alloc(), unformatted(rt.alloc()), never)?);
     Ok(())
+}
+
+/// A stage over devices that are formatted for so many blocks of the origin, and sectors of metadata.
+fn formatted_for(alloc: Global, blocks: u64, sectors: u64) -> Result<Stage, Refusal> {
+    let geometry = Geometry::new(64, 4, blocks, sectors)?;
+    let mut devices = blank(alloc, sectors)?;
+    format(&mut devices.metadata, &geometry)?;
+    closed(alloc, devices)
 }
 
 #[test]
 fn metadata_of_another_geometry_are_not_opened(rt: HostRuntime) -> Result<(), Fail> {
     for (blocks, sectors) in [(11, 4), (10, 5)] {
-        let mut devices = blank(rt.alloc(), u64::from(sectors))?;
-        format(
-            &mut devices.metadata,
-            &Geometry::new(64, 4, blocks, sectors)?,
-        )?;
-        let mut stage = closed(rt.alloc(), devices)?;
-        assert!(rt; is_refused(rt.alloc(), &mut stage, Refusal::Mismatch, 3));
+        let stage = formatted_for(rt.alloc(), blocks, sectors);
+        assert!(rt; does_open(rt.alloc(), stage, Opens::Never(Refusal::Mismatch, 3))?);
     }
     Ok(())
 }
 
+/// Of the last generation it is refused.
+pub fn is_worn(alloc: Global, stage: &mut Stage) -> bool {
+    renumber(&mut stage.devices.metadata, u64::MAX)
+        && is_refused(alloc, stage, Refusal::GenerationEnd, 3)
+}
+
 #[test]
 fn metadata_of_the_last_generation_are_not_opened(rt: HostRuntime) -> Result<(), Fail> {
-    let mut stage = closed(rt.alloc(), formatted(rt.alloc())?)?;
-    assert!(rt; renumber(&mut stage.devices.metadata, u64::MAX));
-    assert!(rt; is_refused(rt.alloc(), &mut stage, Refusal::GenerationEnd, 3));
+    assert!(rt; does_open(rt.alloc(), unopened(rt.alloc()), Opens::NotWorn)?);
     Ok(())
 }

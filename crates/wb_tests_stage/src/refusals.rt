@@ -7,6 +7,7 @@ ghost use Rattle.wb_cells.specs.Crews.{card_of};
 use crate::faults::PROMOTE;
 use crate::fixture::{Cache, Job, formatted, hinder, open, open_by, opened, play, promote, take};
 use crate::openings::renumber;
+use crate::questions::{Question, answered};
 use std::alloc::Global;
 use std::test::Fail;
 use wb_cells::Crew;
@@ -17,7 +18,7 @@ use wb_types::{CBlock, Dev, OBlock, Refusal};
 use wb_words::{Access, CellStep};
 
 /// A promotion that no order asks for is refused, and gives up its block: another task finds it free.
-fn is_not_mapped(cache: &mut Cache) -> bool
+pub fn is_not_mapped(cache: &mut Cache) -> bool
     requires { cache.old.stage.crew.blocks ≡ 10 }
 {
     promote(cache, OBlock(0), CBlock(0), 64) == Answer::Refused(Refusal::Memory)
@@ -40,32 +41,56 @@ fn serves(cache: &mut Cache, most: u32, answer: Answer) -> Option<bool> {
     Some(cache.stage.desk.is_live(SERVED))
 }
 
+/// Whether flushes one after the other end as their rows say: the most nodes, the answer, and whether the order lives then.
+pub fn serve(cache: &mut Cache, flushes: &[(u32, Answer, bool)]) -> bool {
+    for (most, answer, lives) in flushes {
+        if serves(cache, *most, *answer) != Some(*lives) {
+            return false;
+        }
+    }
+    true
+}
+
 #[test]
 fn a_promotion_that_no_order_asks_for_is_refused(rt: HostRuntime) -> Result<(), Fail> {
-    let mut cache = opened(rt.alloc())?;
-    assert!(rt; is_not_mapped(&mut cache));
+    assert!(rt; answered(opened(rt.alloc()), Question::IsNotMapped)?);
     Ok(())
 }
+
+const WITHOUT_MEMORY: [(u32, Answer, bool); 2] = [
+    (0, Answer::Refused(Refusal::Memory), false),
+    (4, Answer::Done, true),
+];
 
 #[test]
 fn a_flush_without_memory_gives_up_what_it_serves(rt: HostRuntime) -> Result<(), Fail> {
-    let mut cache = opened(rt.alloc())?;
-    assert!(rt; serves(&mut cache, 0, Answer::Refused(Refusal::Memory)) == Some(false));
-    assert!(rt; serves(&mut cache, 4, Answer::Done) == Some(true));
+    assert!(rt; answered(opened(rt.alloc()), Question::Serve(&WITHOUT_MEMORY))?);
     Ok(())
 }
 
+/// A cache whose opening has written the last generation.
+fn worn(alloc: Global) -> Result<Cache, Refusal>
+    ensures { IfOk result (λ cache. cache.stage.crew.blocks ≡ 10) }
+{
+    let mut devices = formatted(alloc)?;
+    if renumber(&mut devices.metadata, u64::MAX - 1) {
+        open(alloc, devices)
+    } else {
+        Err(Refusal::NotFormatted)
+    }
+}
+
+const WORN: [(u32, Answer, bool); 1] = [(4, Answer::Refused(Refusal::GenerationEnd), false)];
+
 #[test]
 fn a_flush_of_the_last_generation_gives_up_what_it_serves(rt: HostRuntime) -> Result<(), Fail> {
-    let mut devices = formatted(rt.alloc())?;
-    assert!(rt; renumber(&mut devices.metadata, u64::MAX - 1));
-    let mut cache = open(rt.alloc(), devices)?;
-    assert!(rt; serves(&mut cache, 4, Answer::Refused(Refusal::GenerationEnd)) == Some(false));
+    assert!(rt; answered(worn(rt.alloc()), Question::Serve(&WORN))?);
     Ok(())
 }
 
 /// While another's commit runs, a flush is refused, and its order lives.
-fn is_busy(alloc: Global, cache: &mut Cache) -> bool {
+pub fn is_busy(cache: &mut Cache) -> bool {
+    let alloc = cache.stage.alloc;
     if cache.stage.desk.begin_commit(alloc, None).is_err() {
         return false;
     }
@@ -74,13 +99,12 @@ fn is_busy(alloc: Global, cache: &mut Cache) -> bool {
 
 #[test]
 fn a_flush_beside_another_keeps_what_it_serves(rt: HostRuntime) -> Result<(), Fail> {
-    let mut cache = opened(rt.alloc())?;
-    assert!(rt; is_busy(rt.alloc(), &mut cache));
+    assert!(rt; answered(opened(rt.alloc()), Question::IsBusy)?);
     Ok(())
 }
 
 /// After a write that failed each task is refused.
-fn is_failed(cache: &mut Cache) -> bool
+pub fn is_failed(cache: &mut Cache) -> bool
     requires { cache.old.stage.crew.blocks ≡ 10 }
 {
     hinder(cache, Dev::Origin, 0);
@@ -99,8 +123,7 @@ const WRITE: Job = Job::Write(0, 2, 0x11);
 
 #[test]
 fn a_failed_target_refuses_each_task(rt: HostRuntime) -> Result<(), Fail> {
-    let mut cache = opened(rt.alloc())?;
-    assert!(rt; is_failed(&mut cache));
+    assert!(rt; answered(opened(rt.alloc()), Question::IsFailed)?);
     Ok(())
 }
 
@@ -116,7 +139,7 @@ fn crew_beside_an_owner(alloc: Global) -> Result<Crew, Refusal>
 }
 
 /// Another block is free; what is asked of that block is refused, and a promotion keeps its order.
-fn is_kept_out(cache: &mut Cache) -> bool
+pub fn is_kept_out(cache: &mut Cache) -> bool
     requires { cache.old.stage.crew.blocks ≡ 10 }
 {
     if play(cache, &Job::Read(64, 2), 64) != Some(Answer::Done) {
@@ -133,10 +156,17 @@ fn is_kept_out(cache: &mut Cache) -> bool
         .is_live(Order::Promote(OBlock(0), CBlock(0)))
 }
 
+/// A cache for the first of them.
+fn beside_an_owner(alloc: Global) -> Result<Cache, Refusal>
+    ensures { IfOk result (λ cache. cache.stage.crew.blocks ≡ 10) }
+{
+    let devices = formatted(alloc)?;
+    let crew = crew_beside_an_owner(alloc)?;
+    open_by(alloc, devices, crew)
+}
+
 #[test]
 fn a_block_that_another_owns_is_busy(rt: HostRuntime) -> Result<(), Fail> {
-    let crew = crew_beside_an_owner(rt.alloc())?;
-    let mut cache = open_by(rt.alloc(), formatted(rt.alloc())?, crew)?;
-    assert!(rt; is_kept_out(&mut cache));
+    assert!(rt; answered(beside_an_owner(rt.alloc()), Question::IsKeptOut)?);
     Ok(())
 }

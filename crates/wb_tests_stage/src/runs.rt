@@ -3,7 +3,7 @@
 ghost use Rattle.std.specs.Prelude.{◌≡◌};
 
 use crate::fixture::{Cache, Job, device_steps, opened, play};
-use std::alloc::Global;
+use crate::questions::{Question, answered};
 use std::test::Fail;
 use wb_meta::read_state;
 use wb_tasks::Answer;
@@ -46,7 +46,8 @@ const MIXED: [(Job, u64); 12] = [
 ];
 
 /// The generation that is read of the metadata, and how many nodes its tree has.
-fn committed(alloc: Global, cache: &mut Cache) -> Option<(u64, usize)> {
+fn committed(cache: &mut Cache) -> Option<(u64, usize)> {
+    let alloc = cache.stage.alloc;
     match read_state(alloc, alloc, &mut cache.stage.devices.metadata.disk) {
         Ok(state) => Some((state.root.generation, state.used.len())),
         Err(_) => None,
@@ -62,11 +63,15 @@ fn is_written(cache: &mut Cache) -> bool {
         && devices.cache.holds(0, 0x44)
 }
 
+/// Whether a mixed run takes these steps, and the devices and the metadata then hold what it has written.
+pub fn mixes(cache: &mut Cache, rows: &[(Job, u64)]) -> bool
+    requires { cache.old.stage.crew.blocks ≡ 10 }
+{
+    take_steps(cache, rows) && is_written(cache) && committed(cache) == Some((5, 1))
+}
+
 #[test]
 fn a_mixed_run_takes_these_steps_on_devices(rt: HostRuntime) -> Result<(), Fail> {
-    let mut cache = opened(rt.alloc())?;
-    assert!(rt; take_steps(&mut cache, &MIXED));
-    assert!(rt; is_written(&mut cache));
-    assert!(rt; committed(rt.alloc(), &mut cache) == Some((5, 1)));
+    assert!(rt; answered(opened(rt.alloc()), Question::Mixes(&MIXED))?);
     Ok(())
 }

@@ -3,36 +3,26 @@
 use crate::fixture::{
     Lent, Memory, begun_with, client_of, formatted, open, shows, worked, write_and_read,
 };
-use std::alloc::Global;
+use crate::questions::{Question, answered, answered_over};
 use std::sync::Wait;
 use std::test::Fail;
 use wb_policy::{Order, TinyLfu};
 use wb_target::{Flushed, Target};
 use wb_types::{CBlock, OBlock, Refusal, Sector};
 
-#[test]
-fn a_block_is_cached_at_its_second_access(rt: HostRuntime) -> Result<(), Fail> {
-    let (devices, target) = open(rt.alloc(), formatted(rt.alloc())?)?;
-    let mut client = client_of(&rt, &target, devices)?;
-    assert!(rt; write_and_read(&rt, &mut client, 70, 0x11));
-    assert!(rt; worked(&rt, &mut client) == Some(Order::Promote(OBlock(1), CBlock(0))));
-    assert!(rt; target.counts(&rt).promotions == 1);
-    assert!(rt; shows(&rt, &mut client, 70, 0x11));
-    assert!(rt; worked(&rt, &mut client).is_none());
-    Ok(())
+/// Whether a block is cached at its second access, and then found there.
+pub fn caches(rt: &impl Wait, target: &Target<TinyLfu>, client: &mut Lent<'_>) -> bool {
+    write_and_read(rt, client, 70, 0x11)
+        && worked(rt, client) == Some(Order::Promote(OBlock(1), CBlock(0)))
+        && target.counts(rt).promotions == 1
+        && shows(rt, client, 70, 0x11)
+        && worked(rt, client).is_none()
 }
 
-/// What a new target over these devices shows of a sector.
-fn reopened_shows(
-    rt: &impl Wait,
-    alloc: Global,
-    devices: Memory,
-    at: u64,
-    byte: u8,
-) -> Result<bool, Refusal> {
-    let (devices, target) = open(alloc, devices)?;
-    let mut client = client_of(rt, &target, devices)?;
-    Ok(shows(rt, &mut client, at, byte))
+#[test]
+fn a_block_is_cached_at_its_second_access(rt: HostRuntime) -> Result<(), Fail> {
+    assert!(rt; answered(&rt, rt.alloc(), Question::Caches)?);
+    Ok(())
 }
 
 /// Caches a block, writes it there, and flushes: the devices then.
@@ -59,7 +49,7 @@ fn what_was_flushed_is_found_in_the_cache(rt: HostRuntime) -> Result<(), Fail> {
     let devices = cached_and_flushed(&rt, &target, devices)?;
     assert!(rt; devices.is_some());
     if let Some(devices) = devices {
-        assert!(rt; reopened_shows(&rt, rt.alloc(), devices, 70, 0x22)?);
+        assert!(rt; answered_over(&rt, rt.alloc(), devices, Question::Shows(70, 0x22))?);
     }
     Ok(())
 }
@@ -71,18 +61,24 @@ fn fill_cache(rt: &impl Wait, client: &mut Lent<'_>) -> bool {
     })
 }
 
+/// Whether a block that is accessed three times replaces the least recent one.
+pub fn replaces(rt: &impl Wait, target: &Target<TinyLfu>, client: &mut Lent<'_>) -> bool {
+    if !fill_cache(rt, client) {
+        return false;
+    }
+    for _ in 0..3 {
+        if !write_and_read(rt, client, 320, 0x55) {
+            return false;
+        }
+    }
+    worked(rt, client) == Some(Order::Replace(OBlock(0), OBlock(5), CBlock(0)))
+        && target.counts(rt).demotions == 1
+        && shows(rt, client, 320, 0x55)
+        && shows(rt, client, 0, 0x10)
+}
+
 #[test]
 fn a_block_that_is_wanted_more_replaces_the_least_recent(rt: HostRuntime) -> Result<(), Fail> {
-    let (devices, target) = open(rt.alloc(), formatted(rt.alloc())?)?;
-    let mut client = client_of(&rt, &target, devices)?;
-    assert!(rt; fill_cache(&rt, &mut client));
-    for _ in 0..3 {
-        assert!(rt; write_and_read(&rt, &mut client, 320, 0x55));
-    }
-    let replaced = worked(&rt, &mut client);
-    assert!(rt; replaced == Some(Order::Replace(OBlock(0), OBlock(5), CBlock(0))));
-    assert!(rt; target.counts(&rt).demotions == 1);
-    assert!(rt; shows(&rt, &mut client, 320, 0x55));
-    assert!(rt; shows(&rt, &mut client, 0, 0x10));
+    assert!(rt; answered(&rt, rt.alloc(), Question::Replaces)?);
     Ok(())
 }

@@ -1,6 +1,7 @@
 //! A call of a device that fails, whichever it is: the next target shows of each sector what was flushed, or a later write.
 
-use crate::fixture::{Memory, begun_with, client_of, formatted, open};
+use crate::fixture::{Lent, Memory, begun_with, formatted};
+use crate::questions::{Question, answered_over};
 use std::alloc::Global;
 use std::sync::Wait;
 use std::test::Fail;
@@ -19,7 +20,7 @@ const MOST_CALLS: u64 = 200;
 /// How far the rounds of writes have come, each of all five sectors: the last that was begun, and the last that was finished when
 /// the last answered flush began.
 #[derive(Clone, Copy)]
-struct Rounds {
+pub struct Rounds {
     begun: u8,
     flushed: u8,
 }
@@ -111,25 +112,18 @@ fn crashed(memory: &mut Memory, choice: &CrashChoice) -> bool {
         && memory.origin.stop(Dev::Origin, choice)
 }
 
-/// Whether a new target shows each of the five sectors as one of the rounds from the flushed one on wrote it.
-fn all_allowed(
-    rt: &impl Wait,
-    alloc: Global,
-    memory: Memory,
-    rounds: Rounds,
-) -> Result<bool, Refusal> {
-    let (devices, target) = open(alloc, memory)?;
-    let mut client = client_of(rt, &target, devices)?;
+/// Whether each of the five sectors is shown as one of the rounds from the flushed one on wrote it.
+pub fn shows_allowed(rt: &impl Wait, client: &mut Lent<'_>, rounds: Rounds) -> bool {
     let mut out = [[0; SECTOR_BYTES]];
     for block in 0..5 {
-        if let Err(stopped) = client.read(rt, Sector(64 * block), &mut out) {
-            return Err(stopped.refusal);
+        if client.read(rt, Sector(64 * block), &mut out).is_err() {
+            return false;
         }
         if out[0][0] < rounds.flushed || out[0][0] > rounds.begun {
-            return Ok(false);
+            return false;
         }
     }
-    Ok(true)
+    true
 }
 
 /// Whether all is shown as it may be where this call fails, or none if it never comes.
@@ -148,7 +142,8 @@ fn is_borne(
     if !crashed(&mut memory, &choice) {
         return Ok(Some(false));
     }
-    Ok(Some(all_allowed(rt, alloc, memory, rounds)?))
+    let allowed = answered_over(rt, alloc, memory, Question::ShowsAllowed(rounds))?;
+    Ok(Some(allowed))
 }
 
 /// How many calls of a device were made to fail, one in each run, if each run was borne.

@@ -14,6 +14,8 @@ mod memory;
 #[cfg(test)]
 mod opening;
 #[cfg(test)]
+mod questions;
+#[cfg(test)]
 mod requests;
 #[cfg(test)]
 mod threads;

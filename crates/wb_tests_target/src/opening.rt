@@ -1,35 +1,50 @@
 //! Openings that are refused, and what they leave.
 
-use crate::fixture::{formatted, open};
+use crate::fixture::{Memory, formatted};
+use crate::questions::{Question, answered, answered_over};
+use std::alloc::Global;
+use std::sync::Wait;
 use std::test::Fail;
 use wb_policy::TinyLfu;
 use wb_target::Target;
 use wb_types::{Key, Mode, Refusal};
 
-#[test]
-fn a_value_out_of_range_is_refused_before_the_root_is_written(rt: HostRuntime) -> Result<(), Fail> {
-    let devices = formatted(rt.alloc())?;
-    let keys = [(Key::PromoteMin, 18)];
+/// Whether the first root that an opening has written is a target's.
+pub fn was_opened(rt: &impl Wait, target: &Target<TinyLfu>) -> bool {
+    target.counts(rt).generation == 1
+}
+
+/// Whether an opening with these values is refused as a bad message, and the devices that it leaves.
+fn refused(alloc: Global, devices: Memory, keys: &[(Key, u64)]) -> (Memory, bool) {
     let (devices, refused): (_, Result<Target<TinyLfu>, Refusal>) = Target::open(
-        rt.alloc(),
+        alloc,
         devices,
         64,
         Mode::Writeback,
-        &keys,
+        keys,
     );
-    assert!(rt; matches!(refused, Err(Refusal::BadMessage)));
-    let (_devices, target) = open(rt.alloc(), devices)?;
-    assert!(rt; target.counts(&rt).generation == 1);
+    (devices, matches!(refused, Err(Refusal::BadMessage)))
+}
+
+#[test]
+fn a_value_out_of_range_is_refused_before_the_root_is_written(rt: HostRuntime) -> Result<(), Fail> {
+    let keys = [(Key::PromoteMin, 18)];
+    let (devices, is_refused) = refused(rt.alloc(), formatted(rt.alloc())?, &keys);
+    let was_opened = answered_over(&rt, rt.alloc(), devices, Question::WasOpened);
+    assert!(rt; is_refused && was_opened?);
     Ok(())
+}
+
+/// Whether this is the status line of a new target.
+pub fn tells_status(rt: &impl Wait, alloc: Global, target: &Target<TinyLfu>) -> bool {
+    let mut text = String::new(alloc);
+    let wanted =
+        "1 2/4 64 0/4 0 0 0 0 0 0 0 1 writeback 2 migration_threshold 2048 tinylfu 2 promote_min 2 rw -";
+    target.status(rt, &mut text).is_ok() && text.as_str() == wanted
 }
 
 #[test]
 fn a_status_line_tells_how_a_target_is(rt: HostRuntime) -> Result<(), Fail> {
-    let (_devices, target) = open(rt.alloc(), formatted(rt.alloc())?)?;
-    let mut text = String::new(rt.alloc());
-    target.status(&rt, &mut text)?;
-    let wanted =
-        "1 2/4 64 0/4 0 0 0 0 0 0 0 1 writeback 2 migration_threshold 2048 tinylfu 2 promote_min 2 rw -";
-    assert!(rt; text.as_str() == wanted);
+    assert!(rt; answered(&rt, rt.alloc(), Question::TellsStatus)?);
     Ok(())
 }

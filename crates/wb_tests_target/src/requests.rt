@@ -1,44 +1,57 @@
 //! Requests that are refused, and why.
 
-use crate::fixture::{Lent, begun_with, client_of, formatted, open, worked};
+use crate::fixture::{Lent, begun_with, worked};
+use crate::questions::{Question, answered};
 use std::sync::Wait;
 use std::test::Fail;
 use wb_policy::Order;
 use wb_port::UNSETTLED;
 use wb_types::{CBlock, OBlock, Refusal, SECTOR_BYTES, Sector};
 
-#[test]
-fn a_request_is_refused_for_its_range_or_its_blocks(rt: HostRuntime) -> Result<(), Fail> {
-    let (devices, target) = open(rt.alloc(), formatted(rt.alloc())?)?;
-    let mut client = client_of(&rt, &target, devices)?;
+/// Whether writes are refused for their range or for their blocks, and one that reaches the end is done.
+pub fn refuses(client: &mut Lent<'_>) -> bool {
     let two = [[0; SECTOR_BYTES]; 2];
     for (first, refusal) in [
         (639, Refusal::Range),
         (u64::MAX, Refusal::Range),
         (63, Refusal::Crosses),
     ] {
-        assert!(rt; client.port.try_write(Sector(first), &two) == Err(refusal));
+        if client.port.try_write(Sector(first), &two) != Err(refusal) {
+            return false;
+        }
     }
-    assert!(rt; client.port.try_write(Sector(0), &[]) == Err(Refusal::Range));
-    assert!(rt; client.port.try_write(Sector(638), &two) == Ok(()));
+    client.port.try_write(Sector(0), &[]) == Err(Refusal::Range)
+        && client.port.try_write(Sector(638), &two) == Ok(())
+}
+
+#[test]
+fn a_request_is_refused_for_its_range_or_its_blocks(rt: HostRuntime) -> Result<(), Fail> {
+    assert!(rt; answered(&rt, rt.alloc(), Question::Refuses)?);
     Ok(())
+}
+
+/// Whether a write is deferred behind so many accesses, until they are settled.
+pub fn defers(rt: &impl Wait, client: &mut Lent<'_>) -> bool {
+    for _ in 0..UNSETTLED {
+        if client.port.try_write(Sector(0), &[begun_with(0x11)]) != Ok(()) {
+            return false;
+        }
+    }
+    if client.port.try_write(Sector(0), &[begun_with(0x22)]) != Err(Refusal::Defer) {
+        return false;
+    }
+    client.settle(rt);
+    client.port.try_write(Sector(0), &[begun_with(0x22)]) == Ok(())
 }
 
 #[test]
 fn accesses_that_are_unsettled_defer_a_request(rt: HostRuntime) -> Result<(), Fail> {
-    let (devices, target) = open(rt.alloc(), formatted(rt.alloc())?)?;
-    let mut client = client_of(&rt, &target, devices)?;
-    for _ in 0..UNSETTLED {
-        assert!(rt; client.port.try_write(Sector(0), &[begun_with(0x11)]) == Ok(()));
-    }
-    assert!(rt; client.port.try_write(Sector(0), &[begun_with(0x22)]) == Err(Refusal::Defer));
-    client.settle(&rt);
-    assert!(rt; client.port.try_write(Sector(0), &[begun_with(0x22)]) == Ok(()));
+    assert!(rt; answered(&rt, rt.alloc(), Question::Defers)?);
     Ok(())
 }
 
 /// Whether two accesses, settled without waiting, order that their block be cached.
-fn settled_alone(rt: &impl Wait, client: &mut Lent<'_>) -> bool {
+pub fn settles_alone(rt: &impl Wait, client: &mut Lent<'_>) -> bool {
     let sector = [begun_with(0x11)];
     let written = (0..2).all(|_| client.port.try_write(Sector(0), &sector) == Ok(()));
     written
@@ -51,8 +64,6 @@ fn settled_alone(rt: &impl Wait, client: &mut Lent<'_>) -> bool {
 fn accesses_are_settled_without_waiting_where_nobody_is_at_the_desk(
     rt: HostRuntime,
 ) -> Result<(), Fail> {
-    let (devices, target) = open(rt.alloc(), formatted(rt.alloc())?)?;
-    let mut client = client_of(&rt, &target, devices)?;
-    assert!(rt; settled_alone(&rt, &mut client));
+    assert!(rt; answered(&rt, rt.alloc(), Question::SettlesAlone)?);
     Ok(())
 }

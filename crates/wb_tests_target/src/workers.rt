@@ -1,7 +1,8 @@
 //! Workers that a gate holds or ends.
 
 use crate::files::{Images, Names, client_over, images, target_over};
-use crate::fixture::{Lent, client_of, formatted, open, shows, worked, write_and_read};
+use crate::fixture::{Lent, shows, worked, write_and_read};
+use crate::questions::{Question, answered};
 use std::sync::Wait;
 use std::sync::atomic::{AtomicU64, Ordering};
 use std::test::Fail;
@@ -62,29 +63,35 @@ fn order_two(rt: &impl Wait, client: &mut Lent<'_>) -> bool {
     write_and_read(rt, client, 64, 0x11) && write_and_read(rt, client, 128, 0x22)
 }
 
+/// Whether a worker takes no order after a no.
+pub fn takes_no_more(rt: &impl Wait, client: &mut Lent<'_>) -> bool {
+    let gate = Counting::new(1);
+    order_two(rt, client)
+        && client.worker(rt, &gate) == Ok(())
+        && gate.told() == (2, 2, 0)
+        && worked(rt, client) == Some(Order::Promote(OBlock(2), CBlock(1)))
+}
+
 #[test]
 fn a_worker_takes_no_order_after_a_no(rt: HostRuntime) -> Result<(), Fail> {
-    let (devices, target) = open(rt.alloc(), formatted(rt.alloc())?)?;
-    let mut client = client_of(&rt, &target, devices)?;
-    assert!(rt; order_two(&rt, &mut client));
-    let gate = Counting::new(1);
-    assert!(rt; client.worker(&rt, &gate) == Ok(()));
-    assert!(rt; gate.told() == (2, 2, 0));
-    assert!(rt; worked(&rt, &mut client) == Some(Order::Promote(OBlock(2), CBlock(1))));
+    assert!(rt; answered(&rt, rt.alloc(), Question::TakesNoMore)?);
     Ok(())
+}
+
+/// Whether one carries out all orders, and asks where none waits.
+pub fn carries_out_all(rt: &impl Wait, target: &Target<TinyLfu>, client: &mut Lent<'_>) -> bool {
+    let gate = Counting::new(9);
+    order_two(rt, client)
+        && client.worker(rt, &gate) == Ok(())
+        && gate.told() == (3, 4, 1)
+        && target.counts(rt).promotions == 2
+        && shows(rt, client, 64, 0x11)
+        && shows(rt, client, 128, 0x22)
 }
 
 #[test]
 fn a_worker_carries_out_all_orders_and_asks_where_none_waits(rt: HostRuntime) -> Result<(), Fail> {
-    let (devices, target) = open(rt.alloc(), formatted(rt.alloc())?)?;
-    let mut client = client_of(&rt, &target, devices)?;
-    assert!(rt; order_two(&rt, &mut client));
-    let gate = Counting::new(9);
-    assert!(rt; client.worker(&rt, &gate) == Ok(()));
-    assert!(rt; gate.told() == (3, 4, 1));
-    assert!(rt; target.counts(&rt).promotions == 2);
-    assert!(rt; shows(&rt, &mut client, 64, 0x11));
-    assert!(rt; shows(&rt, &mut client, 128, 0x22));
+    assert!(rt; answered(&rt, rt.alloc(), Question::CarriesOutAll)?);
     Ok(())
 }
 

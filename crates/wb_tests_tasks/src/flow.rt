@@ -8,7 +8,7 @@ use self::stage::{Noted, Task};
 use std::alloc::{AllocError, Global};
 use std::test::Fail;
 use wb_flow::*;
-use wb_tasks::{Answer, drive};
+use wb_tasks::{Answer, Want, drive};
 use wb_types::{OBlock, Refusal};
 
 /// The blocks whose orders a row's flush serves.
@@ -34,17 +34,20 @@ fn play(alloc: Global, noted: &mut Noted, row: &Row) -> Result<Answer, AllocErro
 /// Whether a row's task goes as the row says.
 fn goes_so(alloc: Global, noted: &mut Noted, row: &Row) -> Result<bool, AllocError> {
     let answer = play(alloc, noted, row)?;
-    let wants = noted.wants.as_slice().get(row.from..);
-    Ok(answer == row.answer && wants == Some(row.wants) && noted.fail == row.fail)
+    Ok(answer == row.answer && has_noted(noted, row))
 }
 
-#[test]
-fn flushes_and_openings_take_the_steps_of_their_tables(rt: HostRuntime) -> Result<(), Fail> {
-    for row in &ROWS {
-        let mut noted = Noted::new(rt.alloc(), row)?;
-        assert!(rt; goes_so(rt.alloc(), &mut noted, row)?, "{}", row.name);
+/// Whether what was noted is what a row says.
+fn has_noted(noted: &Noted, row: &Row) -> bool {
+    noted.fail == row.fail && are_from(noted.wants.as_slice(), row.from, row.wants)
+}
+
+/// Whether the wants from this one on are those.
+fn are_from(wants: &[Want], from: usize, wanted: &[Want]) -> bool {
+    match wants.get(from..) {
+        Some(wants) => wants == wanted,
+        None => false,
     }
-    Ok(())
 }
 
 /// Whether a row's task ends at the step that fails; a flush that does fails the target.
@@ -58,6 +61,27 @@ fn ends_at(alloc: Global, noted: &mut Noted, row: &Row, fails: u32) -> Result<bo
     )
 }
 
+/// Whether a row's task goes as the row says, or ends at the step that fails.
+fn is_so(alloc: Global, row: &Row) -> Result<bool, Refusal> {
+    let mut noted = Noted::new(alloc, row)?;
+    Ok(is_noted(alloc, &mut noted, row)?)
+}
+
+fn is_noted(alloc: Global, noted: &mut Noted, row: &Row) -> Result<bool, AllocError> {
+    match row.fails {
+        Some(fails) => ends_at(alloc, noted, row, fails),
+        None => goes_so(alloc, noted, row),
+    }
+}
+
+#[test]
+fn flushes_and_openings_take_the_steps_of_their_tables(rt: HostRuntime) -> Result<(), Fail> {
+    for row in &ROWS {
+        assert!(rt; is_so(rt.alloc(), row)?, "{}", row.name);
+    }
+    Ok(())
+}
+
 #[test]
 fn each_fault_ends_a_flush_or_an_opening(rt: HostRuntime) -> Result<(), Fail> {
     for row in &ROWS {
@@ -66,12 +90,7 @@ fn each_fault_ends_a_flush_or_an_opening(rt: HostRuntime) -> Result<(), Fail> {
                 fails: Some(fails),
                 ..*row
             };
-            let mut noted = Noted::new(rt.alloc(), &row)?;
-            assert!(rt;
-                ends_at(rt.alloc(), &mut noted, &row, fails)?,
-                "{} {fails}",
-                row.name
-            );
+            assert!(rt; is_so(rt.alloc(), &row)?, "{} {fails}", row.name);
         }
     }
     Ok(())

@@ -84,11 +84,40 @@ fn goes_so(bench: &mut Bench, row: &Row) -> bool {
         && bench.has_order == row.has_order
 }
 
+/// Whether a copy ends at the step that fails, of this device: after a fault on a read the block and the order are given up, after
+/// one on a write the target has failed.
+fn ends_at(bench: &mut Bench, row: &Row, fails: u32, device: Dev) -> bool {
+    let is_read = fails % 2 == 0;
+    let parting: &[Want] = if is_read {
+        &[DISOWN, GIVE_UP]
+    } else {
+        &[Want::Cell(CellStep::SetFailed)]
+    };
+    let next = (fails as usize).saturating_add(6);
+    let kept = if is_read { 0 } else { 1 };
+    play(bench, row) == Answer::Refused(Refusal::Io(device))
+        && bench.wants.as_slice().get(next..) == Some(parting)
+        && bench.has_order == !is_read
+        && has(bench, &[(Word::Cell(BLOCK), kept), (Word::Fail, kept)])
+}
+
+/// Whether a row's task goes as the row says, or a copy ends at the step that fails, where that and its device are given.
+fn is_so(alloc: Global, row: &Row, ends: Option<(u32, Dev)>) -> Result<bool, Refusal> {
+    let mut bench = Bench::new(alloc, row)?;
+    Ok(is_done(&mut bench, row, ends))
+}
+
+fn is_done(bench: &mut Bench, row: &Row, ends: Option<(u32, Dev)>) -> bool {
+    match ends {
+        Some((fails, device)) => ends_at(bench, row, fails, device),
+        None => goes_so(bench, row),
+    }
+}
+
 /// Drives each row's task, and compares.
 fn compare(alloc: Global, rows: &[Row]) -> Result<(), Fail> {
     for row in rows {
-        let mut bench = Bench::new(alloc, row)?;
-        if !goes_so(&mut bench, row) {
+        if !is_so(alloc, row, None)? {
             return Err(Fail::from(row.name));
         }
     }
@@ -125,23 +154,6 @@ fn refused_migrations_take_the_steps_of_their_tables(rt: HostRuntime) -> Result<
     compare(rt.alloc(), &REFUSED)
 }
 
-/// Whether a copy ends at the step that fails, of this device: after a fault on a read the block and the order are given up, after
-/// one on a write the target has failed.
-fn ends_at(bench: &mut Bench, row: &Row, fails: u32, device: Dev) -> bool {
-    let is_read = fails % 2 == 0;
-    let parting: &[Want] = if is_read {
-        &[DISOWN, GIVE_UP]
-    } else {
-        &[Want::Cell(CellStep::SetFailed)]
-    };
-    let next = (fails as usize).saturating_add(6);
-    let kept = if is_read { 0 } else { 1 };
-    play(bench, row) == Answer::Refused(Refusal::Io(device))
-        && bench.wants.as_slice().get(next..) == Some(parting)
-        && bench.has_order == !is_read
-        && has(bench, &[(Word::Cell(BLOCK), kept), (Word::Fail, kept)])
-}
-
 #[test]
 fn each_fault_of_a_copy_ends_it(rt: HostRuntime) -> Result<(), Fail> {
     for (row, from, to) in &COPIES {
@@ -152,8 +164,7 @@ fn each_fault_of_a_copy_ends_it(rt: HostRuntime) -> Result<(), Fail> {
                 ..*row
             };
             let device = if fails % 2 == 0 { *from } else { *to };
-            let mut bench = Bench::new(rt.alloc(), &row)?;
-            assert!(rt; ends_at(&mut bench, &row, fails, device), "{fails}");
+            assert!(rt; is_so(rt.alloc(), &row, Some((fails, device)))?, "{fails}");
         }
     }
     Ok(())

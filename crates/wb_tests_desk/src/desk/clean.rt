@@ -1,6 +1,6 @@
 //! Clean images.
 
-use super::{Call, are_answered, are_answered_by, are_done, empty};
+use super::{Call, Tries, are_answered, are_answered_by, are_done_by, empty};
 use std::alloc::Global;
 use std::test::Fail;
 use wb_desk::Desk;
@@ -75,61 +75,55 @@ fn a_clean_image_has_the_hints_of_the_policy(rt: HostRuntime) -> Result<(), Fail
     Ok(())
 }
 
-/// Block 0 comes into the first cache block and block 1 into the last, of 64 or of 32, and a commit is made.
-const INTO_64: [(Call, bool); 6] = [
+/// Block 0 comes into the first cache block and block 1 into the last, of 64 or of 32, and a commit is made. Then one mark writes
+/// one leaf with the top above it, of the two leaves of 64 cache blocks; of 32 the one leaf.
+const INTO_64: [(Call, bool); 7] = [
     (Call::Reserve(Order::Promote(OBlock(0), CBlock(0))), true),
     (Call::Reserve(Order::Promote(OBlock(1), CBlock(63))), true),
     (Call::Map(0, 0), true),
     (Call::Map(1, 63), true),
     (Call::Begin, true),
     (Call::End, true),
+    (Call::Marked(2), true),
 ];
 
-const INTO_32: [(Call, bool); 6] = [
+const INTO_32: [(Call, bool); 7] = [
     (Call::Reserve(Order::Promote(OBlock(0), CBlock(0))), true),
     (Call::Reserve(Order::Promote(OBlock(1), CBlock(31))), true),
     (Call::Map(0, 0), true),
     (Call::Map(1, 31), true),
     (Call::Begin, true),
     (Call::End, true),
+    (Call::Marked(1), true),
 ];
 
-/// How many nodes a clean image writes that marks the last of so many cache blocks dirty, after these calls, and none of the
-/// others. None where a call comes out otherwise.
-fn nodes_of_one_mark(
-    alloc: Global,
-    cache_blocks: u64,
-    calls: &[(Call, bool)],
-) -> Result<Option<usize>, Refusal> {
-    let mut desk = empty::<Quiet>(alloc, cache_blocks, 2, Mode::Writeback)?;
-    mark_after(&mut desk, alloc, calls)
-}
-
-fn mark_after<P: Policy>(
+/// Whether a clean image writes so many nodes that marks the last cache block dirty, and none of the others.
+pub(super) fn writes_of_one_mark<P: Policy>(
     desk: &mut Desk<P>,
     alloc: Global,
-    calls: &[(Call, bool)],
-) -> Result<Option<usize>, Refusal> {
-    if are_done(desk, alloc, calls)? {
-        mark_last(desk, alloc)
-    } else {
-        Ok(None)
-    }
-}
-
-fn mark_last<P: Policy>(desk: &mut Desk<P>, alloc: Global) -> Result<Option<usize>, Refusal> {
+    nodes: usize,
+) -> Result<bool, Refusal> {
     let mut dirty = vec![in alloc; false; desk.geometry().cache_blocks as usize]?;
     if let Some(bit) = dirty.last_mut() {
         *bit = true;
     }
     let image = desk.begin_commit(alloc, Some(dirty.as_slice()))?;
-    Ok(Some(image.nodes.len()))
+    Ok(image.nodes.len() == nodes)
 }
 
-/// One leaf with the top above it, of the two leaves of 64 cache blocks; of 32 the one leaf.
+/// The calls of an empty cache of so many blocks for an origin of two.
+fn are_answered_of(
+    alloc: Global,
+    cache_blocks: u64,
+    calls: &[(Call, bool)],
+) -> Result<bool, Refusal> {
+    let desk = empty::<Quiet>(alloc, cache_blocks, 2, Mode::Writeback)?;
+    are_done_by(desk, alloc, calls, Tries::One)
+}
+
 #[test]
 fn one_dirty_bit_writes_the_nodes_above_it(rt: HostRuntime) -> Result<(), Fail> {
-    assert!(rt; nodes_of_one_mark(rt.alloc(), 64, &INTO_64)? == Some(2));
-    assert!(rt; nodes_of_one_mark(rt.alloc(), 32, &INTO_32)? == Some(1));
+    assert!(rt; are_answered_of(rt.alloc(), 64, &INTO_64)?);
+    assert!(rt; are_answered_of(rt.alloc(), 32, &INTO_32)?);
     Ok(())
 }

@@ -4,7 +4,7 @@ ghost use Rattle.std.specs.Prelude.{◌<◌};
 
 use super::slow::{Held, SlowDesk, narrow};
 use super::ticks::seen;
-use super::{empty, maps, releases, unmaps};
+use super::{Call, Tries, are_done_by, empty, maps, releases, unmaps};
 use std::alloc::{AllocError, Global};
 use std::test::Fail;
 use wb_desk::Desk;
@@ -170,14 +170,21 @@ fn have_same_entries<P: Policy>(desk: &Desk<P>, slow: &SlowDesk<P>) -> bool {
     true
 }
 
-/// Plays so many calls, and gives how many entries came; None where the two differ.
-fn play<P: Policy>(alloc: Global, calls: u32) -> Result<Option<u64>, Refusal> {
+fn slow_desk<P: Policy>(alloc: Global) -> Result<SlowDesk<P>, Refusal> {
     let geometry = Geometry::new(64, u64::from(CACHE_BLOCKS), u64::from(ORIGIN_BLOCKS), 8)?;
-    let none = vec![in alloc; None; geometry.cache_blocks as usize]?;
-    let policy = P::new(alloc, &geometry, none.as_slice())?;
-    let mut desk = empty::<P>(alloc, 8, 24, Mode::Writeback)?;
-    let mut slow = SlowDesk::new(alloc, 8, 24, policy)?;
-    go_over(&mut desk, &mut slow, alloc, calls)
+    let policy = P::new(alloc, &geometry, &[None; 8])?;
+    Ok(SlowDesk::new(alloc, 8, 24, policy)?)
+}
+
+/// Whether so many calls of a desk come out as the slow desk has them, and more entries come than these.
+pub(super) fn is_as_slow<P: Policy>(
+    desk: &mut Desk<P>,
+    alloc: Global,
+    calls: u32,
+    entries: u64,
+) -> Result<bool, Refusal> {
+    let mut slow = slow_desk::<P>(alloc)?;
+    go_over(desk, &mut slow, alloc, calls, entries)
 }
 
 fn go_over<P: Policy>(
@@ -185,21 +192,26 @@ fn go_over<P: Policy>(
     slow: &mut SlowDesk<P>,
     alloc: Global,
     calls: u32,
-) -> Result<Option<u64>, Refusal> {
+    entries: u64,
+) -> Result<bool, Refusal> {
     let mut numbers = Numbers { state: 7 };
     for _ in 0..calls {
         if !call(desk, slow, &mut numbers, alloc)? || !agree(desk, slow) {
-            return Ok(None);
+            return Ok(false);
         }
     }
-    Ok(Some(slow.promotions))
+    Ok(slow.promotions > entries)
+}
+
+/// Whether a desk over an empty cache of the slow desk's sizes answers these calls.
+fn are_answered_beside<P: Policy>(alloc: Global, calls: &[(Call, bool)]) -> Result<bool, Refusal> {
+    let desk = empty::<P>(alloc, 8, 24, Mode::Writeback)?;
+    are_done_by(desk, alloc, calls, Tries::One)
 }
 
 #[test]
 fn random_calls_come_out_as_the_slow_desk_has_them(rt: HostRuntime) -> Result<(), Fail> {
-    let tiny = play::<TinyLfu>(rt.alloc(), 20_000)?;
-    let cleaner = play::<Cleaner>(rt.alloc(), 10_000)?;
-    assert!(rt; tiny.is_some_and(|n| n > 500), "entries: {tiny:?}");
-    assert!(rt; cleaner.is_some_and(|n| n > 50), "entries: {cleaner:?}");
+    assert!(rt; are_answered_beside::<TinyLfu>(rt.alloc(), &[(Call::Random(20_000, 500), true)])?);
+    assert!(rt; are_answered_beside::<Cleaner>(rt.alloc(), &[(Call::Random(10_000, 50), true)])?);
     Ok(())
 }

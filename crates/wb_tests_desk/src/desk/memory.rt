@@ -1,10 +1,9 @@
 //! Want of memory: `rt try --test --fail-alloc N` refuses the N-th allocation, and the test passes for each.
 
-use super::{Call, empty, is_done};
+use super::{Call, Tries, are_done_by, empty};
 use std::alloc::Global;
 use std::test::Fail;
-use wb_desk::Desk;
-use wb_policy::{Policy, TinyLfu};
+use wb_policy::TinyLfu;
 use wb_types::{Mode, Place, Refusal};
 
 /// Two blocks come in and two commits are made, the second one cleanly.
@@ -29,25 +28,8 @@ const CALLS: [(Call, bool); 12] = [
 /// Makes calls of an empty cache, and one that is refused for want of memory once more, of what it left. Whether each comes out as
 /// where none is refused; `Memory` where there is none for the desk.
 fn are_done_at_last(alloc: Global, calls: &[(Call, bool)]) -> Result<bool, Refusal> {
-    let mut desk = empty::<TinyLfu>(alloc, 4, 10, Mode::Writeback)?;
-    go_on(&mut desk, alloc, calls)
-}
-
-fn go_on<P: Policy>(
-    desk: &mut Desk<P>,
-    alloc: Global,
-    calls: &[(Call, bool)],
-) -> Result<bool, Refusal> {
-    for (call, done) in calls {
-        let is_done = match is_done(desk, alloc, *call) {
-            Err(Refusal::Memory) => is_done(desk, alloc, *call)?,
-            answer => answer?,
-        };
-        if is_done != *done {
-            return Ok(false);
-        }
-    }
-    Ok(true)
+    let desk = empty::<TinyLfu>(alloc, 4, 10, Mode::Writeback)?;
+    are_done_by(desk, alloc, calls, Tries::Two)
 }
 
 #[test]

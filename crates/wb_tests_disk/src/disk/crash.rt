@@ -7,7 +7,7 @@ use wb_disk::{Base, CrashChoice, MemDisk, NamedContent};
 use wb_types::{Dev, Refusal};
 
 /// A choice that names these sectors of devices, each by a position.
-fn choice_of(
+pub(super) fn choice_of(
     alloc: Global,
     base: Base,
     named: &[(Dev, u64, u64)],
@@ -65,11 +65,23 @@ fn sector_after(
     named: &[(Dev, u64, u64)],
 ) -> Result<Option<(bool, Option<u8>)>, Refusal> {
     let choice = choice_of(alloc, base, named)?;
+    sector_by(alloc, &choice)
+}
+
+fn sector_by(alloc: Global, choice: &CrashChoice) -> Result<Option<(bool, Option<u8>)>, Refusal> {
     let mut disk = MemDisk::new(alloc, 2)?;
-    if !are_done(&mut disk, &WRITTEN) {
-        return Ok(None);
+    Ok(sector_of(alloc, &mut disk, choice))
+}
+
+fn sector_of(
+    alloc: Global,
+    disk: &mut MemDisk,
+    choice: &CrashChoice,
+) -> Option<(bool, Option<u8>)> {
+    if !are_done(disk, &WRITTEN) {
+        return None;
     }
-    Ok(after_crash(alloc, &mut disk, &choice))
+    after_crash(alloc, disk, choice)
 }
 
 /// The base of a choice, the sectors that it names, whether it applies, and what sector 1 then holds.
@@ -159,13 +171,28 @@ fn keeps(disk: &mut MemDisk, device: Dev, choice: &CrashChoice, kept: u8) -> boo
         && are_done(disk, &[Step::Got(0, kept)])
 }
 
+/// Whether each of three such devices keeps its byte by a choice, which does not name the origin alone.
+fn serves(alloc: Global, choice: &CrashChoice) -> Result<bool, Refusal> {
+    for (device, kept) in [(Dev::Metadata, 0), (Dev::Cache, 1), (Dev::Origin, 2)] {
+        if !is_kept(alloc, device, choice, kept)? {
+            return Ok(false);
+        }
+    }
+    Ok(!choice.names_only(Dev::Origin))
+}
+
+fn is_kept(alloc: Global, device: Dev, choice: &CrashChoice, kept: u8) -> Result<bool, Refusal> {
+    let mut disk = MemDisk::new(alloc, 1)?;
+    Ok(keeps(&mut disk, device, choice, kept))
+}
+
+fn serves_each(alloc: Global, named: &[(Dev, u64, u64)]) -> Result<bool, Refusal> {
+    let choice = choice_of(alloc, Base::Newest, named)?;
+    serves(alloc, &choice)
+}
+
 #[test]
 fn one_choice_serves_each_device_by_its_own_names(rt: HostRuntime) -> Result<(), Fail> {
-    let choice = choice_of(rt.alloc(), Base::Newest, &NAMED)?;
-    assert!(rt; !choice.names_only(Dev::Origin));
-    for (device, kept) in [(Dev::Metadata, 0), (Dev::Cache, 1), (Dev::Origin, 2)] {
-        let mut disk = MemDisk::new(rt.alloc(), 1)?;
-        assert!(rt; keeps(&mut disk, device, &choice, kept));
-    }
+    assert!(rt; serves_each(rt.alloc(), &NAMED)?);
     Ok(())
 }

@@ -61,12 +61,46 @@ fn sound(piece: usize) -> Result<FileDisk<FakeFile>, DiskFault> {
     FileDisk::over(fake(piece, 0, io::ErrorKind::Other))
 }
 
+/// What is asked of a disk over a fake file.
+#[derive(Clone, Copy)]
+enum Question<'a> {
+    /// Whether it has two sectors, and does these steps.
+    Does(&'a [Step]),
+    KeepsExtents,
+    /// Whether a write of both sectors fails, and else their reading.
+    FailsSo(bool, bool),
+    /// Whether the step fails that this call is of.
+    EndsAt(u32),
+    MovesNothing,
+}
+
+/// The answer of such a disk.
+// Letting one go is dear to prove: this function alone does.
+fn answered(
+    made: Result<FileDisk<FakeFile>, DiskFault>,
+    question: Question<'_>,
+) -> Result<bool, DiskFault> {
+    let mut disk = made?;
+    Ok(answer(&mut disk, question))
+}
+
+fn answer(disk: &mut impl Disk, question: Question<'_>) -> bool {
+    match question {
+        Question::Does(steps) => disk.sectors() == 2 && are_done(disk, steps),
+        Question::KeepsExtents => keeps_extents(disk),
+        Question::FailsSo(writes, reads) => fails_so(disk, writes, reads),
+        Question::EndsAt(call) => ends_at(disk, call),
+        Question::MovesNothing => {
+            put(disk, 0, 9) == Err(DiskFault) && got(disk, 0) == Err(DiskFault)
+        }
+    }
+}
+
 #[test]
 fn pieces_are_put_together(rt: HostRuntime) -> Result<(), Fail> {
     let steps = [Step::Put(1, 9), Step::Got(0, 0), Step::Got(1, 9)];
     for piece in [1, 100, 512] {
-        let mut disk = sound(piece)?;
-        assert!(rt; disk.sectors() == 2 && are_done(&mut disk, &steps));
+        assert!(rt; answered(sound(piece), Question::Does(&steps))?);
     }
     Ok(())
 }
@@ -90,8 +124,7 @@ fn keeps_extents(disk: &mut impl Disk) -> bool {
 #[test]
 fn an_extent_is_its_sectors_in_order(rt: HostRuntime) -> Result<(), Fail> {
     for piece in [1, 100, 512, 700, 1024] {
-        let mut disk = sound(piece)?;
-        assert!(rt; keeps_extents(&mut disk));
+        assert!(rt; answered(sound(piece), Question::KeepsExtents)?);
     }
     Ok(())
 }
@@ -111,9 +144,9 @@ fn fails_so(disk: &mut impl Disk, writes: bool, reads: bool) -> bool {
 fn an_extent_that_fails_midway_is_a_fault(rt: HostRuntime) -> Result<(), Fail> {
     for (piece, calls) in [(1024, 1), (512, 2)] {
         for fails_at in 2..7 {
-            let mut disk = FileDisk::over(fake(piece, fails_at, io::ErrorKind::StorageFull))?;
+            let disk = FileDisk::over(fake(piece, fails_at, io::ErrorKind::StorageFull));
             let (writes, reads) = (fails_at < 2 + calls, fails_at < 2 + 2 * calls);
-            assert!(rt; fails_so(&mut disk, writes, reads));
+            assert!(rt; answered(disk, Question::FailsSo(writes, reads))?);
         }
     }
     Ok(())
@@ -135,24 +168,24 @@ fn ends_at(disk: &mut impl Disk, fails_at: u32) -> bool {
 fn a_step_that_fails_midway_is_a_fault(rt: HostRuntime) -> Result<(), Fail> {
     assert!(rt; FileDisk::over(fake(100, 1, io::ErrorKind::StorageFull)).is_err());
     for fails_at in 2..16 {
-        let mut disk = FileDisk::over(fake(100, fails_at, io::ErrorKind::StorageFull))?;
-        assert!(rt; ends_at(&mut disk, fails_at));
+        let disk = FileDisk::over(fake(100, fails_at, io::ErrorKind::StorageFull));
+        assert!(rt; answered(disk, Question::EndsAt(fails_at))?);
     }
     Ok(())
 }
 
 #[test]
 fn a_file_that_moves_nothing_is_a_fault(rt: HostRuntime) -> Result<(), Fail> {
-    let mut disk = sound(0)?;
-    assert!(rt; put(&mut disk, 0, 9) == Err(DiskFault) && got(&mut disk, 0) == Err(DiskFault));
+    assert!(rt; answered(sound(0), Question::MovesNothing)?);
     Ok(())
 }
 
 #[test]
 fn an_interrupted_step_is_tried_again(rt: HostRuntime) -> Result<(), Fail> {
+    let steps = [Step::Put(0, 9), Step::Got(0, 9)];
     for fails_at in [2, 4] {
-        let mut disk = FileDisk::over(fake(300, fails_at, io::ErrorKind::Interrupted))?;
-        assert!(rt; are_done(&mut disk, &[Step::Put(0, 9), Step::Got(0, 9)]));
+        let disk = FileDisk::over(fake(300, fails_at, io::ErrorKind::Interrupted));
+        assert!(rt; answered(disk, Question::Does(&steps))?);
     }
     Ok(())
 }

@@ -5,6 +5,32 @@ use std::test::Fail;
 use wb_disk::{Disk, MemDisk};
 use wb_types::Refusal;
 
+/// What is asked of a disk in memory.
+#[derive(Clone, Copy)]
+enum Question<'a> {
+    /// Whether it does these steps, has three sectors, and counts no fault.
+    Does(&'a [Step]),
+    Lands,
+    Serves,
+}
+
+/// The answer of such a disk.
+// Letting one go is dear to prove: this function alone does.
+fn answered(made: Result<MemDisk, Refusal>, question: Question<'_>) -> Result<bool, Refusal> {
+    let mut disk = made?;
+    Ok(answer(&mut disk, question))
+}
+
+fn answer(disk: &mut MemDisk, question: Question<'_>) -> bool {
+    match question {
+        Question::Does(steps) => {
+            are_done(disk, steps) && disk.sectors() == 3 && disk.faults() == 0
+        }
+        Question::Lands => lands(disk),
+        Question::Serves => has_room(disk) && counts(disk),
+    }
+}
+
 #[test]
 fn a_read_gives_the_latest_write(rt: HostRuntime) -> Result<(), Fail> {
     let steps = [
@@ -17,9 +43,7 @@ fn a_read_gives_the_latest_write(rt: HostRuntime) -> Result<(), Fail> {
         Step::Got(0, 0),
         Step::Got(1, 6),
     ];
-    let mut disk = MemDisk::new(rt.alloc(), 3)?;
-    assert!(rt; are_done(&mut disk, &steps));
-    assert!(rt; (disk.sectors(), disk.faults()) == (3, 0));
+    assert!(rt; answered(MemDisk::new(rt.alloc(), 3), Question::Does(&steps))?);
     Ok(())
 }
 
@@ -40,12 +64,9 @@ fn lands(disk: &mut MemDisk) -> bool {
 
 // With each allocation failing in turn.
 #[test]
-fn an_extent_lands_from_the_front(rt: HostRuntime) -> Result<(), Fail> {
-    let Ok(mut disk) = MemDisk::new(rt.alloc(), 4) else {
-        return Ok(());
-    };
-    assert!(rt; lands(&mut disk));
-    Ok(())
+fn an_extent_lands_from_the_front(rt: HostRuntime) {
+    let lands = answered(MemDisk::new(rt.alloc(), 4), Question::Lands);
+    assert!(rt; lands != Ok(false));
 }
 
 /// Whether room for a sector is there, and it is then written, or memory is refused; either way without a fault.
@@ -72,11 +93,7 @@ fn counts(disk: &mut MemDisk) -> bool {
 // Run with each allocation failing in turn: one that is refused at `room` leaves the disk as it was, and one
 // that is refused at a write is a fault that counts. With ample memory, room takes the place of the allocation.
 #[test]
-fn refused_memory_is_a_counted_fault(rt: HostRuntime) -> Result<(), Fail> {
-    let Ok(mut disk) = MemDisk::new(rt.alloc(), 2) else {
-        return Ok(());
-    };
-    assert!(rt; has_room(&mut disk));
-    assert!(rt; counts(&mut disk));
-    Ok(())
+fn refused_memory_is_a_counted_fault(rt: HostRuntime) {
+    let serves = answered(MemDisk::new(rt.alloc(), 2), Question::Serves);
+    assert!(rt; serves != Ok(false));
 }

@@ -116,14 +116,47 @@ fn read_after_crash(
     Ok((again == generation && are_there).then_some(generation))
 }
 
+/// What is asked of a formatted device.
+#[derive(Clone, Copy)]
+enum Question {
+    /// Whether this generation is read after a crash behind so many steps of the first commit.
+    IsCrashed(u64, Base, u64),
+    CommitsTwice,
+    StaysUnwritten,
+}
+
+/// The answer of one.
+// Letting it go is dear to prove: this function alone does.
+fn answered(alloc: Global, question: Question) -> Result<bool, Refusal> {
+    let mut disk = formatted(alloc)?;
+    answer(alloc, &mut disk, question)
+}
+
+fn answer(alloc: Global, disk: &mut MemDisk, question: Question) -> Result<bool, Refusal> {
+    match question {
+        Question::IsCrashed(count, base, generation) => {
+            Ok(generation_after(alloc, disk, count, base)? == Some(generation))
+        }
+        Question::CommitsTwice => {
+            let commits = commits_twice(alloc, disk)?;
+            Ok(commits && is_read(alloc, disk, &[(0, 1), (33, 5)])? == (2, true))
+        }
+        Question::StaysUnwritten => stays_unwritten(alloc, disk),
+    }
+}
+
 /// The generation that is read after a crash behind so many steps of the first commit; none where a step or what is read is
 /// not as it should be.
-fn generation_after(alloc: Global, count: u64, base: Base) -> Result<Option<u64>, Refusal> {
-    let mut disk = formatted(alloc)?;
-    if !begins_commit(alloc, &mut disk, count)? {
+fn generation_after(
+    alloc: Global,
+    disk: &mut MemDisk,
+    count: u64,
+    base: Base,
+) -> Result<Option<u64>, Refusal> {
+    if !begins_commit(alloc, disk, count)? {
         return Ok(None);
     }
-    read_after_crash(alloc, &mut disk, base, &ENTRIES)
+    read_after_crash(alloc, disk, base, &ENTRIES)
 }
 
 /// Takes so many steps of the first commit; whether they are as they should be.
@@ -139,10 +172,10 @@ fn a_crash_within_a_commit_is_read_as_the_mapping_before_or_the_new_one(
     for count in 0..8 {
         let oldest = if count < 6 { 0 } else { 1 };
         let newest = if count < 5 { 0 } else { 1 };
-        let durable = generation_after(rt.alloc(), count, Base::Durable)?;
-        assert!(rt; durable == Some(oldest), "{count}");
-        let written = generation_after(rt.alloc(), count, Base::Newest)?;
-        assert!(rt; written == Some(newest), "{count}");
+        let durable = Question::IsCrashed(count, Base::Durable, oldest);
+        assert!(rt; answered(rt.alloc(), durable)?, "{count}");
+        let written = Question::IsCrashed(count, Base::Newest, newest);
+        assert!(rt; answered(rt.alloc(), written)?, "{count}");
     }
     Ok(())
 }
@@ -198,9 +231,7 @@ fn commits_twice(alloc: Global, disk: &mut MemDisk) -> Result<bool, Refusal> {
 
 #[test]
 fn a_second_commit_goes_to_the_places_that_are_left(rt: HostRuntime) -> Result<(), Fail> {
-    let mut disk = formatted(rt.alloc())?;
-    assert!(rt; commits_twice(rt.alloc(), &mut disk)?);
-    assert!(rt; is_read(rt.alloc(), &mut disk, &[(0, 1), (33, 5)])? == (2, true));
+    assert!(rt; answered(rt.alloc(), Question::CommitsTwice)?);
     Ok(())
 }
 
@@ -234,15 +265,17 @@ fn writes_no_node(
     Ok(same.nodes.len() == 0 && has_places(&same, &used, 4, &FIRST_PLACES))
 }
 
+/// Whether neither an empty mapping nor a tree that was read and not changed writes a node.
+fn stays_unwritten(alloc: Global, disk: &mut MemDisk) -> Result<bool, Refusal> {
+    let is_nothing = plans_nothing(alloc, disk)?;
+    commit_changes(alloc, disk, &ENTRIES, (2, 6))?;
+    let is_same = writes_no_node(alloc, disk, &[])? && writes_no_node(alloc, disk, &[(33, 2)])?;
+    commit_changes(alloc, disk, &[], (5, 3))?;
+    Ok(is_nothing && is_same && is_read(alloc, disk, &ENTRIES)? == (2, true))
+}
+
 #[test]
 fn a_tree_that_was_read_and_not_changed_writes_no_node(rt: HostRuntime) -> Result<(), Fail> {
-    let alloc = rt.alloc();
-    let mut disk = formatted(alloc)?;
-    assert!(rt; plans_nothing(alloc, &mut disk)?);
-    commit_changes(alloc, &mut disk, &ENTRIES, (2, 6))?;
-    assert!(rt; writes_no_node(alloc, &mut disk, &[])?);
-    assert!(rt; writes_no_node(alloc, &mut disk, &[(33, 2)])?);
-    commit_changes(alloc, &mut disk, &[], (5, 3))?;
-    assert!(rt; is_read(alloc, &mut disk, &ENTRIES)? == (2, true));
+    assert!(rt; answered(rt.alloc(), Question::StaysUnwritten)?);
     Ok(())
 }

@@ -52,34 +52,49 @@ fn changed(noise: &mut Noise, mut content: Content) -> Content {
     content
 }
 
-#[test]
-fn any_sectors_are_read_or_refused(rt: HostRuntime) -> Result<(), Fail> {
-    let alloc = rt.alloc();
+/// Writes all sectors of a device, each from the good ones, some changed.
+fn spoil(disk: &mut MemDisk, noise: &mut Noise) -> Result<(), Refusal> {
+    for at in 0..8 {
+        let from = if noise.next() % 16 == 0 {
+            noise.next() % 8
+        } else {
+            at
+        };
+        let content = changed(noise, good_sector(from));
+        put(disk, at, &content)?;
+    }
+    disk.sync().map_err(|_| Refusal::Failed)
+}
+
+/// How often such devices are read, are not formatted, are damaged, or are of another size; none where one is refused for
+/// anything else.
+fn count_kinds(alloc: Global, disk: &mut MemDisk) -> Result<Option<[u32; 4]>, Refusal> {
     let mut seen = [0u32; 4];
-    let mut disk = MemDisk::new(alloc, 8)?;
     let mut noise = Noise(1);
     for _ in 0..4_000 {
-        for at in 0..8 {
-            let from = if noise.next() % 16 == 0 {
-                noise.next() % 8
-            } else {
-                at
-            };
-            let content = changed(&mut noise, good_sector(from));
-            put(&mut disk, at, &content)?;
-        }
-        disk.sync().map_err(|_| Refusal::Failed)?;
-        let number = refusal_number(alloc, &mut disk);
-        let kind = match number {
+        spoil(disk, &mut noise)?;
+        let kind = match refusal_number(alloc, disk) {
             0 => 0,
             10 => 1,
             11 => 2,
-            _ => 3,
+            12 => 3,
+            _ => return Ok(None),
         };
-        assert!(rt; kind != 3 || number == 12, "{number}");
         seen[kind] = seen[kind].saturating_add(1);
     }
-    for count in seen {
+    Ok(Some(seen))
+}
+
+fn kinds(alloc: Global) -> Result<Option<[u32; 4]>, Refusal> {
+    let mut disk = MemDisk::new(alloc, 8)?;
+    count_kinds(alloc, &mut disk)
+}
+
+#[test]
+fn any_sectors_are_read_or_refused(rt: HostRuntime) -> Result<(), Fail> {
+    let seen = kinds(rt.alloc())?;
+    assert!(rt; seen.is_some());
+    for count in seen.unwrap_or([0; 4]) {
         assert!(rt; count > 20);
     }
     Ok(())

@@ -1,11 +1,11 @@
 //! What is read of good sectors, and of roots that do not count.
 
-use super::{LEAF, formatted, one_node_fits, put, sector_of};
+use super::{LEAF, Question, answered, one_node_fits, put, sector_of};
 use std::alloc::Global;
 use std::test::Fail;
 use wb_disk::MemDisk;
 use wb_format::Root;
-use wb_meta::{ReadSteps, commit, read_state};
+use wb_meta::{Image, ReadSteps, commit, read_state};
 use wb_types::{Content, Place, Refusal};
 
 /// The generation of what a device stands for, and the number of its nodes.
@@ -64,13 +64,24 @@ fn is_read_by(
     }
 }
 
+/// Whether a device is read so once an image is committed.
+pub(super) fn is_read_then(
+    alloc: Global,
+    disk: &mut MemDisk,
+    image: &Image,
+    sectors: &[(u64, bool)],
+) -> Result<bool, Refusal> {
+    if !one_node_fits(disk, image) {
+        return Ok(false);
+    }
+    commit(disk, image)?;
+    is_read_by(alloc, disk, sectors, &image.root)
+}
+
 #[test]
 fn a_device_of_one_node_is_read_in_three_steps(rt: HostRuntime) -> Result<(), Fail> {
-    let (mut disk, image) = formatted(rt.alloc())?;
-    assert!(rt; one_node_fits(&disk, &image));
-    commit(&mut disk, &image)?;
     let sectors = [(0, false), (1, false), (2, true)];
-    assert!(rt; is_read_by(rt.alloc(), &mut disk, &sectors, &image.root)?);
+    assert!(rt; answered(rt.alloc(), Question::ReadBy(&sectors))?);
     Ok(())
 }
 

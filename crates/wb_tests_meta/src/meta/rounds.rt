@@ -182,19 +182,34 @@ fn planned_over<D: Disk>(alloc: Global, disk: &mut D, free: (u8, u8)) -> Result<
     Ok(image)
 }
 
+/// Whether each of three rounds over a device is read behind it.
+fn go_round(
+    alloc: Global,
+    disk: &mut MemDisk,
+    geometry: &Geometry,
+    nodes: u8,
+) -> Result<bool, Refusal> {
+    let second = (nodes.saturating_add(2), nodes);
+    two_rounds(alloc, disk, geometry, (2, nodes), second)?;
+    let begins = is_read(alloc, disk, &[(0, 2)])? == (2, true);
+    reopened(alloc, disk)?;
+    let opens = is_read(alloc, disk, &[(0, 2)])? == (3, true);
+    planned_over(alloc, disk, (2, nodes))?;
+    Ok(begins && opens && is_read(alloc, disk, &[(0, 3)])? == (4, true))
+}
+
+/// The same of a device for so many blocks, whose image has so many nodes.
+fn rounds_follow(alloc: Global, blocks: u64, nodes: u8) -> Result<bool, Refusal> {
+    let sectors = 2 + 2 * u64::from(nodes);
+    let geometry = Geometry::new(64, blocks, blocks, sectors)?;
+    let mut disk = MemDisk::new(alloc, sectors)?;
+    go_round(alloc, &mut disk, &geometry, nodes)
+}
+
 #[test]
 fn rounds_follow_one_another(rt: HostRuntime) -> Result<(), Fail> {
-    let alloc = rt.alloc();
     for (blocks, nodes) in [(1u64, 1u8), (40, 3), (2_000, 66)] {
-        let sectors = 2 + 2 * u64::from(nodes);
-        let geometry = Geometry::new(64, blocks, blocks, sectors)?;
-        let mut disk = MemDisk::new(alloc, sectors)?;
-        two_rounds(alloc, &mut disk, &geometry, (2, nodes), (2 + nodes, nodes))?;
-        assert!(rt; is_read(alloc, &mut disk, &[(0, 2)])? == (2, true));
-        reopened(alloc, &mut disk)?;
-        assert!(rt; is_read(alloc, &mut disk, &[(0, 2)])? == (3, true));
-        planned_over(alloc, &mut disk, (2, nodes))?;
-        assert!(rt; is_read(alloc, &mut disk, &[(0, 3)])? == (4, true));
+        assert!(rt; rounds_follow(rt.alloc(), blocks, nodes)?);
     }
     Ok(())
 }

@@ -166,12 +166,19 @@ fn takes(tiny: &mut TinyLfu, settings: &[Setting]) -> bool {
     true
 }
 
+/// Whether it takes them so, and then promotes block 0 at its first access.
+fn promotes_then(alloc: Global, settings: &[Setting]) -> Result<bool, Refusal> {
+    let mut tiny = policy::<TinyLfu>(alloc, NO_ENTRIES)?;
+    Ok(takes(&mut tiny, settings) && promotes_first(&mut tiny))
+}
+
+fn promotes_first(tiny: &mut TinyLfu) -> bool {
+    settle(tiny, 0, Some(CBlock(0)), 64, &[]) == Some(Order::Promote(OBlock(0), CBlock(0)))
+}
+
 #[test]
 fn the_least_estimate_of_a_promotion_is_a_setting(rt: HostRuntime) -> Result<(), Fail> {
-    let mut tiny = policy::<TinyLfu>(rt.alloc(), NO_ENTRIES)?;
-    assert!(rt; takes(&mut tiny, &SETTINGS));
-    let order = settle(&mut tiny, 0, Some(CBlock(0)), 64, &[]);
-    assert!(rt; order == Some(Order::Promote(OBlock(0), CBlock(0))));
+    assert!(rt; promotes_then(rt.alloc(), &SETTINGS)?);
     Ok(())
 }
 

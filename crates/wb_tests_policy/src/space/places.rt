@@ -1,6 +1,6 @@
 //! Which metadata places are free.
 
-use super::{begin, end, space_of};
+use super::{Question, answered, begin, end, space_of};
 use std::alloc::Global;
 use std::test::Fail;
 use wb_space::{Space, left_of, place_count};
@@ -9,13 +9,17 @@ use wb_types::{Geometry, Place, Refusal};
 /// Whether the so many least free places are these.
 fn finds(alloc: Global, space: &Space, n: usize, want: &[Place]) -> bool {
     match space.free_places(alloc, n) {
-        Ok(found) => found.as_slice() == want,
+        Ok(found) => are(found.as_slice(), want),
         Err(_) => false,
     }
 }
 
+fn are(found: &[Place], want: &[Place]) -> bool {
+    found == want
+}
+
 /// Whether these are all the free places, and each number of them the least.
-fn finds_each(alloc: Global, space: &Space, want: &[Place]) -> bool {
+pub(super) fn finds_each(alloc: Global, space: &Space, want: &[Place]) -> bool {
     for n in 0..want.len() {
         if !finds(alloc, space, n, &want[..n]) {
             return false;
@@ -26,14 +30,15 @@ fn finds_each(alloc: Global, space: &Space, want: &[Place]) -> bool {
 
 #[test]
 fn the_least_free_places_rise(rt: HostRuntime) -> Result<(), Fail> {
-    let space = space_of(rt.alloc(), 33, false, &[Place(3), Place(4)])?;
+    let used = [Place(3), Place(4)];
     let want = [Place(2), Place(5), Place(6), Place(7)];
-    assert!(rt; finds_each(rt.alloc(), &space, &want));
+    let space = space_of(rt.alloc(), 33, false, &used);
+    assert!(rt; answered(rt.alloc(), space, Question::Finds(&want))?);
     Ok(())
 }
 
 /// A commit: the places of its image, and what is free while it runs and after its end.
-type Commit = (&'static [Place], &'static [Place], &'static [Place]);
+pub(super) type Commit = (&'static [Place], &'static [Place], &'static [Place]);
 
 // A cache of 33 blocks has a tree of three nodes, so places up to 7 can ever be handed out.
 const COMMITS: [Commit; 4] = [
@@ -60,7 +65,7 @@ const COMMITS: [Commit; 4] = [
 ];
 
 /// Whether each commit leaves free what its row says.
-fn frees(alloc: Global, space: &mut Space, commits: &[Commit]) -> bool {
+pub(super) fn frees(alloc: Global, space: &mut Space, commits: &[Commit]) -> bool {
     for (used, running, after) in commits {
         let ran = begin(space, used) && finds(alloc, space, 9, running);
         if !ran || !end(space) || !finds(alloc, space, 9, after) {
@@ -72,31 +77,32 @@ fn frees(alloc: Global, space: &mut Space, commits: &[Commit]) -> bool {
 
 #[test]
 fn places_are_free_where_no_image_uses_them(rt: HostRuntime) -> Result<(), Fail> {
-    let mut space = space_of(rt.alloc(), 33, false, &[Place(3), Place(6), Place(9)])?;
-    assert!(rt; frees(rt.alloc(), &mut space, &COMMITS));
+    let used = [Place(3), Place(6), Place(9)];
+    let space = space_of(rt.alloc(), 33, false, &used);
+    assert!(rt; answered(rt.alloc(), space, Question::Frees(&COMMITS))?);
     Ok(())
 }
 
-// The image that begins is the committed one without place 6, which left it, and with place 2.
-#[test]
-fn a_commit_is_told_what_changed(rt: HostRuntime) -> Result<(), Fail> {
+/// Whether the image that begins is the committed one without place 6, which left it, and with place 2.
+fn is_told(alloc: Global) -> Result<bool, Refusal> {
     let geometry = Geometry::new(64, 33, 1_048_576, 4_294_967_295)?;
     let used = [Place(3), Place(6)];
-    let mapped = vec![in rt.alloc(); false; 33]?;
-    let mut space = Space::new(rt.alloc(), &geometry, mapped.as_slice(), &used)?;
-    let mut left = left_of(rt.alloc(), place_count(&geometry), &used, &[Place(3)])?;
+    let mut left = left_of(alloc, place_count(&geometry), &used, &[Place(3)])?;
+    let mut space = Space::new(alloc, &geometry, &[false; 33], &used)?;
     space.begin_changed(&mut left, &[(Place(2), true)]);
-    assert!(rt; left.least() == None);
-    assert!(rt; finds(rt.alloc(), &space, 9, &[Place(4), Place(5), Place(7)]));
-    assert!(rt; end(&mut space));
-    assert!(rt;
-        finds(
-            rt.alloc(),
-            &space,
-            9,
-            &[Place(4), Place(5), Place(6), Place(7)]
-        )
-    );
+    Ok(left.least() == None && goes_on(alloc, &mut space))
+}
+
+/// What is free while that image is written, and behind it.
+fn goes_on(alloc: Global, space: &mut Space) -> bool {
+    finds(alloc, space, 9, &[Place(4), Place(5), Place(7)])
+        && end(space)
+        && finds(alloc, space, 9, &[Place(4), Place(5), Place(6), Place(7)])
+}
+
+#[test]
+fn a_commit_is_told_what_changed(rt: HostRuntime) -> Result<(), Fail> {
+    assert!(rt; is_told(rt.alloc())?);
     Ok(())
 }
 
@@ -107,7 +113,7 @@ fn count(alloc: Global, space: &Space) -> Result<usize, Refusal> {
 }
 
 /// Whether this is the least free place, of so many.
-fn begins_with(alloc: Global, space: &Space, least: Place, places: usize) -> bool {
+pub(super) fn begins_with(alloc: Global, space: &Space, least: Place, places: usize) -> bool {
     match count(alloc, space) {
         Ok(count) => count == places && finds(alloc, space, 1, &[least]),
         Err(_) => false,
@@ -117,21 +123,26 @@ fn begins_with(alloc: Global, space: &Space, least: Place, places: usize) -> boo
 // The nodes of the largest cache are 32,768, 1,024, 32 and the top: twice as many places, less two.
 #[test]
 fn places_of_the_largest_cache(rt: HostRuntime) -> Result<(), Fail> {
-    let space = space_of(rt.alloc(), 1_048_575, false, &[Place(2), Place(67_651)])?;
-    assert!(rt; begins_with(rt.alloc(), &space, Place(3), 67_648));
+    let used = [Place(2), Place(67_651)];
+    let space = space_of(rt.alloc(), 1_048_575, false, &used);
+    assert!(rt; answered(rt.alloc(), space, Question::BeginsWith(Place(3), 67_648))?);
     Ok(())
 }
 
-/// Whether each call that takes memory gets it or tells that there is none, the second leaving the places as they
-/// were.
+/// Whether so many free places are listed, or want of memory is told, which leaves the places as they were.
+pub(super) fn lists_or_tells(alloc: Global, space: &Space, places: usize) -> bool {
+    match count(alloc, space) {
+        Ok(count) => count == places,
+        Err(refusal) => refusal == Refusal::Memory && finds(alloc, space, 1, &[Place(2)]),
+    }
+}
+
+/// Whether each call that takes memory gets it or tells that there is none.
 fn gets_or_tells(alloc: Global) -> bool {
-    let space = match space_of(alloc, 65, false, &[]) {
-        Ok(space) => space,
-        Err(refusal) => return refusal == Refusal::Memory,
-    };
-    match count(alloc, &space) {
-        Ok(count) => count == 8,
-        Err(refusal) => refusal == Refusal::Memory && finds(alloc, &space, 1, &[Place(2)]),
+    let space = space_of(alloc, 65, false, &[]);
+    match answered(alloc, space, Question::ListsOrTells(8)) {
+        Ok(answer) => answer,
+        Err(refusal) => refusal == Refusal::Memory,
     }
 }
 

@@ -1,11 +1,11 @@
 //! What becomes of one block: how long a removed one waits, and what an order keeps.
 
-use super::{begin, end, give_back, is_held, map, remove, reserve, space_of};
+use super::{Question, answered, begin, end, give_back, is_held, map, remove, reserve, space_of};
 use std::alloc::Global;
 use wb_space::{Holding, Space};
 
 #[derive(Clone, Copy)]
-enum Act {
+pub(super) enum Act {
     Reserve,
     Map,
     GiveBack,
@@ -32,13 +32,11 @@ fn perform(space: &mut Space, act: Act) -> bool {
 /// Whether the acts, one after the other on block 1 of three mapped ones, leave it held for this, and its neighbour
 /// as it was.
 fn leaves(alloc: Global, acts: &[Act], shown: Holding) -> bool {
-    let Ok(mut space) = space_of(alloc, 3, true, &[]) else {
-        return false;
-    };
-    leaves_so(&mut space, acts, shown)
+    let space = space_of(alloc, 3, true, &[]);
+    answered(alloc, space, Question::Leaves(acts, shown)) == Ok(true)
 }
 
-fn leaves_so(space: &mut Space, acts: &[Act], shown: Holding) -> bool {
+pub(super) fn leaves_so(space: &mut Space, acts: &[Act], shown: Holding) -> bool {
     for act in acts {
         if !perform(space, *act) {
             return false;

@@ -1,13 +1,21 @@
 //! The least free block, up to where words of bits and the words above them are full.
 
-use super::{begin, end, is_held, map, remove, reserve, space_of};
+use super::{Question, answered, begin, end, is_held, map, remove, reserve, space_of};
 use std::alloc::Global;
 use wb_space::{Holding, Space};
 use wb_types::CBlock;
 
+/// Whether this is the least free block.
+fn is_least(space: &Space, c: u32) -> bool {
+    match space.least_free() {
+        Some(CBlock(least)) => least == c,
+        None => false,
+    }
+}
+
 /// Reserves and maps the least free block, which has to be this one.
 fn takes(space: &mut Space, c: u32) -> bool {
-    space.least_free() == Some(CBlock(c)) && reserve(space, c) && map(space, c)
+    is_least(space, c) && reserve(space, c) && map(space, c)
 }
 
 /// Takes all blocks, the least first.
@@ -45,34 +53,37 @@ fn is_freed(space: &Space) -> bool {
     true
 }
 
-/// Whether all of so many blocks can be taken, removed and freed.
-fn serves(alloc: Global, blocks: u32) -> bool {
-    let Ok(mut space) = space_of(alloc, blocks, false, &[]) else {
-        return false;
-    };
-    let taken = takes_all(&mut space) && removes_all(&mut space);
-    taken && begin(&mut space, &[]) && end(&mut space) && is_freed(&space)
+/// Whether all blocks can be taken, removed and freed.
+pub(super) fn serves(space: &mut Space) -> bool {
+    let taken = takes_all(space) && removes_all(space);
+    taken && begin(space, &[]) && end(space) && is_freed(space)
+}
+
+/// Whether so many can.
+fn serve(alloc: Global, blocks: u32) -> bool {
+    let space = space_of(alloc, blocks, false, &[]);
+    answered(alloc, space, Question::Serves) == Ok(true)
 }
 
 #[test]
 fn every_block_is_found_in_turn(rt: HostRuntime) {
     for blocks in [1, 2, 63, 64, 65, 4_095, 4_096, 4_097] {
-        assert!(rt; serves(rt.alloc(), blocks), "of {blocks} blocks");
+        assert!(rt; serve(rt.alloc(), blocks), "of {blocks} blocks");
     }
 }
 
 #[test]
 fn every_block_of_the_largest_cache_is_found_in_turn(rt: HostRuntime) {
-    assert!(rt; serves(rt.alloc(), 1_048_575));
+    assert!(rt; serve(rt.alloc(), 1_048_575));
 }
 
 /// Frees a block, after which this one has to be the least free.
 fn frees_one(space: &mut Space, c: u32, least: u32) -> bool {
     let freed = remove(space, c, false) && begin(space, &[]) && end(space);
-    freed && space.least_free() == Some(CBlock(least))
+    freed && is_least(space, least)
 }
 
-fn frees_each(space: &mut Space, freed: &[(u32, u32)]) -> bool {
+pub(super) fn frees_each(space: &mut Space, freed: &[(u32, u32)]) -> bool {
     for (c, least) in freed {
         if !frees_one(space, *c, *least) {
             return false;
@@ -83,10 +94,8 @@ fn frees_each(space: &mut Space, freed: &[(u32, u32)]) -> bool {
 
 /// Whether blocks of a full cache that are freed one after the other are the least free ones by turns.
 fn frees(alloc: Global, blocks: u32, freed: &[(u32, u32)]) -> bool {
-    match space_of(alloc, blocks, true, &[]) {
-        Ok(mut space) => frees_each(&mut space, freed),
-        Err(_) => false,
-    }
+    let space = space_of(alloc, blocks, true, &[]);
+    answered(alloc, space, Question::FreesEach(freed)) == Ok(true)
 }
 
 // Each row frees a block, and names the least free one then.

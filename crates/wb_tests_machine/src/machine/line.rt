@@ -1,0 +1,135 @@
+//! What is to happen line by line, and what each line is to do.
+
+use wb_disk::Base;
+use wb_runs::What;
+use wb_tasks::{Answer, CellStep, DeviceStep, Got, Want};
+use wb_types::{Dev, Extent, Mode, OBlock};
+use wb_words::{Access, Kind, Word};
+
+/// What is to happen.
+#[derive(Clone, Copy)]
+pub enum Act {
+    /// An actor is told to open a target.
+    Open(usize, Mode),
+    Read(usize, Extent),
+    /// Each write is of sevens.
+    Write(usize, Extent),
+    Flush(usize),
+    Step(usize),
+    /// The actor's next step fails; what it syncs has landed, or not.
+    Fault(usize, Base),
+    /// The same with a sector of a device named by a number.
+    FaultOf(usize, Dev, u64, u64),
+    /// Each sector keeps its newest content.
+    Crash,
+    /// All do but this one of a device, which keeps the content at this position.
+    CrashOf(Dev, u64, u64),
+}
+
+/// A task whose steps are listed: an opening over what was formatted in write-back mode, and a read and a write of the first
+/// sector over words that nobody has changed.
+#[derive(Clone, Copy)]
+pub enum Task {
+    Open,
+    Read,
+    Write,
+}
+
+#[derive(Clone, Copy)]
+pub enum Line {
+    /// This happens, and does this.
+    Does(Act, What),
+    /// An actor is given this task, and its next steps are the first ones of it, so many.
+    Begins(usize, Task, usize),
+    /// Its next steps are those.
+    Steps(usize, Task, usize),
+    /// The last step read one sector full of this byte.
+    Gives(u8),
+}
+
+#[derive(Clone, Copy)]
+pub struct Row {
+    pub name: &'static str,
+    pub lines: &'static [Line],
+}
+
+pub const FIRST_SECTOR: Extent = Extent { first: 0, count: 1 };
+
+pub const BLOCK: OBlock = OBlock(0);
+
+pub const METADATA: Want = Want::Device(DeviceStep::Sync(Dev::Metadata));
+
+pub const CACHE: Want = Want::Device(DeviceStep::Sync(Dev::Cache));
+
+pub const ORIGIN: Want = Want::Device(DeviceStep::Sync(Dev::Origin));
+
+/// The least metadata have four sectors.
+pub const FIRST_READ: Want = Want::Device(DeviceStep::ReadMetadata(4));
+
+pub const SECOND_READ: Want = Want::Device(DeviceStep::ReadMetadata(3));
+
+pub const ROOT: Want = Want::Device(DeviceStep::WriteRoot);
+
+pub const DONE: Want = Want::End(Answer::Done);
+
+pub const LOOK_FAIL: Want = Want::Cell(CellStep::Look(Word::Fail));
+
+pub const LOOK_LOCK: Want = Want::Cell(CellStep::Look(Word::Cell(BLOCK)));
+
+pub const LOOK_SEAL: Want = Want::Cell(CellStep::Look(Word::Seal(BLOCK)));
+
+pub const LOOK_NUMBER: Want = Want::Cell(CellStep::Look(Word::Number(BLOCK)));
+
+pub const SHARE: Want = Want::Cell(CellStep::Take(Access::Shared, BLOCK, 0));
+
+pub const OWN: Want = Want::Cell(CellStep::Take(Access::Owned, BLOCK, 0));
+
+pub const READ_FIRST: Want = Want::Device(DeviceStep::Read(Dev::Origin, FIRST_SECTOR));
+
+pub const WRITE_FIRST: Want = Want::Device(DeviceStep::Write(Dev::Origin, FIRST_SECTOR));
+
+pub const COUNT_READ: Want = Want::Cell(CellStep::Count(Kind::ReadMiss));
+
+pub const COUNT_WRITE: Want = Want::Cell(CellStep::Count(Kind::WriteMiss));
+
+pub const FINISH: Want = Want::Cell(CellStep::Finish(BLOCK));
+
+pub const SHARE_NO_MORE: Want = Want::Cell(CellStep::Release(Access::Shared, BLOCK));
+
+pub const OWN_NO_MORE: Want = Want::Cell(CellStep::Release(Access::Owned, BLOCK));
+
+/// All steps of an opening.
+pub const OPENING: [(Want, Got); 8] = [
+    (METADATA, Got::Done),
+    (CACHE, Got::Done),
+    (ORIGIN, Got::Done),
+    (FIRST_READ, Got::More),
+    (SECOND_READ, Got::Done),
+    (ROOT, Got::Done),
+    (METADATA, Got::Done),
+    (DONE, Got::Done),
+];
+
+/// A read up to its device step.
+pub const READING: [(Want, Got); 6] = [
+    (LOOK_FAIL, Got::Word(0)),
+    (LOOK_LOCK, Got::Word(0)),
+    (SHARE, Got::Done),
+    (LOOK_SEAL, Got::Word(0)),
+    (LOOK_NUMBER, Got::Word(0)),
+    (READ_FIRST, Got::Done),
+];
+
+/// All steps of a write.
+pub const WRITING: [(Want, Got); 10] = [
+    (LOOK_FAIL, Got::Word(0)),
+    (LOOK_LOCK, Got::Word(0)),
+    (OWN, Got::Done),
+    (LOOK_SEAL, Got::Word(0)),
+    (LOOK_NUMBER, Got::Word(0)),
+    (WRITE_FIRST, Got::Done),
+    (FINISH, Got::Done),
+    (COUNT_WRITE, Got::Done),
+    (OWN_NO_MORE, Got::Done),
+    (DONE, Got::Done),
+];
