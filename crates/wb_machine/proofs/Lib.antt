@@ -4,6 +4,8 @@ pub mod Openings
 pub mod Standing
 pub mod Reaching
 pub mod Served
+pub mod Possible
+pub mod Doing
 pub mod Wherever
 pub mod Answering
 pub mod Seals

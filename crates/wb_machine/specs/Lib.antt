@@ -4,3 +4,4 @@ pub mod Making
 pub mod Members
 pub mod Serving
 pub mod Standing
+pub mod Works

@@ -8,13 +8,11 @@ ghost use Rattle.wb_runs.specs.Clerk.{formatted};
 ghost use Rattle.wb_runs.specs.Headline.{AllOpenRightly, AllRefuseByCause, CrashConsistent, noted};
 ghost use Rattle.wb_runs.specs.Latest.{AllReadRightly};
 ghost use Rattle.wb_runs.specs.States.{start};
-ghost use Rattle.wb_machine.specs.declared.halt.Halt.TheVariants.{Beyond};
 ghost use Rattle.wb_machine.specs.declared.machine.TheConstants.{ACTORS};
-ghost use Rattle.wb_machine.specs.Life.{GoesOn, Happens, IsGap, IsReached, IsThere, shape_of, state_of};
+ghost use Rattle.wb_machine.specs.Life.{GoesOn, Happens, IsReached, IsThere, shape_of, state_of};
 ghost use Rattle.wb_machine.specs.Serving.{IsServed};
 ghost use Rattle.wb_machine.specs.Standing.{IsSound};
 
-use crate::halt::Halt;
 use crate::outcome::Outcome;
 use crate::phase::Phase;
 use crate::serving::{falter, start, step};
@@ -85,15 +83,15 @@ impl Machine {
         })
     }
 
-    /// One event. It adds one record, which says what the event did. Where the record or what the step writes wants more memory
-    /// than there is, or the event is a step that the machine cannot do yet, nothing that it holds has changed; there may be room for more.
-    pub fn event(&mut self, event: Event) -> Result<(), Halt>
+    /// One event. It adds one record, which says what the event did. `Memory` where the record, or what the step reads or writes, wants
+    /// more than there is: nothing that it holds has changed; there may be room for more.
+    pub fn event(&mut self, event: Event) -> Result<(), Refusal>
         ensures ok { OnOk result (GoesOn self.old event self.new) }
         ensures err { OnErr result (self.new ≡ self.old) }
-        ensures gap { IfErr result (λ halt. halt ≡ Beyond → IsGap self.old.state event) }
+        ensures refusal { IfErr result (λ refusal. refusal ≡ Memory) }
     {
         if self.trace.reserve().is_err() {
-            return Err(Halt::Memory);
+            return Err(Refusal::Memory);
         }
         never_stuck::<Quiet, Global>();
         words_are_used_rightly::<Quiet, Global>();
@@ -134,7 +132,7 @@ fn happen(
     devices: &mut Devices<MemDisk>,
     phase: &mut Phase,
     event: &Event,
-) -> Result<Outcome, Halt>
+) -> Result<Outcome, Refusal>
     requires there { IsThere ACTORS phase.old }
     requires sound { IsSound geometry.now ACTORS devices.old phase.old }
     requires served { IsServed geometry.now devices.old phase.old }
@@ -142,11 +140,11 @@ fn happen(
     ensures sound { IsSound geometry.now ACTORS devices.new phase.new }
     ensures ok { IfOk result (λ done. Happens (shape_of geometry.now ACTORS) (state_of ACTORS devices.old phase.old) event.now done.what done.read.items (state_of ACTORS devices.new phase.new)) }
     ensures err { OnErr result (state_of ACTORS devices.new phase.new ≡ state_of ACTORS devices.old phase.old) }
-    ensures gap { IfErr result (λ halt. halt ≡ Beyond → IsGap (state_of ACTORS devices.old phase.old) event.now) }
+    ensures refusal { IfErr result (λ refusal. refusal ≡ Memory) }
 {
     match event {
         Event::Start(a, job) => {
-            let what = start(geometry, alloc, devices, phase, *a, job)?;
+            let what = start(geometry, alloc, devices, phase, *a, job);
             Ok(Outcome::told(alloc, what))
         }
         Event::Step(a) => step(geometry, alloc, devices, phase, *a),

@@ -1,11 +1,13 @@
 //! What happens to a small machine by hand, and what it does.
 
+mod flushes;
 mod line;
 mod openings;
 mod requests;
 
+use self::flushes::FLUSHES;
 use self::line::{Act, FIRST_SECTOR, Line, OPENING, READING, Row, Task, WRITING};
-use self::openings::{CRASHES, FAILURES, OPENINGS, OVER_A_TARGET, ROOTS};
+use self::openings::{CRASHES, FAILURES, OPENINGS, ROOTS};
 use self::requests::{FAILED_REQUESTS, REQUESTS, WRITE_AND_READ, WRITTEN_AND_GIVEN};
 use std::alloc::Global;
 use std::test::Fail;
@@ -219,9 +221,7 @@ fn a_read_is_given_what_was_written(rt: HostRuntime) -> Result<(), Fail> {
     Ok(())
 }
 
-/// Over a target that stands no flush starts yet: the machine cannot do it, and has no record of it.
 #[test]
-fn no_flush_starts_over_a_target_yet(rt: HostRuntime) -> Result<(), Fail> {
-    assert!(rt; play(rt.alloc(), &OVER_A_TARGET)? == Some(1));
-    Ok(())
+fn flushes_go_as_their_rows_say(rt: HostRuntime) -> Result<(), Fail> {
+    compare(rt.alloc(), &FLUSHES)
 }
