@@ -267,7 +267,7 @@ fn coming_of(opening: &Opening) -> Option<u64>
 }
 
 /// What stands newest in a sector, if one is named that the device has.
-fn content_of(disk: &mut MemDisk, coming: Option<u64>) -> Option<Content>
+pub(crate) fn content_of(disk: &mut MemDisk, coming: Option<u64>) -> Option<Content>
     ensures kept { disk.new ≡ disk.old }
     ensures shown { (place : ℕ) → coming ≡ Some place → slice_get (map newest disk.old.contents) place ≡ result }
 {

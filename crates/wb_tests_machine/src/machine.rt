@@ -4,11 +4,13 @@ mod flushes;
 mod line;
 mod openings;
 mod requests;
+mod views;
 
 use self::flushes::FLUSHES;
 use self::line::{Act, FIRST_SECTOR, Line, OPENING, READING, Row, Task, WRITING};
 use self::openings::{CRASHES, FAILURES, OPENINGS, ROOTS};
 use self::requests::{FAILED_REQUESTS, REQUESTS, WRITE_AND_READ, WRITTEN_AND_GIVEN};
+use self::views::VIEWS;
 use std::alloc::Global;
 use std::test::Fail;
 use wb_disk::{Base, CrashChoice, NamedContent};
@@ -99,6 +101,14 @@ fn has_read(machine: &Machine, byte: u8) -> bool {
     }
 }
 
+/// Whether the target shows this sector full of this byte.
+fn shows(machine: &mut Machine, at: u64, byte: u8) -> bool {
+    match machine.view(at) {
+        Some(content) => content == [byte; SECTOR_BYTES],
+        None => false,
+    }
+}
+
 /// A write of sevens.
 fn write(sectors: Extent) -> Job {
     Job::Write(sectors, [7; SECTOR_BYTES])
@@ -145,6 +155,9 @@ fn goes(machine: &mut Machine, alloc: Global, line: &Line) -> Result<bool, Refus
         Line::Begins(actor, task, count) => Ok(begins(machine, *actor, *task, *count)),
         Line::Steps(actor, task, count) => Ok(steps_as(machine, *actor, *task, *count)),
         Line::Gives(byte) => Ok(has_read(machine, *byte)),
+        Line::Shows(at, byte) => Ok(shows(machine, *at, *byte)),
+        Line::Hides(at) => Ok(machine.view(*at).is_none()),
+        Line::Opened(generation, mapped) => Ok(machine.opened() == Some((*generation, *mapped))),
     }
 }
 
@@ -224,4 +237,9 @@ fn a_read_is_given_what_was_written(rt: HostRuntime) -> Result<(), Fail> {
 #[test]
 fn flushes_go_as_their_rows_say(rt: HostRuntime) -> Result<(), Fail> {
     compare(rt.alloc(), &FLUSHES)
+}
+
+#[test]
+fn views_are_as_their_rows_say(rt: HostRuntime) -> Result<(), Fail> {
+    compare(rt.alloc(), &VIEWS)
 }
