@@ -3,6 +3,7 @@ use Rattle.std.proofs.Common.{◌≡◌, ◌<◌, ℕ, true, List, [], Option, S
 use Rattle.wb_types.specs.declared.mode.Mode.TheVariants.{Writeback}
 use Rattle.wb_policy.specs.declared.quiet.Quiet.{Quiet}
 use Rattle.std.specs.declared.alloc.Global.{Global}
+use Rattle.wb_types.specs.Limits.{node_count}
 use Rattle.wb_types.specs.declared.geometry.Geometry.{Geometry}
 use Rattle.wb_types.specs.declared.refusal.Refusal.{Refusal}
 use Rattle.wb_disk.specs.Memory.{Memory}
@@ -35,13 +36,18 @@ use Rattle.wb_machine.specs.Life.{Happens, IsThere, Now, actors_of, answered, co
 use Rattle.wb_machine.specs.Making.{HasMade, IsMade, read_of, reading_by, reading_of}
 use Rattle.wb_machine.specs.Members.{free, seated}
 use Rattle.wb_machine.specs.declared.member.Member.{Member}
-use Rattle.wb_machine.specs.Standing.{Point, AtEnd, AtRefusal, HasMadeThere, HasReadAll, HasComeTo, StandsAt, StandsSo, plan_from}
+use Rattle.wb_desk.specs.Desks.{DeskState}
+use Rattle.wb_machine.specs.Standing.{AllRoomy, Point, AtEnd, AtRefusal, HasMadeThere, HasReadAll, HasComeTo, StandsAt, StandsSo, plan_from}
 use Rattle.wb_machine.proofs.Members.{all_free}
+use Rattle.wb_machine.proofs.Served.{roomy_free}
 use Rattle.wb_machine.proofs.Openings.{busy, length_replicate, set_replicate, set_twice, there}
 
 -- the target is the one that was made
 target_is : (g : Geometry) (n a : ℕ) (made : Made) → IsMade g n a made → record { words = made.target.crew.words; desk = made.target.desk } ≡ target_over (shape_of g n) Writeback made.target.desk.policy (read_of made)
 target_is g n a made is = rw (← is.words_are, ← is.desk_is) refl
+
+sizes : (g : Geometry) (n a : ℕ) (made : Made) → IsMade g n a made → made.target.desk.geometry ≡ g
+sizes g n a made is = ap (λ (d : DeskState Quiet). d.geometry) is.desk_is
 
 module _ (g : Geometry) (n : ℕ) (devices : Devices Memory) (o : Opener) (made : Made) where
   abbrev shape : Shape
@@ -100,7 +106,7 @@ answers_done g n devices o h next done (Some made) made_is is =
     subst (Answers g n devices o) (sym stood) (record {
       happens = subst (λ (w : Want). Happens (shape_of g n) (state_of n devices (Underway o)) (Step o.actor) (Stepped w Done) [] (state_of n devices (Standing made.target made.members))) (sym next) (opened g n devices o made h next made_is is done);
       is_there = (ap length is.cards_are ∙ length-set (replicate n blank_card) o.actor _ ∙ length_replicate n blank_card, ap length is.members_are ∙ length_replicate n free);
-      so = record { blocks = is.blocks_are; failed = is.failed_is };
+      so = record { blocks = is.blocks_are; failed = is.failed_is; sizes = sizes g n o.actor made is; roomy = subst (λ (ms : List Member). AllRoomy (node_count g.cache_blocks) ms) (sym is.members_are) (roomy_free (node_count g.cache_blocks) n) };
     })
 
 answers_refused : (g : Geometry) (n : ℕ) (devices : Devices Memory) (o : Opener) → o.actor < n → (refusal : Refusal) → want o.task ≡ End (Refuses refusal) → Answers g n devices o (answered (Underway o))

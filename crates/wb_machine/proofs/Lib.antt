@@ -4,6 +4,11 @@ pub mod Openings
 pub mod Standing
 pub mod Reaching
 pub mod Served
+pub mod Possible
+pub mod Doing
+pub mod Shown
+pub mod Sizes
+pub mod Events
 pub mod Wherever
 pub mod Answering
 pub mod Seals

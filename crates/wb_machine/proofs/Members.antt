@@ -1,9 +1,6 @@
 -- Members and their cards.
 use Rattle.std.proofs.Common.{◌≡◌, ◌≤◌, ℕ, zero, suc, true, false, List, [], ◌∷◌, Option, Some, None, refl, sym, ap, ◌∙◌, arith, slice_get, slice_set, slice_index_or, length, replicate, is_some}
-use Rattle.std.proofs.Common.{Result, Ok, Err, OnErr, IfErr}
-use Rattle.std.specs.Result.{IsErrAnd}
-use Rattle.wb_machine.specs.declared.halt.Halt.{Halt}
-use Rattle.wb_machine.specs.declared.halt.Halt.TheVariants.{Beyond}
+use Rattle.std.proofs.Common.{Result, Ok, Err, OnErr}
 use Rattle.wb_words.specs.declared.card.Card.{Card}
 use Rattle.wb_words.specs.Cards.{blank_card}
 use Rattle.wb_tasks.specs.Plan.{Plan}
@@ -26,11 +23,6 @@ put_back xs i x y e same = ap (λ z. slice_set xs i z) same ∙ set_same xs i x 
 pub on_err : {T E P : Type 0} (r : Result T E) → P → OnErr r P
 on_err (Ok x) p = tt
 on_err (Err e) p = p
-
--- a halt that was handed on
-pub gap_by : {T : Type 0} (r : Result T Halt) (e : Halt) (Q : Type 0) → IsErrAnd r (λ h. h ≡ e) → (e ≡ Beyond → Q) → IfErr r (λ halt. halt ≡ Beyond → Q)
-gap_by (Ok x) e Q same f = tt
-gap_by (Err h) e Q same f = λ b. f (sym same ∙ b)
 
 pub length_seated : (members : List Member) (cards : List Card) → length members ≡ length cards → length (seated members cards) ≡ length cards
 length_seated [] [] e = refl

@@ -2,5 +2,8 @@ pub mod Life
 pub mod Log
 pub mod Making
 pub mod Members
+pub mod Running
 pub mod Serving
+pub mod Showing
 pub mod Standing
+pub mod Works

@@ -24,18 +24,17 @@ use Rattle.wb_devices.specs.Moving.{device_in}
 use Rattle.wb_devices.specs.declared.running.RunningCommit.{RunningCommit}
 use Rattle.wb_tasks.specs.Plan.{Plan, want}
 use Rattle.wb_tasks.specs.declared.step.DeviceStep.{DeviceStep}
-use Rattle.wb_tasks.specs.declared.step.DeviceStep.TheVariants.{Read as ReadExtent, Write as WriteExtent, Sync, ReadMetadata, WriteRoot}
+use Rattle.wb_tasks.specs.declared.step.DeviceStep.TheVariants.{Sync, ReadMetadata, WriteRoot}
 use Rattle.wb_tasks.specs.declared.step.Want.{Want}
-use Rattle.wb_tasks.specs.declared.step.Want.TheVariants.{Cell, Device, End}
+use Rattle.wb_tasks.specs.declared.step.Want.TheVariants.{Device, End}
 use Rattle.wb_tasks.specs.declared.step.Answer.TheVariants.{Done as Finished}
 use Rattle.wb_runs.specs.declared.job.Job.{Job}
-use Rattle.wb_runs.specs.declared.job.Job.TheVariants.{Flush, Open}
+use Rattle.wb_runs.specs.declared.job.Job.TheVariants.{Open}
 use Rattle.wb_runs.specs.declared.event.Event.{Event}
-use Rattle.wb_runs.specs.declared.event.Event.TheVariants.{Start, Step, FaultStep}
 use Rattle.wb_runs.specs.declared.event.What.{What}
 use Rattle.wb_runs.specs.declared.event.Record.{Record}
-use Rattle.wb_runs.specs.States.{Shape, State, Actor, Phase as RunPhase, Stands, Gone, Opens, OfTarget, resting, start, with_device}
-use Rattle.wb_runs.specs.Happenings.{AtWork, Chosen, Happening, LandedOr, MayBe, May}
+use Rattle.wb_runs.specs.States.{Shape, State, Actor, Phase as RunPhase, Stands, Gone, Opens, resting, start, with_device}
+use Rattle.wb_runs.specs.Happenings.{Chosen, Happening, LandedOr, MayBe, May}
 use Rattle.wb_runs.specs.Effects.{after_what, after_happening, after_all, IsRun, records_of}
 use Rattle.wb_machine.specs.declared.making.Made.{Made}
 use Rattle.wb_machine.specs.declared.phase.Phase.{Phase}
@@ -204,7 +203,7 @@ pub record IsReached (life : Life) : Type 0 where
   pub told : records_of happenings ≡ life.trace
   pub leads : after_all life.shape (start life.shape metadata) happenings ≡ life.state
 
--- ---- what it cannot do yet
+-- ---- steps of an opening
 
 -- the step, if it is one of an opening on a device: the machine does it, or has it fail
 abbrev pub device_step_of : Want → Option DeviceStep
@@ -212,18 +211,3 @@ device_step_of (Device (Sync device)) = Some (Sync device)
 device_step_of (Device (ReadMetadata left)) = Some (ReadMetadata left)
 device_step_of (Device WriteRoot) = Some WriteRoot
 device_step_of next = None
-
--- a step of a read or write, or an answer
-abbrev pub is_request_step : Want → Bool
-is_request_step (Cell step) = true
-is_request_step (Device (ReadExtent device e)) = true
-is_request_step (Device (WriteExtent device e)) = true
-is_request_step (End answer) = true
-is_request_step next = false
-
--- a flush over a target that stands, and a step of one
-abbrev pub IsGap : Now → Event → Type 0
-IsGap w (Start a job) = OfTarget w.phase (λ t. job ≡ Flush)
-IsGap w (Step a) = OfTarget w.phase (λ t. AtWork w a (λ job plan. is_request_step (want plan) ≡ false))
-IsGap w (FaultStep a choice) = OfTarget w.phase (λ t. AtWork w a (λ job plan. is_request_step (want plan) ≡ false))
-IsGap w event = ⊥

@@ -1,6 +1,7 @@
 -- Where an opening of the machine stands in its table, and how far its reading has come there.
-use Rattle.std.specs.Prelude.{◌≡◌, ◌+◌, ℕ, List, [], ◌∷◌, Option, Some, None, length}
+use Rattle.std.specs.Prelude.{◌≡◌, ◌≤◌, ◌+◌, ℕ, List, [], ◌∷◌, Option, Some, None, length, slice_get}
 use Rattle.std.specs.declared.alloc.Global.{Global}
+use Rattle.wb_types.specs.Limits.{node_count}
 use Rattle.wb_types.specs.declared.geometry.Geometry.{Geometry}
 use Rattle.wb_types.specs.declared.mode.Dev.TheVariants.{Metadata, Cache, Origin}
 use Rattle.wb_types.specs.declared.refusal.Refusal.{Refusal}
@@ -12,7 +13,7 @@ use Rattle.wb_meta.specs.declared.commit_steps.CommitSteps.TheVariants.{NodesSyn
 use Rattle.wb_meta.specs.declared.read_steps.ReadSteps.{ReadSteps}
 use Rattle.wb_meta.specs.declared.read_steps.ReadSteps.TheVariants.{Done as AllRead}
 use Rattle.wb_meta.specs.declared.read_steps.State.{State}
-use Rattle.wb_tasks.specs.Tables.{Opening as OpeningJob}
+use Rattle.wb_tasks.specs.Tables.{TaskJob, Flushing, Opening as OpeningJob}
 use Rattle.wb_tasks.specs.Plan.{Plan, first_steps}
 use Rattle.wb_tasks.specs.declared.step.Answer.{Answer}
 use Rattle.wb_tasks.specs.declared.step.Answer.TheVariants.{Done as Finished, Refused as Refuses}
@@ -22,7 +23,9 @@ use Rattle.wb_tasks.specs.declared.step.Want.TheVariants.{Device}
 use Rattle.wb_devices.specs.declared.devices.Devices.{Devices}
 use Rattle.wb_devices.specs.declared.running.RunningCommit.{RunningCommit}
 use Rattle.wb_words.specs.SharedWords.{flag}
+use Rattle.wb_runs.specs.declared.job.Job.{Job}
 use Rattle.wb_machine.specs.declared.making.Made.{Made}
+use Rattle.wb_machine.specs.declared.member.Member.{Member}
 use Rattle.wb_machine.specs.declared.opener.Opener.{Opener}
 use Rattle.wb_machine.specs.declared.phase.Phase.{Phase}
 use Rattle.wb_machine.specs.declared.phase.Phase.TheVariants.{Closed, Underway, Standing}
@@ -101,15 +104,30 @@ pub record StandsAt (g : Geometry) (actors : ℕ) (o : Opener) : Type 0 where
   pub come : HasComeTo g point (reading_of o) o.opening.commit
   pub made : HasMadeThere g actors point o.actor o.made
 
--- A target has as many words as the origin has blocks, and knows whether it has failed.
-pub record IsWhole (g : Geometry) (target : Target) : Type 0 where
+-- a flush allows as many nodes as an image may have
+abbrev pub AllowsImages : ℕ → TaskJob → Type 0
+AllowsImages nodes (Flushing serves most) = nodes ≤ most
+AllowsImages nodes job = Unit {0}
+
+abbrev pub IsRoomy : ℕ → Option (Job × Plan) → Type 0
+IsRoomy nodes None = Unit {0}
+IsRoomy nodes (Some doing) = AllowsImages nodes doing.1.job
+
+abbrev pub AllRoomy : ℕ → List Member → Type 0
+AllRoomy nodes members = (a : ℕ) (m : Member) → slice_get members a ≡ Some m → IsRoomy nodes m.task
+
+-- A target has as many words as the origin has blocks, knows whether it has failed, and its desk is of this geometry; whoever
+-- flushes over it allows as many nodes as an image may have.
+pub record IsWhole (g : Geometry) (target : Target) (members : List Member) : Type 0 where
   pub blocks : target.crew.blocks ≡ g.origin_blocks
   pub failed : target.failed ≡ flag target.crew.words.fail
+  pub sizes : target.desk.geometry ≡ g
+  pub roomy : AllRoomy (node_count g.cache_blocks) members
 
 abbrev pub StandsSo : Geometry → ℕ → Phase → Type 0
 StandsSo g actors Closed = Unit {0}
 StandsSo g actors (Underway opener) = StandsAt g actors opener
-StandsSo g actors (Standing target members) = IsWhole g target
+StandsSo g actors (Standing target members) = IsWhole g target members.items
 
 -- The metadata device is of this geometry, and what is there is sound.
 pub record IsSound (g : Geometry) (actors : ℕ) (devices : Devices Memory) (phase : Phase) : Type 0 where

@@ -1,25 +1,26 @@
 //! A machine that runs.
 
-ghost use Rattle.std.specs.Prelude.{◌≡◌, [], OnOk, OnErr, IfOk, IfErr};
+ghost use Rattle.std.specs.Prelude.{◌≡◌, [], OnOk, OnErr, IfOk, IfErr, slice_get};
 ghost use Rattle.std.specs.declared.alloc.Global.{Global};
 ghost use Rattle.wb_types.specs.declared.refusal.Refusal.TheVariants.{Memory};
 ghost use Rattle.wb_disk.specs.Device.{History};
 ghost use Rattle.wb_runs.specs.Clerk.{formatted};
-ghost use Rattle.wb_runs.specs.Headline.{AllOpenRightly, AllRefuseByCause, CrashConsistent, noted};
+ghost use Rattle.wb_runs.specs.Headline.{AllOpenRightly, AllRefuseByCause, CrashConsistent, noted, shown};
 ghost use Rattle.wb_runs.specs.Latest.{AllReadRightly};
 ghost use Rattle.wb_runs.specs.States.{start};
-ghost use Rattle.wb_machine.specs.declared.halt.Halt.TheVariants.{Beyond};
 ghost use Rattle.wb_machine.specs.declared.machine.TheConstants.{ACTORS};
-ghost use Rattle.wb_machine.specs.Life.{GoesOn, Happens, IsGap, IsReached, IsThere, shape_of, state_of};
+ghost use Rattle.wb_machine.specs.Life.{GoesOn, Happens, IsReached, IsThere, shape_of, state_of};
+ghost use Rattle.wb_machine.specs.Running.{IsRightRun, events_of};
 ghost use Rattle.wb_machine.specs.Serving.{IsServed};
+ghost use Rattle.wb_machine.specs.Showing.{opened_of};
 ghost use Rattle.wb_machine.specs.Standing.{IsSound};
 
-use crate::halt::Halt;
 use crate::outcome::Outcome;
 use crate::phase::Phase;
 use crate::serving::{falter, start, step};
 use crate::stopping::stop;
 use crate::trace::Trace;
+use crate::viewing::{counts_of, view_of};
 use std::alloc::Global;
 use std::marker::Model;
 use wb_devices::Devices;
@@ -30,7 +31,7 @@ use wb_runs::{
     Event, Record, every_crash_is_consistent, every_opening_shows_allowed, never_stuck,
     openings_refuse_by_cause, reads_give_the_latest_write, words_are_used_rightly,
 };
-use wb_types::{Geometry, Refusal};
+use wb_types::{Content, Geometry, Refusal};
 
 /// How many actors a machine has.
 pub const ACTORS: usize = 64;
@@ -85,15 +86,15 @@ impl Machine {
         })
     }
 
-    /// One event. It adds one record, which says what the event did. Where the record or what the step writes wants more memory
-    /// than there is, or the event is a step that the machine cannot do yet, nothing that it holds has changed; there may be room for more.
-    pub fn event(&mut self, event: Event) -> Result<(), Halt>
+    /// One event. It adds one record, which says what the event did. `Memory` where the record, or what the step reads or writes, wants
+    /// more than there is: nothing that it holds has changed; there may be room for more.
+    pub fn event(&mut self, event: Event) -> Result<(), Refusal>
         ensures ok { OnOk result (GoesOn self.old event self.new) }
         ensures err { OnErr result (self.new ≡ self.old) }
-        ensures gap { IfErr result (λ halt. halt ≡ Beyond → IsGap self.old.state event) }
+        ensures refusal { IfErr result (λ refusal. refusal ≡ Memory) }
     {
         if self.trace.reserve().is_err() {
-            return Err(Halt::Memory);
+            return Err(Refusal::Memory);
         }
         never_stuck::<Quiet, Global>();
         words_are_used_rightly::<Quiet, Global>();
@@ -106,6 +107,26 @@ impl Machine {
         )?;
         self.trace.push_reserved(Record { event, what, read });
         Ok(())
+    }
+
+    /// What the target that stands shows of a sector of the origin: its newest content where its block stands. None where no target
+    /// stands, or the origin has no such sector. Straight after an opening's answer that is what it has opened.
+    pub fn view(&mut self, at: u64) -> Option<Content>
+        ensures shown { result ≡ slice_get (shown self.old.shape self.old.state) at }
+        ensures kept { self.new ≡ self.old }
+    {
+        view_of(&self.geometry, &mut self.devices, &self.phase, at)
+    }
+
+    /// The generation of the newest root of the target that stands, and how many of its cache blocks have an entry. None where no target
+    /// stands. Straight after an opening's answer the generation is the one that it has written.
+    pub fn opened(&self) -> Option<(u64, u32)>
+        ensures { result ≡ opened_of self.now.state.phase }
+    {
+        match &self.phase {
+            Phase::Standing(target, _) => Some(counts_of(&target.desk)),
+            _ => None,
+        }
     }
 
     /// The trace. It is one of a run from formatted metadata. So whatever a crash leaves of the devices shows of each sector an
@@ -125,6 +146,17 @@ impl Machine {
         reads_give_the_latest_write::<Quiet, Global>();
         &self.trace
     }
+
+    /// The trace of a machine that is done with, and what is promised of it.
+    pub(crate) fn into_trace(self) -> Trace
+        ensures { IsRightRun self.shape (events_of self.trace) result.records }
+    {
+        every_crash_is_consistent::<Quiet, Global>();
+        every_opening_shows_allowed::<Quiet, Global>();
+        openings_refuse_by_cause::<Quiet, Global>();
+        reads_give_the_latest_write::<Quiet, Global>();
+        self.trace
+    }
 }
 
 /// What an event does to the parts of a machine, and what it reads.
@@ -134,7 +166,7 @@ fn happen(
     devices: &mut Devices<MemDisk>,
     phase: &mut Phase,
     event: &Event,
-) -> Result<Outcome, Halt>
+) -> Result<Outcome, Refusal>
     requires there { IsThere ACTORS phase.old }
     requires sound { IsSound geometry.now ACTORS devices.old phase.old }
     requires served { IsServed geometry.now devices.old phase.old }
@@ -142,11 +174,11 @@ fn happen(
     ensures sound { IsSound geometry.now ACTORS devices.new phase.new }
     ensures ok { IfOk result (λ done. Happens (shape_of geometry.now ACTORS) (state_of ACTORS devices.old phase.old) event.now done.what done.read.items (state_of ACTORS devices.new phase.new)) }
     ensures err { OnErr result (state_of ACTORS devices.new phase.new ≡ state_of ACTORS devices.old phase.old) }
-    ensures gap { IfErr result (λ halt. halt ≡ Beyond → IsGap (state_of ACTORS devices.old phase.old) event.now) }
+    ensures refusal { IfErr result (λ refusal. refusal ≡ Memory) }
 {
     match event {
         Event::Start(a, job) => {
-            let what = start(geometry, alloc, devices, phase, *a, job)?;
+            let what = start(geometry, alloc, devices, phase, *a, job);
             Ok(Outcome::told(alloc, what))
         }
         Event::Step(a) => step(geometry, alloc, devices, phase, *a),

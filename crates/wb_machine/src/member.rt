@@ -1,33 +1,34 @@
 //! What an actor is at over a target that stands, and its steps.
 
 ghost use Rattle.std.specs.Prelude.{◌≡◌, ◌<◌, length, None, true, IfOk, IfErr, OnErr};
+ghost use Rattle.wb_types.specs.Limits.{node_count};
+ghost use Rattle.wb_types.specs.declared.refusal.Refusal.TheVariants.{Memory};
 ghost use Rattle.wb_words.specs.SharedWords.{flag};
 ghost use Rattle.wb_cells.specs.Crews.{card_of};
 ghost use Rattle.wb_runs.specs.Holding.{TaskSuits};
-ghost use Rattle.wb_runs.specs.declared.job.Job.TheVariants.{Flush};
-ghost use Rattle.wb_machine.specs.declared.halt.Halt.TheVariants.{Beyond};
 ghost use Rattle.wb_machine.specs.declared.machine.TheConstants.{ACTORS};
 ghost use Rattle.wb_machine.specs.Life.{contents_of, shape_of, wants_target};
 ghost use Rattle.wb_machine.specs.Members.{free};
-ghost use Rattle.wb_machine.specs.Serving.{CanStep, FailsOrRests, IsBeyond, Steps, start_of, task_given};
+ghost use Rattle.wb_machine.specs.Serving.{CanStep, FailsOrRests, Steps, start_of, task_given};
+ghost use Rattle.wb_machine.specs.Standing.{IsRoomy};
 
-use crate::halt::Halt;
+use crate::moving::fail_step;
 use crate::outcome::Outcome;
-use crate::performing::fail_request;
 use crate::requests::{refusal_of, task_of};
 use crate::target::Target;
+use crate::work::Work;
 use std::alloc::Global;
-use wb_devices::Devices;
+use wb_devices::{Devices, RunningCommit};
 use wb_disk::{CrashChoice, MemDisk};
 use wb_runs::{Job, What};
-use wb_tasks::{Got, RequestTask, Task, Want};
-use wb_types::Geometry;
+use wb_tasks::{Got, Task, Want};
+use wb_types::{Geometry, Refusal};
 
 /// What an actor is at: its job and what is left of its task, if it has one. What it knows of the shared words is on its card in
 /// the crew.
 #[derive(Drop)]
 pub struct Member {
-    pub task: Option<(Job, RequestTask)>,
+    pub task: Option<(Job, Work)>,
 }
 
 impl Member {
@@ -39,24 +40,19 @@ impl Member {
     }
 
     /// Gets a job, if it has none and the job may be started. Each of its steps on a device takes one sector.
-    pub(crate) fn start(&mut self, geometry: &Geometry, job: &Job) -> Result<What, Halt>
+    pub(crate) fn start(&mut self, alloc: Global, geometry: &Geometry, job: &Job) -> What
         requires { wants_target job.now ≡ true }
-        ensures what { IfOk result (λ what. what ≡ start_of (shape_of geometry.now ACTORS) self.old.task job.now) }
-        ensures task { IfOk result (λ what. self.new.task ≡ task_given (shape_of geometry.now ACTORS) self.old.task job.now what) }
-        ensures err { OnErr result (self.new ≡ self.old) }
-        ensures gap { IfErr result (λ halt. (halt ≡ Beyond) × (job.now ≡ Flush)) }
+        ensures what { result ≡ start_of (shape_of geometry.now ACTORS) self.old.task job.now }
+        ensures task { self.new.task ≡ task_given (shape_of geometry.now ACTORS) self.old.task job.now result }
     {
         if self.task.is_some() {
-            return Ok(What::Skipped);
-        }
-        if let Job::Flush = job {
-            return Err(Halt::Beyond);
+            return What::Skipped;
         }
         match refusal_of(geometry, job) {
-            Some(refusal) => Ok(What::Refused(refusal)),
+            Some(refusal) => What::Refused(refusal),
             None => {
-                self.task = Some((*job, task_of(geometry, job)));
-                Ok(What::Started)
+                self.task = Some((*job, task_of(alloc, geometry, job)));
+                What::Started
             }
         }
     }
@@ -69,14 +65,16 @@ impl Member {
         alloc: Global,
         target: &mut Target,
         devices: &mut Devices<MemDisk>,
-    ) -> Result<Outcome, Halt>
+    ) -> Result<Outcome, Refusal>
         requires there { number < length target.old.crew.cards }
         requires failed { target.old.failed ≡ flag target.old.crew.words.fail }
         requires suits { TaskSuits target.old.crew.blocks (card_of target.old.crew number) self.old.task }
-        requires can { CanStep (contents_of devices.old) self.old.task }
+        requires can { CanStep (contents_of devices.old) target.old.commit self.old.task }
+        requires roomy { IsRoomy (node_count target.old.desk.geometry.cache_blocks) self.old.task }
         ensures ok { IfOk result (λ done. Steps (contents_of devices.old) target.old number self.old.task done.what done.read.items (contents_of devices.new) target.new self.new.task) }
+        ensures size { length devices.new.metadata.contents ≡ length devices.old.metadata.contents }
         ensures err { OnErr result ((contents_of devices.new ≡ contents_of devices.old) × (target.new ≡ target.old) × (self.new ≡ self.old)) }
-        ensures gap { IfErr result (λ halt. halt ≡ Beyond → IsBeyond self.old.task) }
+        ensures refusal { IfErr result (λ refusal. refusal ≡ Memory) }
     {
         let Some((job, task)) = &mut self.task else {
             return Ok(Outcome::skipped(alloc));
@@ -99,12 +97,14 @@ impl Member {
     pub(crate) fn falter(
         &mut self,
         devices: &mut Devices<MemDisk>,
+        commit: &mut Option<RunningCommit>,
         choice: &CrashChoice,
-    ) -> Result<What, Halt>
-        requires { CanStep (contents_of devices.old) self.old.task }
-        ensures ok { IfOk result (λ what. FailsOrRests choice.now (contents_of devices.old) self.old.task what (contents_of devices.new) self.new.task) }
-        ensures err { OnErr result ((contents_of devices.new ≡ contents_of devices.old) × (self.new ≡ self.old)) }
-        ensures gap { IfErr result (λ halt. halt ≡ Beyond → IsBeyond self.old.task) }
+    ) -> Result<What, Refusal>
+        requires { CanStep (contents_of devices.old) commit.old self.old.task }
+        ensures ok { IfOk result (λ what. FailsOrRests choice.now (contents_of devices.old) commit.old self.old.task what (contents_of devices.new) commit.new self.new.task) }
+        ensures size { length devices.new.metadata.contents ≡ length devices.old.metadata.contents }
+        ensures err { OnErr result ((contents_of devices.new ≡ contents_of devices.old) × (commit.new ≡ commit.old) × (self.new ≡ self.old)) }
+        ensures refusal { IfErr result (λ refusal. refusal ≡ Memory) }
     {
         let Some((job, task)) = &mut self.task else {
             return Ok(What::Skipped);
@@ -113,7 +113,7 @@ impl Member {
         let Want::Device(step) = want else {
             return Ok(What::Skipped);
         };
-        let fails = fail_request(devices, job, step, choice)?;
+        let fails = fail_step(devices, commit, job, step, choice)?;
         if !fails {
             return Ok(What::Skipped);
         }

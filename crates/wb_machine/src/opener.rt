@@ -4,7 +4,7 @@ ghost use Rattle.std.specs.Prelude.{◌≡◌, ◌≤◌, ◌<◌, ◌↔◌, �
 ghost use Rattle.std.specs.declared.alloc.Global.{Global as GlobalValue};
 ghost use Rattle.std.specs.Bool.{OnTrue, OnFalse};
 ghost use Rattle.wb_types.specs.declared.mode.Dev.TheVariants.{Metadata};
-ghost use Rattle.wb_types.specs.declared.refusal.Refusal.TheVariants.{Memory as OutOfMemory};
+ghost use Rattle.wb_types.specs.declared.refusal.Refusal.TheVariants.{Memory};
 ghost use Rattle.wb_disk.specs.Device.{newest, synced};
 ghost use Rattle.wb_disk.specs.Failing.{MayFail};
 ghost use Rattle.wb_tasks.specs.Plan.{Fits, want, after, device_of};
@@ -19,14 +19,12 @@ ghost use Rattle.wb_devices.specs.Opened.{DidTell};
 ghost use Rattle.wb_runs.specs.States.{with_device};
 ghost use Rattle.wb_runs.specs.declared.event.Event.TheVariants.{Step};
 ghost use Rattle.wb_runs.specs.declared.event.What.TheVariants.{Stepped};
-ghost use Rattle.wb_machine.specs.declared.halt.Halt.TheVariants.{Memory};
 ghost use Rattle.wb_machine.specs.declared.machine.TheConstants.{ACTORS};
 ghost use Rattle.wb_machine.specs.declared.phase.Phase.TheVariants.{Underway};
 ghost use Rattle.wb_machine.specs.Life.{FailsOn, Happens, PutsCommitted, commit_failed, commit_synced, commit_written, contents_of, device_step_of, made_synced, reading_synced, reading_failed, shape_of, state_of};
 ghost use Rattle.wb_machine.specs.Making.{HasMade, MadeBy, reading_of};
 ghost use Rattle.wb_machine.specs.Standing.{HasReadAll, IsReading, StandsAt};
 
-use crate::halt::Halt;
 use crate::machine::ACTORS;
 use crate::making::{Made, make};
 use crate::rooting::{fail_root, put_committed};
@@ -54,7 +52,7 @@ impl Opener {
         geometry: &Geometry,
         devices: &mut Devices<MemDisk>,
         step: DeviceStep,
-    ) -> Result<Got, Halt>
+    ) -> Result<Got, Refusal>
         requires next { device_step_of (want self.old.task) ≡ Some step }
         requires whole { length devices.old.metadata.contents ≡ geometry.now.meta_sectors }
         requires there { self.old.actor < ACTORS }
@@ -64,7 +62,7 @@ impl Opener {
         ensures stands { StandsAt geometry.now ACTORS self.new }
         ensures does { IfOk result (λ got. Happens (shape_of geometry.now ACTORS) (state_of ACTORS devices.old (Underway self.old)) (Step self.old.actor) (Stepped (Device step) got) [] (state_of ACTORS devices.new (Underway self.new))) }
         ensures err { OnErr result ((devices.new ≡ devices.old) × (self.new ≡ self.old)) }
-        ensures halt { IfErr result (λ halt. halt ≡ Memory) }
+        ensures refusal { IfErr result (λ refusal. refusal ≡ Memory) }
     {
         let _two_slots = geometry.node_count();
         match step {
@@ -128,7 +126,7 @@ impl Opener {
     }
 
     /// Writes the root, as the next step. `Memory` where there is none for it: nothing has changed.
-    fn write_root(&mut self, metadata: &mut MemDisk) -> Result<(), Halt>
+    fn write_root(&mut self, metadata: &mut MemDisk) -> Result<(), Refusal>
         requires next { want self.old.task ≡ Device WriteRoot }
         requires slots { 2 ≤ length metadata.old.contents }
         ensures size { length metadata.new.contents ≡ length metadata.old.contents }
@@ -140,7 +138,7 @@ impl Opener {
         ensures commit { OnOk result (self.new.opening.commit ≡ commit_written self.old.opening.commit) }
         ensures puts { OnOk result (PutsCommitted self.old.opening.commit metadata.old.contents metadata.new.contents) }
         ensures err { OnErr result ((metadata.new ≡ metadata.old) × (self.new ≡ self.old)) }
-        ensures halt { IfErr result (λ halt. halt ≡ Memory) }
+        ensures refusal { IfErr result (λ refusal. refusal ≡ Memory) }
     {
         put_committed(metadata, &mut self.opening.commit)?;
         self.task.next(Got::Done);
@@ -207,7 +205,7 @@ impl Opener {
         ensures commit { OnOk result (self.new.opening.commit ≡ self.old.opening.commit) }
         ensures made { OnOk result (HasMade self.old.opening.geometry ACTORS self.old.actor self.new.made) }
         ensures over { OnErr result ((reading_of self.new ≡ None) × (self.new.opening.commit ≡ None) × (self.new.made ≡ None)) }
-        ensures refused { IfErr result (λ refusal. refusal ≡ OutOfMemory) }
+        ensures refused { IfErr result (λ refusal. refusal ≡ Memory) }
     {
         let Some(ReadSteps::Done(state)) = self.opening.reading.take() else {
             return Ok(());
@@ -269,7 +267,7 @@ fn coming_of(opening: &Opening) -> Option<u64>
 }
 
 /// What stands newest in a sector, if one is named that the device has.
-fn content_of(disk: &mut MemDisk, coming: Option<u64>) -> Option<Content>
+pub(crate) fn content_of(disk: &mut MemDisk, coming: Option<u64>) -> Option<Content>
     ensures kept { disk.new ≡ disk.old }
     ensures shown { (place : ℕ) → coming ≡ Some place → slice_get (map newest disk.old.contents) place ≡ result }
 {
@@ -290,14 +288,14 @@ pub(crate) fn fail_step(
     commit: &Option<RunningCommit>,
     step: DeviceStep,
     choice: &CrashChoice,
-) -> Result<bool, Halt>
+) -> Result<bool, Refusal>
     requires next { device_step_of (Device step) ≡ Some step }
     requires slots { 2 ≤ length devices.old.metadata.contents }
     ensures may { IfOk result (λ may. IsTrue may ↔ MayFail (device_of step) choice.now (length (device_in (device_of step) (contents_of devices.old)))) }
     ensures failed { IfOk result (λ may. OnTrue may (FailsOn commit.now step choice.now (contents_of devices.old) (contents_of devices.new))) }
     ensures kept { IfOk result (λ may. OnFalse may (devices.new ≡ devices.old)) }
     ensures err { OnErr result (devices.new ≡ devices.old) }
-    ensures halt { IfErr result (λ halt. halt ≡ Memory) }
+    ensures refusal { IfErr result (λ refusal. refusal ≡ Memory) }
 {
     match step {
         DeviceStep::Sync(Dev::Metadata) => { Ok(devices.metadata.fail_sync(Dev::Metadata, choice)) }

@@ -1,15 +1,17 @@
-//! Whether a job over a target may be started, and the tasks of reads and writes.
+//! Whether a job over a target may be started, and the tasks of reads, writes and flushes.
 
-ghost use Rattle.std.specs.Prelude.{◌≡◌, ◌≢◌, ◌/◌, None, true};
+ghost use Rattle.std.specs.Prelude.{◌≡◌, ◌/◌, None, true};
 ghost use Rattle.wb_types.specs.Extents.{pieces};
 ghost use Rattle.wb_tasks.specs.Plan.{table};
 ghost use Rattle.wb_tasks.specs.Tables.{OnBlock, Reading, Writing};
 ghost use Rattle.wb_runs.specs.Happenings.{block_range, extent_refusal, job_refusal, task_job};
-ghost use Rattle.wb_runs.specs.declared.job.Job.TheVariants.{Flush};
 ghost use Rattle.wb_machine.specs.declared.machine.TheConstants.{ACTORS};
 ghost use Rattle.wb_machine.specs.Life.{shape_of, wants_target};
 ghost use Rattle.wb_machine.specs.Serving.{cut_for};
 
+use crate::work::Work;
+use std::alloc::Global;
+use wb_flow::FlushTask;
 use wb_runs::Job;
 use wb_tasks::{ReadTask, RequestTask, WriteTask};
 use wb_types::{Extent, Geometry, OBlock, Refusal};
@@ -46,17 +48,17 @@ fn extent_refusal(geometry: &Geometry, extent: Extent) -> Option<Refusal>
     }
 }
 
-/// The task of a read or write that may be started, of whose steps on a device each takes one sector.
-pub(crate) fn task_of(geometry: &Geometry, job: &Job) -> RequestTask
+/// The task of a job that may be started: of a read's or write's steps on a device each takes one sector, and a flush allows as many
+/// nodes as an image may have.
+pub(crate) fn task_of(alloc: Global, geometry: &Geometry, job: &Job) -> Work
     requires over { wants_target job.now ≡ true }
-    requires no_flush { job.now ≢ Flush }
     requires may_start { job_refusal (shape_of geometry.now ACTORS) job.now ≡ None }
     ensures { result ≡ table (task_job (shape_of geometry.now ACTORS) job.now (cut_for job.now)) }
 {
     match job {
-        Job::Read(extent) => RequestTask::reads(read_of(geometry, *extent)),
-        Job::Write(extent, _) => RequestTask::writes(write_of(geometry, *extent)),
-        Job::Flush => unreachable!(),
+        Job::Read(extent) => Work::requests(RequestTask::reads(read_of(geometry, *extent))),
+        Job::Write(extent, _) => Work::requests(RequestTask::writes(write_of(geometry, *extent))),
+        Job::Flush => Work::flushes(FlushTask::new(Vec::new(alloc), geometry.node_count())),
         Job::Open(_) => unreachable!(),
     }
 }

@@ -3,28 +3,27 @@
 ghost use Rattle.std.specs.Prelude.{◌≡◌, ◌≤◌, ◌↔◌, IsTrue, IfOk, OnOk, OnErr, IfErr, length};
 ghost use Rattle.std.specs.Bool.{OnTrue, OnFalse};
 ghost use Rattle.wb_types.specs.declared.mode.Dev.TheVariants.{Metadata};
+ghost use Rattle.wb_types.specs.declared.refusal.Refusal.TheVariants.{Memory};
 ghost use Rattle.wb_disk.specs.Failing.{MayFail};
-ghost use Rattle.wb_machine.specs.declared.halt.Halt.TheVariants.{Memory};
 ghost use Rattle.wb_machine.specs.Life.{PutsCommitted, PutsRoot, MayPutCommitted, commit_written};
 
-use crate::halt::Halt;
 use wb_devices::RunningCommit;
 use wb_disk::{CrashChoice, Disk, MemDisk};
 use wb_format::Root;
 use wb_meta::CommitSteps;
-use wb_types::{Dev, Place, SECTOR_BYTES};
+use wb_types::{Dev, Place, Refusal, SECTOR_BYTES};
 
 /// Writes the root of this commit, if there is one. `Memory` where there is none for it: nothing has changed.
 pub(crate) fn put_committed(
     metadata: &mut MemDisk,
     commit: &mut Option<RunningCommit>,
-) -> Result<(), Halt>
+) -> Result<(), Refusal>
     requires { 2 ≤ length metadata.old.contents }
     ensures size { length metadata.new.contents ≡ length metadata.old.contents }
     ensures commit { OnOk result (commit.new ≡ commit_written commit.old) }
     ensures puts { OnOk result (PutsCommitted commit.old metadata.old.contents metadata.new.contents) }
     ensures err { OnErr result ((metadata.new ≡ metadata.old) × (commit.new ≡ commit.old)) }
-    ensures halt { IfErr result (λ halt. halt ≡ Memory) }
+    ensures refusal { IfErr result (λ refusal. refusal ≡ Memory) }
 {
     let Some(running) = commit else {
         return Ok(());
@@ -35,17 +34,17 @@ pub(crate) fn put_committed(
 }
 
 /// Writes a root to its slot. `Memory` where there is none for it: nothing has changed.
-pub(crate) fn put_root(metadata: &mut MemDisk, root: &Root) -> Result<(), Halt>
+pub(crate) fn put_root(metadata: &mut MemDisk, root: &Root) -> Result<(), Refusal>
     requires { 2 ≤ length metadata.old.contents }
     ensures size { length metadata.new.contents ≡ length metadata.old.contents }
     ensures ok { OnOk result (PutsRoot root.now metadata.old.contents metadata.new.contents) }
     ensures err { OnErr result (metadata.new ≡ metadata.old) }
-    ensures halt { IfErr result (λ halt. halt ≡ Memory) }
+    ensures refusal { IfErr result (λ refusal. refusal ≡ Memory) }
 {
     let Place(slot) = root.slot();
     let slot = u64::from(slot);
     if metadata.room(slot).is_err() {
-        return Err(Halt::Memory);
+        return Err(Refusal::Memory);
     }
     let mut content = [0; SECTOR_BYTES];
     root.write(&mut content);
@@ -59,13 +58,13 @@ pub(crate) fn fail_root(
     metadata: &mut MemDisk,
     commit: &Option<RunningCommit>,
     choice: &CrashChoice,
-) -> Result<bool, Halt>
+) -> Result<bool, Refusal>
     requires { 2 ≤ length metadata.old.contents }
     ensures may { IfOk result (λ may. IsTrue may ↔ MayFail Metadata choice.now (length metadata.old.contents)) }
     ensures landed { IfOk result (λ may. OnTrue may (MayPutCommitted commit.now choice.now metadata.old.contents metadata.new.contents)) }
     ensures kept { IfOk result (λ may. OnFalse may (metadata.new ≡ metadata.old)) }
     ensures err { OnErr result (metadata.new ≡ metadata.old) }
-    ensures halt { IfErr result (λ halt. halt ≡ Memory) }
+    ensures refusal { IfErr result (λ refusal. refusal ≡ Memory) }
 {
     if !choice.may_fail(Dev::Metadata, metadata.sectors()) {
         return Ok(false);

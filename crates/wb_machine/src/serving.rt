@@ -1,15 +1,14 @@
 //! Starts and steps, over a target that stands and where none does.
 
 ghost use Rattle.std.specs.Prelude.{◌≡◌, [], IfOk, IfErr, OnErr, true};
+ghost use Rattle.wb_types.specs.declared.refusal.Refusal.TheVariants.{Memory};
 ghost use Rattle.wb_runs.specs.declared.event.Event.TheVariants.{Start, Step, FaultStep};
-ghost use Rattle.wb_machine.specs.declared.halt.Halt.TheVariants.{Beyond};
 ghost use Rattle.wb_machine.specs.declared.machine.TheConstants.{ACTORS};
 ghost use Rattle.wb_machine.specs.declared.phase.Phase.TheVariants.{Standing};
-ghost use Rattle.wb_machine.specs.Life.{Happens, IsGap, IsThere, contents_of, shape_of, state_of, wants_target};
+ghost use Rattle.wb_machine.specs.Life.{Happens, IsThere, contents_of, shape_of, state_of, wants_target};
 ghost use Rattle.wb_machine.specs.Serving.{IsServed};
-ghost use Rattle.wb_machine.specs.Standing.{IsSound, IsWhole};
+ghost use Rattle.wb_machine.specs.Standing.{IsSound};
 
-use crate::halt::Halt;
 use crate::member::Member;
 use crate::outcome::Outcome;
 use crate::phase::Phase;
@@ -20,7 +19,7 @@ use std::alloc::Global;
 use wb_devices::Devices;
 use wb_disk::{CrashChoice, MemDisk};
 use wb_runs::{Job, What};
-use wb_types::Geometry;
+use wb_types::{Geometry, Refusal};
 
 /// An actor gets a job, if it has none and the job may be started.
 pub(crate) fn start(
@@ -30,66 +29,64 @@ pub(crate) fn start(
     phase: &mut Phase,
     actor: usize,
     job: &Job,
-) -> Result<What, Halt>
+) -> What
     requires there { IsThere ACTORS phase.old }
     requires sound { IsSound geometry.now ACTORS devices.now phase.old }
     ensures there { IsThere ACTORS phase.new }
     ensures sound { IsSound geometry.now ACTORS devices.now phase.new }
-    ensures ok { IfOk result (λ what. Happens (shape_of geometry.now ACTORS) (state_of ACTORS devices.now phase.old) (Start actor job.now) what [] (state_of ACTORS devices.now phase.new)) }
-    ensures err { OnErr result (state_of ACTORS devices.now phase.new ≡ state_of ACTORS devices.now phase.old) }
-    ensures gap { IfErr result (λ halt. halt ≡ Beyond → IsGap (state_of ACTORS devices.now phase.old) (Start actor job.now)) }
+    ensures does { Happens (shape_of geometry.now ACTORS) (state_of ACTORS devices.now phase.old) (Start actor job.now) result [] (state_of ACTORS devices.now phase.new) }
 {
     if wants_target(job) {
-        return start_there(geometry, devices, phase, actor, job);
+        return start_there(geometry, alloc, devices, phase, actor, job);
     }
-    Ok(open(geometry, alloc, devices, phase, actor, job))
+    open(geometry, alloc, devices, phase, actor, job)
 }
 
 /// The same of a job that wants a target: where none stands it is skipped.
 fn start_there(
     geometry: &Geometry,
+    alloc: Global,
     devices: &Devices<MemDisk>,
     phase: &mut Phase,
     actor: usize,
     job: &Job,
-) -> Result<What, Halt>
+) -> What
     requires there { IsThere ACTORS phase.old }
     requires sound { IsSound geometry.now ACTORS devices.now phase.old }
     requires over { wants_target job.now ≡ true }
     ensures there { IsThere ACTORS phase.new }
     ensures sound { IsSound geometry.now ACTORS devices.now phase.new }
-    ensures ok { IfOk result (λ what. Happens (shape_of geometry.now ACTORS) (state_of ACTORS devices.now phase.old) (Start actor job.now) what [] (state_of ACTORS devices.now phase.new)) }
-    ensures err { OnErr result (state_of ACTORS devices.now phase.new ≡ state_of ACTORS devices.now phase.old) }
-    ensures gap { IfErr result (λ halt. halt ≡ Beyond → IsGap (state_of ACTORS devices.now phase.old) (Start actor job.now)) }
+    ensures does { Happens (shape_of geometry.now ACTORS) (state_of ACTORS devices.now phase.old) (Start actor job.now) result [] (state_of ACTORS devices.now phase.new) }
 {
     let Phase::Standing(target, members) = phase else {
-        return Ok(What::Skipped);
+        return What::Skipped;
     };
-    start_over(geometry, devices, target, members, actor, job)
+    start_over(geometry, alloc, devices, target, members, actor, job)
 }
 
 /// The same over a target that stands.
 fn start_over(
     geometry: &Geometry,
+    alloc: Global,
     devices: &Devices<MemDisk>,
     target: &Target,
     members: &mut Vec<Member>,
     actor: usize,
     job: &Job,
-) -> Result<What, Halt>
+) -> What
     requires there { IsThere ACTORS (Standing target.now members.old) }
+    requires sound { IsSound geometry.now ACTORS devices.now (Standing target.now members.old) }
     requires over { wants_target job.now ≡ true }
     ensures there { IsThere ACTORS (Standing target.now members.new) }
-    ensures ok { IfOk result (λ what. Happens (shape_of geometry.now ACTORS) (state_of ACTORS devices.now (Standing target.now members.old)) (Start actor job.now) what [] (state_of ACTORS devices.now (Standing target.now members.new))) }
-    ensures err { OnErr result (members.new.items ≡ members.old.items) }
-    ensures gap { IfErr result (λ halt. halt ≡ Beyond → IsGap (state_of ACTORS devices.now (Standing target.now members.old)) (Start actor job.now)) }
+    ensures sound { IsSound geometry.now ACTORS devices.now (Standing target.now members.new) }
+    ensures does { Happens (shape_of geometry.now ACTORS) (state_of ACTORS devices.now (Standing target.now members.old)) (Start actor job.now) result [] (state_of ACTORS devices.now (Standing target.now members.new)) }
 {
+    let _ = devices;
     if actor >= members.len() {
-        return Ok(What::Skipped);
+        return What::Skipped;
     }
     let member = &mut members[actor];
-    let what = member.start(geometry, job)?;
-    Ok(what)
+    member.start(alloc, geometry, job)
 }
 
 /// Whether the job is one of a target that stands.
@@ -106,7 +103,7 @@ pub(crate) fn step(
     devices: &mut Devices<MemDisk>,
     phase: &mut Phase,
     actor: usize,
-) -> Result<Outcome, Halt>
+) -> Result<Outcome, Refusal>
     requires there { IsThere ACTORS phase.old }
     requires sound { IsSound geometry.now ACTORS devices.old phase.old }
     requires served { IsServed geometry.now devices.old phase.old }
@@ -114,7 +111,7 @@ pub(crate) fn step(
     ensures sound { IsSound geometry.now ACTORS devices.new phase.new }
     ensures ok { IfOk result (λ done. Happens (shape_of geometry.now ACTORS) (state_of ACTORS devices.old phase.old) (Step actor) done.what done.read.items (state_of ACTORS devices.new phase.new)) }
     ensures err { OnErr result (state_of ACTORS devices.new phase.new ≡ state_of ACTORS devices.old phase.old) }
-    ensures gap { IfErr result (λ halt. halt ≡ Beyond → IsGap (state_of ACTORS devices.old phase.old) (Step actor)) }
+    ensures refusal { IfErr result (λ refusal. refusal ≡ Memory) }
 {
     if let Phase::Standing(target, members) = phase {
         return step_over(geometry, alloc, devices, target, members, actor);
@@ -131,7 +128,7 @@ fn step_over(
     target: &mut Target,
     members: &mut Vec<Member>,
     actor: usize,
-) -> Result<Outcome, Halt>
+) -> Result<Outcome, Refusal>
     requires there { IsThere ACTORS (Standing target.old members.old) }
     requires sound { IsSound geometry.now ACTORS devices.old (Standing target.old members.old) }
     requires served { IsServed geometry.now devices.old (Standing target.old members.old) }
@@ -139,7 +136,7 @@ fn step_over(
     ensures sound { IsSound geometry.now ACTORS devices.new (Standing target.new members.new) }
     ensures ok { IfOk result (λ done. Happens (shape_of geometry.now ACTORS) (state_of ACTORS devices.old (Standing target.old members.old)) (Step actor) done.what done.read.items (state_of ACTORS devices.new (Standing target.new members.new))) }
     ensures err { OnErr result ((contents_of devices.new ≡ contents_of devices.old) × (target.new ≡ target.old) × (members.new.items ≡ members.old.items)) }
-    ensures gap { IfErr result (λ halt. halt ≡ Beyond → IsGap (state_of ACTORS devices.old (Standing target.old members.old)) (Step actor)) }
+    ensures refusal { IfErr result (λ refusal. refusal ≡ Memory) }
 {
     if actor >= members.len() {
         return Ok(Outcome::skipped(alloc));
@@ -156,7 +153,7 @@ pub(crate) fn falter(
     phase: &mut Phase,
     actor: usize,
     choice: &CrashChoice,
-) -> Result<What, Halt>
+) -> Result<What, Refusal>
     requires there { IsThere ACTORS phase.old }
     requires sound { IsSound geometry.now ACTORS devices.old phase.old }
     requires served { IsServed geometry.now devices.old phase.old }
@@ -164,7 +161,7 @@ pub(crate) fn falter(
     ensures sound { IsSound geometry.now ACTORS devices.new phase.new }
     ensures ok { IfOk result (λ what. Happens (shape_of geometry.now ACTORS) (state_of ACTORS devices.old phase.old) (FaultStep actor choice.now) what [] (state_of ACTORS devices.new phase.new)) }
     ensures err { OnErr result (state_of ACTORS devices.new phase.new ≡ state_of ACTORS devices.old phase.old) }
-    ensures gap { IfErr result (λ halt. halt ≡ Beyond → IsGap (state_of ACTORS devices.old phase.old) (FaultStep actor choice.now)) }
+    ensures refusal { IfErr result (λ refusal. refusal ≡ Memory) }
 {
     if let Phase::Standing(target, members) = phase {
         return fail_over(geometry, devices, target, members, actor, choice);
@@ -176,24 +173,24 @@ pub(crate) fn falter(
 fn fail_over(
     geometry: &Geometry,
     devices: &mut Devices<MemDisk>,
-    target: &Target,
+    target: &mut Target,
     members: &mut Vec<Member>,
     actor: usize,
     choice: &CrashChoice,
-) -> Result<What, Halt>
-    requires there { IsThere ACTORS (Standing target.now members.old) }
-    requires sound { IsSound geometry.now ACTORS devices.old (Standing target.now members.old) }
-    requires served { IsServed geometry.now devices.old (Standing target.now members.old) }
-    ensures there { IsThere ACTORS (Standing target.now members.new) }
-    ensures sound { IsSound geometry.now ACTORS devices.new (Standing target.now members.new) }
-    ensures ok { IfOk result (λ what. Happens (shape_of geometry.now ACTORS) (state_of ACTORS devices.old (Standing target.now members.old)) (FaultStep actor choice.now) what [] (state_of ACTORS devices.new (Standing target.now members.new))) }
-    ensures err { OnErr result ((contents_of devices.new ≡ contents_of devices.old) × (members.new.items ≡ members.old.items)) }
-    ensures gap { IfErr result (λ halt. halt ≡ Beyond → IsGap (state_of ACTORS devices.old (Standing target.now members.old)) (FaultStep actor choice.now)) }
+) -> Result<What, Refusal>
+    requires there { IsThere ACTORS (Standing target.old members.old) }
+    requires sound { IsSound geometry.now ACTORS devices.old (Standing target.old members.old) }
+    requires served { IsServed geometry.now devices.old (Standing target.old members.old) }
+    ensures there { IsThere ACTORS (Standing target.new members.new) }
+    ensures sound { IsSound geometry.now ACTORS devices.new (Standing target.new members.new) }
+    ensures ok { IfOk result (λ what. Happens (shape_of geometry.now ACTORS) (state_of ACTORS devices.old (Standing target.old members.old)) (FaultStep actor choice.now) what [] (state_of ACTORS devices.new (Standing target.new members.new))) }
+    ensures err { OnErr result ((contents_of devices.new ≡ contents_of devices.old) × (target.new ≡ target.old) × (members.new.items ≡ members.old.items)) }
+    ensures refusal { IfErr result (λ refusal. refusal ≡ Memory) }
 {
     if actor >= members.len() {
         return Ok(What::Skipped);
     }
     let member = &mut members[actor];
-    let what = member.falter(devices, choice)?;
+    let what = member.falter(devices, &mut target.commit, choice)?;
     Ok(what)
 }

@@ -1,13 +1,12 @@
 //! Steps of an opening, done and failed.
 
 ghost use Rattle.std.specs.Prelude.{◌≡◌, [], false, IfOk, IfErr, OnErr};
+ghost use Rattle.wb_types.specs.declared.refusal.Refusal.TheVariants.{Memory};
 ghost use Rattle.wb_runs.specs.declared.event.Event.TheVariants.{Step, FaultStep};
-ghost use Rattle.wb_machine.specs.declared.halt.Halt.TheVariants.{Memory};
 ghost use Rattle.wb_machine.specs.declared.machine.TheConstants.{ACTORS};
 ghost use Rattle.wb_machine.specs.Life.{Happens, IsThere, answered, device_step_of, shape_of, stands, stands_by, state_of};
 ghost use Rattle.wb_machine.specs.Standing.{IsSound};
 
-use crate::halt::Halt;
 use crate::making::Made;
 use crate::opener::fail_step;
 use crate::phase::Phase;
@@ -16,7 +15,7 @@ use wb_devices::Devices;
 use wb_disk::{CrashChoice, MemDisk};
 use wb_runs::What;
 use wb_tasks::{Answer, DeviceStep, Got, Want};
-use wb_types::Geometry;
+use wb_types::{Geometry, Refusal};
 
 /// The next step of an actor's opening, if it opens. No target stands.
 pub(crate) fn step_opening(
@@ -24,7 +23,7 @@ pub(crate) fn step_opening(
     devices: &mut Devices<MemDisk>,
     phase: &mut Phase,
     actor: usize,
-) -> Result<What, Halt>
+) -> Result<What, Refusal>
     requires there { IsThere ACTORS phase.old }
     requires sound { IsSound geometry.now ACTORS devices.old phase.old }
     requires no_target { stands phase.old ≡ false }
@@ -32,7 +31,7 @@ pub(crate) fn step_opening(
     ensures sound { IsSound geometry.now ACTORS devices.new phase.new }
     ensures ok { IfOk result (λ what. Happens (shape_of geometry.now ACTORS) (state_of ACTORS devices.old phase.old) (Step actor) what [] (state_of ACTORS devices.new phase.new)) }
     ensures err { OnErr result ((devices.new ≡ devices.old) × (phase.new ≡ phase.old)) }
-    ensures halt { IfErr result (λ halt. halt ≡ Memory) }
+    ensures refusal { IfErr result (λ refusal. refusal ≡ Memory) }
 {
     let Phase::Underway(opener) = phase else {
         return Ok(What::Skipped);
@@ -75,7 +74,7 @@ pub(crate) fn fail_opening(
     phase: &mut Phase,
     actor: usize,
     choice: &CrashChoice,
-) -> Result<What, Halt>
+) -> Result<What, Refusal>
     requires there { IsThere ACTORS phase.old }
     requires sound { IsSound geometry.now ACTORS devices.old phase.old }
     requires no_target { stands phase.old ≡ false }
@@ -83,7 +82,7 @@ pub(crate) fn fail_opening(
     ensures sound { IsSound geometry.now ACTORS devices.new phase.new }
     ensures ok { IfOk result (λ what. Happens (shape_of geometry.now ACTORS) (state_of ACTORS devices.old phase.old) (FaultStep actor choice.now) what [] (state_of ACTORS devices.new phase.new)) }
     ensures err { OnErr result ((devices.new ≡ devices.old) × (phase.new ≡ phase.old)) }
-    ensures halt { IfErr result (λ halt. halt ≡ Memory) }
+    ensures refusal { IfErr result (λ refusal. refusal ≡ Memory) }
 {
     let _two_slots = geometry.node_count();
     let Phase::Underway(opener) = phase else {

@@ -1,12 +1,16 @@
 //! What happens to a small machine by hand, and what it does.
 
+mod flushes;
 mod line;
 mod openings;
 mod requests;
+mod views;
 
+use self::flushes::FLUSHES;
 use self::line::{Act, FIRST_SECTOR, Line, OPENING, READING, Row, Task, WRITING};
-use self::openings::{CRASHES, FAILURES, OPENINGS, OVER_A_TARGET, ROOTS};
+use self::openings::{CRASHES, FAILURES, OPENINGS, ROOTS};
 use self::requests::{FAILED_REQUESTS, REQUESTS, WRITE_AND_READ, WRITTEN_AND_GIVEN};
+use self::views::VIEWS;
 use std::alloc::Global;
 use std::test::Fail;
 use wb_disk::{Base, CrashChoice, NamedContent};
@@ -97,6 +101,14 @@ fn has_read(machine: &Machine, byte: u8) -> bool {
     }
 }
 
+/// Whether the target shows this sector full of this byte.
+fn shows(machine: &mut Machine, at: u64, byte: u8) -> bool {
+    match machine.view(at) {
+        Some(content) => content == [byte; SECTOR_BYTES],
+        None => false,
+    }
+}
+
 /// A write of sevens.
 fn write(sectors: Extent) -> Job {
     Job::Write(sectors, [7; SECTOR_BYTES])
@@ -143,6 +155,9 @@ fn goes(machine: &mut Machine, alloc: Global, line: &Line) -> Result<bool, Refus
         Line::Begins(actor, task, count) => Ok(begins(machine, *actor, *task, *count)),
         Line::Steps(actor, task, count) => Ok(steps_as(machine, *actor, *task, *count)),
         Line::Gives(byte) => Ok(has_read(machine, *byte)),
+        Line::Shows(at, byte) => Ok(shows(machine, *at, *byte)),
+        Line::Hides(at) => Ok(machine.view(*at).is_none()),
+        Line::Opened(generation, mapped) => Ok(machine.opened() == Some((*generation, *mapped))),
     }
 }
 
@@ -219,9 +234,12 @@ fn a_read_is_given_what_was_written(rt: HostRuntime) -> Result<(), Fail> {
     Ok(())
 }
 
-/// Over a target that stands no flush starts yet: the machine cannot do it, and has no record of it.
 #[test]
-fn no_flush_starts_over_a_target_yet(rt: HostRuntime) -> Result<(), Fail> {
-    assert!(rt; play(rt.alloc(), &OVER_A_TARGET)? == Some(1));
-    Ok(())
+fn flushes_go_as_their_rows_say(rt: HostRuntime) -> Result<(), Fail> {
+    compare(rt.alloc(), &FLUSHES)
+}
+
+#[test]
+fn views_are_as_their_rows_say(rt: HostRuntime) -> Result<(), Fail> {
+    compare(rt.alloc(), &VIEWS)
 }

@@ -45,6 +45,12 @@ pub enum Line {
     Steps(usize, Task, usize),
     /// The last step read one sector full of this byte.
     Gives(u8),
+    /// The target shows this sector full of this byte.
+    Shows(u64, u8),
+    /// Nothing shows this sector.
+    Hides(u64),
+    /// The target's newest root is of this generation, and so many blocks are mapped.
+    Opened(u64, u32),
 }
 
 #[derive(Clone, Copy)]

@@ -13,12 +13,6 @@ const METADATA_FAILED: Want = Want::End(Answer::Refused(Refusal::Io(Dev::Metadat
 
 const CACHE_FAILED: Want = Want::End(Answer::Refused(Refusal::Io(Dev::Cache)));
 
-/// A flush over a target that stands.
-pub const OVER_A_TARGET: [Line; 2] = [
-    Line::Begins(0, Task::Open, 8),
-    Line::Does(Act::Flush(0), What::Started),
-];
-
 /// Openings of which no step fails.
 pub const OPENINGS: [Row; 6] = [
     Row {

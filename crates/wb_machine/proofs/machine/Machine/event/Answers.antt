@@ -6,7 +6,7 @@ use Rattle.wb_runs.specs.Progress.{IsFree}
 use Rattle.wb_machine.specs.declared.machine.TheConstants.{ACTORS}
 use Rattle.wb_machine.specs.Life.{Now, shape_of, state_of}
 use Rattle.wb_machine.proofs.Reaching.{reached, goes_on}
-use Rattle.wb_machine.proofs.Served.{served}
+use Rattle.wb_machine.proofs.Possible.{served}
 use Rattle.wb_machine.proofs.machine.Machine.event.Goals as goal
 
 pub happen-requires-clause-served : goal.happen-requires-clause-served
