@@ -60,6 +60,9 @@ pub tasks_end : TasksEnd
 tasks_end = record {
   done = λ size content actors a s y job answer card h is. subst (λ (v : Actor). IsAnswered actors a s v × IsIdle (gone v v.task (DoneThere ∷ []))) (sym is.is)
       (record { may = (tt, tt, tt); shared = refl; over = refl }, record { task = refl; held = ap held_of h; order = refl; leads = refl });
+  flush = λ size most content actors a s y answer leads is.
+      subst (λ (v : Actor). IsAnswered actors a s v × ((gone v v.task (DoneThere ∷ [])).leads ≡ leads) × (leads ≡ false → IsIdle (gone v v.task (DoneThere ∷ [])))) (sym is.is)
+      (record { may = (tt, tt, tt); shared = refl; over = refl }, refl, λ e. record { task = refl; held = refl; order = refl; leads = e });
   stopped = λ actors a s y words plan k. let all = answers_now actors a s y k.script k.nothing k.task in
       (record { may = all.may; shared = all.shared; over = all.over }, elim k.free [ inl f ↦ inl (all.held ∙ f) | inr f ↦ inr f ]);
   parts = λ words job access block answer y k. record { over = tt; refused = k.refused; script = k.script; task = k.task; nothing = k.nothing; undone = k.undone; free = k.free };

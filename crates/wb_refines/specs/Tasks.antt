@@ -1,5 +1,5 @@
 -- How a read, a write or a flush begins and is answered in an abstract world.
-use Rattle.std.specs.Prelude.{◌≡◌, ◌≤◌, ◌+◌, ◌%◌, ◌⊎◌, ℕ, true, false, List, [], ◌∷◌, Some, None, Contains, slice_get, slice_set}
+use Rattle.std.specs.Prelude.{◌≡◌, ◌≤◌, ◌+◌, ◌%◌, ◌⊎◌, ℕ, Bool, true, false, List, [], ◌∷◌, Some, None, Contains, slice_get, slice_set}
 use Rattle.wb_types.specs.declared.extent.Extent.{Extent}
 use Rattle.wb_types.specs.declared.mode.Mode.TheVariants.{Writeback}
 use Rattle.wb_types.specs.declared.number.OBlock.{OBlock}
@@ -22,7 +22,7 @@ use Rattle.wb_link.specs.World.{Shared, Nothing, Actor, World, Start, May, after
 use Rattle.wb_refines.specs.Translation.{job_for}
 use Rattle.wb_refines.specs.Going.{shared_after, gone, MayGo}
 use Rattle.wb_refines.specs.Models.{IsAt, HasStopped, plan_of}
-use Rattle.wb_refines.specs.Flushes.{IsFlushing}
+use Rattle.wb_refines.specs.Flushes.{IsFlushing, flushing}
 
 -- an abstract actor with nothing to do, that has nothing
 pub record IsIdle (y : Actor) : Type 0 where
@@ -61,12 +61,14 @@ pub record IsAnswered (actors : List Actor) (a : ℕ) (s : Shared) (y : Actor) :
   pub over : (gone y y.task (DoneThere ∷ [])).task ≡ None
 
 -- A read or write that has nothing left holds nothing, and leaves its actor idle; one that was stopped holds nothing, or the
--- target has failed.
+-- target has failed. A flush leaves its actor idle but for a commit that it leads still, as one that has failed does.
 pub record TasksEnd : Type 0 where
   pub done : (size : ℕ) (content : Content) (actors : List Actor) (a : ℕ) (s : Shared) (y : Actor) (job : BlockJob) (answer : Answer) (card : Card) → card.hold ≡ HoldsNothing → IsAt size content (plan_of job [] answer) card y →
       IsAnswered actors a s y × IsIdle (gone y y.task (DoneThere ∷ []))
   pub stopped : (actors : List Actor) (a : ℕ) (s : Shared) (y : Actor) (words : Words) (plan : Plan) → HasStopped words plan y →
       IsAnswered actors a s y × (((gone y y.task (DoneThere ∷ [])).held ≡ Nothing) ⊎ (flag words.fail ≡ true))
+  pub flush : (size most : ℕ) (content : Content) (actors : List Actor) (a : ℕ) (s : Shared) (y : Actor) (answer : Answer) (leads : Bool) → IsFlushing size content (flushing most [] answer) leads y →
+      IsAnswered actors a s y × ((gone y y.task (DoneThere ∷ [])).leads ≡ leads) × (leads ≡ false → IsIdle (gone y y.task (DoneThere ∷ [])))
   -- a block whose number was worn is given back
   pub parts : (words : Words) (job : TaskJob) (access : Access) (block : OBlock) (answer : Answer) (y : Actor) → HasStopped words (record { job = job; steps = Cell (Release access block) ∷ []; answer = answer }) y →
       HasStopped (words_after words (Release access block)) (after (record { job = job; steps = Cell (Release access block) ∷ []; answer = answer }) Done) y
