@@ -7,3 +7,4 @@ pub mod Extents
 pub mod Moving
 pub mod Flushing
 pub mod Tasks
+pub mod Openings

@@ -5,3 +5,4 @@ pub mod Data
 pub mod Laws
 pub mod Flushes
 pub mod Tasks
+pub mod Openings

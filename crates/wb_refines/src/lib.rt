@@ -3,6 +3,7 @@
 
 ghost use Rattle.wb_refines.specs.Laws.{TablesAgree, CellStepsFollowed, HasNoMore, ExtentStepsFollowed};
 ghost use Rattle.wb_refines.specs.Flushes.{FlushStepsFollowed};
+ghost use Rattle.wb_refines.specs.Openings.{OpeningStepsFollowed};
 ghost use Rattle.wb_refines.specs.Tasks.{TasksBegin, TasksEnd, CrashesFollowed};
 
 /// A read, a write or a flush begins in the abstract world as its table does here.
@@ -29,7 +30,13 @@ pub fn flush_steps_are_followed()
     ensures { FlushStepsFollowed }
 {}
 
-/// A read, a write or a flush of an actor that has nothing can start there, and a read or write that has only to answer can be
+/// And so is each step of an opening, done, refused or failing: an outcome of the abstract opening's stage, but that of a metadata
+/// sector behind which more are to be read, which is none.
+pub fn opening_steps_are_followed()
+    ensures { OpeningStepsFollowed }
+{}
+
+/// A read, a write or a flush of an actor that has nothing can start there, and one that has only to answer can be
 /// answered; and what a crash leaves of two lists of sectors a crash there may leave.
 pub fn tasks_begin_and_end()
     ensures begins { TasksBegin }
