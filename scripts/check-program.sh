@@ -432,8 +432,28 @@ check 'help that cannot be written ends with 4' $? 4
 for words in '' 'run' 'format' 'help' 'run a b' 'replay x' '-x' 'run -x a'; do
   # shellcheck disable=SC2086 # the words are apart
   said=$("$cache" $words 2>&1)
-  check "the usage for '$words'" "$? $said" '2 usage: wbcache format TABLE | run TABLE'
+  check "the usage for '$words'" "$? $said" '2 usage: wbcache format TABLE | run TABLE | replay'
 done
+
+# --- Replays.
+replayed() { # lines, parted by slashes: what is printed, parted by slashes, and the status
+  said=$(printf '%s\n' "$1" | tr '/' '\n' | sed 's/^ *//; s/ *$//' | "$cache" replay)
+  status=$?
+  printf '%s: %s' "$(printf '%s' "$said" | tr '\n' '/')" "$status"
+}
+failed_write='setup writeback 64 4 10 4 / start 0 w 0 1 11 / step 0 5 / fault 0 new / end 0 / start 0 r 0 1 / end 0'
+check 'a write that failed and landed is lost with the power' \
+  "$(replayed "$failed_write / stop old / open writeback / view 0 1")" '0 refused 5 Io origin/0 refused 6 Failed/open 2 0 0/0 00: 0'
+check 'or kept' "$(replayed "$failed_write / stop new / open writeback / view 0 1")" '0 refused 5 Io origin/0 refused 6 Failed/open 2 0 0/0 11: 0'
+check 'what was flushed survives' \
+  "$(replayed 'setup writeback 64 4 10 4 / start 0 w 0 2 22 / end 0 / start 0 flush / end 0 / stop old / open writeback / view 0 2')" \
+  '0 done/0 done/open 3 0 0/0 22/1 22: 0'
+check 'a line of no replay' "$(replayed 'setup writeback 64 4 10 4 / start 0 promote 0 0')" 'bad line 2: 1'
+check 'a setup that is refused' "$(replayed 'setup writeback 63 4 10 4')" 'refused 9 Geometry: 1'
+check 'a replay of no line' "$("$cache" replay </dev/null; echo $?)" 0
+has 'help explains replays' "$("$cache" replay --help)" 'setup writeback <block>'
+printf 'setup writeback 64 4 10 4\nview 0 1\n' | "$cache" replay >/dev/full
+check 'a replay that cannot be written ends with 4' $? 4
 
 echo "$passed passed, $failed failed"
 test "$failed" = 0

@@ -1,6 +1,6 @@
 //! The arguments of the program.
 
-use crate::help::{ABOUT, TEXTS, VERSION};
+use crate::help::{ABOUT, REPLAYS, TEXTS, VERSION};
 use clap::{Arg, ArgAction, Command, Error};
 use std::alloc::Global;
 
@@ -11,6 +11,8 @@ pub enum Asked<'a> {
     Format(&'a str),
     /// To run a script over the files of a table.
     Run(&'a str),
+    /// To play a replay, in memory.
+    Replay,
 }
 
 /// Reads the words of the command line, the program's name first: what is asked, and whether reasons are to be told.
@@ -27,6 +29,7 @@ pub fn read_arguments<'a>(
         Some(("run", given)) => given
             .get_str("TABLE")
             .map(|table| (Asked::Run(table), given.get_flag("verbose"))),
+        Some(("replay", given)) => Some((Asked::Replay, given.get_flag("verbose"))),
         _ => None,
     })
 }
@@ -49,7 +52,12 @@ fn command<'a>(alloc: Global) -> Result<Command<'a>, Error> {
             .subcommand_required(true)
             .arg(verbose)?
             .subcommand(with_table(alloc, "format", "Make the metadata those of an empty cache")?)?
-            .subcommand(with_table(alloc, "run", "Run a script over the files")?)?,
+            .subcommand(with_table(alloc, "run", "Run a script over the files")?)?
+            .subcommand(
+                Command::new(alloc, "replay")
+                    .about("Play a replay")
+                    .after_help(REPLAYS),
+            )?,
     )
 }
 

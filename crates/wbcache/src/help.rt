@@ -32,3 +32,25 @@ Example:
   truncate -s 2048 m; truncate -s 131072 c; truncate -s 327680 o
   wbcache format 'cache m c o 64 0 tinylfu 0'
   echo 'w 0 1 11' | wbcache run 'cache m c o 64 0 tinylfu 0'";
+
+/// What a replay is.
+pub const REPLAYS: &str = "\
+A replay runs a cache over three devices in memory, one atomic step at a time.
+It is read from standard input, and its first line is
+  setup writeback <block> <cache blocks> <origin blocks> <metadata sectors>
+with sectors in a block, and sectors of 512 bytes. The other lines:
+  start A r S N, start A w S N hh, start A flush   give actor A, 0 to 63, a task
+  step A [M]    M of its steps, 1 by default, fewer where it answers
+  end A         its steps up to its answer
+  fault A old, fault A new   its next step, one on a device, fails, and what it
+                writes or syncs is lost or lands
+  stop old, stop new [m:S:K] [c:S:K] [o:S:K] ..   power is lost: each sector
+                keeps its durable content or its newest, one that is named the
+                content K of its list, from 0 on
+  open writeback   open the cache: prints 'open <generation> <mapped> <dirty>'
+  view S N      what it shows: prints '<sector> <hh>' or '<sector> mixed'
+  # ..          nothing; empty lines too
+An answer prints 'A done', or 'A refused <number> <Name>'; a read prints
+'A <sector> <hh>' for each sector first. What does not apply prints 'skipped'.
+Status: 0 all was played, 1 the setup was refused or a line is none of a replay,
+2 the arguments, 4 a stream failed.";

@@ -29,7 +29,7 @@ use wb_streams::hold_streams;
 use wb_types::Refusal;
 
 /// What is asked of who calls the program otherwise.
-const USAGE: &str = "usage: wbcache format TABLE | run TABLE";
+const USAGE: &str = "usage: wbcache format TABLE | run TABLE | replay";
 
 /// The exit status of a reader or a writer that failed.
 const STREAM_FAILED: u8 = 4;
@@ -72,8 +72,17 @@ fn serve<T: Wait>(rt: &HostRuntime, waits: &T) -> u8 {
             }
             Err(_) => return no_memory(rt),
         },
+        Asked::Replay => return replay(rt),
     };
     tell(rt, &ended, verbose)
+}
+
+/// Plays a replay, and gives the exit status.
+fn replay(rt: &HostRuntime) -> u8 {
+    match BufReader::new(rt.alloc(), rt.reader()) {
+        Ok(mut reader) => { wb_replay::run(rt.alloc(), &mut reader, &mut io::writer(rt)).code() }
+        Err(_) => no_memory(rt),
+    }
 }
 
 /// Says why a run ended as it did, where somebody asked or is there to read it, and gives the exit status.

@@ -1,0 +1,261 @@
+//! Playing lines: each is events of a machine in memory, and what they tell.
+
+use crate::actor::{Actor, Fill, Given, actors_of};
+use crate::line::{ACTORS, Line, Task};
+use crate::setup::Setup;
+use std::alloc::Global;
+use std::fmt::Write;
+use wb_disk::{Base, CrashChoice};
+use wb_machine::Machine;
+use wb_runs::{Event, Job, What};
+use wb_tasks::{Answer, DeviceStep, Want};
+use wb_types::{Extent, Geometry, Mode, Refusal, SECTOR_BYTES, Sector};
+
+/// A machine that is played, and what its actors were told.
+#[derive(Drop)]
+pub(crate) struct Player {
+    alloc: Global,
+    geometry: Geometry,
+    actors: Vec<Actor>,
+    machine: Machine,
+}
+
+impl Player {
+    /// A new machine of these sizes, formatted and not yet opened: `Geometry` where they are outside the limits, `Memory` where
+    /// there is none for it.
+    pub(crate) fn new(alloc: Global, setup: Setup) -> Result<Player, Refusal> {
+        let geometry = Geometry::new(
+            setup.block,
+            setup.cache_blocks,
+            setup.origin_blocks,
+            setup.metadata_sectors,
+        )?;
+        let actors = actors_of(alloc, ACTORS)?;
+        let machine = Machine::new(alloc, geometry)?;
+        Ok(Player {
+            alloc,
+            geometry,
+            actors,
+            machine,
+        })
+    }
+
+    /// Plays a line, and adds what it tells to the text. `Memory` where there is none outside a task.
+    pub(crate) fn play(&mut self, line: Line, text: &mut String) -> Result<(), Refusal> {
+        match line {
+            Line::Nothing => Ok(()),
+            Line::Start { actor, task } => self.start(actor, task, text),
+            Line::Step { actor, steps } => self.steps(actor, steps, text),
+            Line::End { actor } => self.steps(actor, u64::MAX, text),
+            Line::Fault { actor, base } => self.fault(actor, base, text),
+            Line::Stop { base, named } => {
+                self.unless_skipped(Event::Stop(CrashChoice::new(base, named)), text)
+            }
+            Line::Open => self.open(text),
+            Line::View { at, count } => self.view(at, count, text),
+        }
+    }
+
+    /// An opening by the first actor, from its start to its answer.
+    pub(crate) fn open(&mut self, text: &mut String) -> Result<(), Refusal> {
+        match self.happen(Event::Start(0, Job::Open(Mode::Writeback)))? {
+            What::Started => {
+                self.begin(0, Given::Open, 0);
+                self.steps(0, u64::MAX, text)
+            }
+            _ => tell_skipped(text),
+        }
+    }
+
+    /// An event, and what it did.
+    fn happen(&mut self, event: Event) -> Result<What, Refusal> {
+        self.machine.event(event)?;
+        Ok(last_of(&self.machine))
+    }
+
+    /// An event of which only is told that it does not apply.
+    fn unless_skipped(&mut self, event: Event, text: &mut String) -> Result<(), Refusal> {
+        match self.happen(event)? {
+            What::Skipped => tell_skipped(text),
+            _ => Ok(()),
+        }
+    }
+
+    fn begin(&mut self, actor: u64, given: Given, block: u64) {
+        if let Some(actor) = self.actors.get_mut(actor as usize) {
+            actor.begin(given, block);
+        }
+    }
+
+    /// Gives an actor a task.
+    fn start(&mut self, actor: u64, task: Task, text: &mut String) -> Result<(), Refusal> {
+        let (given, at, job) = job_of(task);
+        match self.happen(Event::Start(actor as usize, job))? {
+            What::Started => {
+                let size = u64::from(self.geometry.block).max(1);
+                self.begin(actor, given, at - at % size);
+                Ok(())
+            }
+            What::Refused(refusal) => tell_refused(actor, refusal, text),
+            _ => tell_skipped(text),
+        }
+    }
+
+    /// So many steps of an actor, fewer where it answers or has none.
+    fn steps(&mut self, actor: u64, steps: u64, text: &mut String) -> Result<(), Refusal> {
+        for _ in 0..steps {
+            if !self.step(actor, text)? {
+                return Ok(());
+            }
+        }
+        Ok(())
+    }
+
+    /// One step of an actor: whether it may have another.
+    fn step(&mut self, actor: u64, text: &mut String) -> Result<bool, Refusal> {
+        match self.happen(Event::Step(actor as usize))? {
+            What::Stepped(Want::End(answer), _) => {
+                self.tell_answer(actor, answer, text)?;
+                Ok(false)
+            }
+            What::Stepped(Want::Device(DeviceStep::Read(_, extent)), _) => {
+                self.note(actor, extent)?;
+                Ok(true)
+            }
+            What::Stepped(_, _) => Ok(true),
+            _ => {
+                tell_skipped(text)?;
+                Ok(false)
+            }
+        }
+    }
+
+    /// The next step of an actor fails, and what it writes or syncs is lost or lands.
+    fn fault(&mut self, actor: u64, base: Base, text: &mut String) -> Result<(), Refusal> {
+        let choice = CrashChoice::new(base, Vec::new(self.alloc));
+        self.unless_skipped(Event::FaultStep(actor as usize, choice), text)
+    }
+
+    /// Notes what the last step gave of a sector that stands at this extent of a device.
+    fn note(&mut self, actor: u64, extent: Extent) -> Result<(), Refusal> {
+        let Some(fill) = last_fill(&self.machine) else {
+            return Ok(());
+        };
+        let size = u64::from(self.geometry.block).max(1);
+        if let Some(actor) = self.actors.get_mut(actor as usize) {
+            let sector = actor.block.saturating_add(extent.first % size);
+            actor
+                .read
+                .push((sector, fill))
+                .map_err(|_| Refusal::Memory)?;
+        }
+        Ok(())
+    }
+
+    /// Tells an answer: of a read with what it was given, of an opening with what was opened.
+    fn tell_answer(&self, actor: u64, answer: Answer, text: &mut String) -> Result<(), Refusal> {
+        if let Answer::Refused(refusal) = answer {
+            return tell_refused(actor, refusal, text);
+        }
+        let Some(told) = self.actors.get(actor as usize) else {
+            return Ok(());
+        };
+        match told.given {
+            Given::Open => return self.tell_opened(text),
+            Given::Read => tell_read(actor, told.read.as_slice(), text)?,
+            Given::Other => {}
+        }
+        writeln!(text, "{actor} done").map_err(|_| Refusal::Memory)
+    }
+
+    /// Tells the generation of the root that an opening has written, and how many blocks are mapped and dirty. Each mapped block is
+    /// dirty, since no clean image is made yet.
+    fn tell_opened(&self, text: &mut String) -> Result<(), Refusal> {
+        match self.machine.opened() {
+            Some((generation, mapped)) => {
+                writeln!(text, "open {generation} {mapped} {mapped}").map_err(|_| Refusal::Memory)
+            }
+            None => Ok(()),
+        }
+    }
+
+    /// Tells what the target shows of sectors of the origin.
+    fn view(&mut self, at: Sector, count: u64, text: &mut String) -> Result<(), Refusal> {
+        let Sector(first) = at;
+        let all = self.geometry.origin_sectors();
+        if self.machine.opened().is_none() || first >= all || count > all - first {
+            return tell_skipped(text);
+        }
+        for sector in first..first + count {
+            if let Some(content) = self.machine.view(sector) {
+                write!(text, "{sector} ").map_err(|_| Refusal::Memory)?;
+                tell_fill(Fill::of(&content), text)?;
+            }
+        }
+        Ok(())
+    }
+}
+
+/// A task as a job of the machine, the first sector that it names, and what it is for its answer.
+fn job_of(task: Task) -> (Given, u64, Job) {
+    match task {
+        Task::Read {
+            at: Sector(first),
+            count,
+        } => (Given::Read, first, Job::Read(Extent { first, count })),
+        Task::Write {
+            at: Sector(first),
+            count,
+            fill,
+        } => (
+            Given::Other,
+            first,
+            Job::Write(Extent { first, count }, [fill; SECTOR_BYTES]),
+        ),
+        Task::Flush => (Given::Other, 0, Job::Flush),
+    }
+}
+
+/// What the last event did.
+fn last_of(machine: &Machine) -> What {
+    match machine.trace().records().last() {
+        Some(record) => record.what,
+        None => What::Skipped,
+    }
+}
+
+/// What fills the sector that the last event read, if it read one.
+fn last_fill(machine: &Machine) -> Option<Fill> {
+    let record = machine.trace().records().last()?;
+    let content = record.read.first()?;
+    Some(Fill::of(content))
+}
+
+fn tell_skipped(text: &mut String) -> Result<(), Refusal> {
+    text.push_str("skipped\n")?;
+    Ok(())
+}
+
+fn tell_refused(actor: u64, refusal: Refusal, text: &mut String) -> Result<(), Refusal> {
+    writeln!(text, "{actor} refused {refusal}").map_err(|_| Refusal::Memory)
+}
+
+/// Tells what a read was given.
+fn tell_read(actor: u64, read: &[(u64, Fill)], text: &mut String) -> Result<(), Refusal> {
+    for (sector, fill) in read {
+        write!(text, "{actor} {sector} ").map_err(|_| Refusal::Memory)?;
+        tell_fill(*fill, text)?;
+    }
+    Ok(())
+}
+
+/// Tells what fills a sector, and ends the line.
+fn tell_fill(fill: Fill, text: &mut String) -> Result<(), Refusal> {
+    match fill {
+        Fill::Uniform(byte) => writeln!(text, "{byte:02x}").map_err(|_| Refusal::Memory),
+        Fill::Mixed => {
+            text.push_str("mixed\n")?;
+            Ok(())
+        }
+    }
+}

@@ -1,0 +1,151 @@
+//! Replays, what they print, and how they end.
+
+use std::alloc::Global;
+use std::test::Fail;
+use wb_replay::{Ended, run};
+
+#[derive(Clone, Copy)]
+struct Row {
+    name: &'static str,
+    lines: &'static str,
+    prints: &'static str,
+    ends: Ended,
+}
+
+/// A write of the origin fails at its device, and the power is lost.
+const FAILED_WRITES: [Row; 3] = [
+    Row {
+        name: "a write that failed and landed is pending, and lost with the power",
+        lines: "setup writeback 64 4 10 4\nstart 0 w 0 1 11\nstep 0 5\nfault 0 new\nend 0\nstart 0 r 0 1\nend 0\nstop old\nopen writeback\nview 0 1\n",
+        prints: "0 refused 5 Io origin\n0 refused 6 Failed\nopen 2 0 0\n0 00\n",
+        ends: Ended::Played,
+    },
+    Row {
+        name: "or kept",
+        lines: "setup writeback 64 4 10 4\nstart 0 w 0 1 11\nstep 0 5\nfault 0 new\nend 0\nstart 0 r 0 1\nend 0\nstop new\nopen writeback\nview 0 1\n",
+        prints: "0 refused 5 Io origin\n0 refused 6 Failed\nopen 2 0 0\n0 11\n",
+        ends: Ended::Played,
+    },
+    Row {
+        name: "one that did not land is not there",
+        lines: "setup writeback 64 4 10 4\nstart 0 w 0 1 11\nstep 0 5\nfault 0 old\nend 0\nstop new\nopen writeback\nview 0 1\n",
+        prints: "0 refused 5 Io origin\nopen 2 0 0\n0 00\n",
+        ends: Ended::Played,
+    },
+];
+
+/// What was flushed survives, what was not may be lost, sector by sector.
+const FLUSHES: [Row; 2] = [
+    Row {
+        name: "a write, a flush, a read by another, and a crash",
+        lines: "setup writeback 64 4 10 4\nstart 0 w 0 2 22\nend 0\nstart 0 flush\nend 0\nstart 1 r 0 3\nend 1\nstop old\nopen writeback\nview 0 3\n",
+        prints: "0 done\n0 done\n1 0 22\n1 1 22\n1 2 00\n1 done\nopen 3 0 0\n0 22\n1 22\n2 00\n",
+        ends: Ended::Played,
+    },
+    Row {
+        name: "one sector keeps an older content than its neighbour",
+        lines: "setup writeback 64 4 10 4\nstart 5 w 70 2 aa\nend 5\nstop new o:70:0\nopen writeback\nview 70 2\n",
+        prints: "5 done\nopen 2 0 0\n70 00\n71 aa\n",
+        ends: Ended::Played,
+    },
+];
+
+/// Lines that do not apply, that are refused at the start, and that do nothing.
+const SKIPPED: [Row; 3] = [
+    Row {
+        name: "who has no task has no step, and no sector outside is shown",
+        lines: "setup writeback 64 4 10 4\nstep 5\nend 5\nfault 5 old\nview 640 1\nview 639 2\nview 0 0\nstep 5 0\nstop old o:0:1\n",
+        prints: "skipped\nskipped\nskipped\nskipped\nskipped\nskipped\n",
+        ends: Ended::Played,
+    },
+    Row {
+        name: "requests outside, or over two blocks, are refused at their start",
+        lines: "setup writeback 64 4 10 4\nstart 0 r 640 1\nstart 0 w 63 2 11\nstart 0 r 0 1\nstart 0 flush\nopen writeback\nend 0\n",
+        prints: "0 refused 1 Range\n0 refused 2 Crosses\nskipped\nskipped\n0 0 00\n0 done\n",
+        ends: Ended::Played,
+    },
+    Row {
+        name: "without a target there are openings alone",
+        lines: "# none\n\nsetup writeback 64 4 10 4\nstop old\nview 0 1\nstart 1 w 0 1 11\n  # open it\nopen writeback",
+        prints: "skipped\nskipped\nopen 2 0 0\n",
+        ends: Ended::Played,
+    },
+];
+
+/// Replays that end early, and one without a line.
+const ENDED: [Row; 6] = [
+    Row {
+        name: "no line",
+        lines: "",
+        prints: "",
+        ends: Ended::Played,
+    },
+    Row {
+        name: "no setup",
+        lines: "open writeback\n",
+        prints: "bad line 1\n",
+        ends: Ended::Refused,
+    },
+    Row {
+        name: "sizes outside the limits",
+        lines: "\nsetup writeback 63 4 10 4\nopen writeback\n",
+        prints: "refused 9 Geometry\n",
+        ends: Ended::Refused,
+    },
+    Row {
+        name: "a line of no replay",
+        lines: "setup writeback 64 4 10 4\nopen writeback\nreplay\nview 0 1\n",
+        prints: "skipped\nbad line 3\n",
+        ends: Ended::Refused,
+    },
+    Row {
+        name: "an actor past the last",
+        lines: "setup writeback 64 4 10 4\nstart 64 flush\n",
+        prints: "bad line 2\n",
+        ends: Ended::Refused,
+    },
+    Row {
+        name: "a migration, which there is none of yet",
+        lines: "setup writeback 64 4 10 4\nstart 0 promote 0 0\n",
+        prints: "bad line 2\n",
+        ends: Ended::Refused,
+    },
+];
+
+/// Whether a replay prints so, and ends so.
+fn plays(alloc: Global, row: &Row) -> bool {
+    let mut reader = row.lines.as_bytes();
+    let mut printed = Vec::new(alloc);
+    let ended = run(alloc, &mut reader, &mut printed);
+    ended == row.ends && printed.as_slice() == row.prints.as_bytes()
+}
+
+/// Plays each row, and fails by the name of one that does not go as it says.
+fn compare(alloc: Global, rows: &[Row]) -> Result<(), Fail> {
+    for row in rows {
+        if !plays(alloc, row) {
+            return Err(Fail::from(row.name));
+        }
+    }
+    Ok(())
+}
+
+#[test]
+fn failed_writes_land_or_do_not(rt: HostRuntime) -> Result<(), Fail> {
+    compare(rt.alloc(), &FAILED_WRITES)
+}
+
+#[test]
+fn what_was_flushed_survives(rt: HostRuntime) -> Result<(), Fail> {
+    compare(rt.alloc(), &FLUSHES)
+}
+
+#[test]
+fn what_does_not_apply_is_skipped(rt: HostRuntime) -> Result<(), Fail> {
+    compare(rt.alloc(), &SKIPPED)
+}
+
+#[test]
+fn a_replay_ends_at_a_line_of_none(rt: HostRuntime) -> Result<(), Fail> {
+    compare(rt.alloc(), &ENDED)
+}
