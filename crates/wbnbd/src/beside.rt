@@ -1,7 +1,6 @@
 //! What is done beside one another: a connection is served by several, and orders are carried out.
 
-ghost use Rattle.std.specs.Prelude.{◌≡◌, ◌*◌, OnOk};
-ghost use Rattle.wbnbd.specs.Lending.{HasServed};
+ghost use Rattle.std.specs.Prelude.{◌≡◌, ◌*◌};
 
 use crate::lent::Lent;
 use crate::pace::{Pace, Place, UntilTick};
@@ -88,9 +87,7 @@ fn talk<R: Wait, S: Served, I: Read, O: Write>(
     pace: &Pace,
     alloc: Global,
     connection: &Connection<I, O>,
-) -> Result<(), Broken>
-    ensures { OnOk result (HasServed R S.sizes S.did client.old client.new) }
-{
+) -> Result<(), Broken> {
     let terms = terms_of(&client.geometry());
     let size = client.geometry().origin_sectors();
     let mut lent = Lent {
