@@ -4,7 +4,7 @@
 #
 #     sh scripts/nbd.sh [kills]
 #
-# It wants bin/wbcache and bin/wbnbd (scripts/build.sh), nbdinfo, nbdcopy and nbdfuse (libnbd-bin), qemu-io (qemu-utils), socat, mkfs.ext4
+# It wants bin/wbcache and bin/wbnbd (scripts/build.sh), nbdinfo, nbdcopy and nbdfuse (libnbd-bin; fuse3 for the latter), qemu-io (qemu-utils), socat, mkfs.ext4
 # (e2fsprogs), and python3. What is missing is said and left out. It ends with the first thing that is not as it has to be.
 set -eu
 top=$(cd "$(dirname "$0")/.." && pwd)
@@ -66,7 +66,7 @@ if has socat && has qemu-io; then
   say 'qemu-io: what was written is read'
 fi
 
-if has socat && has nbdfuse && has mkfs.ext4 && test -w /dev/fuse; then
+if has socat && has fusermount3 && has nbdfuse && has mkfs.ext4 && test -w /dev/fuse; then
   mkdir mount tree
   nbdfuse mount/disk --command "$wbnbd" "$table" &
   server=$!
