@@ -35,6 +35,7 @@ use Rattle.wb_link.specs.World.{Shared, Nothing, Shares, Owns, Actor}
 use Rattle.wb_refines.specs.Translation.{script_for, job_for, answer_for, wants_of, number_of, offsets}
 use Rattle.wb_refines.specs.Going.{WinsBeside}
 use Rattle.wb_refines.proofs.Tables.{read_work, write_work}
+use Rattle.wb_refines.proofs.Holding.{holds_nothing, keeps_owned}
 use Rattle.wb_refines.specs.Models.{SealAgrees, WordsAgree, held_of, held_for, SawSeal, SameElse, Follows, plan_of, IsRequest}
 
 -- nothing is changed
@@ -230,7 +231,7 @@ module _ (size : ℕ) (content : Content) (actors : List Actor) (a : ℕ) (s : S
         may = (tt, tt, tt);
         words_agree = w;
         same = same s;
-        at = inr (record { over = tt; refused = λ f. absurd (cc); script = record { job = job_for size content (OnBlock (Writing part)); steps = []; answer = AnsweredBusy }; task = refl; nothing = refl; undone = λ f. absurd (cc); free = inl refl });
+        at = inr (record { over = tt; refused = λ f. absurd (cc); script = record { job = job_for size content (OnBlock (Writing part)); steps = []; answer = AnsweredBusy }; task = refl; nothing = refl; undone = λ f. absurd (cc); among_others = refl; order = refl; leads = refl; below = holds_nothing _ _ refl; free = refl });
       }
       by_test false = record {
         results = Done ∷ Seen (s.seals part.block.0) ∷ [];
@@ -252,14 +253,14 @@ module _ (size : ℕ) (content : Content) (actors : List Actor) (a : ℕ) (s : S
     may = (tt, tt, tt);
     words_agree = record { fail = sym (failed_flag words.fail f z e); seals = w.seals };
     same = record { origin = refl; cache = refl; mapping = refl; blocks = refl; committing = refl; live = refl; mode = refl };
-    at = inr (record { over = tt; refused = λ k. let bad : Refuses refusal ≡ AnswersDone = sym is ∙ k in absurd (cc); script = _; task = refl; nothing = refl; undone = undone_answer (job_for size content (OnBlock (Reading part))) refusal answer is; free = inr (failed_flag words.fail f z e) });
+    at = inr (record { over = tt; refused = λ k. let bad : Refuses refusal ≡ AnswersDone = sym is ∙ k in absurd (cc); script = _; task = refl; nothing = refl; undone = undone_answer (job_for size content (OnBlock (Reading part))) refusal answer is; among_others = refl; order = refl; leads = refl; below = keeps_owned _ card refl; free = inr (failed_flag words.fail f z e) });
   }
   fails (Writing part) r answer refusal words card f z is e w = record {
     results = Done ∷ [];
     may = (tt, tt, tt);
     words_agree = record { fail = sym (failed_flag words.fail f z e); seals = w.seals };
     same = record { origin = refl; cache = refl; mapping = refl; blocks = refl; committing = refl; live = refl; mode = refl };
-    at = inr (record { over = tt; refused = λ k. let bad : Refuses refusal ≡ AnswersDone = sym is ∙ k in absurd (cc); script = _; task = refl; nothing = refl; undone = undone_answer (job_for size content (OnBlock (Writing part))) refusal answer is; free = inr (failed_flag words.fail f z e) });
+    at = inr (record { over = tt; refused = λ k. let bad : Refuses refusal ≡ AnswersDone = sym is ∙ k in absurd (cc); script = _; task = refl; nothing = refl; undone = undone_answer (job_for size content (OnBlock (Writing part))) refusal answer is; among_others = refl; order = refl; leads = refl; below = keeps_owned _ card refl; free = inr (failed_flag words.fail f z e) });
   }
   fails (Migrating migration part) r answer refusal words card f z is e w = absurd r
 

@@ -1,5 +1,6 @@
 pub mod Tables
 pub mod Going
+pub mod Holding
 pub mod Cells
 pub mod Locks
 pub mod Followed

@@ -12,6 +12,7 @@ use Rattle.wb_words.proofs.Totals.{total_at, at_slice}
 use Rattle.std.proofs.lemmas.Bool.{eq-eqb}
 use Rattle.wb_link.specs.Tables.{Share, Own, Done}
 use Rattle.wb_link.specs.World.{Nothing, Shares, Owns, Actor}
+use Rattle.wb_refines.proofs.Holding.{is_one, owns_there, shares_there}
 use Rattle.wb_refines.specs.Going.{WinsBeside}
 use Rattle.wb_refines.specs.Models.{AllBelow, held_of, held_for}
 use Rattle.wb_refines.specs.Laws.{HasNoMore}
@@ -27,9 +28,6 @@ total_two f (z ∷ xs) zero zero x y n e g = absurd (n refl)
 total_two f (z ∷ xs) zero (suc j) x y n e g = let same : z ≡ x = cc in let is : f z ≡ f x = ap f same in let l = total_at f xs j y (at_slice xs j y g) in omega (arith, is, l)
 total_two f (z ∷ xs) (suc i) zero x y n e g = let same : z ≡ y = cc in let is : f z ≡ f y = ap f same in let l = total_at f xs i x (at_slice xs i x e) in omega (arith, is, l)
 total_two f (z ∷ xs) (suc i) (suc j) x y n e g = let l = total_two f xs i j x y (λ s. n (ap suc s)) e g in omega (arith, l)
-
-is_one : (block : OBlock) → is_block block.0 block ≡ 1
-is_one block = ap (λ t. cond t 1 0) (eq-eqb block.0 block.0 refl)
 
 module _ (blocks : ℕ) (words : Words) (cards : List Card) (actors : List Actor) (a : ℕ) (card : Card) (block : OBlock) (rule : LockRule blocks words cards) (inside : block.0 < blocks) (here : slice_get cards a ≡ Some card) (below : AllBelow actors cards) where
   pub share_wins : card.hold ≡ HoldsBlock Sharing block → WinsBeside actors a Nothing (Share block.0) Done
@@ -71,16 +69,6 @@ held_cases : (ws : List Want) (card : Card) → (held_for ws card ≡ Nothing) �
 held_cases (Cell (Look (SealWord block)) ∷ ws) card = inl refl
 held_cases (Cell (Look (Number block)) ∷ ws) card = inl refl
 held_cases ws card = inr refl
-
-owns_there : (hold : Hold) (block : ℕ) → held_of hold ≡ Owns block → owns block hold ≡ 1
-owns_there HoldsNothing block e = absurd (cc)
-owns_there (HoldsBlock Sharing b) block e = absurd (cc)
-owns_there (HoldsBlock Owned b) block e = let same : b.0 ≡ block = cc in subst (λ (v : ℕ). owns v (HoldsBlock Owned b) ≡ 1) same (is_one b)
-
-shares_there : (hold : Hold) (block : ℕ) → held_of hold ≡ Shares block → shares block hold ≡ 1
-shares_there HoldsNothing block e = absurd (cc)
-shares_there (HoldsBlock Owned b) block e = absurd (cc)
-shares_there (HoldsBlock Sharing b) block e = let same : b.0 ≡ block = cc in subst (λ (v : ℕ). shares v (HoldsBlock Sharing b) ≡ 1) same (is_one b)
 
 pub has_no_more : HasNoMore
 has_no_more size content plan card y is = record {

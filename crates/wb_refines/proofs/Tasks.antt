@@ -7,6 +7,7 @@ use Rattle.wb_tasks.specs.Tables.{Reading, Writing, OnBlock, Flushing}
 use Rattle.wb_tasks.specs.Plan.{table}
 use Rattle.wb_link.specs.Tables.{Flushing as FlushingFor, Script, Want, Done as DoneThere}
 use Rattle.wb_link.specs.World.{Shared, Actor, Within, start_actor}
+use Rattle.wb_refines.proofs.Holding.{holds_nothing}
 use Rattle.wb_refines.specs.Translation.{offsets, job_for, script_for}
 use Rattle.wb_refines.specs.Going.{shared_after, gone, MayGo}
 use Rattle.wb_refines.specs.Models.{held_of}
@@ -51,10 +52,12 @@ pub record Answers (actors : List Actor) (a : ℕ) (s : Shared) (y : Actor) (tas
   pub shared : shared_after s y task (DoneThere ∷ []) ≡ s
   pub over : (gone y task (DoneThere ∷ [])).task ≡ None
   pub held : (gone y task (DoneThere ∷ [])).held ≡ y.held
+  pub order : (gone y task (DoneThere ∷ [])).order ≡ y.order
+  pub leads : (gone y task (DoneThere ∷ [])).leads ≡ y.leads
 
 answers_now : (actors : List Actor) (a : ℕ) (s : Shared) (y : Actor) (script : Script) → script.steps ≡ [] → y.task ≡ Some script → Answers actors a s y y.task
 answers_now actors a s y script n t = subst (λ (o : Option Script). Answers actors a s y o) (sym t)
-    (subst (λ (ws : List Want). Answers actors a s y (Some (record script { steps = ws }))) (sym n) (record { may = (tt, tt, tt); shared = refl; over = refl; held = refl }))
+    (subst (λ (ws : List Want). Answers actors a s y (Some (record script { steps = ws }))) (sym n) (record { may = (tt, tt, tt); shared = refl; over = refl; held = refl; order = refl; leads = refl }))
 
 pub tasks_end : TasksEnd
 tasks_end = record {
@@ -63,9 +66,27 @@ tasks_end = record {
   flush = λ size most content actors a s y answer leads is.
       subst (λ (v : Actor). IsAnswered actors a s v × ((gone v v.task (DoneThere ∷ [])).leads ≡ leads) × (leads ≡ false → IsIdle (gone v v.task (DoneThere ∷ [])))) (sym is.is)
       (record { may = (tt, tt, tt); shared = refl; over = refl }, refl, λ e. record { task = refl; held = refl; order = refl; leads = e });
-  stopped = λ actors a s y words plan k. let all = answers_now actors a s y k.script k.nothing k.task in
-      (record { may = all.may; shared = all.shared; over = all.over }, elim k.free [ inl f ↦ inl (all.held ∙ f) | inr f ↦ inr f ]);
-  parts = λ words job access block answer y k. record { over = tt; refused = k.refused; script = k.script; task = k.task; nothing = k.nothing; undone = k.undone; free = k.free };
+  stopped = λ actors a s y words answer job card k. let all = answers_now actors a s y k.script k.nothing k.task in (
+    record { may = all.may; shared = all.shared; over = all.over },
+    record { owned = λ block o. k.below.owned block (sym all.held ∙ o); shared = λ block o. k.below.shared block (sym all.held ∙ o) },
+    elim k.free [
+      | inl f ↦ inl (record { task = all.over; held = all.held ∙ f; order = all.order ∙ k.order; leads = all.leads ∙ k.leads })
+      | inr f ↦ inr f
+    ],
+  );
+  parts = λ words job access block answer card y k. record {
+    over = tt;
+    refused = k.refused;
+    script = k.script;
+    task = k.task;
+    nothing = k.nothing;
+    undone = k.undone;
+    among_others = k.among_others;
+    order = k.order;
+    leads = k.leads;
+    below = holds_nothing y _ k.free;
+    free = inl k.free;
+  };
 }
 
 pub crashes_followed : CrashesFollowed

@@ -20,6 +20,7 @@ use Rattle.wb_tasks.specs.declared.step.Want.{Want}
 use Rattle.wb_tasks.specs.declared.step.Want.TheVariants.{Cell}
 use Rattle.wb_tasks.specs.declared.step.Answer.TheVariants.{Done as Finished, Refused as Refuses}
 use Rattle.wb_link.specs.Tables.{Seal, Script, Got, Finished as AnsweredDone}
+use Rattle.wb_link.specs.World.{job_alone}
 use Rattle.wb_link.specs.World.{Shared, Held, Nothing, Shares, Owns, Actor}
 use Rattle.wb_refines.specs.Translation.{number_of, script_for}
 use Rattle.wb_refines.specs.Going.{shared_after, gone, MayGo}
@@ -73,16 +74,30 @@ OnlyParts [] = Unit {0}
 OnlyParts (Cell (Release access block) ∷ []) = Unit {0}
 OnlyParts steps = ⊥
 
+-- An abstract actor has no block that the card does not count.
+pub record IsBelow (y : Actor) (card : Card) : Type 0 where
+  pub owned : (block : ℕ) → y.held ≡ Owns block → 0 < owners block card
+  pub shared : (block : ℕ) → y.held ≡ Shares block → 0 < sharers block card
+
+-- it holds nothing, or the target has failed and there is nothing to give back
+abbrev pub IsFree : Words → List Want → Actor → Type 0
+IsFree words [] y = (y.held ≡ Nothing) ⊎ (flag words.fail ≡ true)
+IsFree words steps y = y.held ≡ Nothing
+
 -- Refused, an abstract actor has only to answer: it has set the failed bit and keeps what it owns, or it has nothing, since it did
 -- not take the block whose number was found worn.
-pub record HasStopped (words : Words) (plan : Plan) (y : Actor) : Type 0 where
+pub record HasStopped (words : Words) (plan : Plan) (card : Card) (y : Actor) : Type 0 where
   pub over : OnlyParts plan.steps
   pub refused : plan.answer ≢ Finished
   pub script : Script
   pub task : y.task ≡ Some script
   pub nothing : script.steps ≡ []
   pub undone : script.answer ≢ AnsweredDone
-  pub free : (y.held ≡ Nothing) ⊎ (flag words.fail ≡ true)
+  pub among_others : job_alone script.job ≡ false
+  pub order : y.order ≡ None
+  pub leads : y.leads ≡ false
+  pub below : IsBelow y card
+  pub free : IsFree words plan.steps y
 
 -- what a step on the words changes nothing of
 pub record SameElse (s t : Shared) : Type 0 where
@@ -100,12 +115,7 @@ pub record Follows (size : ℕ) (content : Content) (actors : List Actor) (a : �
   pub may : MayGo actors a s y y.task results
   pub words_agree : WordsAgree words (shared_after s y y.task results)
   pub same : SameElse s (shared_after s y y.task results)
-  pub at : IsAt size content plan card (gone y y.task results) ⊎ HasStopped words plan (gone y y.task results)
-
--- An abstract actor has no block that the card does not count.
-pub record IsBelow (y : Actor) (card : Card) : Type 0 where
-  pub owned : (block : ℕ) → y.held ≡ Owns block → 0 < owners block card
-  pub shared : (block : ℕ) → y.held ≡ Shares block → 0 < sharers block card
+  pub at : IsAt size content plan card (gone y y.task results) ⊎ HasStopped words plan card (gone y y.task results)
 
 -- each abstract actor has a card, which counts what it has
 abbrev pub AllBelow : List Actor → List Card → Type 0

@@ -7,7 +7,7 @@ use Rattle.wb_disk.specs.Device.{Content, History, Crashed}
 use Rattle.wb_contents.specs.Devices.{by_block}
 use Rattle.wb_words.specs.declared.word.Access.{Access}
 use Rattle.wb_words.specs.declared.step.CellStep.TheVariants.{Release}
-use Rattle.wb_words.specs.Effects.{words_after}
+use Rattle.wb_words.specs.Effects.{words_after, card_after}
 use Rattle.wb_tasks.specs.declared.step.Want.TheVariants.{Cell}
 use Rattle.wb_tasks.specs.declared.step.Got.TheVariants.{Done}
 use Rattle.wb_link.specs.Openings.{Stopping, MayStop, stopped as crashed}
@@ -21,7 +21,7 @@ use Rattle.wb_link.specs.Tables.{Job as AbstractJob, Flushing as FlushingFor, Do
 use Rattle.wb_link.specs.World.{Shared, Nothing, Actor, World, Start, May, after_record, is_alone}
 use Rattle.wb_refines.specs.Translation.{job_for}
 use Rattle.wb_refines.specs.Going.{shared_after, gone, MayGo}
-use Rattle.wb_refines.specs.Models.{IsAt, HasStopped, plan_of}
+use Rattle.wb_refines.specs.Models.{IsAt, IsBelow, HasStopped, plan_of}
 use Rattle.wb_refines.specs.Flushes.{IsFlushing, flushing}
 
 -- an abstract actor with nothing to do, that has nothing
@@ -60,18 +60,18 @@ pub record IsAnswered (actors : List Actor) (a : ℕ) (s : Shared) (y : Actor) :
   pub shared : shared_after s y y.task (DoneThere ∷ []) ≡ s
   pub over : (gone y y.task (DoneThere ∷ [])).task ≡ None
 
--- A read or write that has nothing left holds nothing, and leaves its actor idle; one that was stopped holds nothing, or the
+-- A read or write that has nothing left holds nothing, and leaves its actor idle; one that was stopped leaves it idle too, or the
 -- target has failed. A flush leaves its actor idle but for a commit that it leads still, as one that has failed does.
 pub record TasksEnd : Type 0 where
   pub done : (size : ℕ) (content : Content) (actors : List Actor) (a : ℕ) (s : Shared) (y : Actor) (job : BlockJob) (answer : Answer) (card : Card) → card.hold ≡ HoldsNothing → IsAt size content (plan_of job [] answer) card y →
       IsAnswered actors a s y × IsIdle (gone y y.task (DoneThere ∷ []))
-  pub stopped : (actors : List Actor) (a : ℕ) (s : Shared) (y : Actor) (words : Words) (plan : Plan) → HasStopped words plan y →
-      IsAnswered actors a s y × (((gone y y.task (DoneThere ∷ [])).held ≡ Nothing) ⊎ (flag words.fail ≡ true))
+  pub stopped : (actors : List Actor) (a : ℕ) (s : Shared) (y : Actor) (words : Words) (answer : Answer) (job : TaskJob) (card : Card) → HasStopped words (record { job = job; steps = []; answer = answer }) card y →
+      IsAnswered actors a s y × IsBelow (gone y y.task (DoneThere ∷ [])) card × (IsIdle (gone y y.task (DoneThere ∷ [])) ⊎ (flag words.fail ≡ true))
   pub flush : (size most : ℕ) (content : Content) (actors : List Actor) (a : ℕ) (s : Shared) (y : Actor) (answer : Answer) (leads : Bool) → IsFlushing size content (flushing most [] answer) leads y →
       IsAnswered actors a s y × ((gone y y.task (DoneThere ∷ [])).leads ≡ leads) × (leads ≡ false → IsIdle (gone y y.task (DoneThere ∷ [])))
   -- a block whose number was worn is given back
-  pub parts : (words : Words) (job : TaskJob) (access : Access) (block : OBlock) (answer : Answer) (y : Actor) → HasStopped words (record { job = job; steps = Cell (Release access block) ∷ []; answer = answer }) y →
-      HasStopped (words_after words (Release access block)) (after (record { job = job; steps = Cell (Release access block) ∷ []; answer = answer }) Done) y
+  pub parts : (words : Words) (job : TaskJob) (access : Access) (block : OBlock) (answer : Answer) (card : Card) (y : Actor) → HasStopped words (record { job = job; steps = Cell (Release access block) ∷ []; answer = answer }) card y →
+      HasStopped (words_after words (Release access block)) (after (record { job = job; steps = Cell (Release access block) ∷ []; answer = answer }) Done) (card_after words (Release access block) card) y
 
 -- Crashed lists are what a crash may leave there.
 pub record Crashes (size : ℕ) (blank : Content) (s : Shared) (origin cache : List History) : Type 0 where
