@@ -36,11 +36,14 @@ use Rattle.wb_refines.specs.Translation.{script_for, job_for, answer_for, wants_
 use Rattle.wb_refines.specs.Going.{WinsBeside}
 use Rattle.wb_refines.proofs.Tables.{read_work, write_work}
 use Rattle.wb_refines.proofs.Holding.{holds_nothing, keeps_owned}
-use Rattle.wb_refines.specs.Models.{SealAgrees, WordsAgree, held_of, held_for, SawSeal, SameElse, Follows, plan_of, IsRequest}
+use Rattle.wb_refines.specs.Models.{SealAgrees, WordsAgree, held_of, held_for, SawSeal, SameImages, SameElse, Follows, plan_of, IsRequest}
+
+pub same_images : (s : Shared) → SameImages s s
+same_images s = record { mapping = refl; blocks = refl; live = refl; mode = refl; committing = refl; began = refl; ended = refl; broken = refl; committed = refl; running = refl; root_written = refl; committed_clean = refl; running_clean = refl }
 
 -- nothing is changed
 same : (s : Shared) → SameElse s s
-same s = record { origin = refl; cache = refl; mapping = refl; blocks = refl; committing = refl; live = refl; mode = refl }
+same s = record { origin = refl; cache = refl; images = same_images s }
 
 -- the actor that is at this
 abbrev pub at : ℕ → Content → Plan → Card → Content → Actor
@@ -141,8 +144,8 @@ module _ (size : ℕ) (content : Content) (actors : List Actor) (a : ℕ) (s : S
   looks_fail job block answer words card w = by_test (words.fail == 0) (flag_of words.fail (words.fail == 0) refl)
     where
       by_test : (t : Bool) → flag words.fail ≡ cond t false true → Then (plan_of job (Cell (Look Fail) ∷ Cell (Look (LockWord block)) ∷ []) answer) card words (if t then plan_of job (Cell (Look (LockWord block)) ∷ []) answer else plan_of job [] (Refuses Failed)) (looked Fail words.fail card)
-      by_test true f = record { results = Flag false ∷ []; may = (sym (w.fail ∙ f), tt, tt); words_agree = w; same = same s; at = inl (record { buffer = buffer; is = refl; saw = tt }) }
-      by_test false f = record { results = Flag true ∷ []; may = (sym (w.fail ∙ f), tt, tt); words_agree = w; same = same s; at = inl (record { buffer = buffer; is = refl; saw = tt }) }
+      by_test true f = record { results = Flag false ∷ []; may = (sym (w.fail ∙ f), tt, tt); quiet = (tt, tt); words_agree = w; same = same s; at = inl (record { buffer = buffer; is = refl; saw = tt }) }
+      by_test false f = record { results = Flag true ∷ []; may = (sym (w.fail ∙ f), tt, tt); quiet = (tt, tt); words_agree = w; same = same s; at = inl (record { buffer = buffer; is = refl; saw = tt }) }
 
   -- The lock word rules the exchange out, or it is tried next.
   pub looks_lock : (job : BlockJob) → IsRequest job → (block : OBlock) (answer : Answer) (words : Words) (card : Card) → WordsAgree words s →
@@ -150,13 +153,13 @@ module _ (size : ℕ) (content : Content) (actors : List Actor) (a : ℕ) (s : S
   looks_lock (Reading part) r block answer words card w = by_test (may_take (OnBlock (Reading part)) (word_at words.cells block))
     where
       by_test : (t : Bool) → Then (plan_of (Reading part) (Cell (Look (LockWord block)) ∷ []) answer) card words (if t then plan_of (Reading part) (exchange (OnBlock (Reading part)) (word_at words.cells block)) answer else plan_of (Reading part) [] (Refuses Busy)) (looked (LockWord block) (word_at words.cells block) card)
-      by_test true = record { results = []; may = tt; words_agree = w; same = same s; at = inl (record { buffer = buffer; is = refl; saw = tt }) }
-      by_test false = record { results = Lost ∷ []; may = (tt, tt, tt); words_agree = w; same = same s; at = inl (record { buffer = buffer; is = refl; saw = tt }) }
+      by_test true = record { results = []; may = tt; quiet = tt; words_agree = w; same = same s; at = inl (record { buffer = buffer; is = refl; saw = tt }) }
+      by_test false = record { results = Lost ∷ []; may = (tt, tt, tt); quiet = (tt, tt); words_agree = w; same = same s; at = inl (record { buffer = buffer; is = refl; saw = tt }) }
   looks_lock (Writing part) r block answer words card w = by_test (may_take (OnBlock (Writing part)) (word_at words.cells block))
     where
       by_test : (t : Bool) → Then (plan_of (Writing part) (Cell (Look (LockWord block)) ∷ []) answer) card words (if t then plan_of (Writing part) (exchange (OnBlock (Writing part)) (word_at words.cells block)) answer else plan_of (Writing part) [] (Refuses Busy)) (looked (LockWord block) (word_at words.cells block) card)
-      by_test true = record { results = []; may = tt; words_agree = w; same = same s; at = inl (record { buffer = buffer; is = refl; saw = tt }) }
-      by_test false = record { results = Lost ∷ []; may = (tt, tt, tt); words_agree = w; same = same s; at = inl (record { buffer = buffer; is = refl; saw = tt }) }
+      by_test true = record { results = []; may = tt; quiet = tt; words_agree = w; same = same s; at = inl (record { buffer = buffer; is = refl; saw = tt }) }
+      by_test false = record { results = Lost ∷ []; may = (tt, tt, tt); quiet = (tt, tt); words_agree = w; same = same s; at = inl (record { buffer = buffer; is = refl; saw = tt }) }
   looks_lock (Migrating migration part) r block answer words card w = absurd r
 
   -- The exchange is won, and the abstract actor has still to take the block; or it is lost.
@@ -165,20 +168,20 @@ module _ (size : ℕ) (content : Content) (actors : List Actor) (a : ℕ) (s : S
   takes (Reading part) r access block seen answer words card h w = by_test (word_at words.cells block == seen)
     where
       by_test : (t : Bool) → Then (plan_of (Reading part) (taking access block seen) answer) card (if t then with_cell words block (taken access seen) else words) (after (plan_of (Reading part) (taking access block seen) answer) (got_of (if t then Won else NotWon))) (if t then holding (HoldsBlock access block) card else losing block (word_at words.cells block) card)
-      by_test true = record { results = []; may = tt; words_agree = record { fail = w.fail; seals = w.seals }; same = same s; at = inl (record { buffer = buffer; is = λ i. record (at size content (plan_of (Reading part) (taking access block seen) answer) card buffer) { held = held_of (h i) }; saw = tt }) }
-      by_test false = record { results = Lost ∷ []; may = (tt, tt, tt); words_agree = w; same = same s; at = inl (record { buffer = buffer; is = refl; saw = tt }) }
+      by_test true = record { results = []; may = tt; quiet = tt; words_agree = record { fail = w.fail; seals = w.seals }; same = same s; at = inl (record { buffer = buffer; is = λ i. record (at size content (plan_of (Reading part) (taking access block seen) answer) card buffer) { held = held_of (h i) }; saw = tt }) }
+      by_test false = record { results = Lost ∷ []; may = (tt, tt, tt); quiet = (tt, tt); words_agree = w; same = same s; at = inl (record { buffer = buffer; is = refl; saw = tt }) }
   takes (Writing part) r access block seen answer words card h w = by_test (word_at words.cells block == seen)
     where
       by_test : (t : Bool) → Then (plan_of (Writing part) (taking access block seen) answer) card (if t then with_cell words block (taken access seen) else words) (after (plan_of (Writing part) (taking access block seen) answer) (got_of (if t then Won else NotWon))) (if t then holding (HoldsBlock access block) card else losing block (word_at words.cells block) card)
-      by_test true = record { results = []; may = tt; words_agree = record { fail = w.fail; seals = w.seals }; same = same s; at = inl (record { buffer = buffer; is = λ i. record (at size content (plan_of (Writing part) (taking access block seen) answer) card buffer) { held = held_of (h i) }; saw = tt }) }
-      by_test false = record { results = Lost ∷ []; may = (tt, tt, tt); words_agree = w; same = same s; at = inl (record { buffer = buffer; is = refl; saw = tt }) }
+      by_test true = record { results = []; may = tt; quiet = tt; words_agree = record { fail = w.fail; seals = w.seals }; same = same s; at = inl (record { buffer = buffer; is = λ i. record (at size content (plan_of (Writing part) (taking access block seen) answer) card buffer) { held = held_of (h i) }; saw = tt }) }
+      by_test false = record { results = Lost ∷ []; may = (tt, tt, tt); quiet = (tt, tt); words_agree = w; same = same s; at = inl (record { buffer = buffer; is = refl; saw = tt }) }
   takes (Migrating migration part) r access block seen answer words card h w = absurd r
 
   -- the seal is looked at; the abstract actor sees it with the number
   pub looks_seal : (job : BlockJob) (ws : List Want) (access : Access) (block : OBlock) (answer : Answer) (words : Words) (card : Card) → IsRequest job → card.hold ≡ HoldsBlock access block → WordsAgree words s →
       Then (plan_of job (Cell (Look (SealWord block)) ∷ ws) answer) card words (after (plan_of job (Cell (Look (SealWord block)) ∷ ws) answer) (Word (word_at words.seals block))) (looked (SealWord block) (word_at words.seals block) card)
-  looks_seal (Reading part) ws access block answer words card r h w = record { results = []; may = tt; words_agree = w; same = same s; at = inl (record { buffer = buffer; is = refl; saw = (word_at words.seals block, own_seal access block (word_at words.seals block) card h, refl) }) }
-  looks_seal (Writing part) ws access block answer words card r h w = record { results = []; may = tt; words_agree = w; same = same s; at = inl (record { buffer = buffer; is = refl; saw = (word_at words.seals block, own_seal access block (word_at words.seals block) card h, refl) }) }
+  looks_seal (Reading part) ws access block answer words card r h w = record { results = []; may = tt; quiet = tt; words_agree = w; same = same s; at = inl (record { buffer = buffer; is = refl; saw = (word_at words.seals block, own_seal access block (word_at words.seals block) card h, refl) }) }
+  looks_seal (Writing part) ws access block answer words card r h w = record { results = []; may = tt; quiet = tt; words_agree = w; same = same s; at = inl (record { buffer = buffer; is = refl; saw = (word_at words.seals block, own_seal access block (word_at words.seals block) card h, refl) }) }
   looks_seal (Migrating migration part) ws access block answer words card r h w = absurd r
 
   -- The number is looked at: a worn write gives its block back, which the abstract actor has not taken; else that takes it, and
@@ -189,6 +192,7 @@ module _ (size : ℕ) (content : Content) (actors : List Actor) (a : ℕ) (s : S
   looks_number part answer words card seen some e h k w wins = record {
     results = Done ∷ Seen (s.seals part.block.0) ∷ [];
     may = (tt, wins, (refl, tt, tt));
+    quiet = (tt, (tt, tt));
     words_agree = w;
     same = same s;
     at = inl (record {
@@ -229,6 +233,7 @@ module _ (size : ℕ) (content : Content) (actors : List Actor) (a : ℕ) (s : S
       by_test true = record {
         results = Lost ∷ [];
         may = (tt, tt, tt);
+        quiet = (tt, tt);
         words_agree = w;
         same = same s;
         at = inr (record { over = tt; refused = λ f. absurd (cc); script = record { job = job_for size content (OnBlock (Writing part)); steps = []; answer = AnsweredBusy }; task = refl; nothing = refl; undone = λ f. absurd (cc); among_others = refl; order = refl; leads = refl; below = holds_nothing _ _ refl; free = refl });
@@ -236,6 +241,7 @@ module _ (size : ℕ) (content : Content) (actors : List Actor) (a : ℕ) (s : S
       by_test false = record {
         results = Done ∷ Seen (s.seals part.block.0) ∷ [];
         may = (tt, wins, (refl, tt, tt));
+        quiet = (tt, (tt, tt));
         words_agree = w;
         same = same s;
         at = inl (record {
@@ -251,15 +257,17 @@ module _ (size : ℕ) (content : Content) (actors : List Actor) (a : ℕ) (s : S
   fails (Reading part) r answer refusal words card f z is e w = record {
     results = Done ∷ [];
     may = (tt, tt, tt);
+    quiet = (tt, tt);
     words_agree = record { fail = sym (failed_flag words.fail f z e); seals = w.seals };
-    same = record { origin = refl; cache = refl; mapping = refl; blocks = refl; committing = refl; live = refl; mode = refl };
+    same = record { origin = refl; cache = refl; images = record { mapping = refl; blocks = refl; live = refl; mode = refl; committing = refl; began = refl; ended = refl; broken = refl; committed = refl; running = refl; root_written = refl; committed_clean = refl; running_clean = refl } };
     at = inr (record { over = tt; refused = λ k. let bad : Refuses refusal ≡ AnswersDone = sym is ∙ k in absurd (cc); script = _; task = refl; nothing = refl; undone = undone_answer (job_for size content (OnBlock (Reading part))) refusal answer is; among_others = refl; order = refl; leads = refl; below = keeps_owned _ card refl; free = inr (failed_flag words.fail f z e) });
   }
   fails (Writing part) r answer refusal words card f z is e w = record {
     results = Done ∷ [];
     may = (tt, tt, tt);
+    quiet = (tt, tt);
     words_agree = record { fail = sym (failed_flag words.fail f z e); seals = w.seals };
-    same = record { origin = refl; cache = refl; mapping = refl; blocks = refl; committing = refl; live = refl; mode = refl };
+    same = record { origin = refl; cache = refl; images = record { mapping = refl; blocks = refl; live = refl; mode = refl; committing = refl; began = refl; ended = refl; broken = refl; committed = refl; running = refl; root_written = refl; committed_clean = refl; running_clean = refl } };
     at = inr (record { over = tt; refused = λ k. let bad : Refuses refusal ≡ AnswersDone = sym is ∙ k in absurd (cc); script = _; task = refl; nothing = refl; undone = undone_answer (job_for size content (OnBlock (Writing part))) refusal answer is; among_others = refl; order = refl; leads = refl; below = keeps_owned _ card refl; free = inr (failed_flag words.fail f z e) });
   }
   fails (Migrating migration part) r answer refusal words card f z is e w = absurd r
@@ -267,8 +275,8 @@ module _ (size : ℕ) (content : Content) (actors : List Actor) (a : ℕ) (s : S
   -- a block is given back
   pub releases : (job : BlockJob) (access : Access) (block : OBlock) (answer : Answer) (words : Words) (card : Card) → WordsAgree words s →
       Then (plan_of job (Cell (Release access block) ∷ []) answer) card (words_after words (Release access block)) (after (plan_of job (Cell (Release access block) ∷ []) answer) (got_of (result_of words (Release access block)))) (card_after words (Release access block) card)
-  releases job Sharing block answer words card w = record { results = Done ∷ []; may = (tt, tt, tt); words_agree = record { fail = w.fail; seals = w.seals }; same = same s; at = inl (record { buffer = buffer; is = refl; saw = tt }) }
-  releases job Owned block answer words card w = record { results = Done ∷ []; may = (tt, tt, tt); words_agree = record { fail = w.fail; seals = w.seals }; same = same s; at = inl (record { buffer = buffer; is = refl; saw = tt }) }
+  releases job Sharing block answer words card w = record { results = Done ∷ []; may = (tt, tt, tt); quiet = (tt, tt); words_agree = record { fail = w.fail; seals = w.seals }; same = same s; at = inl (record { buffer = buffer; is = refl; saw = tt }) }
+  releases job Owned block answer words card w = record { results = Done ∷ []; may = (tt, tt, tt); quiet = (tt, tt); words_agree = record { fail = w.fail; seals = w.seals }; same = same s; at = inl (record { buffer = buffer; is = refl; saw = tt }) }
 
   -- a write is finished, and what was done is counted; nothing of the abstract world is
   pub finishes : (job : BlockJob) (block : OBlock) (ws : List Want) (answer : Answer) (words : Words) (card : Card) → IsPlain ws → WordsAgree words s →
@@ -276,6 +284,7 @@ module _ (size : ℕ) (content : Content) (actors : List Actor) (a : ℕ) (s : S
   finishes job block ws answer words card p w = record {
     results = [];
     may = tt;
+    quiet = tt;
     words_agree = record { fail = w.fail; seals = w.seals };
     same = same s;
     at = inl (record {
@@ -290,6 +299,7 @@ module _ (size : ℕ) (content : Content) (actors : List Actor) (a : ℕ) (s : S
   counts job kind ws answer words card p w = record {
     results = [];
     may = tt;
+    quiet = tt;
     words_agree = counted_agree words kind s w;
     same = same s;
     at = inl (record {
@@ -305,8 +315,9 @@ module _ (size : ℕ) (content : Content) (actors : List Actor) (a : ℕ) (s : S
   seals job block place dirty ws answer words card p inside tells w = record {
     results = Done ∷ [];
     may = (tt, tt, tt);
+    quiet = (tt, tt);
     words_agree = record { fail = w.fail; seals = λ other. elim (cases_eq other.0 block.0) [ inl e ↦ here other e | inr n ↦ there other n ] };
-    same = record { origin = refl; cache = refl; mapping = refl; blocks = refl; committing = refl; live = refl; mode = refl };
+    same = record { origin = refl; cache = refl; images = record { mapping = refl; blocks = refl; live = refl; mode = refl; committing = refl; began = refl; ended = refl; broken = refl; committed = refl; running = refl; root_written = refl; committed_clean = refl; running_clean = refl } };
     at = inl (record {
       buffer = buffer;
       is = λ i. record (at size content (plan_of job ws answer) card buffer) { held = sym (held_plain ws (sealing block (seal_word place dirty) card) p) i };

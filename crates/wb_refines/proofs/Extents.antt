@@ -9,6 +9,7 @@ use Rattle.wb_contents.proofs.Devices.{read_is_newest, write_is_act}
 use Rattle.wb_link.specs.Tables.{Job, Writing, Answer, Io, Want, Set_failed, Write_at, Got, Done, Gave, read_each, write_each, until_failed}
 use Rattle.wb_link.specs.World.{Shared, Held, Actor, newest_at, put_sector, if_landed}
 use Rattle.wb_refines.specs.Going.{shared_after, gone, MayGo}
+use Rattle.wb_refines.specs.Models.{SameImages}
 use Rattle.wb_refines.specs.Data.{side, row, IsSide, SameBeside, faults}
 
 -- an actor with this task
@@ -58,14 +59,31 @@ length-grown None device at c = refl
 length-grown (Some h) device at c = length-set device at _
 
 put_beside : (to : Option ℕ) (s : Shared) (b o : ℕ) (c : Content) → SameBeside to s (put_sector s to b o c)
-put_beside None s b o c = record { other = refl; seals = refl; fail = refl; mapping = refl; blocks = refl; committing = refl; live = refl; mode = refl }
-put_beside (Some k) s b o c = record { other = refl; seals = refl; fail = refl; mapping = refl; blocks = refl; committing = refl; live = refl; mode = refl }
+put_beside None s b o c = record { other = refl; seals = refl; fail = refl; images = record { mapping = refl; blocks = refl; live = refl; mode = refl; committing = refl; began = refl; ended = refl; broken = refl; committed = refl; running = refl; root_written = refl; committed_clean = refl; running_clean = refl } }
+put_beside (Some k) s b o c = record { other = refl; seals = refl; fail = refl; images = record { mapping = refl; blocks = refl; live = refl; mode = refl; committing = refl; began = refl; ended = refl; broken = refl; committed = refl; running = refl; root_written = refl; committed_clean = refl; running_clean = refl } }
 
 pub same_beside : (to : Option ℕ) (s : Shared) → SameBeside to s s
-same_beside to s = record { other = refl; seals = refl; fail = refl; mapping = refl; blocks = refl; committing = refl; live = refl; mode = refl }
+same_beside to s = record { other = refl; seals = refl; fail = refl; images = record { mapping = refl; blocks = refl; live = refl; mode = refl; committing = refl; began = refl; ended = refl; broken = refl; committed = refl; running = refl; root_written = refl; committed_clean = refl; running_clean = refl } }
+
+both_images : (s t u : Shared) → SameImages s t → SameImages t u → SameImages s u
+both_images s t u p q = record {
+  mapping = q.mapping ∙ p.mapping;
+  blocks = q.blocks ∙ p.blocks;
+  live = q.live ∙ p.live;
+  mode = q.mode ∙ p.mode;
+  committing = q.committing ∙ p.committing;
+  began = q.began ∙ p.began;
+  ended = q.ended ∙ p.ended;
+  broken = q.broken ∙ p.broken;
+  committed = q.committed ∙ p.committed;
+  running = q.running ∙ p.running;
+  root_written = q.root_written ∙ p.root_written;
+  committed_clean = q.committed_clean ∙ p.committed_clean;
+  running_clean = q.running_clean ∙ p.running_clean;
+}
 
 both_beside : (to : Option ℕ) (s t u : Shared) → SameBeside to s t → SameBeside to t u → SameBeside to s u
-both_beside to s t u p q = record { other = q.other ∙ p.other; seals = q.seals ∙ p.seals; fail = q.fail ∙ p.fail; mapping = q.mapping ∙ p.mapping; blocks = q.blocks ∙ p.blocks; committing = q.committing ∙ p.committing; live = q.live ∙ p.live; mode = q.mode ∙ p.mode }
+both_beside to s t u p q = record { other = q.other ∙ p.other; seals = q.seals ∙ p.seals; fail = q.fail ∙ p.fail; images = both_images s t u p.images q.images }
 
 -- These results of an actor write its sectors, and leave it at this.
 pub record Wrote (size : ℕ) (blank : Content) (actors : List Actor) (a : ℕ) (s : Shared) (job : Job) (steps : List Want) (answer : Answer) (held : Held) (buffer : Content) (results : List Got) (to : Option ℕ) (device : List History) (left : Actor) : Type 0 where

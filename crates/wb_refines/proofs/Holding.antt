@@ -1,5 +1,5 @@
 -- What a card counts of what an abstract actor has.
-use Rattle.std.proofs.Common.{cond, subst, ◌≡◌, ◌<◌, ◌+◌, ◌∙◌, ℕ, ◌∷◌, refl, sym, ap, arith}
+use Rattle.std.proofs.Common.{cond, subst, ◌≡◌, ◌<◌, ◌+◌, ◌∙◌, ℕ, refl, sym, ap, arith}
 use Rattle.std.proofs.lemmas.Bool.{eq-eqb}
 use Rattle.wb_types.specs.declared.number.OBlock.{OBlock}
 use Rattle.wb_words.specs.declared.word.Access.TheVariants.{Shared as Sharing, Owned}
@@ -8,7 +8,7 @@ use Rattle.wb_words.specs.declared.card.Hold.TheVariants.{Nothing as HoldsNothin
 use Rattle.wb_words.specs.declared.card.Card.{Card}
 use Rattle.wb_words.specs.declared.word.FailBit.TheVariants.{Failed}
 use Rattle.wb_words.specs.Cards.{total, is_block, owns, shares, failing, failing_at}
-use Rattle.wb_link.specs.World.{Held, Nothing, Shares, Owns, Actor}
+use Rattle.wb_link.specs.World.{Nothing, Shares, Owns, Actor}
 use Rattle.wb_refines.specs.Models.{IsBelow, held_of}
 
 pub is_one : (block : OBlock) → is_block block.0 block ≡ 1

@@ -1,15 +1,14 @@
 -- What the rule of the shared words tells of abstract actors: who has a block by its card wins it there.
-use Rattle.std.proofs.Common.{cond, subst, ◌≡◌, ◌≢◌, ◌<◌, ◌≤◌, ◌+◌, ◌∙◌, ◌⊎◌, inl, inr, ℕ, zero, suc, List, [], ◌∷◌, Some, refl, sym, ap, arith, slice_get}
+use Rattle.std.proofs.Common.{◌≡◌, ◌≢◌, ◌<◌, ◌≤◌, ◌+◌, ◌∙◌, ◌⊎◌, inl, inr, ℕ, zero, suc, List, [], ◌∷◌, Some, refl, sym, ap, arith, slice_get}
 use Rattle.wb_types.specs.declared.number.OBlock.{OBlock}
 use Rattle.wb_words.specs.declared.word.Access.TheVariants.{Shared as Sharing, Owned}
 use Rattle.wb_words.specs.declared.card.Hold.{Hold}
-use Rattle.wb_words.specs.declared.card.Hold.TheVariants.{Nothing as HoldsNothing, Held as HoldsBlock}
+use Rattle.wb_words.specs.declared.card.Hold.TheVariants.{Held as HoldsBlock}
 use Rattle.wb_words.specs.declared.card.Card.{Card}
 use Rattle.wb_words.specs.SharedWords.{Words}
-use Rattle.wb_words.specs.Cards.{total, is_block, owns, shares, owners, sharers}
+use Rattle.wb_words.specs.Cards.{total, owns, shares, owners, sharers}
 use Rattle.wb_words.specs.Rule.{LockRule}
 use Rattle.wb_words.proofs.Totals.{total_at, at_slice}
-use Rattle.std.proofs.lemmas.Bool.{eq-eqb}
 use Rattle.wb_link.specs.Tables.{Share, Own, Done}
 use Rattle.wb_link.specs.World.{Nothing, Shares, Owns, Actor}
 use Rattle.wb_refines.proofs.Holding.{is_one, owns_there, shares_there}

@@ -11,7 +11,7 @@ use Rattle.wb_tasks.specs.Plan.{Plan}
 use Rattle.wb_link.specs.World.{Shared, Actor}
 use Rattle.wb_refines.specs.Translation.{location_at}
 use Rattle.wb_refines.specs.Going.{shared_after, gone, MayGo}
-use Rattle.wb_refines.specs.Models.{IsAt}
+use Rattle.wb_refines.specs.Models.{IsAt, SameImages}
 
 -- the device on which a location is, and the block that it is of it
 abbrev pub side : Option ℕ → Shared → ℕ → ℕ → History
@@ -36,11 +36,7 @@ pub record SameBeside (to : Option ℕ) (s t : Shared) : Type 0 where
   pub other : other_side to t ≡ other_side to s
   pub seals : t.seals ≡ s.seals
   pub fail : t.fail ≡ s.fail
-  pub mapping : t.mapping ≡ s.mapping
-  pub blocks : t.blocks ≡ s.blocks
-  pub committing : t.committing ≡ s.committing
-  pub live : t.live ≡ s.live
-  pub mode : t.mode ≡ s.mode
+  pub images : SameImages s t
 
 -- What a failing write of so many sectors from this one on comes to: each has landed or not, and only the last ends the task.
 abbrev pub faults : (ℕ → Bool) → ℕ → ℕ → List Got
@@ -53,9 +49,13 @@ pub record IsInBlock (size block : ℕ) (device : Dev) (e : Extent) : Type 0 whe
   pub room : e.first % size + e.count ≤ size
   pub some : 0 < e.count
 
--- What an actor did on a device, which is this list now, the abstract actor can do too, and both are at the same then.
-pub record Moves (size : ℕ) (blank content : Content) (actors : List Actor) (a : ℕ) (s : Shared) (y : Actor) (to : Option ℕ) (device : List History) (plan : Plan) (card : Card) : Type 0 where
-  pub results : List Got
+-- what comes of the one abstract step of a read that fails
+abbrev pub read_fault : List Got
+read_fault = Fault (record { landed = false; more = false; settled = λ block offset. false }) ∷ []
+
+-- What an actor did on a device, which is this list now, the abstract actor can do too, with these results, and both are at the
+-- same then.
+pub record Moves (size : ℕ) (blank content : Content) (actors : List Actor) (a : ℕ) (s : Shared) (y : Actor) (to : Option ℕ) (results : List Got) (device : List History) (plan : Plan) (card : Card) : Type 0 where
   pub may : MayGo actors a s y y.task results
   pub side_is : IsSide size blank to device (shared_after s y y.task results)
   pub beside : SameBeside to s (shared_after s y y.task results)

@@ -20,7 +20,7 @@ use Rattle.wb_tasks.specs.declared.step.Got.TheVariants.{Done, Word, Fault, Refu
 use Rattle.wb_link.specs.Tables.{Got, Done as DoneThere, Begin, End_running, Flushing as FlushingFor}
 use Rattle.wb_link.specs.World.{Shared, Nothing, Actor, effect}
 use Rattle.wb_refines.specs.Translation.{script_for}
-use Rattle.wb_refines.specs.Going.{shared_after, gone, MayGo}
+use Rattle.wb_refines.specs.Going.{AreQuiet, shared_after, gone, MayGo}
 
 -- what is left of a flush
 abbrev pub flushing : ℕ → List Want → Answer → Plan
@@ -35,6 +35,7 @@ pub record IsFlushing (size : ℕ) (content : Content) (plan : Plan) (leads : Bo
 pub record Leads (size : ℕ) (content : Content) (actors : List Actor) (a : ℕ) (s : Shared) (y : Actor) (t : Shared) (plan : Plan) (leads : Bool) : Type 0 where
   pub results : List Got
   pub may : MayGo actors a s y y.task results
+  pub quiet : AreQuiet y.task results
   pub shared : shared_after s y y.task results ≡ t
   pub at : IsFlushing size content plan leads (gone y y.task results)
 

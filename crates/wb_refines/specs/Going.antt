@@ -1,6 +1,6 @@
 -- An actor of the abstract world goes on by several results of its own steps, one after the other.
 use Rattle.std.specs.Prelude.{◌≡◌, ◌≢◌, ℕ, List, [], ◌∷◌, Option, Some, None, slice_get}
-use Rattle.wb_link.specs.Tables.{Script, Want, Share, Own, Got, Done, want}
+use Rattle.wb_link.specs.Tables.{Script, Want, Share, Own, Read_at, Write_at, End, Got, Done, want}
 use Rattle.wb_link.specs.World.{Shared, Held, Nothing, Shares, Owns, Actor, effect, actor_after, task_after, Gives, Record, Step}
 
 -- the steps of an actor with this task that have these results
@@ -33,3 +33,16 @@ MayGo actors a s y task [] = Unit {0}
 MayGo actors a s y None (got ∷ gots) = ⊥
 MayGo actors a s y (Some script) (got ∷ gots) = Gives s (want script) got × WinsBeside actors a y.held (want script) got
     × MayGo actors a (effect s script.job y.buffer (want script) got) (actor_after y script (want script) got) (task_after script (want script) got) gots
+
+-- no step on a device, and no answer
+abbrev pub IsQuiet : Want → Type 0
+IsQuiet (Read_at location block offset) = ⊥
+IsQuiet (Write_at location block offset) = ⊥
+IsQuiet (End answer) = ⊥
+IsQuiet next = Unit {0}
+
+-- so is each of the steps that have these results
+abbrev pub AreQuiet : Option Script → List Got → Type 0
+AreQuiet None gots = Unit {0}
+AreQuiet (Some script) [] = Unit {0}
+AreQuiet (Some script) (got ∷ gots) = IsQuiet (want script) × AreQuiet (task_after script (want script) got) gots

@@ -1,5 +1,5 @@
 -- How the tables of reads, writes and flushes and those of the abstract world go on together.
-use Rattle.std.specs.Prelude.{◌≡◌, ◌<◌, ◌≤◌, ◌+◌, ℕ, Bool, List, ◌∷◌, Some, slice_get, length, replicate}
+use Rattle.std.specs.Prelude.{◌≡◌, ◌<◌, ◌≤◌, ◌+◌, ℕ, Bool, List, ◌∷◌, Some, slice_get, length, map, replicate}
 use Rattle.wb_types.specs.declared.number.OBlock.{OBlock}
 use Rattle.wb_types.specs.declared.extent.Extent.{Extent}
 use Rattle.wb_types.specs.declared.mode.Dev.{Dev}
@@ -19,11 +19,11 @@ use Rattle.wb_words.specs.Rule.{LockRule}
 use Rattle.wb_words.specs.Effects.{result_of, words_after, card_after}
 use Rattle.wb_words.specs.declared.card.Card.{Card}
 use Rattle.wb_words.specs.declared.step.CellStep.{CellStep}
-use Rattle.wb_link.specs.Tables.{table as table_there}
+use Rattle.wb_link.specs.Tables.{Done as DoneThere, Gave, table as table_there}
 use Rattle.wb_link.specs.World.{Shared, Actor}
 use Rattle.wb_refines.specs.Models.{WordsAgree, IsAt, IsBelow, AllBelow, TellsPlace, Follows, IsRequest, plan_of}
 use Rattle.wb_refines.specs.Translation.{script_for, job_for, location_at}
-use Rattle.wb_refines.specs.Data.{IsSide, IsInBlock, Moves}
+use Rattle.wb_refines.specs.Data.{IsSide, IsInBlock, Moves, faults, read_fault}
 
 -- before they begin
 abbrev pub TablesAgree : Type 0
@@ -56,15 +56,15 @@ IsMoving job later = (next : Bool) × IsRest job next later
 pub record ExtentStepsFollowed : Type 0 where
   pub read_done : (size : ℕ) (blank content : Content) (actors : List Actor) (a : ℕ) (card : Card) (s : Shared) (y : Actor) (part : BlockRange) (device : Dev) (e : Extent) (later : List Want) (answer : Answer) (list : List History) (contents : List Content) →
       IsInBlock size part.block.0 device e → IsMoving (Reading part) later → IsSide size blank (location_at size device e) list s → length contents ≡ e.count → GivesEach list e.first contents →
-      IsAt size content (moving (Reading part) (Read device e) later answer) card y → Moves size blank content actors a s y (location_at size device e) list (after (moving (Reading part) (Read device e) later answer) Done) card
+      IsAt size content (moving (Reading part) (Read device e) later answer) card y → Moves size blank content actors a s y (location_at size device e) (map Gave contents) list (after (moving (Reading part) (Read device e) later answer) Done) card
   pub read_fails : (size : ℕ) (blank content : Content) (actors : List Actor) (a : ℕ) (card : Card) (s : Shared) (y : Actor) (part : BlockRange) (device : Dev) (e : Extent) (later : List Want) (answer : Answer) (list : List History) →
       IsInBlock size part.block.0 device e → IsSide size blank (location_at size device e) list s →
-      IsAt size content (moving (Reading part) (Read device e) later answer) card y → Moves size blank content actors a s y (location_at size device e) list (after (moving (Reading part) (Read device e) later answer) Fault) card
+      IsAt size content (moving (Reading part) (Read device e) later answer) card y → Moves size blank content actors a s y (location_at size device e) read_fault list (after (moving (Reading part) (Read device e) later answer) Fault) card
   pub write_done : (size : ℕ) (blank content : Content) (actors : List Actor) (a : ℕ) (card : Card) (s : Shared) (y : Actor) (part : BlockRange) (device : Dev) (e : Extent) (later : List Want) (answer : Answer) (list : List History) →
       IsInBlock size part.block.0 device e → IsMoving (Writing part) later → IsSide size blank (location_at size device e) list s → e.first + e.count ≤ length list →
       IsAt size content (moving (Writing part) (Write device e) later answer) card y →
-      Moves size blank content actors a s y (location_at size device e) (written_each list e.first (replicate e.count content)) (after (moving (Writing part) (Write device e) later answer) Done) card
+      Moves size blank content actors a s y (location_at size device e) (replicate e.count DoneThere) (written_each list e.first (replicate e.count content)) (after (moving (Writing part) (Write device e) later answer) Done) card
   pub write_fails : (size : ℕ) (blank content : Content) (actors : List Actor) (a : ℕ) (card : Card) (s : Shared) (y : Actor) (part : BlockRange) (device : Dev) (e : Extent) (later : List Want) (answer : Answer) (list : List History) (lands : ℕ → Bool) →
       IsInBlock size part.block.0 device e → IsSide size blank (location_at size device e) list s → e.first + e.count ≤ length list →
       IsAt size content (moving (Writing part) (Write device e) later answer) card y →
-      Moves size blank content actors a s y (location_at size device e) (written_where lands list e.first (replicate e.count content)) (after (moving (Writing part) (Write device e) later answer) Fault) card
+      Moves size blank content actors a s y (location_at size device e) (faults lands e.first e.count) (written_where lands list e.first (replicate e.count content)) (after (moving (Writing part) (Write device e) later answer) Fault) card

@@ -23,7 +23,7 @@ use Rattle.wb_link.specs.Tables.{Seal, Script, Got, Finished as AnsweredDone}
 use Rattle.wb_link.specs.World.{job_alone}
 use Rattle.wb_link.specs.World.{Shared, Held, Nothing, Shares, Owns, Actor}
 use Rattle.wb_refines.specs.Translation.{number_of, script_for}
-use Rattle.wb_refines.specs.Going.{shared_after, gone, MayGo}
+use Rattle.wb_refines.specs.Going.{AreQuiet, shared_after, gone, MayGo}
 
 -- a read or a write
 abbrev pub IsRequest : BlockJob → Type 0
@@ -99,20 +99,33 @@ pub record HasStopped (words : Words) (plan : Plan) (card : Card) (y : Actor) : 
   pub below : IsBelow y card
   pub free : IsFree words plan.steps y
 
+-- the desk, its commits, and the images that the metadata stand for are the same
+pub record SameImages (s t : Shared) : Type 0 where
+  pub mapping : t.mapping ≡ s.mapping
+  pub blocks : t.blocks ≡ s.blocks
+  pub live : t.live ≡ s.live
+  pub mode : t.mode ≡ s.mode
+  pub committing : t.committing ≡ s.committing
+  pub began : t.began ≡ s.began
+  pub ended : t.ended ≡ s.ended
+  pub broken : t.broken ≡ s.broken
+  pub committed : t.committed ≡ s.committed
+  pub running : t.running ≡ s.running
+  pub root_written : t.root_written ≡ s.root_written
+  pub committed_clean : t.committed_clean ≡ s.committed_clean
+  pub running_clean : t.running_clean ≡ s.running_clean
+
 -- what a step on the words changes nothing of
 pub record SameElse (s t : Shared) : Type 0 where
   pub origin : t.origin ≡ s.origin
   pub cache : t.cache ≡ s.cache
-  pub mapping : t.mapping ≡ s.mapping
-  pub blocks : t.blocks ≡ s.blocks
-  pub committing : t.committing ≡ s.committing
-  pub live : t.live ≡ s.live
-  pub mode : t.mode ≡ s.mode
+  pub images : SameImages s t
 
 -- What an actor did on the words, which are these now, the abstract actor can do too, and both are at the same then.
 pub record Follows (size : ℕ) (content : Content) (actors : List Actor) (a : ℕ) (s : Shared) (y : Actor) (words : Words) (plan : Plan) (card : Card) : Type 0 where
   pub results : List Got
   pub may : MayGo actors a s y y.task results
+  pub quiet : AreQuiet y.task results
   pub words_agree : WordsAgree words (shared_after s y y.task results)
   pub same : SameElse s (shared_after s y y.task results)
   pub at : IsAt size content plan card (gone y y.task results) ⊎ HasStopped words plan card (gone y y.task results)

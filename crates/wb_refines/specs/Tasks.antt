@@ -15,7 +15,7 @@ use Rattle.wb_words.specs.declared.card.Hold.TheVariants.{Nothing as HoldsNothin
 use Rattle.wb_words.specs.declared.card.Card.{Card}
 use Rattle.wb_words.specs.SharedWords.{Words, flag}
 use Rattle.wb_tasks.specs.Tables.{BlockJob, BlockRange, Reading, Writing, OnBlock, Flushing, TaskJob}
-use Rattle.wb_tasks.specs.Plan.{Plan, table, after}
+use Rattle.wb_tasks.specs.Plan.{table, after}
 use Rattle.wb_tasks.specs.declared.step.Answer.{Answer}
 use Rattle.wb_link.specs.Tables.{Job as AbstractJob, Flushing as FlushingFor, Done as DoneThere}
 use Rattle.wb_link.specs.World.{Shared, Nothing, Actor, World, Start, May, after_record, is_alone}
