@@ -11,11 +11,11 @@ use std::thread::{Threads, join};
 use wb_nbd::{Broken, Connection, Errno, Export, Terms};
 use wb_types::{Content, SECTOR_BYTES, Sector};
 
-/// Eight sectors of zeros, the first of which can be read only once there was a flush.
+/// Eight sectors of zeros, the first of which can be read only once something was replied.
 #[derive(Drop)]
 struct Gated<'a, C> {
     rt: &'a C,
-    flushed: &'a Mutex<bool>,
+    replied: &'a Mutex<bool>,
     bell: &'a Condvar,
 }
 
@@ -30,12 +30,12 @@ impl<'a, C: Wait> Export for Gated<'a, C> {
 
     fn read(&mut self, at: Sector, out: &mut [Content]) -> Result<(), Errno> {
         if at == Sector(0) {
-            let mut flushed = self.flushed.lock(self.rt);
+            let mut replied = self.replied.lock(self.rt);
             for _ in self.rt.forever() {
-                if *flushed {
+                if *replied {
                     break;
                 }
-                flushed = self.bell.wait(self.rt, flushed);
+                replied = self.bell.wait(self.rt, replied);
             }
         }
         out.fill([0; SECTOR_BYTES]);
@@ -47,27 +47,41 @@ impl<'a, C: Wait> Export for Gated<'a, C> {
     }
 
     fn flush(&mut self) -> Result<(), Errno> {
-        *self.flushed.lock(self.rt) = true;
-        self.bell.notify_all();
         Ok(())
     }
 }
 
-/// Keeps what is written where others see it, up to so many bytes, and fails then.
+/// Keeps what is written where others see it, up to so many bytes, and fails then. What is behind the greeting is a reply, and rings.
 #[derive(Drop)]
 struct Kept<'a, C> {
     rt: &'a C,
     bytes: &'a Mutex<Vec<u8>>,
     most: usize,
+    replied: &'a Mutex<bool>,
+    bell: &'a Condvar,
+}
+
+/// Whether there was room; whether they came behind the greeting.
+fn keep(kept: &mut Vec<u8>, most: usize, bytes: &[u8]) -> (bool, bool) {
+    let is_reply = kept.len() >= GREETING;
+    if kept.len() >= most {
+        return (false, is_reply);
+    }
+    (kept.extend_from_slice(bytes).is_ok(), is_reply)
 }
 
 impl<'a, C: Wait> Write for Kept<'a, C> {
     fn write(&mut self, buf: &[u8]) -> io::Result<usize> {
-        let mut bytes = self.bytes.lock(self.rt);
-        if bytes.len() >= self.most || bytes.extend_from_slice(buf).is_err() {
-            return Err(Error::from(ErrorKind::BrokenPipe));
+        let (is_kept, is_reply) = keep(&mut self.bytes.lock(self.rt), self.most, buf);
+        if is_reply {
+            *self.replied.lock(self.rt) = true;
+            self.bell.notify_all();
         }
-        Ok(buf.len())
+        if is_kept {
+            Ok(buf.len())
+        } else {
+            Err(Error::from(ErrorKind::BrokenPipe))
+        }
     }
 
     fn flush(&mut self) -> io::Result<()> {
@@ -99,18 +113,20 @@ fn serve_by_two<R: Threads + Wait + Sync>(
     alloc: Global,
     most: usize,
 ) -> (Result<(), Broken>, Result<(), Broken>, Vec<u8>) {
-    let (flushed, bell) = (Mutex::new(false), Condvar::new());
+    let (replied, bell) = (Mutex::new(false), Condvar::new());
     let bytes = Mutex::new(Vec::new(alloc));
     let writer = Kept {
         rt,
         bytes: &bytes,
         most,
+        replied: &replied,
+        bell: &bell,
     };
     let connection = Connection::new(READS_AND_FLUSHES, writer);
     let (one, other) = join(
         rt,
-        || -> Result<(), Broken> { serve(rt, alloc, &connection, &flushed, &bell) },
-        || -> Result<(), Broken> { serve(rt, alloc, &connection, &flushed, &bell) },
+        || -> Result<(), Broken> { serve(rt, alloc, &connection, &replied, &bell) },
+        || -> Result<(), Broken> { serve(rt, alloc, &connection, &replied, &bell) },
     );
     drop(connection);
     (one, other, bytes.into_inner())
@@ -120,10 +136,10 @@ fn serve<R: Wait>(
     rt: &R,
     alloc: Global,
     connection: &Connection<&[u8], Kept<'_, R>>,
-    flushed: &Mutex<bool>,
+    replied: &Mutex<bool>,
     bell: &Condvar,
 ) -> Result<(), Broken> {
-    let mut export = Gated { rt, flushed, bell };
+    let mut export = Gated { rt, replied, bell };
     connection.serve(rt, alloc, &TERMS, &mut export)
 }
 
