@@ -1,11 +1,10 @@
 //! Playing lines: each is events of a world in memory, and what they tell.
 
 use crate::actor::{Actor, Fill, Given, actors_of};
-use crate::line::{ACTORS, Line, Task};
-use crate::setup::Setup;
 use std::alloc::Global;
 use std::fmt::Write;
 use wb_disk::{Base, CrashChoice};
+use wb_lines::{ACTORS, Line, Setup, Task};
 use wb_runs::{Event, Job, What};
 use wb_tasks::{Answer, DeviceStep, Want};
 use wb_types::{Extent, Geometry, Mode, Refusal, SECTOR_BYTES, Sector};

@@ -1,7 +1,7 @@
 use Rattle.std.proofs.Common.{◌≡◌, ◌++◌, ℕ, List}
 use Rattle.wb_table.specs.Words.{words_of}
-use Rattle.wb_replay.specs.Lines.{SpellsAllNamed}
-use Rattle.wb_replay.proofs.named.read_all_named.Given as goal
+use Rattle.wb_lines.specs.Lines.{SpellsAllNamed}
+use Rattle.wb_lines.proofs.named.read_all_named.Given as goal
 
 abbrev pub invariant-loop-word : goal.invariant-loop-word
 invariant-loop-word l = record {

@@ -1,7 +1,7 @@
 -- Words that name contents, one behind the other.
 use Rattle.std.proofs.Common.{◌++◌, ℕ, List, [], ◌∷◌}
 use Rattle.wb_disk.specs.declared.crash_choice.NamedContent.{NamedContent}
-use Rattle.wb_replay.specs.Lines.{SpellsNamed, SpellsAllNamed}
+use Rattle.wb_lines.specs.Lines.{SpellsNamed, SpellsAllNamed}
 
 -- one more
 pub SpellsAllNamed-more : (words : List (List ℕ)) (all : List NamedContent) (word : List ℕ) (named : NamedContent) → SpellsAllNamed words all → SpellsNamed word named → SpellsAllNamed (words ++ word ∷ []) (all ++ named ∷ [])

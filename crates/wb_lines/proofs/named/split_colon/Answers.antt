@@ -1,7 +1,7 @@
 use Rattle.std.proofs.Common.{Some, None, lit<}
 use Rattle.std.proofs.lemmas.Str.Pattern.{split_once_first}
-use Rattle.wb_replay.proofs.Colons.{parts_of-cut, parts_of-whole}
-use Rattle.wb_replay.proofs.named.split_colon.Goals as goal
+use Rattle.wb_lines.proofs.Colons.{parts_of-cut, parts_of-whole}
+use Rattle.wb_lines.proofs.named.split_colon.Goals as goal
 
 pub returns-in-Some-clause-cut : goal.returns-in-Some-clause-cut
 returns-in-Some-clause-cut c =

@@ -1,9 +1,9 @@
 use Rattle.std.proofs.Common.{◌≡◌, ◌∙◌, ◌++◌, [], ◌∷◌, rules, sym, ap, subst}
 use Rattle.std.proofs.lemmas.List.{append_assoc}
 use Rattle.wb_table.specs.Words.{words_of}
-use Rattle.wb_replay.specs.Lines.{SpellsAllNamed}
-use Rattle.wb_replay.proofs.Names.{SpellsAllNamed-more, SpellsAllNamed-at}
-use Rattle.wb_replay.proofs.named.read_all_named.Goals as goal
+use Rattle.wb_lines.specs.Lines.{SpellsAllNamed}
+use Rattle.wb_lines.proofs.Names.{SpellsAllNamed-more, SpellsAllNamed-at}
+use Rattle.wb_lines.proofs.named.read_all_named.Goals as goal
 
 pub returns-in_default-read_named-clause-none : goal.returns-in_default-read_named-clause-none
 returns-in_default-read_named-clause-none c = λ named spelled.

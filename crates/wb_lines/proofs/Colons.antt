@@ -3,7 +3,7 @@ use Rattle.std.proofs.Common.{◌≡◌, ◌<◌, ℕ, Bool, List, [], ◌∷◌
 use Rattle.std.specs.List.{position_or_len, before_first, after_first}
 use Rattle.std.proofs.lemmas.List.Splits.{slice_split_first, slice_split_none, length-slice_split}
 use Rattle.std.proofs.lemmas.List.Sums.{fails_before_first}
-use Rattle.wb_replay.specs.Lines.{parts_of}
+use Rattle.wb_lines.specs.Lines.{parts_of}
 
 abbrev pub is_colon : ℕ → Bool
 is_colon b = eqb b 58

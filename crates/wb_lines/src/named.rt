@@ -6,7 +6,7 @@ ghost use Rattle.wb_types.specs.declared.refusal.Refusal.TheVariants.{Memory};
 ghost use Rattle.wb_disk.specs.declared.crash_choice.Base.{Base as Kept};
 ghost use Rattle.wb_disk.specs.declared.crash_choice.NamedContent.{NamedContent as Named};
 ghost use Rattle.wb_table.specs.Words.{words_of};
-ghost use Rattle.wb_replay.specs.Lines.{parts_of, IsAt, IsLast, SpellsBase, SpellsDevice, SpellsNamed, SpellsAllNamed};
+ghost use Rattle.wb_lines.specs.Lines.{parts_of, IsAt, IsLast, SpellsBase, SpellsDevice, SpellsNamed, SpellsAllNamed};
 
 use std::alloc::Global;
 use wb_disk::{Base, NamedContent};

@@ -2,8 +2,8 @@
 
 ghost use Rattle.std.specs.Prelude.{IfSome, IfNone};
 ghost use Rattle.wb_table.specs.Words.{words_of};
-ghost use Rattle.wb_replay.specs.Lines.{SetsUp};
-ghost use Rattle.wb_replay.specs.declared.setup.Setup.{Setup as Sizes};
+ghost use Rattle.wb_lines.specs.Lines.{SetsUp};
+ghost use Rattle.wb_lines.specs.declared.setup.Setup.{Setup as Sizes};
 
 use wb_table::{SplitSpaces, read_number};
 

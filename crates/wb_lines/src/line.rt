@@ -4,9 +4,9 @@ ghost use Rattle.std.specs.Prelude.{◌≡◌, ◌≢◌, ◌∷◌, ℕ, [], If
 ghost use Rattle.wb_types.specs.declared.refusal.Refusal.TheVariants.{Memory};
 ghost use Rattle.wb_table.specs.Words.{words_of};
 ghost use Rattle.wb_disk.specs.declared.crash_choice.Base.{Base as Kept};
-ghost use Rattle.wb_replay.specs.Lines.{Asks, SpellsActor, SpellsEnd, SpellsFault, SpellsStart, SpellsStep, SpellsSteps, SpellsTask};
-ghost use Rattle.wb_replay.specs.declared.line.Line.{Line as Asked};
-ghost use Rattle.wb_replay.specs.declared.line.Task.{Task as Told};
+ghost use Rattle.wb_lines.specs.Lines.{Asks, SpellsActor, SpellsEnd, SpellsFault, SpellsStart, SpellsStep, SpellsSteps, SpellsTask};
+ghost use Rattle.wb_lines.specs.declared.line.Line.{Line as Asked};
+ghost use Rattle.wb_lines.specs.declared.line.Task.{Task as Told};
 
 use crate::named::{read_all_named, read_base};
 use std::alloc::Global;

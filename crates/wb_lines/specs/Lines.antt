@@ -8,12 +8,12 @@ use Rattle.wb_disk.specs.declared.crash_choice.Base.TheVariants.{Durable, Newest
 use Rattle.wb_disk.specs.declared.crash_choice.NamedContent.{NamedContent}
 use Rattle.wb_table.specs.Numbers.{SpellsNumber}
 use Rattle.wb_table.specs.Sectors.{SpellsSectors, SpellsFill}
-use Rattle.wb_replay.specs.declared.line.TheConstants.{ACTORS}
-use Rattle.wb_replay.specs.declared.line.Line.{Line}
-use Rattle.wb_replay.specs.declared.line.Line.TheVariants.{Nothing, Start, Step, End, Fault, Stop, Open, View}
-use Rattle.wb_replay.specs.declared.line.Task.{Task}
-use Rattle.wb_replay.specs.declared.line.Task.TheVariants.{Read, Write, Flush}
-use Rattle.wb_replay.specs.declared.setup.Setup.{Setup}
+use Rattle.wb_lines.specs.declared.line.TheConstants.{ACTORS}
+use Rattle.wb_lines.specs.declared.line.Line.{Line}
+use Rattle.wb_lines.specs.declared.line.Line.TheVariants.{Nothing, Start, Step, End, Fault, Stop, Open, View}
+use Rattle.wb_lines.specs.declared.line.Task.{Task}
+use Rattle.wb_lines.specs.declared.line.Task.TheVariants.{Read, Write, Flush}
+use Rattle.wb_lines.specs.declared.setup.Setup.{Setup}
 
 -- one of the actors
 abbrev pub SpellsActor : List ℕ → ℕ → Type 0
