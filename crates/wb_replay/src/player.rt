@@ -1,27 +1,26 @@
-//! Playing lines: each is events of a machine in memory, and what they tell.
+//! Playing lines: each is events of a world in memory, and what they tell.
 
 use crate::actor::{Actor, Fill, Given, actors_of};
-use crate::line::{ACTORS, Line, Task};
-use crate::setup::Setup;
 use std::alloc::Global;
 use std::fmt::Write;
 use wb_disk::{Base, CrashChoice};
-use wb_machine::Machine;
+use wb_lines::{ACTORS, Line, Setup, Task};
 use wb_runs::{Event, Job, What};
 use wb_tasks::{Answer, DeviceStep, Want};
 use wb_types::{Extent, Geometry, Mode, Refusal, SECTOR_BYTES, Sector};
+use wb_world::World;
 
-/// A machine that is played, and what its actors were told.
+/// A world that is played, and what its actors were told.
 #[derive(Drop)]
 pub(crate) struct Player {
     alloc: Global,
     geometry: Geometry,
     actors: Vec<Actor>,
-    machine: Machine,
+    world: World,
 }
 
 impl Player {
-    /// A new machine of these sizes, formatted and not yet opened: `Geometry` where they are outside the limits, `Memory` where
+    /// A new world of these sizes, formatted and not yet opened: `Geometry` where they are outside the limits, `Memory` where
     /// there is none for it.
     pub(crate) fn new(alloc: Global, setup: Setup) -> Result<Player, Refusal> {
         let geometry = Geometry::new(
@@ -31,12 +30,12 @@ impl Player {
             setup.metadata_sectors,
         )?;
         let actors = actors_of(alloc, ACTORS)?;
-        let machine = Machine::new(alloc, geometry)?;
+        let world = World::new(alloc, geometry)?;
         Ok(Player {
             alloc,
             geometry,
             actors,
-            machine,
+            world,
         })
     }
 
@@ -69,8 +68,8 @@ impl Player {
 
     /// An event, and what it did.
     fn happen(&mut self, event: Event) -> Result<What, Refusal> {
-        self.machine.event(event)?;
-        Ok(last_of(&self.machine))
+        self.world.event(event)?;
+        Ok(last_of(&self.world))
     }
 
     /// An event of which only is told that it does not apply.
@@ -138,7 +137,7 @@ impl Player {
 
     /// Notes what the last step gave of a sector that stands at this extent of a device.
     fn note(&mut self, actor: u64, extent: Extent) -> Result<(), Refusal> {
-        let Some(fill) = last_fill(&self.machine) else {
+        let Some(fill) = last_fill(&self.world) else {
             return Ok(());
         };
         let size = u64::from(self.geometry.block).max(1);
@@ -171,7 +170,7 @@ impl Player {
     /// Tells the generation of the root that an opening has written, and how many blocks are mapped and dirty. Each mapped block is
     /// dirty, since no clean image is made yet.
     fn tell_opened(&self, text: &mut String) -> Result<(), Refusal> {
-        match self.machine.opened() {
+        match self.world.opened() {
             Some((generation, mapped)) => {
                 writeln!(text, "open {generation} {mapped} {mapped}").map_err(|_| Refusal::Memory)
             }
@@ -183,11 +182,11 @@ impl Player {
     fn view(&mut self, at: Sector, count: u64, text: &mut String) -> Result<(), Refusal> {
         let Sector(first) = at;
         let all = self.geometry.origin_sectors();
-        if self.machine.opened().is_none() || first >= all || count > all - first {
+        if self.world.opened().is_none() || first >= all || count > all - first {
             return tell_skipped(text);
         }
         for sector in first..first + count {
-            if let Some(content) = self.machine.view(sector) {
+            if let Some(content) = self.world.view(sector) {
                 write!(text, "{sector} ").map_err(|_| Refusal::Memory)?;
                 tell_fill(Fill::of(&content), text)?;
             }
@@ -196,7 +195,7 @@ impl Player {
     }
 }
 
-/// A task as a job of the machine, the first sector that it names, and what it is for its answer.
+/// A task as a job of the world, the first sector that it names, and what it is for its answer.
 fn job_of(task: Task) -> (Given, u64, Job) {
     match task {
         Task::Read {
@@ -217,16 +216,16 @@ fn job_of(task: Task) -> (Given, u64, Job) {
 }
 
 /// What the last event did.
-fn last_of(machine: &Machine) -> What {
-    match machine.trace().records().last() {
+fn last_of(world: &World) -> What {
+    match world.trace().records().last() {
         Some(record) => record.what,
         None => What::Skipped,
     }
 }
 
 /// What fills the sector that the last event read, if it read one.
-fn last_fill(machine: &Machine) -> Option<Fill> {
-    let record = machine.trace().records().last()?;
+fn last_fill(world: &World) -> Option<Fill> {
+    let record = world.trace().records().last()?;
     let content = record.read.first()?;
     Some(Fill::of(content))
 }

@@ -1,12 +1,11 @@
 //! A replay: a line in, what it does out.
 
-use crate::line::{Line, read_line};
 use crate::player::Player;
-use crate::setup::read_setup;
 use std::alloc::Global;
 use std::fmt::Write as _;
 use std::io::{BufRead, ErrorKind, Read, Write};
 use std::str;
+use wb_lines::{Line, read_line, read_setup};
 use wb_table::is_comment;
 use wb_types::Refusal;
 

@@ -1,0 +1,38 @@
+//! The first line of a replay.
+
+ghost use Rattle.std.specs.Prelude.{IfSome, IfNone};
+ghost use Rattle.wb_table.specs.Words.{words_of};
+ghost use Rattle.wb_lines.specs.Lines.{SetsUp};
+ghost use Rattle.wb_lines.specs.declared.setup.Setup.{Setup as Sizes};
+
+use wb_table::{SplitSpaces, read_number};
+
+/// The sizes of what a replay runs: a block in sectors, cache and origin in blocks, the metadata in sectors.
+#[derive(Clone, Copy)]
+pub struct Setup {
+    pub block: u64,
+    pub cache_blocks: u64,
+    pub origin_blocks: u64,
+    pub metadata_sectors: u64,
+}
+
+/// Reads `setup writeback <block> <cache blocks> <origin blocks> <metadata sectors>`. None is any other line.
+pub fn read_setup(line: &str) -> Option<Setup>
+    ensures found { IfSome result (SetsUp (words_of line.now)) }
+    ensures none { IfNone result ((setup : Sizes) → ¬ SetsUp (words_of line.now) setup) }
+{
+    let mut words = SplitSpaces(line);
+    words.expect("setup")?;
+    words.expect("writeback")?;
+    let block = read_number(words.next()?)?;
+    let cache_blocks = read_number(words.next()?)?;
+    let origin_blocks = read_number(words.next()?)?;
+    let metadata_sectors = read_number(words.next()?)?;
+    words.expect_end()?;
+    Some(Setup {
+        block,
+        cache_blocks,
+        origin_blocks,
+        metadata_sectors,
+    })
+}

@@ -1,0 +1,241 @@
+//! What happens to a small world by hand, and what it does.
+
+mod flushes;
+mod line;
+mod openings;
+mod requests;
+mod views;
+
+use self::flushes::FLUSHES;
+use self::line::{Act, FIRST_SECTOR, Line, OPENING, READING, Row, Task, WRITING};
+use self::openings::{CRASHES, FAILURES, OPENINGS, ROOTS};
+use self::requests::{FAILED_REQUESTS, REQUESTS, WRITE_AND_READ, WRITTEN_AND_GIVEN};
+use self::views::VIEWS;
+use std::alloc::Global;
+use std::test::Fail;
+use wb_disk::{Base, CrashChoice, NamedContent};
+use wb_runs::{Event, Job, What};
+use wb_tasks::{Got, Want};
+use wb_types::{Content, Dev, Extent, Geometry, Mode, Refusal, SECTOR_BYTES};
+use wb_world::World;
+
+/// Ten blocks of 64 sectors, and a cache of four.
+fn small_world(alloc: Global) -> Result<World, Refusal> {
+    World::new(alloc, Geometry::new(64, 4, 10, 4)?)
+}
+
+/// A choice that names no sector.
+fn unnamed(alloc: Global, base: Base) -> CrashChoice {
+    CrashChoice::new(base, Vec::new(alloc))
+}
+
+/// One that names a sector of a device by this number.
+fn named(alloc: Global, device: Dev, sector: u64, position: u64) -> Result<CrashChoice, Refusal> {
+    let mut names = Vec::new(alloc);
+    names
+        .push(NamedContent {
+            device,
+            sector,
+            position,
+        })
+        .map_err(|_| Refusal::Memory)?;
+    Ok(CrashChoice::new(Base::Newest, names))
+}
+
+/// What is to happen, as an event.
+fn event_of(alloc: Global, act: Act) -> Result<Event, Refusal> {
+    match act {
+        Act::Open(actor, mode) => Ok(Event::Start(actor, Job::Open(mode))),
+        Act::Read(actor, sectors) => Ok(Event::Start(actor, Job::Read(sectors))),
+        Act::Write(actor, sectors) => Ok(Event::Start(actor, write(sectors))),
+        Act::Flush(actor) => Ok(Event::Start(actor, Job::Flush)),
+        Act::Step(actor) => Ok(Event::Step(actor)),
+        Act::Fault(actor, base) => Ok(Event::FaultStep(actor, unnamed(alloc, base))),
+        Act::FaultOf(actor, device, sector, position) => Ok(Event::FaultStep(
+            actor,
+            named(alloc, device, sector, position)?,
+        )),
+        Act::Crash => Ok(Event::Stop(unnamed(alloc, Base::Newest))),
+        Act::CrashOf(device, sector, position) => {
+            Ok(Event::Stop(named(alloc, device, sector, position)?))
+        }
+    }
+}
+
+/// What the last event did.
+fn last(world: &World) -> What {
+    match world.trace().records().last() {
+        Some(record) => record.what,
+        None => What::Skipped,
+    }
+}
+
+/// Whether the world can do this event, and does so.
+fn does(world: &mut World, event: Event, what: What) -> bool {
+    world.event(event).is_ok() && last(world) == what
+}
+
+/// Whether an actor's next steps are these, with these results.
+fn steps(world: &mut World, actor: usize, wants: &[(Want, Got)]) -> bool {
+    for (want, got) in wants {
+        if !does(world, Event::Step(actor), What::Stepped(*want, *got)) {
+            return false;
+        }
+    }
+    true
+}
+
+/// Whether these contents are one, and each byte of it this one.
+fn is_one_of(contents: &[Content], byte: u8) -> bool {
+    contents.len() == 1
+        && contents
+            .iter()
+            .all(|content| *content == [byte; SECTOR_BYTES])
+}
+
+/// Whether the last event read one sector full of this byte.
+fn has_read(world: &World, byte: u8) -> bool {
+    match world.trace().records().last() {
+        Some(record) => is_one_of(record.read.as_slice(), byte),
+        None => false,
+    }
+}
+
+/// Whether the target shows this sector full of this byte.
+fn shows(world: &mut World, at: u64, byte: u8) -> bool {
+    match world.view(at) {
+        Some(content) => content == [byte; SECTOR_BYTES],
+        None => false,
+    }
+}
+
+/// A write of sevens.
+fn write(sectors: Extent) -> Job {
+    Job::Write(sectors, [7; SECTOR_BYTES])
+}
+
+fn job_of(task: Task) -> Job {
+    match task {
+        Task::Open => Job::Open(Mode::Writeback),
+        Task::Read => Job::Read(FIRST_SECTOR),
+        Task::Write => write(FIRST_SECTOR),
+    }
+}
+
+/// The steps of a task.
+fn steps_of(task: Task) -> &'static [(Want, Got)] {
+    match task {
+        Task::Open => &OPENING,
+        Task::Read => &READING,
+        Task::Write => &WRITING,
+    }
+}
+
+/// Whether an actor's next steps are the first ones of a task, so many.
+fn steps_as(world: &mut World, actor: usize, task: Task, count: usize) -> bool {
+    match steps_of(task).get(..count) {
+        Some(wants) => steps(world, actor, wants),
+        None => false,
+    }
+}
+
+/// Whether an actor is given a task, and its next steps are the first ones of it, so many.
+fn begins(world: &mut World, actor: usize, task: Task, count: usize) -> bool {
+    let start = Event::Start(actor, job_of(task));
+    does(world, start, What::Started) && steps_as(world, actor, task, count)
+}
+
+/// Whether a line goes as it says.
+fn goes(world: &mut World, alloc: Global, line: &Line) -> Result<bool, Refusal> {
+    match line {
+        Line::Does(act, what) => {
+            let event = event_of(alloc, *act)?;
+            Ok(does(world, event, *what))
+        }
+        Line::Begins(actor, task, count) => Ok(begins(world, *actor, *task, *count)),
+        Line::Steps(actor, task, count) => Ok(steps_as(world, *actor, *task, *count)),
+        Line::Gives(byte) => Ok(has_read(world, *byte)),
+        Line::Shows(at, byte) => Ok(shows(world, *at, *byte)),
+        Line::Hides(at) => Ok(world.view(*at).is_none()),
+        Line::Opened(generation, mapped) => Ok(world.opened() == Some((*generation, *mapped))),
+    }
+}
+
+/// The number of the first line that does not go as it says, if there is one.
+fn first_other(world: &mut World, alloc: Global, lines: &[Line]) -> Result<Option<usize>, Refusal> {
+    for (number, line) in lines.iter().enumerate() {
+        if !goes(world, alloc, line)? {
+            return Ok(Some(number));
+        }
+    }
+    Ok(None)
+}
+
+/// The same of a small world.
+fn play(alloc: Global, lines: &[Line]) -> Result<Option<usize>, Refusal> {
+    let mut world = small_world(alloc)?;
+    first_other(&mut world, alloc, lines)
+}
+
+/// Plays each row, and fails by the name of one that does not go as it says.
+fn compare(alloc: Global, rows: &[Row]) -> Result<(), Fail> {
+    for row in rows {
+        if play(alloc, row.lines)? != None {
+            return Err(Fail::from(row.name));
+        }
+    }
+    Ok(())
+}
+
+#[test]
+fn openings_go_as_their_rows_say(rt: HostRuntime) -> Result<(), Fail> {
+    compare(rt.alloc(), &OPENINGS)
+}
+
+#[test]
+fn failed_openings_go_as_their_rows_say(rt: HostRuntime) -> Result<(), Fail> {
+    compare(rt.alloc(), &FAILURES)
+}
+
+#[test]
+fn openings_whose_root_fails_go_as_their_rows_say(rt: HostRuntime) -> Result<(), Fail> {
+    compare(rt.alloc(), &ROOTS)
+}
+
+#[test]
+fn openings_beside_crashes_go_as_their_rows_say(rt: HostRuntime) -> Result<(), Fail> {
+    compare(rt.alloc(), &CRASHES)
+}
+
+#[test]
+fn requests_go_as_their_rows_say(rt: HostRuntime) -> Result<(), Fail> {
+    compare(rt.alloc(), &REQUESTS)
+}
+
+#[test]
+fn failed_requests_go_as_their_rows_say(rt: HostRuntime) -> Result<(), Fail> {
+    compare(rt.alloc(), &FAILED_REQUESTS)
+}
+
+#[test]
+fn a_write_and_a_read_behind_it_go_to_their_answers(rt: HostRuntime) -> Result<(), Fail> {
+    assert!(rt; play(rt.alloc(), &WRITE_AND_READ)? == None);
+    Ok(())
+}
+
+/// The step that reads gives the one content that was written.
+#[test]
+fn a_read_is_given_what_was_written(rt: HostRuntime) -> Result<(), Fail> {
+    assert!(rt; play(rt.alloc(), &WRITTEN_AND_GIVEN)? == None);
+    Ok(())
+}
+
+#[test]
+fn flushes_go_as_their_rows_say(rt: HostRuntime) -> Result<(), Fail> {
+    compare(rt.alloc(), &FLUSHES)
+}
+
+#[test]
+fn views_are_as_their_rows_say(rt: HostRuntime) -> Result<(), Fail> {
+    compare(rt.alloc(), &VIEWS)
+}

@@ -1,0 +1,13 @@
+use Rattle.std.proofs.Common.{false, refl, arith}
+use Rattle.wb_world.proofs.Doing.{did_begin, did_refuse}
+use Rattle.wb_world.proofs.asking.begin_commit.Goals as goal
+
+pub returns-in-Ok-clause-asked : goal.returns-in-Ok-clause-asked
+returns-in-Ok-clause-asked c =
+    let begun = c.in-Ok.ensures in
+    did_begin c.args.desk.now c.args.commit.now c.begin.new.desk _ false c.args.most _ c.in-Ok.running refl (omega (arith, c.nodes-nodes.ensures, begun.few)) c.nodes-nodes.ensures begun.steps begun.begun refl
+
+pub returns-in-Err-clause-asked : goal.returns-in-Err-clause-asked
+returns-in-Err-clause-asked c =
+    let refused = c.in-Err.ensures.refused in
+    did_refuse c.args.desk.now c.args.commit.now c.begin.new.desk _ false c.args.most c.in-Err.refusal refl (refused.1 c.requires) refused.0 refl
