@@ -1,0 +1,5 @@
+mod Steps
+mod Kept
+mod Cells
+mod Among
+mod Followed

@@ -1,0 +1,7 @@
+//! Runs of reads, writes, flushes and openings on three devices (wb_runs) as runs of the abstract world of all tasks (wb_link):
+//! definitions and laws, no code.
+#![tactic(auto)]
+
+mod law;
+
+pub use law::cell_steps_are_followed;
