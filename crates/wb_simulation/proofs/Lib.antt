@@ -3,3 +3,4 @@ mod Kept
 mod Cells
 mod Among
 mod Followed
+mod Moving

@@ -4,4 +4,4 @@
 
 mod law;
 
-pub use law::cell_steps_are_followed;
+pub use law::{cell_steps_are_followed, extent_steps_are_followed};
