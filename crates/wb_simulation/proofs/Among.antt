@@ -37,7 +37,7 @@ card_there [] a x e = absurd (cc)
 card_there (z ∷ xs) zero x e = let same : z ≡ x = cc in ap (λ (v : Actor). Some v.card) same
 card_there (z ∷ xs) (suc a) x e = card_there xs a x e
 
-length-set-there : {X : Type 0} (xs : List X) (a : ℕ) (x : X) → length (slice_set xs a x) ≡ length xs
+pub length-set-there : {X : Type 0} (xs : List X) (a : ℕ) (x : X) → length (slice_set xs a x) ≡ length xs
 length-set-there [] a x = refl
 length-set-there (z ∷ xs) zero x = refl
 length-set-there (z ∷ xs) (suc a) x = ap suc (length-set-there xs a x)
@@ -74,7 +74,7 @@ all_below size most words committing devices actors s g a y e =
 
 module _ (size most : ℕ) (words words' : Words) (up : flag words.fail ≡ true → flag words'.fail ≡ true) (committing : Bool) (devices : Devices (List History)) (actors : List Actor) (a : ℕ) (x x' : Actor) (s : World) (y : AbstractActor)
     (g : Agrees size most words committing devices actors s) (ex : slice_get actors a ≡ Some x) (ey : slice_get s.actors a ≡ Some y) where
-  each_on : (y' : AbstractActor) → StandsFor size most words' x' y' → (b : ℕ) (z : Actor) (v : AbstractActor) → slice_get (slice_set actors a x') b ≡ Some z → slice_get (slice_set s.actors a y') b ≡ Some v → StandsFor size most words' z v
+  pub each_on : (y' : AbstractActor) → StandsFor size most words' x' y' → (b : ℕ) (z : Actor) (v : AbstractActor) → slice_get (slice_set actors a x') b ≡ Some z → slice_get (slice_set s.actors a y') b ≡ Some v → StandsFor size most words' z v
   each_on y' st b z v ez ev = elim (cases_eq b a) [
     | inl e ↦
         let here : Some x' ≡ Some z = sym (get_set_same actors a x x' ex) ∙ ap (λ k. slice_get (slice_set actors a x') k) (sym e) ∙ ez in

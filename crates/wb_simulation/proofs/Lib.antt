@@ -4,3 +4,5 @@ mod Cells
 mod Among
 mod Followed
 mod Moving
+mod Starting
+mod Ending

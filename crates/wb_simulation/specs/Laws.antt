@@ -8,9 +8,12 @@ use Rattle.wb_words.specs.SharedWords.{Words}
 use Rattle.wb_words.specs.Rule.{LockRule}
 use Rattle.wb_words.specs.Effects.{result_of, words_after, card_after}
 use Rattle.wb_words.specs.declared.step.CellStep.{CellStep}
-use Rattle.wb_tasks.specs.Plan.{Plan, want, after, got_of}
+use Rattle.wb_tasks.specs.Plan.{Plan, want, after, got_of, table}
+use Rattle.wb_tasks.specs.Tables.{BlockRange, Reading, Writing, OnBlock, Flushing}
+use Rattle.wb_tasks.specs.declared.step.Answer.{Answer}
+use Rattle.wb_words.specs.declared.card.Hold.TheVariants.{Nothing}
 use Rattle.wb_tasks.specs.Ready.{Suits, HoldsBlocks}
-use Rattle.wb_tasks.specs.declared.step.Want.TheVariants.{Cell, Device}
+use Rattle.wb_tasks.specs.declared.step.Want.TheVariants.{Cell, Device, End}
 use Rattle.wb_tasks.specs.declared.step.DeviceStep.TheVariants.{Read as ReadExtent, Write as WriteExtent}
 use Rattle.wb_tasks.specs.declared.step.Got.{Got}
 use Rattle.wb_tasks.specs.declared.step.Got.TheVariants.{Done, Fault}
@@ -21,6 +24,7 @@ use Rattle.wb_runs.specs.declared.job.Job.{Job}
 use Rattle.wb_runs.specs.declared.job.Job.TheVariants.{Read, Write, Flush, Open}
 use Rattle.wb_runs.specs.States.{Actor, with_device}
 use Rattle.wb_runs.specs.Holding.{cards_of}
+use Rattle.wb_simulation.specs.Steps.{IsPart}
 use Rattle.wb_simulation.specs.Worlds.{Agrees, Follows}
 
 abbrev pub IsRequestJob : Job → Type 0
@@ -56,3 +60,21 @@ pub record ExtentStepsFollowed : Type 0 where
   pub write_fails : (size most blocks : ℕ) (words : Words) (committing : Bool) (devices : Devices (List History)) (actors : List Actor) (a : ℕ) (x : Actor) (extent : Extent) (content : Content) (plan : Plan) (device : Dev) (e : Extent) (lands : ℕ → Bool) (s : World) →
       slice_get actors a ≡ Some x → x.task ≡ Some (Write extent content, plan) → Suits blocks plan x.card → want plan ≡ Device (WriteExtent device e) → HoldsBlocks device → e.first + e.count ≤ length (device_in device devices) →
       Agrees size most words committing devices actors s → Follows size most s words committing (with_device device devices (written_where lands (device_in device devices) e.first (replicate e.count content))) (slice_set actors a (after_step (Write extent content) plan Fault x))
+
+-- A read or write of one part of a block, or a flush, begins, whether its actor has kept something at a failure or not.
+pub record StartsFollowed : Type 0 where
+  pub read : (size most : ℕ) (words : Words) (committing : Bool) (devices : Devices (List History)) (actors : List Actor) (a : ℕ) (x : Actor) (extent : Extent) (part : BlockRange) (s : World) →
+      slice_get actors a ≡ Some x → x.task ≡ None → x.card.hold ≡ Nothing → IsPart size part → Agrees size most words committing devices actors s →
+      Follows size most s words committing devices (slice_set actors a (record x { task = Some (Read extent, table (OnBlock (Reading part))) }))
+  pub write : (size most : ℕ) (words : Words) (committing : Bool) (devices : Devices (List History)) (actors : List Actor) (a : ℕ) (x : Actor) (extent : Extent) (content : Content) (part : BlockRange) (s : World) →
+      slice_get actors a ≡ Some x → x.task ≡ None → x.card.hold ≡ Nothing → IsPart size part → Agrees size most words committing devices actors s →
+      Follows size most s words committing devices (slice_set actors a (record x { task = Some (Write extent content, table (OnBlock (Writing part))) }))
+  pub flush : (size most : ℕ) (words : Words) (committing : Bool) (devices : Devices (List History)) (actors : List Actor) (a : ℕ) (x : Actor) (s : World) →
+      slice_get actors a ≡ Some x → x.task ≡ None → Agrees size most words committing devices actors s →
+      Follows size most s words committing devices (slice_set actors a (record x { task = Some (Flush, table (Flushing [] most)) }))
+
+-- A read or write is answered, whether it was done, refused, or stopped by a failure.
+abbrev pub AnswersFollowed : Type 0
+AnswersFollowed = (size most blocks : ℕ) (words : Words) (committing : Bool) (devices : Devices (List History)) (actors : List Actor) (a : ℕ) (x : Actor) (job : Job) (plan : Plan) (answer : Answer) (s : World) →
+    IsRequestJob job → slice_get actors a ≡ Some x → x.task ≡ Some (job, plan) → Suits blocks plan x.card → want plan ≡ End answer → Agrees size most words committing devices actors s →
+    Follows size most s words committing devices (slice_set actors a (record x { task = None }))

@@ -4,4 +4,6 @@
 
 mod law;
 
-pub use law::{cell_steps_are_followed, extent_steps_are_followed};
+pub use law::{
+    cell_steps_are_followed, extent_steps_are_followed, starts_and_answers_are_followed,
+};
