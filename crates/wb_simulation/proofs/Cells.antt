@@ -37,6 +37,7 @@ pub record Acted (size : ℕ) (content : Content) (actors : List Actor) (a : ℕ
   pub same : SameElse s (shared_after s y y.task results)
   pub request : IsRequestAt size content words job_on plan card (gone y y.task results)
   pub below : IsBelow (gone y y.task results) card
+  pub leads : (gone y y.task results).leads ≡ true → y.leads ≡ true
   pub among_others : is_alone (gone y y.task results).task ≡ false
 
 -- nothing was done there
@@ -122,6 +123,10 @@ module _ (size : ℕ) (content : Content) (job_on : BlockRange → BlockJob) (re
           same = f.same;
           request = record { part = part; job = same_job; is_part = is_part; of_block = of_block_after words step ws answer t.1; at = elim f.at [ inl i ↦ inl i | inr k ↦ inr (inl k) ] };
           below = elim f.at [ inl i ↦ has_no_more size content plan' (card_after words step card) (gone y y.task f.results) i | inr k ↦ k.below ];
+          leads = elim f.at [
+            | inl i ↦ λ l. let bad : true ≡ false = sym l ∙ ap (λ (v : Actor). v.leads) i.is in absurd (cc)
+            | inr k ↦ λ l. let bad : true ≡ false = sym l ∙ k.leads in absurd (cc)
+          ];
           among_others = elim f.at [
             | inl i ↦ ap (λ (v : Actor). is_alone v.task) i.is ∙ ap (λ j. job_alone (job_for size content j)) same_job ∙ among part
             | inr k ↦ ap is_alone k.task ∙ k.among_others
@@ -168,6 +173,7 @@ module _ (size : ℕ) (content : Content) (job_on : BlockRange → BlockJob) (re
       same = subst (λ (t : Shared). SameElse s t) (sym (shared_stays s y y.task)) (same_else s);
       request = subst (λ (z : Actor). IsRequestAt size content words' job_on plan' card' z) (sym (gone_nowhere y y.task)) r;
       below = subst (λ (z : Actor). IsBelow z card') (sym (gone_nowhere y y.task)) below;
+      leads = λ l. ap (λ (z : Actor). z.leads) (sym (gone_nowhere y y.task)) ∙ l;
       among_others = ap (λ (z : Actor). is_alone z.task) (gone_nowhere y y.task) ∙ alone;
     }
 

@@ -40,20 +40,20 @@ module _ (size most blocks : ℕ) (words : Words) (committing : Bool) (devices :
   Goal = Follows size most s words committing devices (slice_set actors a (record x { task = None }))
 
   -- it answers there, too
-  answers : IsAnswered s.actors a s.shared y → IsBelow (gone y y.task (DoneThere ∷ [])) x.card → (IsIdle (gone y y.task (DoneThere ∷ [])) ⊎ (flag words.fail ≡ true)) → Goal
-  answers w below rest = goes_on size most words words (λ f. f) committing devices actors a x (record x { task = None }) s y g ex ey committing devices (DoneThere ∷ []) s.shared w.may w.shared
-      (record { at = (w.over, rest); below = below; among_others = ap is_alone w.over }) g.words_agree g.origin g.cache refl g.commits g.broken
+  answers : IsAnswered s.actors a s.shared y → IsBelow (gone y y.task (DoneThere ∷ [])) x.card → (gone y y.task (DoneThere ∷ [])).leads ≡ false → (IsIdle (gone y y.task (DoneThere ∷ [])) ⊎ (flag words.fail ≡ true)) → Goal
+  answers w below leads rest = goes_on size most words words (λ f. f) committing devices actors a x (record x { task = None }) s y g ex ey devices (DoneThere ∷ []) s.shared w.may w.shared
+      (record { at = (w.over, rest); below = below; among_others = ap is_alone w.over }) (λ l. let bad : true ≡ false = sym l ∙ leads in absurd (cc)) g.words_agree g.origin g.cache refl refl g.broken
 
   -- it has no task there
   answers_late : y.task ≡ None → flag words.fail ≡ true → Goal
-  answers_late none failed = goes_on size most words words (λ f. f) committing devices actors a x (record x { task = None }) s y g ex ey committing devices [] s.shared tt (shared_stays s.shared y y.task)
+  answers_late none failed = goes_on size most words words (λ f. f) committing devices actors a x (record x { task = None }) s y g ex ey devices [] s.shared tt (shared_stays s.shared y y.task)
       (subst (λ (z : AbstractActor). StandsFor size most words (record x { task = None }) z) (sym (gone_nowhere y y.task)) (record { at = (none, inr failed); below = st.below; among_others = st.among_others }))
-      g.words_agree g.origin g.cache refl g.commits g.broken
+      (λ l. ap (λ (z : AbstractActor). z.leads) (sym (gone_nowhere y y.task)) ∙ l) g.words_agree g.origin g.cache refl refl g.broken
 
   request_answers : (content : Content) (job_on : BlockRange → BlockJob) (part : BlockRange) (answer : Answer) → x.card.hold ≡ HoldsNothing →
       IsAt size content (plan_of (job_on part) [] answer) x.card y ⊎ HasStopped words (plan_of (job_on part) [] answer) x.card y ⊎ IsLate words (plan_of (job_on part) [] answer) y → Goal
-  request_answers content job_on part answer h (inl i) = let d = tasks_end.done size content s.actors a s.shared y (job_on part) answer x.card h i in answers d.0 (holds_nothing _ x.card d.1.held) (inl d.1)
-  request_answers content job_on part answer h (inr (inl k)) = let d = tasks_end.stopped s.actors a s.shared y words answer (OnBlock (job_on part)) x.card k in answers d.0 d.1 d.2
+  request_answers content job_on part answer h (inl i) = let d = tasks_end.done size content s.actors a s.shared y (job_on part) answer x.card h i in answers d.0 (holds_nothing _ x.card d.1.held) d.1.leads (inl d.1)
+  request_answers content job_on part answer h (inr (inl k)) = let d = tasks_end.stopped s.actors a s.shared y words answer (OnBlock (job_on part)) x.card k in answers d.0 d.1 d.2 d.3
   request_answers content job_on part answer h (inr (inr l)) = answers_late l.nothing l.failed
 
   of_plan : (content : Content) (job_on : BlockRange → BlockJob) (plan : Plan) (answer : Answer) → want plan ≡ End answer → Suits blocks plan x.card → IsRequestAt size content words job_on plan x.card y → Goal

@@ -20,6 +20,9 @@ pub record Agrees (size most : ℕ) (words : Words) (committing : Bool) (devices
   pub commits : s.shared.committing ≡ committing
   -- a commit that was broken runs for good
   pub broken : s.shared.broken ≡ true → s.shared.committing ≡ true
+  -- one actor at most leads a commit, while one runs
+  pub led : (a : ℕ) (y : AbstractActor) → slice_get s.actors a ≡ Some y → y.leads ≡ true → s.shared.committing ≡ true
+  pub one_leads : (a b : ℕ) (y z : AbstractActor) → slice_get s.actors a ≡ Some y → slice_get s.actors b ≡ Some z → y.leads ≡ true → z.leads ≡ true → a ≡ b
   pub many : length s.actors ≡ length actors
   pub each : (a : ℕ) (x : Actor) (y : AbstractActor) → slice_get actors a ≡ Some x → slice_get s.actors a ≡ Some y → StandsFor size most words x y
 
