@@ -48,6 +48,7 @@ module _ (size most : ℕ) (words words' : Words) (up : flag words.fail ≡ true
   flush_on : (plan : Plan) → IsFlushAt size most words plan y → IsFlushAt size most words' plan y
   flush_on plan f = record {
     job = f.job;
+    steps = f.steps;
     at = elim f.at [
       | inl l ↦ inl (record { leads = l.leads; at = l.at; failed = λ e n. up (l.failed e n); is = l.is })
       | inr l ↦ inr (late_on plan l)

@@ -104,10 +104,10 @@ starts_followed = record {
         | inl idle ↦ starts size most words committing devices actors a x Flush plan s ex g y.0 (FlushingFor None) (λ z. IsFlushing size [] plan false z) y.1
             (tasks_begin.flush size most [] s a y.0 y.1 idle (nobody_alone size most words committing devices actors s g))
             (λ z at. (record {
-              at = record { job = refl; at = inl (record { leads = false; at = refl; failed = λ e n. absurd (cc); is = at }) };
+              at = record { job = refl; steps = refl; at = inl (record { leads = false; at = refl; failed = λ e n. absurd (cc); is = at }) };
               below = holds_nothing z x.card (ap (λ (v : AbstractActor). v.held) at.is);
               among_others = ap (λ (v : AbstractActor). is_alone v.task) at.is;
             }, ap (λ (v : AbstractActor). v.leads) at.is))
-        | inr f ↦ begins_late size most words committing devices actors a x Flush plan s ex g y.0 y.1 st (record { job = refl; at = inr (late words plan y.0 f r.0 refl) })
+        | inr f ↦ begins_late size most words committing devices actors a x Flush plan s ex g y.0 y.1 st (record { job = refl; steps = refl; at = inr (late words plan y.0 f r.0 refl) })
       ];
 }

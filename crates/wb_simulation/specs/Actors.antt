@@ -3,16 +3,18 @@ use Rattle.std.specs.Prelude.{◌≡◌, ◌⊎◌, ℕ, Bool, true, false, List
 use Rattle.wb_disk.specs.Device.{Content}
 use Rattle.wb_words.specs.SharedWords.{Words, flag}
 use Rattle.wb_words.specs.declared.card.Card.{Card}
-use Rattle.wb_words.specs.declared.step.CellStep.TheVariants.{Look}
+use Rattle.wb_words.specs.declared.step.CellStep.TheVariants.{Look, SetFailed}
 use Rattle.wb_words.specs.declared.word.Word.TheVariants.{Fail}
 use Rattle.wb_tasks.specs.Tables.{BlockRange, BlockJob, Reading, Writing, OnBlock, Flushing}
 use Rattle.wb_tasks.specs.Plan.{Plan, table}
 use Rattle.wb_tasks.specs.declared.step.Want.{Want}
-use Rattle.wb_tasks.specs.declared.step.Want.TheVariants.{Cell, Desk}
+use Rattle.wb_tasks.specs.declared.step.Want.TheVariants.{Cell, Device, Desk}
+use Rattle.wb_tasks.specs.declared.step.DeviceStep.TheVariants.{Sync}
+use Rattle.wb_types.specs.declared.mode.Dev.TheVariants.{Cache, Origin}
 use Rattle.wb_tasks.specs.declared.step.DeskStep.TheVariants.{BeginCommit}
 use Rattle.wb_link.specs.World.{Actor as AbstractActor, is_alone}
 use Rattle.wb_refines.specs.Models.{IsAt, HasStopped, IsBelow}
-use Rattle.wb_refines.specs.Flushes.{IsFlushing}
+use Rattle.wb_refines.specs.Flushes.{IsFlushing, IsOnMetadata}
 use Rattle.wb_refines.specs.Tasks.{IsIdle}
 use Rattle.wb_runs.specs.declared.job.Job.{Job}
 use Rattle.wb_runs.specs.declared.job.Job.TheVariants.{Read, Write, Flush, Open}
@@ -33,6 +35,16 @@ pub record IsRequestAt (size : ℕ) (content : Content) (words : Words) (job_on 
   pub of_block : AreOfBlock size part.block.0 plan.steps
   pub at : IsAt size content plan card y ⊎ HasStopped words plan card y ⊎ IsLate words plan y
 
+-- what may be left of a flush
+abbrev pub IsOfFlush : ℕ → List Want → Type 0
+IsOfFlush most [] = Unit {0}
+IsOfFlush most (Cell (Look Fail) ∷ later) = later ≡ Desk (BeginCommit false most) ∷ []
+IsOfFlush most (Desk (BeginCommit clean nodes) ∷ later) = (clean ≡ false) × (nodes ≡ most) × (later ≡ [])
+IsOfFlush most (Cell SetFailed ∷ later) = later ≡ []
+IsOfFlush most (Device (Sync Cache) ∷ Device (Sync Origin) ∷ later) = IsOnMetadata later
+IsOfFlush most (Device (Sync Origin) ∷ later) = IsOnMetadata later
+IsOfFlush most later = IsOnMetadata later
+
 -- a flush leads a commit from its beginning to its end
 abbrev pub LeadsAt : Bool → List Want → Type 0
 LeadsAt leads [] = Unit {0}
@@ -49,6 +61,7 @@ pub record IsLeading (size : ℕ) (words : Words) (plan : Plan) (y : AbstractAct
 
 pub record IsFlushAt (size most : ℕ) (words : Words) (plan : Plan) (y : AbstractActor) : Type 0 where
   pub job : plan.job ≡ Flushing [] most
+  pub steps : IsOfFlush most plan.steps
   pub at : IsLeading size words plan y ⊎ IsLate words plan y
 
 -- what an actor with this job is there
