@@ -105,7 +105,7 @@ same_dirtying b None dirty seal rest l d = ap (λ (v : Option ℕ). dirtying_the
 same_dirtying b (Some c) dirty seal rest l d = ap (λ (v : Option ℕ). dirtying_there b v seal.dirty (rest v)) l ∙ ap (λ t. dirtying_there b (Some c.0) t (rest (Some c.0))) (d c refl)
 
 -- the failed bit is there once it was set
-failed_flag : (n failures suspensions : ℕ) → n ≡ fail_word failures suspensions → flag (bit_or n 1) ≡ true
+pub failed_flag : (n failures suspensions : ℕ) → n ≡ fail_word failures suspensions → flag (bit_or n 1) ≡ true
 failed_flag n f z e = ap (λ v. flag (bit_or v 1)) e ∙ by_bits (flag f) (flag z)
   where
     by_bits : (p q : Bool) → flag (bit_or (cond p 1 0 + cond q 2 0) 1) ≡ true

@@ -69,6 +69,7 @@ tasks_end = record {
   stopped = λ actors a s y words answer job card k. let all = answers_now actors a s y k.script k.nothing k.task in (
     record { may = all.may; shared = all.shared; over = all.over },
     record { owned = λ block o. k.below.owned block (sym all.held ∙ o); shared = λ block o. k.below.shared block (sym all.held ∙ o) },
+    all.leads ∙ k.leads,
     elim k.free [
       | inl f ↦ inl (record { task = all.over; held = all.held ∙ f; order = all.order ∙ k.order; leads = all.leads ∙ k.leads })
       | inr f ↦ inr f

@@ -66,7 +66,7 @@ pub record TasksEnd : Type 0 where
   pub done : (size : ℕ) (content : Content) (actors : List Actor) (a : ℕ) (s : Shared) (y : Actor) (job : BlockJob) (answer : Answer) (card : Card) → card.hold ≡ HoldsNothing → IsAt size content (plan_of job [] answer) card y →
       IsAnswered actors a s y × IsIdle (gone y y.task (DoneThere ∷ []))
   pub stopped : (actors : List Actor) (a : ℕ) (s : Shared) (y : Actor) (words : Words) (answer : Answer) (job : TaskJob) (card : Card) → HasStopped words (record { job = job; steps = []; answer = answer }) card y →
-      IsAnswered actors a s y × IsBelow (gone y y.task (DoneThere ∷ [])) card × (IsIdle (gone y y.task (DoneThere ∷ [])) ⊎ (flag words.fail ≡ true))
+      IsAnswered actors a s y × IsBelow (gone y y.task (DoneThere ∷ [])) card × ((gone y y.task (DoneThere ∷ [])).leads ≡ false) × (IsIdle (gone y y.task (DoneThere ∷ [])) ⊎ (flag words.fail ≡ true))
   pub flush : (size most : ℕ) (content : Content) (actors : List Actor) (a : ℕ) (s : Shared) (y : Actor) (answer : Answer) (leads : Bool) → IsFlushing size content (flushing most [] answer) leads y →
       IsAnswered actors a s y × ((gone y y.task (DoneThere ∷ [])).leads ≡ leads) × (leads ≡ false → IsIdle (gone y y.task (DoneThere ∷ [])))
   -- a block whose number was worn is given back

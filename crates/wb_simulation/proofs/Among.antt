@@ -1,0 +1,138 @@
+-- One actor goes on, and all others are as they were.
+use Rattle.std.proofs.Common.{arith, length, bit_or, ◌≡◌, ◌≢◌, ◌+◌, ◌==◌, ◌∙◌, inl, inr, cond, if◌then◌else◌, ℕ, zero, suc, Bool, true, false, List, [], ◌∷◌, Option, Some, None, refl, sym, ap, subst, slice_get, slice_set}
+use Rattle.std.proofs.lemmas.Bool.{cases_eq}
+use Rattle.wb_types.specs.declared.mode.Mode.TheVariants.{Writeback}
+use Rattle.wb_disk.specs.Device.{History}
+use Rattle.wb_contents.specs.Devices.{by_block}
+use Rattle.wb_words.specs.SharedWords.{Words, word_at, flag, fail_word, with_cell, taken, counted}
+use Rattle.wb_words.specs.Effects.{words_after}
+use Rattle.wb_words.specs.declared.card.Card.{Card}
+use Rattle.wb_words.specs.declared.word.Kind.{Kind}
+use Rattle.wb_words.specs.declared.word.Kind.TheVariants.{ReadHit, ReadMiss, WriteHit, WriteMiss}
+use Rattle.wb_words.specs.declared.step.CellStep.{CellStep}
+use Rattle.wb_words.specs.declared.step.CellStep.TheVariants.{Look, Take, Release, Seal, Finish, Count, SetFailed, SetSuspended}
+use Rattle.wb_devices.specs.declared.devices.Devices.{Devices}
+use Rattle.wb_link.specs.Tables.{Got}
+use Rattle.wb_link.specs.World.{World, Shared, Actor as AbstractActor, after_all}
+use Rattle.wb_link.proofs.Lists.{get_set_same, get_set_other}
+use Rattle.wb_refines.specs.Going.{records, shared_after, gone, MayGo}
+use Rattle.wb_refines.specs.Models.{WordsAgree, AllBelow}
+use Rattle.wb_refines.proofs.Cells.{failed_flag}
+use Rattle.wb_refines.proofs.Going.{goes, with_own}
+use Rattle.wb_runs.specs.States.{Actor}
+use Rattle.wb_runs.specs.Holding.{cards_of}
+use Rattle.wb_simulation.specs.Actors.{StandsFor}
+use Rattle.wb_simulation.specs.Worlds.{Agrees, Follows}
+use Rattle.wb_simulation.proofs.Kept.{stands_on}
+
+-- where one list has something, one that is as long has, too
+pub there : {X Y : Type 0} (xs : List X) (ys : List Y) (a : ℕ) (x : X) → length ys ≡ length xs → slice_get xs a ≡ Some x → (y : Y) × (slice_get ys a ≡ Some y)
+there [] ys a x n e = absurd (cc)
+there (z ∷ xs) [] a x n e = absurd (omega (arith, n))
+there (z ∷ xs) (y ∷ ys) zero x n e = (y, refl)
+there (z ∷ xs) (y ∷ ys) (suc a) x n e = there xs ys a x (omega (arith, n)) e
+
+pub card_there : (actors : List Actor) (a : ℕ) (x : Actor) → slice_get actors a ≡ Some x → slice_get (cards_of actors) a ≡ Some x.card
+card_there [] a x e = absurd (cc)
+card_there (z ∷ xs) zero x e = let same : z ≡ x = cc in ap (λ (v : Actor). Some v.card) same
+card_there (z ∷ xs) (suc a) x e = card_there xs a x e
+
+pub length-set-there : {X : Type 0} (xs : List X) (a : ℕ) (x : X) → length (slice_set xs a x) ≡ length xs
+length-set-there [] a x = refl
+length-set-there (z ∷ xs) zero x = refl
+length-set-there (z ∷ xs) (suc a) x = ap suc (length-set-there xs a x)
+
+-- the failed bit is never cleared
+pub failed_stays : (words : Words) (step : CellStep) (failures suspensions : ℕ) → words.fail ≡ fail_word failures suspensions → flag words.fail ≡ true → flag (words_after words step).fail ≡ true
+failed_stays words (Look word) f z e t = t
+failed_stays words (Take access b seen) f z e t = by_test (word_at words.cells b == seen)
+  where
+    by_test : (won : Bool) → flag (if won then with_cell words b (taken access seen) else words).fail ≡ true
+    by_test true = t
+    by_test false = t
+failed_stays words (Release access b) f z e t = t
+failed_stays words (Seal b place dirty) f z e t = t
+failed_stays words (Finish b) f z e t = t
+failed_stays words (Count ReadHit) f z e t = t
+failed_stays words (Count ReadMiss) f z e t = t
+failed_stays words (Count WriteHit) f z e t = t
+failed_stays words (Count WriteMiss) f z e t = t
+failed_stays words SetFailed f z e t = failed_flag words.fail f z e
+failed_stays words SetSuspended f z e t = ap (λ v. flag (bit_or v 2)) e ∙ by_bits (flag f) (flag z)
+  where
+    by_bits : (p q : Bool) → flag (bit_or (cond p 1 0 + cond q 2 0) 2) ≡ true
+    by_bits true true = refl
+    by_bits true false = refl
+    by_bits false true = refl
+    by_bits false false = refl
+
+-- no abstract actor has more than the cards count
+pub all_below : (size most : ℕ) (words : Words) (committing : Bool) (devices : Devices (List History)) (actors : List Actor) (s : World) → Agrees size most words committing devices actors s → AllBelow s.actors (cards_of actors)
+all_below size most words committing devices actors s g a y e =
+    let x = there s.actors actors a y (sym g.many) e in
+    (x.0.card, card_there actors a x.0 x.1, (g.each a x.0 y x.1 e).below)
+
+module _ (size most : ℕ) (words words' : Words) (up : flag words.fail ≡ true → flag words'.fail ≡ true) (committing : Bool) (devices : Devices (List History)) (actors : List Actor) (a : ℕ) (x x' : Actor) (s : World) (y : AbstractActor)
+    (g : Agrees size most words committing devices actors s) (ex : slice_get actors a ≡ Some x) (ey : slice_get s.actors a ≡ Some y) where
+  pub each_on : (y' : AbstractActor) → StandsFor size most words' x' y' → (b : ℕ) (z : Actor) (v : AbstractActor) → slice_get (slice_set actors a x') b ≡ Some z → slice_get (slice_set s.actors a y') b ≡ Some v → StandsFor size most words' z v
+  each_on y' st b z v ez ev = elim (cases_eq b a) [
+    | inl e ↦
+        let here : Some x' ≡ Some z = sym (get_set_same actors a x x' ex) ∙ ap (λ k. slice_get (slice_set actors a x') k) (sym e) ∙ ez in
+        let one : x' ≡ z = cc in
+        let there : Some y' ≡ Some v = sym (get_set_same s.actors a y y' ey) ∙ ap (λ k. slice_get (slice_set s.actors a y') k) (sym e) ∙ ev in
+        let other : y' ≡ v = cc in
+        subst (λ (q : Actor). StandsFor size most words' q v) one (subst (λ (q : AbstractActor). StandsFor size most words' x' q) other st)
+    | inr n ↦ stands_on size most words words' up v z (g.each b z v (sym (get_set_other actors a b x' n) ∙ ez) (sym (get_set_other s.actors a b y' n) ∙ ev))
+  ]
+
+  -- who leads a commit after it did before, if the one that went on does only where it did
+  old_lead : (y' : AbstractActor) → (y'.leads ≡ true → y.leads ≡ true) → (b : ℕ) (v : AbstractActor) → slice_get (slice_set s.actors a y') b ≡ Some v → v.leads ≡ true → (u : AbstractActor) × (slice_get s.actors b ≡ Some u) × (u.leads ≡ true)
+  old_lead y' keeps b v ev l = elim (cases_eq b a) [
+    | inl e ↦
+        let there : Some y' ≡ Some v = sym (get_set_same s.actors a y y' ey) ∙ ap (λ k. slice_get (slice_set s.actors a y') k) (sym e) ∙ ev in
+        let same : y' ≡ v = cc in
+        (y, ap (λ k. slice_get s.actors k) e ∙ ey, keeps (ap (λ (q : AbstractActor). q.leads) same ∙ l))
+    | inr n ↦ (v, sym (get_set_other s.actors a b y' n) ∙ ev, l)
+  ]
+
+  -- it goes on by these results, which lead to this
+  pub goes_leading : (committing' : Bool) (devices' : Devices (List History)) (results : List Got) (t : Shared) → MayGo s.actors a s.shared y y.task results → shared_after s.shared y y.task results ≡ t → StandsFor size most words' x' (gone y y.task results) → WordsAgree words' t →
+      t.origin ≡ by_block size [] devices'.origin → t.cache ≡ by_block size [] devices'.cache → t.mode ≡ s.shared.mode → t.committing ≡ committing' → (t.broken ≡ true → t.committing ≡ true) →
+      ((b : ℕ) (v : AbstractActor) → slice_get (slice_set s.actors a (gone y y.task results)) b ≡ Some v → v.leads ≡ true → t.committing ≡ true) →
+      ((b c : ℕ) (v u : AbstractActor) → slice_get (slice_set s.actors a (gone y y.task results)) b ≡ Some v → slice_get (slice_set s.actors a (gone y y.task results)) c ≡ Some u → v.leads ≡ true → u.leads ≡ true → b ≡ c) →
+      Follows size most s words' committing' devices' (slice_set actors a x')
+  goes_leading committing' devices' results t may is st w o c m k b led one =
+      let went = goes size results s a y y.task ey refl may in
+      record {
+        records = records a y.task results;
+        run = went.run;
+        agrees = subst (λ (v : World). Agrees size most words' committing' devices' (slice_set actors a x') v) (sym went.is)
+            (subst (λ (v : Shared). Agrees size most words' committing' devices' (slice_set actors a x') (with_own s a v (gone y y.task results))) (sym is) (record {
+              words_agree = w;
+              origin = o;
+              cache = c;
+              mode = m ∙ g.mode;
+              commits = k;
+              broken = b;
+              led = led;
+              one_leads = one;
+              many = length-set-there s.actors a (gone y y.task results) ∙ g.many ∙ sym (length-set-there actors a x');
+              each = each_on (gone y y.task results) st;
+            }));
+      }
+
+  -- who leads a commit did before, and one that runs goes on
+  pub led_on : (y' : AbstractActor) (t : Shared) → (y'.leads ≡ true → y.leads ≡ true) → (s.shared.committing ≡ true → t.committing ≡ true) → (b : ℕ) (v : AbstractActor) → slice_get (slice_set s.actors a y') b ≡ Some v → v.leads ≡ true → t.committing ≡ true
+  led_on y' t keeps runs b v ev l = let u = old_lead y' keeps b v ev l in runs (g.led b u.0 u.1 u.2)
+
+  pub one_on : (y' : AbstractActor) → (y'.leads ≡ true → y.leads ≡ true) → (b c : ℕ) (v u : AbstractActor) → slice_get (slice_set s.actors a y') b ≡ Some v → slice_get (slice_set s.actors a y') c ≡ Some u → v.leads ≡ true → u.leads ≡ true → b ≡ c
+  one_on y' keeps b c v u ev eu l m =
+      let old = old_lead y' keeps b v ev l in
+      let other = old_lead y' keeps c u eu m in
+      g.one_leads b c old.0 other.0 old.1 other.1 old.2 other.2
+
+  pub goes_on : (devices' : Devices (List History)) (results : List Got) (t : Shared) → MayGo s.actors a s.shared y y.task results → shared_after s.shared y y.task results ≡ t → StandsFor size most words' x' (gone y y.task results) → ((gone y y.task results).leads ≡ true → y.leads ≡ true) → WordsAgree words' t →
+      t.origin ≡ by_block size [] devices'.origin → t.cache ≡ by_block size [] devices'.cache → t.mode ≡ s.shared.mode → t.committing ≡ s.shared.committing → (t.broken ≡ true → t.committing ≡ true) →
+      Follows size most s words' committing devices' (slice_set actors a x')
+  goes_on devices' results t may is st keeps w o c m k b = goes_leading committing devices' results t may is st w o c m (k ∙ g.commits) b
+      (led_on (gone y y.task results) t keeps (λ r. k ∙ r)) (one_on (gone y y.task results) keeps)

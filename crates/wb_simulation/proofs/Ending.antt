@@ -1,0 +1,79 @@
+-- Answers of reads and writes are followed.
+use Rattle.std.proofs.Common.{◌≡◌, ◌∙◌, ◌⊎◌, inl, inr, ℕ, Bool, true, false, List, [], ◌∷◌, Option, Some, None, refl, sym, ap, subst, slice_get, slice_set}
+use Rattle.wb_disk.specs.Device.{Content, History}
+use Rattle.wb_words.specs.SharedWords.{Words, flag}
+use Rattle.wb_words.specs.declared.card.Hold.TheVariants.{Nothing as HoldsNothing}
+use Rattle.wb_tasks.specs.Tables.{BlockRange, BlockJob, Reading, Writing, OnBlock}
+use Rattle.wb_tasks.specs.Plan.{Plan, want, first_step}
+use Rattle.wb_tasks.specs.Ready.{Suits}
+use Rattle.wb_tasks.specs.declared.step.Answer.{Answer}
+use Rattle.wb_tasks.specs.declared.step.Want.{Want}
+use Rattle.wb_tasks.specs.declared.step.Want.TheVariants.{End}
+use Rattle.wb_devices.specs.declared.devices.Devices.{Devices}
+use Rattle.wb_link.specs.Tables.{Done as DoneThere, Got}
+use Rattle.wb_link.specs.World.{World, Actor as AbstractActor, is_alone}
+use Rattle.wb_refines.specs.Going.{gone}
+use Rattle.wb_refines.specs.Models.{IsAt, HasStopped, IsBelow, plan_of}
+use Rattle.wb_refines.specs.Tasks.{IsIdle, IsAnswered}
+use Rattle.wb_refines.proofs.Holding.{holds_nothing}
+use Rattle.wb_refines.proofs.Tasks.{tasks_end}
+use Rattle.wb_runs.specs.declared.job.Job.{Job}
+use Rattle.wb_runs.specs.declared.job.Job.TheVariants.{Read, Write, Flush, Open}
+use Rattle.wb_runs.specs.States.{Actor}
+use Rattle.wb_simulation.specs.Actors.{IsLate, IsRequestAt, StandsFor}
+use Rattle.wb_simulation.specs.Worlds.{Agrees, Follows}
+use Rattle.wb_simulation.specs.Laws.{AnswersFollowed, IsRequestJob}
+use Rattle.wb_simulation.proofs.Cells.{shared_stays, gone_nowhere}
+use Rattle.wb_simulation.proofs.Among.{there, goes_on}
+use Rattle.wb_simulation.proofs.Followed.{doing_of}
+
+-- nothing is left of a plan whose next step is its answer
+nothing_left : (plan : Plan) (answer : Answer) → want plan ≡ End answer → ((next : Want) (later : List Want) → plan.steps ≡ next ∷ later → next ≡ End answer → ⊥) → plan.steps ≡ []
+nothing_left plan answer e never = by_steps plan.steps refl
+  where
+    by_steps : (steps : List Want) → plan.steps ≡ steps → plan.steps ≡ []
+    by_steps [] k = k
+    by_steps (v ∷ ws) k = absurd (never v ws k (sym (ap (λ (us : List Want). first_step us plan.answer) k) ∙ e))
+
+module _ (size most blocks : ℕ) (words : Words) (committing : Bool) (devices : Devices (List History)) (actors : List Actor) (a : ℕ) (x : Actor) (s : World) (y : AbstractActor) (ex : slice_get actors a ≡ Some x) (ey : slice_get s.actors a ≡ Some y) (g : Agrees size most words committing devices actors s) (st : StandsFor size most words x y) where
+  abbrev Goal : Type 0
+  Goal = Follows size most s words committing devices (slice_set actors a (record x { task = None }))
+
+  -- it answers there, too
+  answers : IsAnswered s.actors a s.shared y → IsBelow (gone y y.task (DoneThere ∷ [])) x.card → (gone y y.task (DoneThere ∷ [])).leads ≡ false → (IsIdle (gone y y.task (DoneThere ∷ [])) ⊎ (flag words.fail ≡ true)) → Goal
+  answers w below leads rest = goes_on size most words words (λ f. f) committing devices actors a x (record x { task = None }) s y g ex ey devices (DoneThere ∷ []) s.shared w.may w.shared
+      (record { at = (w.over, rest); below = below; among_others = ap is_alone w.over }) (λ l. let bad : true ≡ false = sym l ∙ leads in absurd (cc)) g.words_agree g.origin g.cache refl refl g.broken
+
+  -- it has no task there
+  answers_late : y.task ≡ None → flag words.fail ≡ true → Goal
+  answers_late none failed = goes_on size most words words (λ f. f) committing devices actors a x (record x { task = None }) s y g ex ey devices [] s.shared tt (shared_stays s.shared y y.task)
+      (subst (λ (z : AbstractActor). StandsFor size most words (record x { task = None }) z) (sym (gone_nowhere y y.task)) (record { at = (none, inr failed); below = st.below; among_others = st.among_others }))
+      (λ l. ap (λ (z : AbstractActor). z.leads) (sym (gone_nowhere y y.task)) ∙ l) g.words_agree g.origin g.cache refl refl g.broken
+
+  request_answers : (content : Content) (job_on : BlockRange → BlockJob) (part : BlockRange) (answer : Answer) → x.card.hold ≡ HoldsNothing →
+      IsAt size content (plan_of (job_on part) [] answer) x.card y ⊎ HasStopped words (plan_of (job_on part) [] answer) x.card y ⊎ IsLate words (plan_of (job_on part) [] answer) y → Goal
+  request_answers content job_on part answer h (inl i) = let d = tasks_end.done size content s.actors a s.shared y (job_on part) answer x.card h i in answers d.0 (holds_nothing _ x.card d.1.held) d.1.leads (inl d.1)
+  request_answers content job_on part answer h (inr (inl k)) = let d = tasks_end.stopped s.actors a s.shared y words answer (OnBlock (job_on part)) x.card k in answers d.0 d.1 d.2 d.3
+  request_answers content job_on part answer h (inr (inr l)) = answers_late l.nothing l.failed
+
+  of_plan : (content : Content) (job_on : BlockRange → BlockJob) (plan : Plan) (answer : Answer) → want plan ≡ End answer → Suits blocks plan x.card → IsRequestAt size content words job_on plan x.card y → Goal
+  of_plan content job_on plan answer e suits r =
+      let none = nothing_left plan answer e (λ next later k same. absurd (subst (λ (p : Plan). Suits blocks p x.card) (with_steps (End answer ∷ later) (k ∙ ap (λ (v : Want). v ∷ later) same)) suits).1.1.1) in
+      request_answers content job_on r.part plan.answer (subst (λ (p : Plan). Suits blocks p x.card) (with_steps [] none) suits).1 (subst At (with_steps [] none) r.at)
+    where
+      At : Plan → Type 0
+      At p = IsAt size content p x.card y ⊎ HasStopped words p x.card y ⊎ IsLate words p y
+
+      with_steps : (steps : List Want) → plan.steps ≡ steps → plan ≡ plan_of (job_on r.part) steps plan.answer
+      with_steps steps k = λ i. record { job = r.job i; steps = k i; answer = plan.answer }
+
+  followed : (job : Job) (plan : Plan) (answer : Answer) → IsRequestJob job → x.task ≡ Some (job, plan) → want plan ≡ End answer → Suits blocks plan x.card → Goal
+  followed (Read extent) plan answer q e next suits = of_plan [] Reading plan answer next suits (doing_of size most words x y (Read extent) plan st e)
+  followed (Write extent content) plan answer q e next suits = of_plan content Writing plan answer next suits (doing_of size most words x y (Write extent content) plan st e)
+  followed Flush plan answer q e next suits = absurd q
+  followed (Open mode) plan answer q e next suits = absurd q
+
+pub answers_followed : AnswersFollowed
+answers_followed size most blocks words committing devices actors a x job plan answer s q ex task suits next g =
+    let y = there actors s.actors a x g.many ex in
+    followed size most blocks words committing devices actors a x s y.0 ex y.1 g (g.each a x y.0 ex y.1) job plan answer q task next suits

@@ -1,0 +1,83 @@
+-- Each step of a read or a write on the shared words is followed.
+use Rattle.std.proofs.Common.{◌≡◌, ◌∙◌, ◌⊎◌, ℕ, Bool, true, false, List, [], ◌∷◌, Option, Some, None, refl, sym, ap, subst, slice_get, slice_set}
+use Rattle.wb_disk.specs.Device.{Content, History}
+use Rattle.wb_words.specs.SharedWords.{Words}
+use Rattle.wb_words.specs.Rule.{LockRule}
+use Rattle.wb_words.specs.Effects.{result_of, words_after, card_after}
+use Rattle.wb_words.specs.declared.card.Card.{Card}
+use Rattle.wb_words.specs.declared.step.CellStep.{CellStep}
+use Rattle.wb_tasks.specs.Tables.{BlockRange, BlockJob, Reading, Writing, OnBlock, range_of}
+use Rattle.wb_tasks.specs.Plan.{Plan, want, after, got_of, first_step, work_of}
+use Rattle.wb_tasks.specs.Ready.{Suits}
+use Rattle.wb_tasks.specs.declared.step.Want.{Want}
+use Rattle.wb_tasks.specs.declared.step.Want.TheVariants.{Cell}
+use Rattle.wb_devices.specs.declared.devices.Devices.{Devices}
+use Rattle.wb_link.specs.World.{World, Actor as AbstractActor, job_alone}
+use Rattle.wb_refines.specs.Going.{shared_after, gone}
+use Rattle.wb_refines.specs.Translation.{job_for}
+use Rattle.wb_refines.specs.Models.{IsRequest, plan_of}
+use Rattle.wb_runs.specs.declared.job.Job.{Job}
+use Rattle.wb_runs.specs.declared.job.Job.TheVariants.{Read, Write, Flush, Open}
+use Rattle.wb_runs.specs.States.{Actor}
+use Rattle.wb_runs.specs.Holding.{cards_of}
+use Rattle.wb_simulation.specs.Steps.{IsPart, AreOfBlock}
+use Rattle.wb_simulation.specs.Actors.{IsRequestAt, IsDoing, IsBusyAt, StandsFor}
+use Rattle.wb_simulation.specs.Worlds.{Agrees, Follows}
+use Rattle.wb_simulation.specs.Laws.{CellStepsFollowed, went}
+use Rattle.wb_simulation.proofs.Steps.{read_of_block, write_of_block}
+use Rattle.wb_simulation.proofs.Cells.{Acted, acts_on_words}
+use Rattle.wb_simulation.proofs.Among.{there, card_there, all_below, failed_stays, goes_on}
+
+-- who does a read or write is at it
+pub doing_of : (size most : ℕ) (words : Words) (x : Actor) (y : AbstractActor) (job : Job) (plan : Plan) → StandsFor size most words x y → x.task ≡ Some (job, plan) → IsDoing size most words job plan x.card y
+doing_of size most words x y job plan st e = subst (λ (t : Option (Job × Plan)). IsBusyAt size most words t x.card y) e st.at
+
+module _ (size most blocks : ℕ) (words : Words) (committing : Bool) (devices : Devices (List History)) (actors : List Actor) (a : ℕ) (x : Actor) (plan : Plan) (step : CellStep) (s : World) (y : AbstractActor)
+    (rule : LockRule blocks words (cards_of actors)) (ex : slice_get actors a ≡ Some x) (ey : slice_get s.actors a ≡ Some y) (suits : Suits blocks plan x.card) (next : want plan ≡ Cell step) (g : Agrees size most words committing devices actors s) (st : StandsFor size most words x y) where
+  -- a request's, by its actor alone
+  request_acts : (content : Content) (job_on : BlockRange → BlockJob) → ((part : BlockRange) → IsRequest (job_on part)) → ((part : BlockRange) → range_of (job_on part) ≡ part) →
+      ((part : BlockRange) → IsPart size part → (seal : ℕ) → AreOfBlock size part.block.0 (work_of (OnBlock (job_on part)) seal)) → ((part : BlockRange) → job_alone (job_for size content (OnBlock (job_on part))) ≡ false) →
+      IsRequestAt size content words job_on plan x.card y → Acted size content s.actors a s.shared y (words_after words step) job_on (after plan (got_of (result_of words step))) (card_after words step x.card)
+  request_acts content job_on request range works among r = by_steps plan.steps refl
+    where
+      Of_plan : Plan → Type 0
+      Of_plan p = Acted size content s.actors a s.shared y (words_after words step) job_on (after p (got_of (result_of words step))) (card_after words step x.card)
+
+      by_steps : (steps : List Want) → plan.steps ≡ steps → Of_plan plan
+      by_steps [] e = let bad = sym (ap (λ (ws : List Want). first_step ws plan.answer) e) ∙ next in absurd (cc)
+      by_steps (v ∷ ws) e =
+          let first : v ≡ Cell step = sym (ap (λ (us : List Want). first_step us plan.answer) e) ∙ next in
+          let is : plan ≡ plan_of (job_on r.part) (Cell step ∷ ws) plan.answer = (λ i. record { job = r.job i; steps = (e ∙ ap (λ (u : Want). u ∷ ws) first) i; answer = plan.answer }) in
+          let r' = subst (λ (p : Plan). IsRequestAt size content words job_on p x.card y) is r in
+          subst Of_plan (sym is) (acts_on_words size content job_on request range works among r.part r.is_part blocks words s.actors a x.card s.shared y plan.answer g.words_agree (cards_of actors) step ws rule (card_there actors a x ex)
+          (all_below size most words committing devices actors s g) st.below st.among_others (subst (λ (ws' : List Want). AreOfBlock size r.part.block.0 ws') (e ∙ ap (λ (u : Want). u ∷ ws) first) r.of_block)
+          (subst (λ (p : Plan). Suits blocks p x.card) is suits) (subst (λ (p : Plan). At p) is r.at))
+        where
+          At : Plan → Type 0
+          At p = Rattle.wb_refines.specs.Models.IsAt size content p x.card y ⊎ Rattle.wb_refines.specs.Models.HasStopped words p x.card y ⊎ Rattle.wb_simulation.specs.Actors.IsLate words p y
+
+  -- among all others
+  among_all : (job : Job) (content : Content) (job_on : BlockRange → BlockJob) → (acted : Acted size content s.actors a s.shared y (words_after words step) job_on (after plan (got_of (result_of words step))) (card_after words step x.card)) →
+      IsDoing size most (words_after words step) job (after plan (got_of (result_of words step))) (card_after words step x.card) (gone y y.task acted.results) →
+      Follows size most s (words_after words step) committing devices (slice_set actors a (went words job plan step x))
+  among_all job content job_on acted doing =
+      let t = shared_after s.shared y y.task acted.results in
+      let k = acted.same.images in
+      goes_on size most words (words_after words step) (failed_stays words step _ _ rule.logs.fail) committing devices actors a x (went words job plan step x) s y g ex ey devices acted.results t acted.may refl
+      (record { at = doing; below = acted.below; among_others = acted.among_others }) acted.leads acted.words_agree (acted.same.origin ∙ g.origin) (acted.same.cache ∙ g.cache) k.mode k.committing
+      (λ b. k.committing ∙ g.broken (sym k.broken ∙ b))
+
+  followed : (job : Job) → Rattle.wb_simulation.specs.Laws.IsRequestJob job → x.task ≡ Some (job, plan) → Follows size most s (words_after words step) committing devices (slice_set actors a (went words job plan step x))
+  followed (Read extent) q e =
+      let acted = request_acts [] Reading (λ part. tt) (λ part. refl) (read_of_block size) (λ part. refl) (doing_of size most words x y (Read extent) plan st e) in
+      among_all (Read extent) [] Reading acted acted.request
+  followed (Write extent content) q e =
+      let acted = request_acts content Writing (λ part. tt) (λ part. refl) (write_of_block size) (λ part. refl) (doing_of size most words x y (Write extent content) plan st e) in
+      among_all (Write extent content) content Writing acted acted.request
+  followed Flush q e = absurd q
+  followed (Open mode) q e = absurd q
+
+pub cell_steps_followed : CellStepsFollowed
+cell_steps_followed size most blocks words committing devices actors a x job plan step s q rule ex task suits next g =
+    let y = there actors s.actors a x g.many ex in
+    followed size most blocks words committing devices actors a x plan step s y.0 rule ex y.1 suits next g (g.each a x y.0 ex y.1) job q task

@@ -1,0 +1,182 @@
+-- Each step of a read or a write on an extent of a device is followed.
+use Rattle.std.proofs.Common.{length, replicate, map, ◌≡◌, ◌≢◌, ◌≤◌, ◌<◌, ◌+◌, ◌∙◌, ◌⊎◌, inl, inr, ℕ, Bool, true, false, List, [], ◌∷◌, Option, Some, None, refl, sym, ap, subst, slice_get, slice_set}
+use Rattle.wb_types.specs.declared.extent.Extent.{Extent}
+use Rattle.wb_types.specs.declared.mode.Dev.{Dev}
+use Rattle.wb_types.specs.declared.mode.Dev.TheVariants.{Metadata, Cache, Origin}
+use Rattle.wb_disk.specs.Device.{Content, History}
+use Rattle.wb_disk.specs.Extents.{GivesEach, written_each, written_where}
+use Rattle.wb_words.specs.SharedWords.{Words, word_at}
+use Rattle.wb_words.specs.declared.card.Card.{Card}
+use Rattle.wb_words.specs.declared.step.CellStep.TheVariants.{Look}
+use Rattle.wb_words.specs.declared.word.Word.TheVariants.{Fail}
+use Rattle.wb_tasks.specs.Tables.{BlockRange, BlockJob, Reading, Writing, OnBlock}
+use Rattle.wb_tasks.specs.Plan.{Plan, want, after, first_step}
+use Rattle.wb_tasks.specs.Ready.{Suits, HoldsBlocks}
+use Rattle.wb_tasks.specs.declared.step.Answer.{Answer}
+use Rattle.wb_tasks.specs.declared.step.DeviceStep.{DeviceStep}
+use Rattle.wb_tasks.specs.declared.step.DeviceStep.TheVariants.{Read as ReadExtent, Write as WriteExtent}
+use Rattle.wb_tasks.specs.declared.step.Want.{Want}
+use Rattle.wb_tasks.specs.declared.step.Want.TheVariants.{Cell, Device}
+use Rattle.wb_tasks.specs.declared.step.Got.{Got}
+use Rattle.wb_tasks.specs.declared.step.Got.TheVariants.{Done, Fault}
+use Rattle.wb_devices.specs.declared.devices.Devices.{Devices}
+use Rattle.wb_devices.specs.Moving.{device_in}
+use Rattle.wb_link.specs.Tables.{Seal, Gave, Got as AbstractGot, Done as DoneThere}
+use Rattle.wb_link.specs.World.{World, Shared, Actor as AbstractActor, is_alone, job_alone}
+use Rattle.wb_refines.specs.Going.{shared_after, gone}
+use Rattle.wb_refines.specs.Translation.{location_at, job_for}
+use Rattle.wb_refines.specs.Data.{IsSide, IsInBlock, SameBeside, Moves, faults, read_fault}
+use Rattle.wb_refines.specs.Models.{IsAt, HasStopped, plan_of, SealAgrees, WordsAgree}
+use Rattle.wb_refines.proofs.Locks.{has_no_more}
+use Rattle.wb_refines.proofs.Moving.{extent_steps_followed as followed_alone}
+use Rattle.wb_runs.specs.declared.job.Job.{Job}
+use Rattle.wb_runs.specs.declared.job.Job.TheVariants.{Read, Write}
+use Rattle.wb_runs.specs.States.{Actor, with_device}
+use Rattle.wb_simulation.specs.Steps.{IsPart, AreOfBlock}
+use Rattle.wb_simulation.specs.Actors.{IsLate, IsRequestAt, IsDoing, StandsFor}
+use Rattle.wb_simulation.specs.Worlds.{Agrees, Follows}
+use Rattle.wb_simulation.specs.Laws.{ExtentStepsFollowed, after_step}
+use Rattle.wb_simulation.proofs.Among.{there, goes_on}
+use Rattle.wb_simulation.proofs.Followed.{doing_of}
+
+-- who has a step on a device to take is at its task there
+at_device : (size : ℕ) (content : Content) (words : Words) (job_on : BlockRange → BlockJob) (part : BlockRange) (step : DeviceStep) (ws : List Want) (answer : Answer) (card : Card) (y : AbstractActor) →
+    IsAt size content (plan_of (job_on part) (Device step ∷ ws) answer) card y ⊎ HasStopped words (plan_of (job_on part) (Device step ∷ ws) answer) card y ⊎ IsLate words (plan_of (job_on part) (Device step ∷ ws) answer) y →
+    IsAt size content (plan_of (job_on part) (Device step ∷ ws) answer) card y
+at_device size content words job_on part step ws answer card y (inl i) = i
+at_device size content words job_on part step ws answer card y (inr (inl k)) = absurd k.over
+at_device size content words job_on part step ws answer card y (inr (inr l)) = elim l.at [
+  | inl e ↦ let steps = ap (λ (p : Plan). first_step p.steps p.answer) e in absurd (cc)
+  | inr e ↦ let bad : Device step ∷ ws ≡ [] = e in absurd (cc)
+]
+
+-- the words tell of the world what they told
+words_beside : (words : Words) (to : Option ℕ) (s t : Shared) → SameBeside to s t → WordsAgree words s → WordsAgree words t
+words_beside words to s t b w = record { fail = b.fail ∙ w.fail; seals = λ block. subst (λ (f : ℕ → Seal). SealAgrees (word_at words.seals block) (f block.0)) (sym b.seals) (w.seals block) }
+
+module _ (size most : ℕ) (words : Words) (committing : Bool) (devices : Devices (List History)) (actors : List Actor) (a : ℕ) (x : Actor) (s : World) (y : AbstractActor) (ex : slice_get actors a ≡ Some x) (ey : slice_get s.actors a ≡ Some y) (g : Agrees size most words committing devices actors s) where
+  -- the device of a location is its list
+  side_of : (device : Dev) (e : Extent) → HoldsBlocks device → IsSide size [] (location_at size device e) (device_in device devices) s.shared
+  side_of Cache e h = g.cache
+  side_of Origin e h = g.origin
+  side_of Metadata e h = absurd h
+
+  -- an actor of a request has moved an extent, and its device is this list now
+  moved : (job : Job) (content : Content) (job_on : BlockRange → BlockJob) (plan : Plan) (device : Dev) (e : Extent) (results : List AbstractGot) (list : List History) → HoldsBlocks device →
+      Moves size [] content s.actors a s.shared y (location_at size device e) results list plan x.card → is_alone (gone y y.task results).task ≡ false → IsDoing size most words job plan x.card (gone y y.task results) →
+      Follows size most s words committing (with_device device devices list) (slice_set actors a (record { task = Some (job, plan); card = x.card }))
+  moved job content job_on plan Metadata e results list h m alone doing = absurd h
+  moved job content job_on plan Cache e results list h m alone doing =
+      let t = shared_after s.shared y y.task results in let k = m.beside.images in
+      goes_on size most words words (λ f. f) committing devices actors a x (record { task = Some (job, plan); card = x.card }) s y g ex ey (with_device Cache devices list) results t m.may refl
+      (record { at = doing; below = has_no_more size content plan x.card (gone y y.task results) m.at; among_others = alone }) (λ l. let bad : true ≡ false = sym l ∙ ap (λ (v : AbstractActor). v.leads) m.at.is in absurd (cc)) (words_beside words (location_at size Cache e) s.shared t m.beside g.words_agree)
+      (m.beside.other ∙ g.origin) m.side_is k.mode k.committing (λ b. k.committing ∙ g.broken (sym k.broken ∙ b))
+  moved job content job_on plan Origin e results list h m alone doing =
+      let t = shared_after s.shared y y.task results in let k = m.beside.images in
+      goes_on size most words words (λ f. f) committing devices actors a x (record { task = Some (job, plan); card = x.card }) s y g ex ey (with_device Origin devices list) results t m.may refl
+      (record { at = doing; below = has_no_more size content plan x.card (gone y y.task results) m.at; among_others = alone }) (λ l. let bad : true ≡ false = sym l ∙ ap (λ (v : AbstractActor). v.leads) m.at.is in absurd (cc)) (words_beside words (location_at size Origin e) s.shared t m.beside g.words_agree)
+      m.side_is (m.beside.other ∙ g.cache) k.mode k.committing (λ b. k.committing ∙ g.broken (sym k.broken ∙ b))
+
+same_device : (device : Dev) (devices : Devices (List History)) → HoldsBlocks device → with_device device devices (device_in device devices) ≡ devices
+same_device Cache devices h = refl
+same_device Origin devices h = refl
+same_device Metadata devices h = absurd h
+
+-- the step is the first of what is left
+pub begins_by : (plan : Plan) (next : Want) → want plan ≡ next → ((answer : Answer) → next ≢ Rattle.wb_tasks.specs.declared.step.Want.TheVariants.End answer) → (ws : List Want) × (plan.steps ≡ next ∷ ws)
+begins_by plan next e n = by_steps plan.steps refl
+  where
+    by_steps : (steps : List Want) → plan.steps ≡ steps → (ws : List Want) × (plan.steps ≡ next ∷ ws)
+    by_steps [] k = absurd (n plan.answer (sym (sym (ap (λ (us : List Want). first_step us plan.answer) k) ∙ e)))
+    by_steps (v ∷ ws) k = (ws, k ∙ ap (λ (u : Want). u ∷ ws) (sym (ap (λ (us : List Want). first_step us plan.answer) k) ∙ e))
+
+module _ (size most blocks : ℕ) (words : Words) (committing : Bool) (devices : Devices (List History)) (actors : List Actor) (a : ℕ) (x : Actor) (s : World) (y : AbstractActor) (ex : slice_get actors a ≡ Some x) (ey : slice_get s.actors a ≡ Some y) (g : Agrees size most words committing devices actors s)
+    (part : BlockRange) (is_part : IsPart size part) (device : Dev) (e : Extent) (ws : List Want) (answer : Answer) (h : HoldsBlocks device) where
+  abbrev reading : Plan
+  reading = plan_of (Reading part) (Device (ReadExtent device e) ∷ ws) answer
+
+  abbrev writing : Plan
+  writing = plan_of (Writing part) (Device (WriteExtent device e) ∷ ws) answer
+
+  abbrev Then : Devices (List History) → Job → Plan → Got → Type 0
+  Then devices' job plan got = Follows size most s words committing devices' (slice_set actors a (after_step job plan got x))
+
+  abbrev list : List History
+  list = device_in device devices
+
+  read_done : (extent : Extent) (contents : List Content) → AreOfBlock size part.block.0 (Device (ReadExtent device e) ∷ ws) → Suits blocks reading x.card → length contents ≡ e.count → GivesEach list e.first contents → IsAt size [] reading x.card y → Then devices (Read extent) reading Done
+  read_done extent contents o suits n given is =
+      let m = followed_alone.read_done size [] [] s.actors a x.card s.shared y part device e ws answer list contents o.0 (suits.1.1.0, suits.1.1.1.1) (side_of size most words committing devices actors a x s y ex ey g device e h) n given is in
+      subst (λ (ds : Devices (List History)). Then ds (Read extent) reading Done) (same_device device devices h)
+      (moved size most words committing devices actors a x s y ex ey g (Read extent) [] Reading (after reading Done) device e (map Gave contents) list h m (ap (λ (v : AbstractActor). is_alone v.task) m.at.is)
+      (record { part = part; job = refl; is_part = is_part; of_block = o.1; at = inl m.at }))
+
+  read_fails : (extent : Extent) → AreOfBlock size part.block.0 (Device (ReadExtent device e) ∷ ws) → IsAt size [] reading x.card y → Then devices (Read extent) reading Fault
+  read_fails extent o is =
+      let m = followed_alone.read_fails size [] [] s.actors a x.card s.shared y part device e ws answer list o.0 (side_of size most words committing devices actors a x s y ex ey g device e h) is in
+      subst (λ (ds : Devices (List History)). Then ds (Read extent) reading Fault) (same_device device devices h)
+      (moved size most words committing devices actors a x s y ex ey g (Read extent) [] Reading (after reading Fault) device e read_fault list h m (ap (λ (v : AbstractActor). is_alone v.task) m.at.is)
+      (record { part = part; job = refl; is_part = is_part; of_block = tt; at = inl m.at }))
+
+  write_done : (extent : Extent) (content : Content) → AreOfBlock size part.block.0 (Device (WriteExtent device e) ∷ ws) → Suits blocks writing x.card → e.first + e.count ≤ length list → IsAt size content writing x.card y →
+      Then (with_device device devices (written_each list e.first (replicate e.count content))) (Write extent content) writing Done
+  write_done extent content o suits room is =
+      let m = followed_alone.write_done size [] content s.actors a x.card s.shared y part device e ws answer list o.0 (suits.1.1.0, suits.1.1.1.1) (side_of size most words committing devices actors a x s y ex ey g device e h) room is in
+      moved size most words committing devices actors a x s y ex ey g (Write extent content) content Writing (after writing Done) device e (replicate e.count DoneThere) (written_each list e.first (replicate e.count content)) h m (ap (λ (v : AbstractActor). is_alone v.task) m.at.is)
+      (record { part = part; job = refl; is_part = is_part; of_block = o.1; at = inl m.at })
+
+  write_fails : (extent : Extent) (content : Content) (lands : ℕ → Bool) → AreOfBlock size part.block.0 (Device (WriteExtent device e) ∷ ws) → e.first + e.count ≤ length list → IsAt size content writing x.card y →
+      Then (with_device device devices (written_where lands list e.first (replicate e.count content))) (Write extent content) writing Fault
+  write_fails extent content lands o room is =
+      let m = followed_alone.write_fails size [] content s.actors a x.card s.shared y part device e ws answer list lands o.0 (side_of size most words committing devices actors a x s y ex ey g device e h) room is in
+      moved size most words committing devices actors a x s y ex ey g (Write extent content) content Writing (after writing Fault) device e (faults lands e.first e.count) (written_where lands list e.first (replicate e.count content)) h m (ap (λ (v : AbstractActor). is_alone v.task) m.at.is)
+      (record { part = part; job = refl; is_part = is_part; of_block = tt; at = inl m.at })
+
+-- a request whose next step is on a device, as it is there
+pub record HasStep (size : ℕ) (content : Content) (words : Words) (job_on : BlockRange → BlockJob) (step : DeviceStep) (plan : Plan) (card : Card) (y : AbstractActor) : Type 0 where
+  pub part : BlockRange
+  pub is_part : IsPart size part
+  pub later : List Want
+  pub is : plan ≡ plan_of (job_on part) (Device step ∷ later) plan.answer
+  pub of_block : AreOfBlock size part.block.0 (Device step ∷ later)
+  pub at : IsAt size content (plan_of (job_on part) (Device step ∷ later) plan.answer) card y
+
+has_step : (size : ℕ) (content : Content) (words : Words) (job_on : BlockRange → BlockJob) (step : DeviceStep) (plan : Plan) (card : Card) (y : AbstractActor) → want plan ≡ Device step → IsRequestAt size content words job_on plan card y → HasStep size content words job_on step plan card y
+has_step size content words job_on step plan card y next r =
+    let b = begins_by plan (Device step) next (λ answer k. absurd (cc)) in
+    let is : plan ≡ plan_of (job_on r.part) (Device step ∷ b.0) plan.answer = (λ i. record { job = r.job i; steps = b.1 i; answer = plan.answer }) in
+    record {
+      part = r.part;
+      is_part = r.is_part;
+      later = b.0;
+      is = is;
+      of_block = subst (λ (ws : List Want). AreOfBlock size r.part.block.0 ws) b.1 r.of_block;
+      at = at_device size content words job_on r.part step b.0 plan.answer card y (subst At is r.at);
+    }
+  where
+    At : Plan → Type 0
+    At p = IsAt size content p card y ⊎ HasStopped words p card y ⊎ IsLate words p y
+
+pub extent_steps_followed : ExtentStepsFollowed
+extent_steps_followed = record {
+  read_done = λ size most blocks words committing devices actors a x extent plan device e contents s ex task suits next h n given g.
+      let y = there actors s.actors a x g.many ex in
+      let k = has_step size [] words Reading (ReadExtent device e) plan x.card y.0 next (doing_of size most words x y.0 (Read extent) plan (g.each a x y.0 ex y.1) task) in
+      subst (λ (p : Plan). Follows size most s words committing devices (slice_set actors a (after_step (Read extent) p Done x))) (sym k.is)
+      (read_done size most blocks words committing devices actors a x s y.0 ex y.1 g k.part k.is_part device e k.later plan.answer h extent contents k.of_block (subst (λ (p : Plan). Suits blocks p x.card) k.is suits) n given k.at);
+  read_fails = λ size most blocks words committing devices actors a x extent plan device e s ex task suits next h g.
+      let y = there actors s.actors a x g.many ex in
+      let k = has_step size [] words Reading (ReadExtent device e) plan x.card y.0 next (doing_of size most words x y.0 (Read extent) plan (g.each a x y.0 ex y.1) task) in
+      subst (λ (p : Plan). Follows size most s words committing devices (slice_set actors a (after_step (Read extent) p Fault x))) (sym k.is)
+      (read_fails size most blocks words committing devices actors a x s y.0 ex y.1 g k.part k.is_part device e k.later plan.answer h extent k.of_block k.at);
+  write_done = λ size most blocks words committing devices actors a x extent content plan device e s ex task suits next h room g.
+      let y = there actors s.actors a x g.many ex in
+      let k = has_step size content words Writing (WriteExtent device e) plan x.card y.0 next (doing_of size most words x y.0 (Write extent content) plan (g.each a x y.0 ex y.1) task) in
+      subst (λ (p : Plan). Follows size most s words committing (with_device device devices (written_each (device_in device devices) e.first (replicate e.count content))) (slice_set actors a (after_step (Write extent content) p Done x))) (sym k.is)
+      (write_done size most blocks words committing devices actors a x s y.0 ex y.1 g k.part k.is_part device e k.later plan.answer h extent content k.of_block (subst (λ (p : Plan). Suits blocks p x.card) k.is suits) room k.at);
+  write_fails = λ size most blocks words committing devices actors a x extent content plan device e lands s ex task suits next h room g.
+      let y = there actors s.actors a x g.many ex in
+      let k = has_step size content words Writing (WriteExtent device e) plan x.card y.0 next (doing_of size most words x y.0 (Write extent content) plan (g.each a x y.0 ex y.1) task) in
+      subst (λ (p : Plan). Follows size most s words committing (with_device device devices (written_where lands (device_in device devices) e.first (replicate e.count content))) (slice_set actors a (after_step (Write extent content) p Fault x))) (sym k.is)
+      (write_fails size most blocks words committing devices actors a x s y.0 ex y.1 g k.part k.is_part device e k.later plan.answer h extent content lands k.of_block room k.at);
+}

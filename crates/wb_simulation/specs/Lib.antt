@@ -1,0 +1,4 @@
+pub mod Steps
+pub mod Actors
+pub mod Worlds
+pub mod Laws

@@ -1,0 +1,30 @@
+-- What holds of the steps that a read or write of one block has still to take.
+use Rattle.std.specs.Prelude.{◌≡◌, ◌≤◌, ◌<◌, ◌+◌, ◌/◌, ◌%◌, ℕ, List, [], ◌∷◌, Contains}
+use Rattle.wb_types.specs.declared.extent.Extent.{Extent}
+use Rattle.wb_words.specs.SharedWords.{place_in, seal_word}
+use Rattle.wb_words.specs.declared.step.CellStep.TheVariants.{Seal}
+use Rattle.wb_tasks.specs.Tables.{BlockRange}
+use Rattle.wb_tasks.specs.declared.step.DeviceStep.TheVariants.{Read, Write}
+use Rattle.wb_tasks.specs.declared.step.Want.{Want}
+use Rattle.wb_tasks.specs.declared.step.Want.TheVariants.{Cell, Device}
+use Rattle.wb_refines.specs.Data.{IsInBlock}
+
+-- an extent of sectors of this block of the origin
+pub record IsOfBlock (size block : ℕ) (e : Extent) : Type 0 where
+  pub some : 0 < e.count
+  pub block_is : e.first / size ≡ block
+  pub room : e.first % size + e.count ≤ size
+
+-- a part of one block of so many sectors
+pub record IsPart (size : ℕ) (part : BlockRange) : Type 0 where
+  pub some : 0 < size
+  pub sized : size ≡ part.block_sectors
+  pub each : (e : Extent) → Contains part.extents e → IsOfBlock size part.block.0 e
+
+-- What is still to be moved is of this block, where it stands; and each seal tells the place of which it is made.
+abbrev pub AreOfBlock : ℕ → ℕ → List Want → Type 0
+AreOfBlock size block [] = Unit {0}
+AreOfBlock size block (Device (Read device e) ∷ later) = IsInBlock size block device e × AreOfBlock size block later
+AreOfBlock size block (Device (Write device e) ∷ later) = IsInBlock size block device e × AreOfBlock size block later
+AreOfBlock size block (Cell (Seal b place dirty) ∷ later) = (place_in (seal_word place dirty) ≡ place) × AreOfBlock size block later
+AreOfBlock size block (next ∷ later) = AreOfBlock size block later

@@ -1,0 +1,33 @@
+-- When a state of a run, where a target stands, is a state of the abstract world; and when what happens there is a run of that world.
+use Rattle.std.specs.Prelude.{◌≡◌, ℕ, Bool, true, List, [], Some, length, slice_get}
+use Rattle.wb_types.specs.declared.mode.Mode.TheVariants.{Writeback}
+use Rattle.wb_disk.specs.Device.{History}
+use Rattle.wb_contents.specs.Devices.{by_block}
+use Rattle.wb_words.specs.SharedWords.{Words}
+use Rattle.wb_devices.specs.declared.devices.Devices.{Devices}
+use Rattle.wb_link.specs.World.{World, Record, IsRun, after_all, Actor as AbstractActor}
+use Rattle.wb_refines.specs.Models.{WordsAgree}
+use Rattle.wb_runs.specs.States.{Actor}
+use Rattle.wb_simulation.specs.Actors.{StandsFor}
+
+-- These words, devices, actors, and whether the desk has a commit that runs, are those of the world. Blocks have so many sectors,
+-- and images at most so many nodes.
+pub record Agrees (size most : ℕ) (words : Words) (committing : Bool) (devices : Devices (List History)) (actors : List Actor) (s : World) : Type 0 where
+  pub words_agree : WordsAgree words s.shared
+  pub origin : s.shared.origin ≡ by_block size [] devices.origin
+  pub cache : s.shared.cache ≡ by_block size [] devices.cache
+  pub mode : s.shared.mode ≡ Writeback
+  pub commits : s.shared.committing ≡ committing
+  -- a commit that was broken runs for good
+  pub broken : s.shared.broken ≡ true → s.shared.committing ≡ true
+  -- one actor at most leads a commit, while one runs
+  pub led : (a : ℕ) (y : AbstractActor) → slice_get s.actors a ≡ Some y → y.leads ≡ true → s.shared.committing ≡ true
+  pub one_leads : (a b : ℕ) (y z : AbstractActor) → slice_get s.actors a ≡ Some y → slice_get s.actors b ≡ Some z → y.leads ≡ true → z.leads ≡ true → a ≡ b
+  pub many : length s.actors ≡ length actors
+  pub each : (a : ℕ) (x : Actor) (y : AbstractActor) → slice_get actors a ≡ Some x → slice_get s.actors a ≡ Some y → StandsFor size most words x y
+
+-- The world can go on by some records so that these are its state then.
+pub record Follows (size most : ℕ) (s : World) (words : Words) (committing : Bool) (devices : Devices (List History)) (actors : List Actor) : Type 0 where
+  pub records : List Record
+  pub run : IsRun size s records
+  pub agrees : Agrees size most words committing devices actors (after_all s records)

@@ -1,0 +1,20 @@
+//! Laws of how a run is followed in the abstract world.
+
+ghost use Rattle.wb_simulation.specs.Laws.{AnswersFollowed, CellStepsFollowed, ExtentStepsFollowed, StartsFollowed};
+
+/// Each step of a read or a write on the shared words is some records of the abstract world, which stands for the whole state of the
+/// run before them and after them: devices, words, the desk's commit and every actor.
+pub fn cell_steps_are_followed()
+    ensures { CellStepsFollowed }
+{}
+
+/// So is each of theirs on an extent of a device, done or failing.
+pub fn extent_steps_are_followed()
+    ensures { ExtentStepsFollowed }
+{}
+
+/// So are starts of reads, writes and flushes, and answers of reads and writes.
+pub fn starts_and_answers_are_followed()
+    ensures starts { StartsFollowed }
+    ensures answers { AnswersFollowed }
+{}

@@ -1,0 +1,9 @@
+//! Runs of reads, writes, flushes and openings on three devices (wb_runs) as runs of the abstract world of all tasks (wb_link):
+//! definitions and laws, no code.
+#![tactic(auto)]
+
+mod law;
+
+pub use law::{
+    cell_steps_are_followed, extent_steps_are_followed, starts_and_answers_are_followed,
+};
