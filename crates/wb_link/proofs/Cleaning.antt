@@ -6,13 +6,13 @@ use Rattle.wb_contents.specs.Acts.{after as after_act, Copy_back, Make_clean, af
 use Rattle.wb_contents.specs.Conditions.{IsCopied}
 use Rattle.wb_contents.proofs.Positions.{changed_same, last_of-append}
 use Rattle.wb_contents.proofs.Sectors.{here_is, elsewhere_is}
-use Rattle.wb_link.specs.Tables.{Order, Cleaning, Answer, Finished, Busy, Failed, Io, Want, Look_fail, Own, Look_seal, Set_seal, Disown, Set_failed, Read_at, Write_at, Give_up, End, Choice, Got, Done, Lost, Flag, Seen, Gave, Fault, Seal, copy_each, copy_dirty, cleaning}
+use Rattle.wb_link.specs.Tables.{Order, Cleaning, Answer, Finished, Busy, Failed, Io, Want, Look_fail, Own, Look_seal, Set_seal, Disown, Set_failed, Read_at, Write_at, Give_up, End, Choice, Got, Done, Lost, Flag, Seen, Gave, Fault, Seal, copy_each, copy_dirty, cleaning, until_failed, steps_after_fault}
 use Rattle.wb_link.specs.World.{given_back, Shared, Held, Nothing, Owns, Actor, Within, Covers, actor_after, put_sector, if_landed}
 use Rattle.wb_link.proofs.Views.{BlockView, block_view}
 use Rattle.wb_link.proofs.Link.{Good, Rests, RestsAt, MayEnd, Receives, Others, Right, Goes, Safe, if_so}
 use Rattle.wb_link.proofs.Actors.{others_same}
 use Rattle.wb_link.proofs.Agreeing.{empty_agrees, failed_agrees, seal_agrees, blocks_agrees}
-use Rattle.wb_link.proofs.Copying.{EqualBut, equal_on, equal_more, equal_all, past_equal}
+use Rattle.wb_link.proofs.Copying.{EqualBut, equal_on, equal_more, equal_all, past_equal, until_copied}
 use Rattle.wb_link.proofs.Givings.{holds_nothing, at_work, script_of, Comes, may_end_on, resting_safe, quietly, gives_flag, gives_own, gives_seal, gives_set, gives_disown, gives_failed, gives_read, gives_write, gives_up, gives_end}
 
 abbrev cleaning_of : Order → List ℕ → List Want → Answer → Held → Option Order → Content → Actor
@@ -115,80 +115,135 @@ cleaning_on size a p os steps answer c left s t d e o k = let now = placed_on a 
 }
 
 -- a sector of the origin is written
+more_copied : (p : Order) (q : ℕ) (c : Content) (t : Shared) (e : Volume) → Placed p t e → Placed p (put_sector t None p.block q c) (after_act e (Copy_back p.block q))
+more_copied p q c t e k = record { rests = record { whole = k.rests.whole; location = k.rests.location; dirty = k.rests.dirty; done = k.rests.done }; mapped = k.mapped; live = k.live }
+
 emptied : (size : ℕ) (p : Order) (q : ℕ) (os : List ℕ) (c : Content) (t : Shared) (e : Volume) → CopiesHome size p (q ∷ os) t e → CopiesHome size p os (put_sector t None p.block q c) (after_act e (Copy_back p.block q))
 emptied size p q os c t e k =
     let new = newest (location e e.mapping p.block q) in record {
-      placed = record { rests = record { whole = k.placed.rests.whole; location = k.placed.rests.location; dirty = k.placed.rests.dirty; done = k.placed.rests.done }; mapped = k.placed.mapped; live = k.placed.live };
+      placed = more_copied p q c t e k.placed;
       equal = equal_more size q os (λ i. newest (e.cache p.cache i)) (λ i. newest (e.origin p.block i)) _ _
           (sym (ap newest (here_is e.origin p.block q (added (e.origin p.block q) new)) ∙ last_of-append (e.origin p.block q).first new (e.origin p.block q).later ∙ latest_is p e q k.placed.mapped))
           (λ i n. refl) (λ i n. ap newest (elsewhere_is e.origin p.block q p.block i (added (e.origin p.block q) new) (inr n))) k.equal;
     }
 
-abbrev read_left : Order → List ℕ → List ℕ → Content → Actor
-read_left p all os c = cleaning_of p all (copy_each (Some p.cache) None p.block os (cleaning p)) Finished (Owns p.block) (Some p) c
+-- what is left of the copy, before a sector is read and before it is written; with a failed write behind it, it ends in the failed bit
+abbrev read_left : Order → List ℕ → List ℕ → List Want → Answer → Content → Actor
+read_left p all os last answer c = cleaning_of p all (copy_each (Some p.cache) None p.block os last) answer (Owns p.block) (Some p) c
 
-abbrev write_left : Order → List ℕ → ℕ → List ℕ → Content → Actor
-write_left p all q os c = cleaning_of p all (Write_at None p.block q ∷ copy_each (Some p.cache) None p.block os (cleaning p)) Finished (Owns p.block) (Some p) c
+abbrev write_left : Order → List ℕ → ℕ → List ℕ → List Want → Answer → Content → Actor
+write_left p all q os last answer c = cleaning_of p all (Write_at None p.block q ∷ copy_each (Some p.cache) None p.block os last) answer (Owns p.block) (Some p) c
 
-pasting : (n size a : ℕ) (p : Order) (all : List ℕ) (q : ℕ) (os : List ℕ) (c : Content) (s : Shared) (d : Volume) → q < size → c ≡ newest (d.cache p.cache q) → CopiesHome size p (q ∷ os) s d →
-    ((t : Shared) (e : Volume) → CopiesHome size p os t e → Safe n size a (read_left p all os c) t e) → Safe (suc n) size a (write_left p all q os c) s d
+returning : (n size a : ℕ) (p : Order) (all : List ℕ) (c : Content) (t : Shared) (e : Volume) → RestsAt t e p.block → Safe n size a (cleaning_of p all (Disown p.block ∷ Give_up p ∷ []) Io (Owns p.block) (Some p) c) t e
+returning zero size a p all c t e k = tt
+returning (suc n) size a p all c t e k = disowning n size a p all (Give_up p ∷ []) Io (Some p) c t e k (λ u f. giving n size a p all Io c u f)
+
+module _ (n size a : ℕ) (p : Order) (all : List ℕ) (q : ℕ) (os : List ℕ) (last : List Want) (answer : Answer) (c : Content) (until : until_failed last ≡ Set_failed ∷ []) (inside : q < size) (next : (t : Shared) (e : Volume) → Placed p t e → Safe n size a (read_left p all os (Set_failed ∷ []) Io c) t e) where
+  left_after : (more : Bool) (t : Shared) (e : Volume) → Placed p t e → Safe n size a (cleaning_of p all (steps_after_fault (Cleaning p all) more (copy_each (Some p.cache) None p.block os last)) Io (Owns p.block) (Some p) c) t e
+  left_after true t e k = subst (λ (ws : List Want). Safe n size a (cleaning_of p all ws Io (Owns p.block) (Some p) c) t e) (sym (until_copied (Some p.cache) None p.block os last until)) (next t e k)
+  left_after false t e k = failing n size a p all (Owns p.block) c t e
+
+  -- a sector's write fails
+  failed : (choice : Choice) (t : Shared) (e : Volume) → Good size t e → Placed p t e → c ≡ newest (location e e.mapping p.block q) → (landed : Bool) →
+      Goes size a (λ y u f. Safe n size a y u f) (write_left p all q os last answer c)
+      (script_of (Cleaning p all) (Write_at None p.block q ∷ copy_each (Some p.cache) None p.block os last) answer) (Write_at None p.block q) (Fault choice)
+      t (if_landed landed (put_sector t None p.block q c) t) e (after_acts e (if_so landed (Copy_back p.block q ∷ []))) (if_so landed (Copy_back p.block q ∷ []))
+  failed choice t e g now same true = record {
+    run = ((now.live, now.rests.whole q), tt);
+    mine = ((refl, inside), tt);
+    agrees = empty_agrees t e p.block q c same g.agrees;
+    ready = refl;
+    owes = tt;
+    right = plain a p all (Write_at None p.block q) (Fault choice) e (after_act e (Copy_back p.block q)) refl;
+    left = left_after choice.more _ _ (more_copied p q c t e now);
+  }
+  failed choice t e g now same false = quietly size a (λ y u f. Safe n size a y u f) _ _ (Write_at None p.block q) (Fault choice) t e g refl tt (plain a p all (Write_at None p.block q) (Fault choice) e e refl) (left_after choice.more t e now)
+
+-- what was read on the cache is still the last content there
+still : (a : ℕ) (p : Order) (all : List ℕ) (steps : List Want) (answer : Answer) (q : ℕ) (c : Content) (s t : Shared) (d e : Volume) → Others a (cleaning_of p all steps answer (Owns p.block) (Some p) c) s d t e → Placed p s d → Placed p t e → c ≡ newest (d.cache p.cache q) → c ≡ newest (location e e.mapping p.block q)
+still a p all steps answer q c s t d e o k now is = is ∙ sym (cache_on p d e q k.mapped now.mapped (o.block p.block refl)) ∙ sym (latest_is p e q now.mapped)
+
+-- ---- with a failed write behind it
+
+failing_write : (n size a : ℕ) (p : Order) (all : List ℕ) (q : ℕ) (os : List ℕ) (c : Content) (s : Shared) (d : Volume) → q < size → c ≡ newest (d.cache p.cache q) → Placed p s d →
+    ((t : Shared) (e : Volume) → Placed p t e → Safe n size a (read_left p all os (Set_failed ∷ []) Io c) t e) → Safe (suc n) size a (write_left p all q os (Set_failed ∷ []) Io c) s d
+failing_write n size a p all q os c s d m is k next = λ t e got o g v r.
+    let steps = Write_at None p.block q ∷ copy_each (Some p.cache) None p.block os (Set_failed ∷ []) in
+    let now = placed_on a p all steps Io c s t d e o k in
+    let right_one = still a p all steps Io q c s t d e o k now is in
+    gives_write t None p.block q (λ w. Result n size a p all steps Io (Owns p.block) (Some p) c t e w)
+    (record {
+      run = ((now.live, now.rests.whole q), tt);
+      mine = ((refl, m), tt);
+      agrees = empty_agrees t e p.block q c right_one g.agrees;
+      ready = refl;
+      owes = tt;
+      right = plain a p all (Write_at None p.block q) Done e (after_act e (Copy_back p.block q)) refl;
+      left = next _ (after_act e (Copy_back p.block q)) (more_copied p q c t e now);
+    })
+    (λ choice. failed n size a p all q os (Set_failed ∷ []) Io c refl m next choice t e g now right_one choice.landed)
+    got v
+
+failing_read : (n size a : ℕ) (p : Order) (all : List ℕ) (q : ℕ) (os : List ℕ) (c : Content) (s : Shared) (d : Volume) → Placed p s d →
+    ((x : Content) (t : Shared) (e : Volume) → x ≡ newest (e.cache p.cache q) → Placed p t e → Safe n size a (write_left p all q os (Set_failed ∷ []) Io x) t e) → Safe (suc n) size a (read_left p all (q ∷ os) (Set_failed ∷ []) Io c) s d
+failing_read n size a p all q os c s d k next = λ t e got o g v r. let steps = copy_each (Some p.cache) None p.block (q ∷ os) (Set_failed ∷ []) in
+    let now = placed_on a p all steps Io c s t d e o k in
+    gives_read t (Some p.cache) p.block q (λ w. Result n size a p all steps Io (Owns p.block) (Some p) c t e w)
+    (λ x is. quietly size a (λ y u f. Safe n size a y u f) _ _ (Read_at (Some p.cache) p.block q) (Gave x) t e g tt tt (plain a p all (Read_at (Some p.cache) p.block q) (Gave x) e e refl)
+    (next x t e (is ∙ ap (λ f. newest (f p.cache q)) g.agrees.cache) now))
+    (λ choice. quietly size a (λ y u f. Safe n size a y u f) _ _ (Read_at (Some p.cache) p.block q) (Fault choice) t e g tt tt (plain a p all (Read_at (Some p.cache) p.block q) (Fault choice) e e refl) (returning n size a p all c t e now.rests))
+    got v
+
+failing_each : (n size a : ℕ) (p : Order) (all os : List ℕ) (c : Content) (s : Shared) (d : Volume) → Within size os → Placed p s d → Safe n size a (read_left p all os (Set_failed ∷ []) Io c) s d
+failing_each zero size a p all os c s d m k = tt
+failing_each (suc n) size a p all [] c s d m k = failing (suc n) size a p all (Owns p.block) c s d
+failing_each (suc zero) size a p all (q ∷ os) c s d m k = failing_read zero size a p all q os c s d k (λ x t e is h. tt)
+failing_each (suc (suc n)) size a p all (q ∷ os) c s d m k = failing_read (suc n) size a p all q os c s d k
+    (λ x t e is h. failing_write n size a p all q os x t e m.0 is h (λ u f j. failing_each n size a p all os x u f m.1 j))
+
+-- ---- with none
+
+pasting : (n size a : ℕ) (p : Order) (all : List ℕ) (q : ℕ) (os : List ℕ) (c : Content) (s : Shared) (d : Volume) → Within size (q ∷ os) → c ≡ newest (d.cache p.cache q) → CopiesHome size p (q ∷ os) s d →
+    ((t : Shared) (e : Volume) → CopiesHome size p os t e → Safe n size a (read_left p all os (cleaning p) Finished c) t e) → Safe (suc n) size a (write_left p all q os (cleaning p) Finished c) s d
 pasting n size a p all q os c s d m is k next = λ t e got o g v r.
     let steps = Write_at None p.block q ∷ copy_each (Some p.cache) None p.block os (cleaning p) in
     let now = cleaning_on size a p all steps Finished c (q ∷ os) s t d e o k in
-    let right_one : c ≡ newest (location e e.mapping p.block q) = is ∙ sym (cache_on p d e q k.placed.mapped now.placed.mapped (o.block p.block refl)) ∙ sym (latest_is p e q now.placed.mapped) in
+    let right_one = still a p all steps Finished q c s t d e o k.placed now.placed is in
     gives_write t None p.block q (λ w. Result n size a p all steps Finished (Owns p.block) (Some p) c t e w)
     (record {
       run = ((now.placed.live, now.placed.rests.whole q), tt);
-      mine = ((refl, m), tt);
+      mine = ((refl, m.0), tt);
       agrees = empty_agrees t e p.block q c right_one g.agrees;
       ready = refl;
       owes = tt;
       right = plain a p all (Write_at None p.block q) Done e (after_act e (Copy_back p.block q)) refl;
       left = next _ (after_act e (Copy_back p.block q)) (emptied size p q os c t e now);
     })
-    (λ choice. failed choice t e g now right_one choice.landed)
+    (λ choice. failed n size a p all q os (cleaning p) Finished c refl m.0 (λ u f j. failing_each n size a p all os c u f m.1 j) choice t e g now.placed right_one choice.landed)
     got v
-  where
-    failed : (choice : Choice) (t : Shared) (e : Volume) → Good size t e → CopiesHome size p (q ∷ os) t e → c ≡ newest (location e e.mapping p.block q) → (landed : Bool) →
-        Goes size a (λ y u f. Safe n size a y u f) (write_left p all q os c)
-        (script_of (Cleaning p all) (Write_at None p.block q ∷ copy_each (Some p.cache) None p.block os (cleaning p)) Finished) (Write_at None p.block q) (Fault choice)
-        t (if_landed landed (put_sector t None p.block q c) t) e (after_acts e (if_so landed (Copy_back p.block q ∷ []))) (if_so landed (Copy_back p.block q ∷ []))
-    failed choice t e g now same true = record {
-      run = ((now.placed.live, now.placed.rests.whole q), tt);
-      mine = ((refl, m), tt);
-      agrees = empty_agrees t e p.block q c same g.agrees;
-      ready = refl;
-      owes = tt;
-      right = plain a p all (Write_at None p.block q) (Fault choice) e (after_act e (Copy_back p.block q)) refl;
-      left = failing n size a p all (Owns p.block) c _ _;
-    }
-    failed choice t e g now same false = quietly size a (λ y u f. Safe n size a y u f) _ _ (Write_at None p.block q) (Fault choice) t e g refl tt (plain a p all (Write_at None p.block q) (Fault choice) e e refl) (failing n size a p all (Owns p.block) c t e)
 
 reading_next : (n size a : ℕ) (p : Order) (all : List ℕ) (q : ℕ) (os : List ℕ) (c : Content) (s : Shared) (d : Volume) → CopiesHome size p (q ∷ os) s d →
-    ((x : Content) (t : Shared) (e : Volume) → x ≡ newest (e.cache p.cache q) → CopiesHome size p (q ∷ os) t e → Safe n size a (write_left p all q os x) t e) → Safe (suc n) size a (read_left p all (q ∷ os) c) s d
-reading_next n size a p all q os c s d k next = λ t e got o g v r. let now = cleaning_on size a p all (copy_each (Some p.cache) None p.block (q ∷ os) (cleaning p)) Finished c (q ∷ os) s t d e o k in
-    gives_read t (Some p.cache) p.block q (λ w. Result n size a p all (copy_each (Some p.cache) None p.block (q ∷ os) (cleaning p)) Finished (Owns p.block) (Some p) c t e w)
+    ((x : Content) (t : Shared) (e : Volume) → x ≡ newest (e.cache p.cache q) → CopiesHome size p (q ∷ os) t e → Safe n size a (write_left p all q os (cleaning p) Finished x) t e) → Safe (suc n) size a (read_left p all (q ∷ os) (cleaning p) Finished c) s d
+reading_next n size a p all q os c s d k next = λ t e got o g v r. let steps = copy_each (Some p.cache) None p.block (q ∷ os) (cleaning p) in
+    let now = cleaning_on size a p all steps Finished c (q ∷ os) s t d e o k in
+    gives_read t (Some p.cache) p.block q (λ w. Result n size a p all steps Finished (Owns p.block) (Some p) c t e w)
     (λ x is. quietly size a (λ y u f. Safe n size a y u f) _ _ (Read_at (Some p.cache) p.block q) (Gave x) t e g tt tt (plain a p all (Read_at (Some p.cache) p.block q) (Gave x) e e refl)
     (next x t e (is ∙ ap (λ f. newest (f p.cache q)) g.agrees.cache) now))
-    (λ choice. quietly size a (λ y u f. Safe n size a y u f) _ _ (Read_at (Some p.cache) p.block q) (Fault choice) t e g tt tt (plain a p all (Read_at (Some p.cache) p.block q) (Fault choice) e e refl) (back n t e now.placed.rests))
+    (λ choice. quietly size a (λ y u f. Safe n size a y u f) _ _ (Read_at (Some p.cache) p.block q) (Fault choice) t e g tt tt (plain a p all (Read_at (Some p.cache) p.block q) (Fault choice) e e refl) (returning n size a p all c t e now.placed.rests))
     got v
-  where
-    back : (n : ℕ) (t : Shared) (e : Volume) → RestsAt t e p.block → Safe n size a (cleaning_of p all (Disown p.block ∷ Give_up p ∷ []) Io (Owns p.block) (Some p) c) t e
-    back zero t e k = tt
-    back (suc m) t e k = disowning m size a p all (Give_up p ∷ []) Io (Some p) c t e k (λ u f. giving m size a p all Io c u f)
 
-copied_now : (n size a : ℕ) (p : Order) (all : List ℕ) (c : Content) (s : Shared) (d : Volume) → CopiesHome size p [] s d → Safe n size a (read_left p all [] c) s d
+copied_now : (n size a : ℕ) (p : Order) (all : List ℕ) (c : Content) (s : Shared) (d : Volume) → CopiesHome size p [] s d → Safe n size a (read_left p all [] (cleaning p) Finished c) s d
 copied_now zero size a p all c s d k = tt
 copied_now (suc n) size a p all c s d k = λ t e got o g v r.
     let now = cleaning_on size a p all (cleaning p) Finished c [] s t d e o k in
-    leaving (suc n) size a p all c t e now.placed (inl (equal_all size _ _ now.equal (past_equal size e p.block p.cache g.bounded))) t e got (others_same a (read_left p all [] c) t e) g v r
+    leaving (suc n) size a p all c t e now.placed (inl (equal_all size _ _ now.equal (past_equal size e p.block p.cache g.bounded))) t e got (others_same a (read_left p all [] (cleaning p) Finished c) t e) g v r
 
-copying : (n size a : ℕ) (p : Order) (all os : List ℕ) (c : Content) (s : Shared) (d : Volume) → Within size os → CopiesHome size p os s d → Safe n size a (read_left p all os c) s d
+copying : (n size a : ℕ) (p : Order) (all os : List ℕ) (c : Content) (s : Shared) (d : Volume) → Within size os → CopiesHome size p os s d → Safe n size a (read_left p all os (cleaning p) Finished c) s d
 copying zero size a p all os c s d m k = tt
 copying (suc n) size a p all [] c s d m k = copied_now (suc n) size a p all c s d k
 copying (suc zero) size a p all (q ∷ os) c s d m k = reading_next zero size a p all q os c s d k (λ x t e is h. tt)
 copying (suc (suc n)) size a p all (q ∷ os) c s d m k = reading_next (suc n) size a p all q os c s d k
-    (λ x t e is h. pasting n size a p all q os x t e m.0 is h (λ u f j. copying n size a p all os x u f m.1 j))
+    (λ x t e is h. pasting n size a p all q os x t e m is h (λ u f j. copying n size a p all os x u f m.1 j))
 
 -- The seal tells whether there is anything to copy.
 

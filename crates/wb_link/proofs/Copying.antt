@@ -1,9 +1,15 @@
 -- How far two locations of a block have the same last contents, while it is copied sector by sector.
-use Rattle.std.proofs.Common.{◌≡◌, ◌≢◌, ◌≤◌, ◌<◌, ◌⊎◌, inl, inr, ℕ, zero, suc, List, [], ◌∷◌, sym, ap, ◌∙◌, arith, Contains}
+use Rattle.std.proofs.Common.{◌≡◌, ◌≢◌, ◌≤◌, ◌<◌, ◌⊎◌, inl, inr, ℕ, zero, suc, List, [], ◌∷◌, Option, sym, ap, ◌∙◌, arith, Contains}
 use Rattle.std.proofs.lemmas.Bool.{cases_eq, cases_lt}
 use Rattle.wb_disk.specs.Device.{Content, newest}
 use Rattle.wb_contents.specs.Volume.{Volume}
+use Rattle.wb_link.specs.Tables.{Want, Read_at, Write_at, Set_failed, copy_each, until_failed}
 use Rattle.wb_link.proofs.Link.{Bounded}
+
+-- A copy of which a write has failed goes on to its last sector, and no further.
+pub until_copied : (from to : Option ℕ) (b : ℕ) (os : List ℕ) (last : List Want) → until_failed last ≡ Set_failed ∷ [] → until_failed (copy_each from to b os last) ≡ copy_each from to b os (Set_failed ∷ [])
+until_copied from to b [] last e = e
+until_copied from to b (o ∷ os) last e = ap (λ ws. Read_at from b o ∷ Write_at to b o ∷ ws) (until_copied from to b os last e)
 
 -- all but these sectors
 abbrev pub EqualBut : ℕ → List ℕ → (ℕ → Content) → (ℕ → Content) → Type 0

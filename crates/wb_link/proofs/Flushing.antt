@@ -3,7 +3,7 @@ use Rattle.std.proofs.Common.{◌≡◌, ◌≢◌, ◌≤◌, ◌+◌, inl, ℕ
 use Rattle.wb_disk.specs.Device.{Content}
 use Rattle.wb_contents.specs.Volume.{Volume}
 use Rattle.wb_contents.specs.Acts.{after as after_act, Begin_commit, Sync_cache, Sync_origin, Fail_cache_sync, Fail_origin_sync, Write_root, End_commit, End_flush}
-use Rattle.wb_link.specs.Tables.{Order, Flushing, let_go, Answer, Finished, Busy, Failed, Io, Want, Look_fail, Set_failed, Break_commits, Begin, Sync_cache_device, Sync_origin_device, Put_root, Sync_metadata, End_running, Give_up, End, Got, Done, Flag, Ticket, Served, Broken, Short, Fault}
+use Rattle.wb_link.specs.Tables.{Order, Flushing, let_go, Answer, Finished, Busy, Failed, Io, Want, Look_fail, Set_failed, Break_commits, Begin, Sync_cache_device, Sync_origin_device, Put_root, Sync_metadata, End_running, Give_up, End, Got, Done, Lost, Flag, Ticket, Served, Broken, Short, Fault}
 use Rattle.wb_link.specs.World.{Shared, Nothing, Actor, actor_after}
 use Rattle.wb_link.proofs.Views.{CommitView, commit_view}
 use Rattle.wb_link.proofs.Link.{Good, Others, Receives, Right, FlushesRight, Safe}
@@ -183,6 +183,7 @@ asking q (suc n) size a k c s d i j l = λ t e got o g v r.
     (λ served. quietly size a (λ y u f. Safe n size a y u f) _ _ (Begin (Some k)) Served t e g refl tt (plain q a (Begin (Some k)) Served e e refl tt) (finishing q n size a c t e (omega (arith, i, o.ticket, served, g.agrees.ended))))
     (quietly size a (λ y u f. Safe n size a y u f) _ _ (Begin (Some k)) Broken t e g refl tt (plain q a (Begin (Some k)) Broken e e refl tt) (given_up q n size a Failed false c t e (λ f. absurd (cc))))
     (quietly size a (λ y u f. Safe n size a y u f) _ _ (Begin (Some k)) Short t e g refl tt (plain q a (Begin (Some k)) Short e e refl tt) (short q n size a c t e))
+    (quietly size a (λ y u f. Safe n size a y u f) _ _ (Begin (Some k)) Lost t e g refl tt (plain q a (Begin (Some k)) Lost e e refl tt) (given_up q n size a Busy false c t e (λ f. absurd (cc))))
     got v
 
 beginning : (q : Option Order) (n size a : ℕ) (c : Content) (s : Shared) (d : Volume) → d.ticket a ≤ d.began + 1 → d.live ≡ true → Safe n size a (flushing q (Begin None ∷ Sync_cache_device ∷ Sync_origin_device ∷ Put_root ∷ Sync_metadata ∷ End_running ∷ []) Finished false c) s d
@@ -195,6 +196,7 @@ beginning q (suc n) size a c s d k l = λ t e got o g v r.
     (λ served. absurd served)
     (quietly size a (λ y u f. Safe n size a y u f) _ _ (Begin None) Broken t e g refl tt (plain q a (Begin None) Broken e e refl tt) (given_up q n size a Failed false c t e (λ f. absurd (cc))))
     (quietly size a (λ y u f. Safe n size a y u f) _ _ (Begin None) Short t e g refl tt (plain q a (Begin None) Short e e refl tt) (short q n size a c t e))
+    (quietly size a (λ y u f. Safe n size a y u f) _ _ (Begin None) Lost t e g refl tt (plain q a (Begin None) Lost e e refl tt) (given_up q n size a Busy false c t e (λ f. absurd (cc))))
     got v
 
 pub flushing_safe : (q : Option Order) (n size a : ℕ) (c : Content) (s : Shared) (d : Volume) → d.ticket a ≤ d.began + 1 → Safe n size a (flushing q (Look_fail ∷ Begin None ∷ Sync_cache_device ∷ Sync_origin_device ∷ Put_root ∷ Sync_metadata ∷ End_running ∷ []) Finished false c) s d

@@ -4,7 +4,7 @@ use Rattle.wb_disk.specs.Device.{Content}
 use Rattle.wb_contents.specs.Volume.{Volume}
 use Rattle.wb_types.specs.declared.mode.Mode.{Mode}
 use Rattle.wb_contents.specs.Acts.{after_all as after_acts}
-use Rattle.wb_link.specs.Tables.{Order, Job, Seal, Answer, Finished, Busy, Failed, Io, Want, Look_fail, Share, Own, Look_seal, Set_seal, Leave, Disown, Set_failed, Set_suspended, Break_commits, Read_at, Write_at, Begin, Begin_clean, Sync_cache_device, Sync_origin_device, Put_root, Sync_metadata, End_running, Map_to, Unmap_from, Unmap_plain, Give_up, End, Choice, Got, Done, Lost, Flag, Seen, Gave, Ticket, Served, Broken, Short, Fault, Script, first_of_steps}
+use Rattle.wb_link.specs.Tables.{Order, Job, Seal, Answer, Finished, Busy, Failed, Io, Want, Look_fail, Share, Own, Look_seal, Set_seal, Leave, Disown, Set_failed, Set_suspended, Break_commits, Read_at, Write_at, Begin, Begin_clean, Sync_cache_device, Sync_origin_device, Put_root, Sync_metadata, End_running, Make_room, Map_to, Unmap_from, Unmap_plain, Give_up, End, Choice, Got, Done, Lost, Flag, Seen, Gave, Ticket, Served, Broken, Short, Fault, Script, first_of_steps}
 use Rattle.wb_link.specs.World.{Serves, Shared, Held, Nothing, Actor, actor_after, newest_at, Gives, effect}
 use Rattle.wb_link.proofs.Link.{Good, Others, MayEnd, Ready, Owes, Right, Goes, Safe, acts_of}
 
@@ -52,13 +52,14 @@ gives_write s location b o P p q Done g = p
 gives_write s location b o P p q (Fault choice) g = q choice
 gives_write s location b o P p q got g = absurd g
 
-pub gives_begin : (s : Shared) (ticket : Option ℕ) (P : Got → Type 0) → (s.committing ≡ false → P Done) → ((k : ℕ) → ticket ≡ None → k ≡ s.began + 1 → P (Ticket k)) → (Serves s ticket → P Served) → P Broken → P Short → (got : Got) → Gives s (Begin ticket) got → P got
-gives_begin s ticket P p q r z y Done g = p g.0
-gives_begin s ticket P p q r z y (Ticket k) g = q k g.0 g.3
-gives_begin s ticket P p q r z y Served g = r g
-gives_begin s ticket P p q r z y Broken g = z
-gives_begin s ticket P p q r z y Short g = y
-gives_begin s ticket P p q r z y got g = absurd g
+pub gives_begin : (s : Shared) (ticket : Option ℕ) (P : Got → Type 0) → (s.committing ≡ false → P Done) → ((k : ℕ) → ticket ≡ None → k ≡ s.began + 1 → P (Ticket k)) → (Serves s ticket → P Served) → P Broken → P Short → P Lost → (got : Got) → Gives s (Begin ticket) got → P got
+gives_begin s ticket P p q r z y x Done g = p g.0
+gives_begin s ticket P p q r z y x (Ticket k) g = q k g.0 g.3
+gives_begin s ticket P p q r z y x Served g = r g
+gives_begin s ticket P p q r z y x Broken g = z
+gives_begin s ticket P p q r z y x Short g = y
+gives_begin s ticket P p q r z y x Lost g = x
+gives_begin s ticket P p q r z y x got g = absurd g
 
 pub gives_suspend : (s : Shared) (P : Got → Type 0) → (s.committing ≡ false → P Done) → P Lost → (got : Got) → Gives s Begin_clean got → P got
 gives_suspend s P p q Done g = p g
@@ -96,6 +97,11 @@ gives_meta s P p q got g = absurd g
 pub gives_running : (s : Shared) (P : Got → Type 0) → P Done → (got : Got) → Gives s End_running got → P got
 gives_running s P p Done g = p
 gives_running s P p got g = absurd g
+
+pub gives_room : (s : Shared) (P : Got → Type 0) → P Done → P Short → (got : Got) → Gives s Make_room got → P got
+gives_room s P p q Done g = p
+gives_room s P p q Short g = q
+gives_room s P p q got g = absurd g
 
 pub gives_map : (s : Shared) (order : Order) (P : Got → Type 0) → P Done → (got : Got) → Gives s (Map_to order) got → P got
 gives_map s order P p Done g = p

@@ -60,15 +60,15 @@ one_actor_runs = (
                                 (
                                   (_, _, record { actor = refl; task = refl; asked = refl; gives = tt; wins = tt }),
                                   (
-                                    (_, record { actor = refl; task = refl; held = refl; order = refl; leads = refl; nobody_alone = nobody _ refl; may = ((omega arith, tt), refl) }),
+                                    (_, _, record { actor = refl; task = refl; asked = refl; gives = tt; wins = tt }),
                                     (
-                                      (_, _, record { actor = refl; task = refl; asked = refl; gives = refl; wins = tt }),
+                                      (_, record { actor = refl; task = refl; held = refl; order = refl; leads = refl; nobody_alone = nobody _ refl; may = ((omega arith, tt), refl) }),
                                       (
-                                        (_, _, record { actor = refl; task = refl; asked = refl; gives = tt; wins = free _ refl }),
+                                        (_, _, record { actor = refl; task = refl; asked = refl; gives = refl; wins = tt }),
                                         (
-                                          (_, _, record { actor = refl; task = refl; asked = refl; gives = refl; wins = tt }),
+                                          (_, _, record { actor = refl; task = refl; asked = refl; gives = tt; wins = free _ refl }),
                                           (
-                                            (_, _, record { actor = refl; task = refl; asked = refl; gives = tt; wins = tt }),
+                                            (_, _, record { actor = refl; task = refl; asked = refl; gives = refl; wins = tt }),
                                             (
                                               (_, _, record { actor = refl; task = refl; asked = refl; gives = tt; wins = tt }),
                                               (
@@ -76,13 +76,13 @@ one_actor_runs = (
                                                 (
                                                   (_, _, record { actor = refl; task = refl; asked = refl; gives = tt; wins = tt }),
                                                   (
-                                                    (_, record { actor = refl; task = refl; held = refl; order = refl; leads = refl; nobody_alone = nobody _ refl; may = refl }),
+                                                    (_, _, record { actor = refl; task = refl; asked = refl; gives = tt; wins = tt }),
                                                     (
-                                                      (_, _, record { actor = refl; task = refl; asked = refl; gives = refl; wins = tt }),
+                                                      (_, record { actor = refl; task = refl; held = refl; order = refl; leads = refl; nobody_alone = nobody _ refl; may = refl }),
                                                       (
-                                                        (_, _, record { actor = refl; task = refl; asked = refl; gives = (refl, refl, tt); wins = tt }),
+                                                        (_, _, record { actor = refl; task = refl; asked = refl; gives = refl; wins = tt }),
                                                         (
-                                                          (_, _, record { actor = refl; task = refl; asked = refl; gives = tt; wins = tt }),
+                                                          (_, _, record { actor = refl; task = refl; asked = refl; gives = (refl, refl, tt); wins = tt }),
                                                           (
                                                             (_, _, record { actor = refl; task = refl; asked = refl; gives = tt; wins = tt }),
                                                             (
@@ -94,17 +94,17 @@ one_actor_runs = (
                                                                   (
                                                                     (_, _, record { actor = refl; task = refl; asked = refl; gives = tt; wins = tt }),
                                                                     (
-                                                                      (_, record { actor = refl; task = refl; held = refl; order = refl; leads = refl; nobody_alone = nobody _ refl; may = ((omega arith, tt), covers, ungiven _ refl, (λ e. absurd (cc)), refl, refl, (λ b e. absurd (cc))) }),
+                                                                      (_, _, record { actor = refl; task = refl; asked = refl; gives = tt; wins = tt }),
                                                                       (
-                                                                        (_, _, record { actor = refl; task = refl; asked = refl; gives = refl; wins = tt }),
+                                                                        (_, record { actor = refl; task = refl; held = refl; order = refl; leads = refl; nobody_alone = nobody _ refl; may = ((omega arith, tt), covers, ungiven _ refl, (λ e. absurd (cc)), refl, refl, (λ b e. absurd (cc))) }),
                                                                         (
-                                                                          (_, _, record { actor = refl; task = refl; asked = refl; gives = tt; wins = free _ refl }),
+                                                                          (_, _, record { actor = refl; task = refl; asked = refl; gives = refl; wins = tt }),
                                                                           (
-                                                                            (_, _, record { actor = refl; task = refl; asked = refl; gives = refl; wins = tt }),
+                                                                            (_, _, record { actor = refl; task = refl; asked = refl; gives = tt; wins = free _ refl }),
                                                                             (
                                                                               (_, _, record { actor = refl; task = refl; asked = refl; gives = refl; wins = tt }),
                                                                               (
-                                                                                (_, _, record { actor = refl; task = refl; asked = refl; gives = tt; wins = tt }),
+                                                                                (_, _, record { actor = refl; task = refl; asked = refl; gives = refl; wins = tt }),
                                                                                 (
                                                                                   (_, _, record { actor = refl; task = refl; asked = refl; gives = tt; wins = tt }),
                                                                                   (
@@ -113,7 +113,10 @@ one_actor_runs = (
                                                                                       (_, _, record { actor = refl; task = refl; asked = refl; gives = tt; wins = tt }),
                                                                                       (
                                                                                         (_, _, record { actor = refl; task = refl; asked = refl; gives = tt; wins = tt }),
-                                                                                        tt,
+                                                                                        (
+                                                                                          (_, _, record { actor = refl; task = refl; asked = refl; gives = tt; wins = tt }),
+                                                                                          tt,
+                                                                                        ),
                                                                                       ),
                                                                                     ),
                                                                                   ),
@@ -210,15 +213,15 @@ three_actors_run = (
                   (
                     (_, _, record { actor = refl; task = refl; asked = refl; gives = tt; wins = tt }),
                     (
-                      (_, record { actor = refl; task = refl; held = refl; order = refl; leads = refl; nobody_alone = alone_of _ _ _ refl refl refl; may = ((omega arith, tt), covers, ungiven_of replacement _ _ _ refl refl refl, (λ e. absurd (cc)), refl, refl, unmapped) }),
+                      (_, _, record { actor = refl; task = refl; asked = refl; gives = tt; wins = tt }),
                       (
-                        (_, _, record { actor = refl; task = refl; asked = refl; gives = refl; wins = tt }),
+                        (_, record { actor = refl; task = refl; held = refl; order = refl; leads = refl; nobody_alone = alone_of _ _ _ refl refl refl; may = ((omega arith, tt), covers, ungiven_of replacement _ _ _ refl refl refl, (λ e. absurd (cc)), refl, refl, unmapped) }),
                         (
-                          (_, _, record { actor = refl; task = refl; asked = refl; gives = tt; wins = free_of 0 _ _ _ refl refl refl }),
+                          (_, _, record { actor = refl; task = refl; asked = refl; gives = refl; wins = tt }),
                           (
-                            (_, _, record { actor = refl; task = refl; asked = refl; gives = refl; wins = tt }),
+                            (_, _, record { actor = refl; task = refl; asked = refl; gives = tt; wins = free_of 0 _ _ _ refl refl refl }),
                             (
-                              (_, _, record { actor = refl; task = refl; asked = refl; gives = tt; wins = tt }),
+                              (_, _, record { actor = refl; task = refl; asked = refl; gives = refl; wins = tt }),
                               (
                                 (_, _, record { actor = refl; task = refl; asked = refl; gives = tt; wins = tt }),
                                 (
@@ -226,25 +229,25 @@ three_actors_run = (
                                   (
                                     (_, _, record { actor = refl; task = refl; asked = refl; gives = tt; wins = tt }),
                                     (
-                                      (_, record { actor = refl; task = refl; held = refl; order = refl; leads = refl; nobody_alone = alone_of _ _ _ refl refl refl; may = refl }),
+                                      (_, _, record { actor = refl; task = refl; asked = refl; gives = tt; wins = tt }),
                                       (
-                                        (_, _, record { actor = refl; task = refl; asked = refl; gives = refl; wins = tt }),
+                                        (_, record { actor = refl; task = refl; held = refl; order = refl; leads = refl; nobody_alone = alone_of _ _ _ refl refl refl; may = refl }),
                                         (
-                                          (_, _, record { actor = refl; task = refl; asked = refl; gives = (refl, refl, tt); wins = tt }),
+                                          (_, _, record { actor = refl; task = refl; asked = refl; gives = refl; wins = tt }),
                                           (
-                                            (_, record { actor = refl; task = refl; held = refl; order = refl; leads = refl; nobody_alone = alone_of _ _ _ refl refl refl; may = (_, refl) }),
+                                            (_, _, record { actor = refl; task = refl; asked = refl; gives = (refl, refl, tt); wins = tt }),
                                             (
-                                              (_, _, record { actor = refl; task = refl; asked = refl; gives = refl; wins = tt }),
+                                              (_, record { actor = refl; task = refl; held = refl; order = refl; leads = refl; nobody_alone = alone_of _ _ _ refl refl refl; may = (_, refl) }),
                                               (
-                                                (_, _, record { actor = refl; task = refl; asked = refl; gives = (refl, refl, refl, refl); wins = tt }),
+                                                (_, _, record { actor = refl; task = refl; asked = refl; gives = refl; wins = tt }),
                                                 (
-                                                  (_, record { actor = refl; task = refl; held = refl; order = refl; leads = refl; nobody_alone = alone_of _ _ _ refl refl refl; may = refl }),
+                                                  (_, _, record { actor = refl; task = refl; asked = refl; gives = (refl, refl, refl, refl); wins = tt }),
                                                   (
-                                                    (_, _, record { actor = refl; task = refl; asked = refl; gives = refl; wins = tt }),
+                                                    (_, record { actor = refl; task = refl; held = refl; order = refl; leads = refl; nobody_alone = alone_of _ _ _ refl refl refl; may = refl }),
                                                     (
-                                                      (_, _, record { actor = refl; task = refl; asked = refl; gives = (refl, refl, refl, refl); wins = tt }),
+                                                      (_, _, record { actor = refl; task = refl; asked = refl; gives = refl; wins = tt }),
                                                       (
-                                                        (_, _, record { actor = refl; task = refl; asked = refl; gives = tt; wins = tt }),
+                                                        (_, _, record { actor = refl; task = refl; asked = refl; gives = (refl, refl, refl, refl); wins = tt }),
                                                         (
                                                           (_, _, record { actor = refl; task = refl; asked = refl; gives = tt; wins = tt }),
                                                           (
@@ -256,9 +259,9 @@ three_actors_run = (
                                                                 (
                                                                   (_, _, record { actor = refl; task = refl; asked = refl; gives = tt; wins = tt }),
                                                                   (
-                                                                    (_, _, record { actor = refl; task = refl; asked = refl; gives = (refl, refl, omega arith); wins = tt }),
+                                                                    (_, _, record { actor = refl; task = refl; asked = refl; gives = tt; wins = tt }),
                                                                     (
-                                                                      (_, _, record { actor = refl; task = refl; asked = refl; gives = tt; wins = tt }),
+                                                                      (_, _, record { actor = refl; task = refl; asked = refl; gives = (refl, refl, omega arith); wins = tt }),
                                                                       (
                                                                         (_, _, record { actor = refl; task = refl; asked = refl; gives = tt; wins = tt }),
                                                                         (
@@ -270,21 +273,21 @@ three_actors_run = (
                                                                               (
                                                                                 (_, _, record { actor = refl; task = refl; asked = refl; gives = tt; wins = tt }),
                                                                                 (
-                                                                                  (_, _, record { actor = refl; task = refl; asked = refl; gives = omega arith; wins = tt }),
+                                                                                  (_, _, record { actor = refl; task = refl; asked = refl; gives = tt; wins = tt }),
                                                                                   (
-                                                                                    (_, _, record { actor = refl; task = refl; asked = refl; gives = tt; wins = tt }),
+                                                                                    (_, _, record { actor = refl; task = refl; asked = refl; gives = omega arith; wins = tt }),
                                                                                     (
-                                                                                      (_, record { actor = refl; task = refl; held = refl; order = refl; leads = refl; nobody_alone = alone_of _ _ _ refl refl refl; may = ((omega arith, tt), covers, refl) }),
+                                                                                      (_, _, record { actor = refl; task = refl; asked = refl; gives = tt; wins = tt }),
                                                                                       (
-                                                                                        (_, _, record { actor = refl; task = refl; asked = refl; gives = refl; wins = tt }),
+                                                                                        (_, record { actor = refl; task = refl; held = refl; order = refl; leads = refl; nobody_alone = alone_of _ _ _ refl refl refl; may = ((omega arith, tt), covers, refl) }),
                                                                                         (
-                                                                                          (_, _, record { actor = refl; task = refl; asked = refl; gives = tt; wins = free_of 1 _ _ _ refl refl refl }),
+                                                                                          (_, _, record { actor = refl; task = refl; asked = refl; gives = refl; wins = tt }),
                                                                                           (
-                                                                                            (_, _, record { actor = refl; task = refl; asked = refl; gives = refl; wins = tt }),
+                                                                                            (_, _, record { actor = refl; task = refl; asked = refl; gives = tt; wins = free_of 1 _ _ _ refl refl refl }),
                                                                                             (
                                                                                               (_, _, record { actor = refl; task = refl; asked = refl; gives = refl; wins = tt }),
                                                                                               (
-                                                                                                (_, _, record { actor = refl; task = refl; asked = refl; gives = tt; wins = tt }),
+                                                                                                (_, _, record { actor = refl; task = refl; asked = refl; gives = refl; wins = tt }),
                                                                                                 (
                                                                                                   (_, _, record { actor = refl; task = refl; asked = refl; gives = tt; wins = tt }),
                                                                                                   (
@@ -293,7 +296,13 @@ three_actors_run = (
                                                                                                       (_, _, record { actor = refl; task = refl; asked = refl; gives = tt; wins = tt }),
                                                                                                       (
                                                                                                         (_, _, record { actor = refl; task = refl; asked = refl; gives = tt; wins = tt }),
-                                                                                                        tt,
+                                                                                                        (
+                                                                                                          (_, _, record { actor = refl; task = refl; asked = refl; gives = tt; wins = tt }),
+                                                                                                          (
+                                                                                                            (_, _, record { actor = refl; task = refl; asked = refl; gives = tt; wins = tt }),
+                                                                                                            tt,
+                                                                                                          ),
+                                                                                                        ),
                                                                                                       ),
                                                                                                     ),
                                                                                                   ),

@@ -4,7 +4,7 @@ use Rattle.std.specs.Prelude.{Bool, true, false, List, [], ◌∷◌, Some, None
 use Rattle.wb_disk.specs.Device.{newest}
 use Rattle.wb_contents.specs.Volume.{at_location}
 use Rattle.wb_types.specs.declared.mode.Mode.TheVariants.{Writeback, Writethrough}
-use Rattle.wb_link.specs.Tables.{Order, Writing, Promoting, Demoting, Flushing, Finished, Look_fail, Own, Look_seal, Set_seal, Disown, Read_at, Write_at, Begin, Sync_cache_device, Sync_origin_device, Put_root, Sync_metadata, End_running, Map_to, Unmap_from, End, Done, Flag, Seen, Gave, Ticket, Served}
+use Rattle.wb_link.specs.Tables.{Order, Writing, Promoting, Demoting, Flushing, Finished, Look_fail, Own, Look_seal, Set_seal, Disown, Read_at, Write_at, Begin, Sync_cache_device, Sync_origin_device, Put_root, Sync_metadata, End_running, Make_room, Map_to, Unmap_from, End, Done, Flag, Seen, Gave, Ticket, Served}
 use Rattle.wb_link.specs.World.{Mapped, Shared, Start, Again, Step, Record}
 use Rattle.wb_link.specs.Openings.{Stopping, Settled, Fine, Learns, Broke, Shown, Event, Stopped, Begins, Advances}
 
@@ -25,6 +25,7 @@ one_actor = Start 0 (Writing 0 (0 ∷ []) (7 ∷ [])) ∷
     Step 0 (Look_seal 0) (Seen (record { location = None; dirty = false })) ∷
     Step 0 (Read_at None 0 0) (Gave (7 ∷ [])) ∷
     Step 0 (Write_at (Some 0) 0 0) Done ∷
+    Step 0 Make_room Done ∷
     Step 0 (Map_to order) Done ∷
     Step 0 (Set_seal 0 (record { location = Some 0; dirty = false })) Done ∷
     Step 0 (Disown 0) Done ∷
@@ -72,6 +73,7 @@ replaced = Start 0 (Promoting order (0 ∷ [])) ∷
     Step 0 (Look_seal 0) (Seen (record { location = None; dirty = false })) ∷
     Step 0 (Read_at None 0 0) (Gave []) ∷
     Step 0 (Write_at (Some 0) 0 0) Done ∷
+    Step 0 Make_room Done ∷
     Step 0 (Map_to order) Done ∷
     Step 0 (Set_seal 0 (record { location = Some 0; dirty = false })) Done ∷
     Step 0 (Disown 0) Done ∷
@@ -114,6 +116,7 @@ replaced = Start 0 (Promoting order (0 ∷ [])) ∷
     Step 0 (Look_seal 1) (Seen (record { location = None; dirty = false })) ∷
     Step 0 (Read_at None 1 0) (Gave []) ∷
     Step 0 (Write_at (Some 0) 1 0) Done ∷
+    Step 0 Make_room Done ∷
     Step 0 (Map_to follower) Done ∷
     Step 0 (Set_seal 1 (record { location = Some 0; dirty = false })) Done ∷
     Step 0 (Disown 1) Done ∷

@@ -52,6 +52,8 @@ pub data Want : Type 0 where
   Put_root : Want
   Sync_metadata : Want
   End_running : Want
+  -- for an entry of the mapping
+  Make_room : Want
   Map_to : Order → Want
   Unmap_from : Order → Want
   Unmap_plain : (block cache : ℕ) → Want
@@ -59,7 +61,7 @@ pub data Want : Type 0 where
   End : Answer → Want
 
 -- What a fault leaves: whether what was written has landed, and whether it was of one step with the sectors that a write
--- has still to write, each of which lands or not; of a sync, which sectors are settled.
+-- has still to write, or a migration to copy, each of which lands or not; of a sync, which sectors are settled.
 pub record Choice : Type 0 where
   pub landed : Bool
   pub more : Bool
@@ -115,8 +117,11 @@ unmapping order = Unmap_from order ∷ Set_seal order.block (record { location =
 abbrev pub cleaning : Order → List Want
 cleaning order = Set_seal order.block (record { location = Some order.cache; dirty = false }) ∷ Disown order.block ∷ Give_up order ∷ []
 
+abbrev pub entering : Order → List Want
+entering order = Map_to order ∷ Set_seal order.block (record { location = Some order.cache; dirty = false }) ∷ Disown order.block ∷ []
+
 abbrev pub mapping_on : Order → List Want
-mapping_on order = Map_to order ∷ Set_seal order.block (record { location = Some order.cache; dirty = false }) ∷ Disown order.block ∷ []
+mapping_on order = Make_room ∷ entering order
 
 -- in passthrough, under no order
 abbrev pub dropping : ℕ → Option ℕ → List Want
@@ -183,14 +188,18 @@ breaking (Flushing order) = Set_failed ∷ Break_commits ∷ []
 breaking Suspending = Set_failed ∷ Break_commits ∷ []
 breaking job = Set_failed ∷ []
 
--- the writes that come next, and then the failed bit
+-- the writes that come next, each after its read where they copy, and then the failed bit
 abbrev pub until_failed : List Want → List Want
+until_failed (Read_at location b o ∷ ws) = Read_at location b o ∷ until_failed ws
 until_failed (Write_at location b o ∷ ws) = Write_at location b o ∷ until_failed ws
 until_failed ws = Set_failed ∷ []
 
 -- after a fault of a write
 abbrev pub steps_after_fault : Job → (more : Bool) → List Want → List Want
 steps_after_fault (Writing b os c) true ws = until_failed ws
+steps_after_fault (Promoting order os) true ws = until_failed ws
+steps_after_fault (Cleaning order os) true ws = until_failed ws
+steps_after_fault (Demoting order os) true ws = until_failed ws
 steps_after_fault job more ws = breaking job
 
 abbrev pub after_fault : Script → (more : Bool) → Want → Script
@@ -202,13 +211,14 @@ abbrev pub after_flag : Script → Bool → Script
 after_flag s true = refused s [] Failed
 after_flag s false = onward s
 
--- a replacement's flush that is refused so gives its order up
+-- A replacement's flush that is refused so gives its order up, a promotion its block and its order.
 abbrev pub let_go : Option Order → List Want
 let_go None = []
 let_go (Some order) = Give_up order ∷ []
 
 abbrev pub letting : Job → List Want
 letting (Flushing order) = let_go order
+letting (Promoting order os) = release (Promoting order os)
 letting job = []
 
 abbrev pub after : Script → Got → Script

@@ -6,7 +6,7 @@ use Rattle.wb_contents.specs.Volume.{Locations, changed, changed_at}
 use Rattle.wb_types.specs.declared.mode.Mode.{Mode}
 use Rattle.wb_types.specs.declared.mode.Mode.TheVariants.{Writeback, Writethrough, Passthrough}
 use Rattle.wb_contents.specs.Acts.{all_synced, partly_synced}
-use Rattle.wb_link.specs.Tables.{Begin, Begin_clean, Break_commits, Broken, Demoting, Disown, Done, End, End_running, Fault, Flag, Flushing, Gave, Give_up, Got, Invalidating, Job, Leave, Look_fail, Look_seal, Lost, Map_to, Order, Own, Writing_through, Promoting, Read_at, Reading, Script, Seal, Seen, Served, Set_failed, Set_seal, Set_suspended, Share, Short, Suspending, Sync_origin_device, Sync_cache_device, Sync_metadata, Ticket, Unmap_from, Unmap_plain, Want, Cleaning, Write_at, Put_root, Writing, after, table, want}
+use Rattle.wb_link.specs.Tables.{Begin, Begin_clean, Break_commits, Broken, Demoting, Disown, Done, End, End_running, Fault, Flag, Flushing, Gave, Give_up, Got, Invalidating, Job, Leave, Look_fail, Look_seal, Lost, Make_room, Map_to, Order, Own, Writing_through, Promoting, Read_at, Reading, Script, Seal, Seen, Served, Set_failed, Set_seal, Set_suspended, Share, Short, Suspending, Sync_origin_device, Sync_cache_device, Sync_metadata, Ticket, Unmap_from, Unmap_plain, Want, Cleaning, Write_at, Put_root, Writing, after, table, want}
 
 pub data Block : Type 0 where
   Free : Block
@@ -190,6 +190,8 @@ Gives s (Begin ticket) (Ticket k) = (ticket ≡ None) × (s.committing ≡ true)
 Gives s (Begin ticket) Served = Serves s ticket
 Gives s (Begin ticket) Broken = (s.broken ≡ true) × Unserved s ticket
 Gives s (Begin ticket) Short = Unserved s ticket
+-- it does not wait for the one that runs
+Gives s (Begin ticket) Lost = s.committing ≡ true
 Gives s Begin_clean Done = s.committing ≡ false
 Gives s Begin_clean Lost = s.committing ≡ true
 Gives s Sync_cache_device Done = Unit {0}
@@ -201,6 +203,8 @@ Gives s Put_root (Fault choice) = Unit {0}
 Gives s Sync_metadata Done = Unit {0}
 Gives s Sync_metadata (Fault choice) = Unit {0}
 Gives s End_running Done = Unit {0}
+Gives s Make_room Done = Unit {0}
+Gives s Make_room Short = Unit {0}
 Gives s (Map_to order) Done = Unit {0}
 Gives s (Unmap_from order) Done = Unit {0}
 Gives s (Unmap_plain b k) Done = Unit {0}

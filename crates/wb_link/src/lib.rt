@@ -13,8 +13,8 @@ ghost use Rattle.wb_link.specs.Examples.{one_actor, replaced, lives_of, reopenin
 
 /// In every run of the abstract world, from devices of one content and any number of actors at rest, of reads, writes,
 /// flushes, suspends, promotions, demotions, replacements, write-backs and removals in passthrough (which has no write of its
-/// own yet), interleaved step by step, with a fault at any step on a device, of a write also on each of several sectors,
-/// crashes anywhere, and openings by steps in any mode: each sector that a read is given is the last entry of its write
+/// own yet), interleaved step by step, with a fault at any step on a device, of a write or a copy also on each of several
+/// sectors, a desk without room for an entry or that runs another commit, crashes anywhere, and openings by steps in any mode: each sector that a read is given is the last entry of its write
 /// history, what an opening shows is an entry at its durable floor or later, and so is each content that the devices have
 /// pending where the metadata may say that a block is.
 pub fn headline()

@@ -9,3 +9,4 @@ pub mod Moving
 pub mod Flushing
 pub mod Tasks
 pub mod Openings
+pub mod Migrating

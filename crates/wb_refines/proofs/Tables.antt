@@ -30,10 +30,10 @@ module _ (part : BlockRange) (some : 0 < part.block_sectors) where
   size = part.block_sectors
 
   -- an extent in a cache block is of that block, at the same offsets
-  at_place : (c : CBlock) (e : Extent) → location_at size Cache (cache_extent part c e) ≡ Some c.0
+  pub at_place : (c : CBlock) (e : Extent) → location_at size Cache (cache_extent part c e) ≡ Some c.0
   at_place c e = ap (λ v. Some v) (div-mul-add c.0 size (e.first % size) (mod-lt e.first some))
 
-  at_offset : (c : CBlock) (e : Extent) → offsets_in size (cache_extent part c e) ≡ offsets_in size e
+  pub at_offset : (c : CBlock) (e : Extent) → offsets_in size (cache_extent part c e) ≡ offsets_in size e
   at_offset c e = ap (λ v. rising v e.count) (mod-mul-add c.0 size (e.first % size) (mod-lt e.first some))
 
   pub reads_are : (job : AbstractJob) (place : Option CBlock) (es : List Extent) (ws : List Want) → wants_of size job (map (read_step part place) es ++ ws) ≡ read_each (number_of place) (block_in job) (offsets size es) (wants_of size job ws)

@@ -6,3 +6,4 @@ pub mod Laws
 pub mod Flushes
 pub mod Tasks
 pub mod Openings
+pub mod Migrations

@@ -2,6 +2,7 @@
 #![tactic(auto)]
 
 ghost use Rattle.wb_refines.specs.Laws.{TablesAgree, CellStepsFollowed, HasNoMore, ExtentStepsFollowed};
+ghost use Rattle.wb_refines.specs.Migrations.{MigrationTablesAgree};
 ghost use Rattle.wb_refines.specs.Flushes.{FlushStepsFollowed};
 ghost use Rattle.wb_refines.specs.Openings.{OpeningStepsFollowed};
 ghost use Rattle.wb_refines.specs.Tasks.{TasksBegin, TasksEnd, CrashesFollowed};
@@ -42,4 +43,11 @@ pub fn tasks_begin_and_end()
     ensures begins { TasksBegin }
     ensures ends { TasksEnd }
     ensures crashes { CrashesFollowed }
+{}
+
+/// The table of a migration goes on as the abstract one, a written extent as the read and the write of each of its sectors: from its
+/// start, from where it has seen its block where its order says, and where it gives everything back or has failed. No step of it is
+/// shown to be followed yet.
+pub fn migration_tables_agree()
+    ensures { MigrationTablesAgree }
 {}
