@@ -22,7 +22,7 @@ use Rattle.wb_refines.proofs.Going.{goes, with_own}
 use Rattle.wb_runs.specs.States.{Actor}
 use Rattle.wb_runs.specs.Holding.{cards_of}
 use Rattle.wb_simulation.specs.Actors.{StandsFor}
-use Rattle.wb_simulation.specs.Worlds.{Agrees, Follows}
+use Rattle.wb_simulation.specs.Worlds.{Agrees, Follows, IsUnfinished}
 use Rattle.wb_simulation.proofs.Kept.{stands_on}
 
 -- where one list has something, one that is as long has, too
@@ -85,23 +85,24 @@ module _ (size most : ℕ) (words words' : Words) (up : flag words.fail ≡ true
     | inr n ↦ stands_on size most words words' up v z (g.each b z v (sym (get_set_other actors a b x' n) ∙ ez) (sym (get_set_other s.actors a b y' n) ∙ ev))
   ]
 
-  -- who leads a commit after it did before, if the one that went on does only where it did
-  old_lead : (y' : AbstractActor) → (y'.leads ≡ true → y.leads ≡ true) → (b : ℕ) (v : AbstractActor) → slice_get (slice_set s.actors a y') b ≡ Some v → v.leads ≡ true → (u : AbstractActor) × (slice_get s.actors b ≡ Some u) × (u.leads ≡ true)
+  -- who leads a commit after it is as it was before, if the one that went on leads none unless it is as it was
+  old_lead : (y' : AbstractActor) → (y'.leads ≡ true → y' ≡ y) → (b : ℕ) (v : AbstractActor) → slice_get (slice_set s.actors a y') b ≡ Some v → v.leads ≡ true → slice_get s.actors b ≡ Some v
   old_lead y' keeps b v ev l = elim (cases_eq b a) [
     | inl e ↦
         let there : Some y' ≡ Some v = sym (get_set_same s.actors a y y' ey) ∙ ap (λ k. slice_get (slice_set s.actors a y') k) (sym e) ∙ ev in
         let same : y' ≡ v = cc in
-        (y, ap (λ k. slice_get s.actors k) e ∙ ey, keeps (ap (λ (q : AbstractActor). q.leads) same ∙ l))
-    | inr n ↦ (v, sym (get_set_other s.actors a b y' n) ∙ ev, l)
+        ap (λ k. slice_get s.actors k) e ∙ ey ∙ ap (λ (q : AbstractActor). Some q) (sym (keeps (ap (λ (q : AbstractActor). q.leads) same ∙ l)) ∙ same)
+    | inr n ↦ sym (get_set_other s.actors a b y' n) ∙ ev
   ]
 
   -- it goes on by these results, which lead to this
   pub goes_leading : (committing' : Bool) (devices' : Devices (List History)) (results : List Got) (t : Shared) → MayGo s.actors a s.shared y y.task results → shared_after s.shared y y.task results ≡ t → StandsFor size most words' x' (gone y y.task results) → WordsAgree words' t →
       t.origin ≡ by_block size [] devices'.origin → t.cache ≡ by_block size [] devices'.cache → t.mode ≡ s.shared.mode → t.committing ≡ committing' → (t.broken ≡ true → t.committing ≡ true) →
       ((b : ℕ) (v : AbstractActor) → slice_get (slice_set s.actors a (gone y y.task results)) b ≡ Some v → v.leads ≡ true → t.committing ≡ true) →
+      ((b : ℕ) (v : AbstractActor) → slice_get (slice_set s.actors a (gone y y.task results)) b ≡ Some v → v.leads ≡ true → IsUnfinished v.task → t.broken ≡ false) →
       ((b c : ℕ) (v u : AbstractActor) → slice_get (slice_set s.actors a (gone y y.task results)) b ≡ Some v → slice_get (slice_set s.actors a (gone y y.task results)) c ≡ Some u → v.leads ≡ true → u.leads ≡ true → b ≡ c) →
       Follows size most s words' committing' devices' (slice_set actors a x')
-  goes_leading committing' devices' results t may is st w o c m k b led one =
+  goes_leading committing' devices' results t may is st w o c m k b led whole one =
       let went = goes size results s a y y.task ey refl may in
       record {
         records = records a y.task results;
@@ -115,24 +116,26 @@ module _ (size most : ℕ) (words words' : Words) (up : flag words.fail ≡ true
               commits = k;
               broken = b;
               led = led;
+              whole = whole;
               one_leads = one;
               many = length-set-there s.actors a (gone y y.task results) ∙ g.many ∙ sym (length-set-there actors a x');
               each = each_on (gone y y.task results) st;
             }));
       }
 
-  -- who leads a commit did before, and one that runs goes on
-  pub led_on : (y' : AbstractActor) (t : Shared) → (y'.leads ≡ true → y.leads ≡ true) → (s.shared.committing ≡ true → t.committing ≡ true) → (b : ℕ) (v : AbstractActor) → slice_get (slice_set s.actors a y') b ≡ Some v → v.leads ≡ true → t.committing ≡ true
-  led_on y' t keeps runs b v ev l = let u = old_lead y' keeps b v ev l in runs (g.led b u.0 u.1 u.2)
+  module _ (y' : AbstractActor) (keeps : y'.leads ≡ true → y' ≡ y) where
+    pub led_on : (t : Shared) → t.committing ≡ s.shared.committing → (b : ℕ) (v : AbstractActor) → slice_get (slice_set s.actors a y') b ≡ Some v → v.leads ≡ true → t.committing ≡ true
+    led_on t c b v ev l = c ∙ g.led b v (old_lead y' keeps b v ev l) l
 
-  pub one_on : (y' : AbstractActor) → (y'.leads ≡ true → y.leads ≡ true) → (b c : ℕ) (v u : AbstractActor) → slice_get (slice_set s.actors a y') b ≡ Some v → slice_get (slice_set s.actors a y') c ≡ Some u → v.leads ≡ true → u.leads ≡ true → b ≡ c
-  one_on y' keeps b c v u ev eu l m =
-      let old = old_lead y' keeps b v ev l in
-      let other = old_lead y' keeps c u eu m in
-      g.one_leads b c old.0 other.0 old.1 other.1 old.2 other.2
+    pub whole_on : (t : Shared) → t.broken ≡ s.shared.broken → (b : ℕ) (v : AbstractActor) → slice_get (slice_set s.actors a y') b ≡ Some v → v.leads ≡ true → IsUnfinished v.task → t.broken ≡ false
+    whole_on t c b v ev l u = c ∙ g.whole b v (old_lead y' keeps b v ev l) l u
 
-  pub goes_on : (devices' : Devices (List History)) (results : List Got) (t : Shared) → MayGo s.actors a s.shared y y.task results → shared_after s.shared y y.task results ≡ t → StandsFor size most words' x' (gone y y.task results) → ((gone y y.task results).leads ≡ true → y.leads ≡ true) → WordsAgree words' t →
-      t.origin ≡ by_block size [] devices'.origin → t.cache ≡ by_block size [] devices'.cache → t.mode ≡ s.shared.mode → t.committing ≡ s.shared.committing → (t.broken ≡ true → t.committing ≡ true) →
+    pub one_on : (b c : ℕ) (v u : AbstractActor) → slice_get (slice_set s.actors a y') b ≡ Some v → slice_get (slice_set s.actors a y') c ≡ Some u → v.leads ≡ true → u.leads ≡ true → b ≡ c
+    one_on b c v u ev eu l m = g.one_leads b c v u (old_lead y' keeps b v ev l) (old_lead y' keeps c u eu m) l m
+
+  -- no commit begins, ends or is broken by it
+  pub goes_on : (devices' : Devices (List History)) (results : List Got) (t : Shared) → MayGo s.actors a s.shared y y.task results → shared_after s.shared y y.task results ≡ t → StandsFor size most words' x' (gone y y.task results) → ((gone y y.task results).leads ≡ true → gone y y.task results ≡ y) → WordsAgree words' t →
+      t.origin ≡ by_block size [] devices'.origin → t.cache ≡ by_block size [] devices'.cache → t.mode ≡ s.shared.mode → t.committing ≡ s.shared.committing → t.broken ≡ s.shared.broken →
       Follows size most s words' committing devices' (slice_set actors a x')
-  goes_on devices' results t may is st keeps w o c m k b = goes_leading committing devices' results t may is st w o c m (k ∙ g.commits) b
-      (led_on (gone y y.task results) t keeps (λ r. k ∙ r)) (one_on (gone y y.task results) keeps)
+  goes_on devices' results t may is st keeps w o c m k b = goes_leading committing devices' results t may is st w o c m (k ∙ g.commits) (λ e. k ∙ g.broken (sym b ∙ e))
+      (led_on (gone y y.task results) keeps t k) (whole_on (gone y y.task results) keeps t b) (one_on (gone y y.task results) keeps)

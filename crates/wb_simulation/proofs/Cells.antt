@@ -37,7 +37,7 @@ pub record Acted (size : ℕ) (content : Content) (actors : List Actor) (a : ℕ
   pub same : SameElse s (shared_after s y y.task results)
   pub request : IsRequestAt size content words job_on plan card (gone y y.task results)
   pub below : IsBelow (gone y y.task results) card
-  pub leads : (gone y y.task results).leads ≡ true → y.leads ≡ true
+  pub leads : (gone y y.task results).leads ≡ true → gone y y.task results ≡ y
   pub among_others : is_alone (gone y y.task results).task ≡ false
 
 -- nothing was done there
@@ -173,7 +173,7 @@ module _ (size : ℕ) (content : Content) (job_on : BlockRange → BlockJob) (re
       same = subst (λ (t : Shared). SameElse s t) (sym (shared_stays s y y.task)) (same_else s);
       request = subst (λ (z : Actor). IsRequestAt size content words' job_on plan' card' z) (sym (gone_nowhere y y.task)) r;
       below = subst (λ (z : Actor). IsBelow z card') (sym (gone_nowhere y y.task)) below;
-      leads = λ l. ap (λ (z : Actor). z.leads) (sym (gone_nowhere y y.task)) ∙ l;
+      leads = λ l. gone_nowhere y y.task;
       among_others = ap (λ (z : Actor). is_alone z.task) (gone_nowhere y y.task) ∙ alone;
     }
 

@@ -25,7 +25,7 @@ use Rattle.wb_simulation.specs.Actors.{IsLate, IsBusyAt, IsDoing, StandsFor}
 use Rattle.wb_simulation.specs.Worlds.{Agrees, Follows}
 use Rattle.wb_simulation.specs.Laws.{StartsFollowed}
 use Rattle.wb_simulation.proofs.Cells.{shared_stays, gone_nowhere}
-use Rattle.wb_simulation.proofs.Among.{there, goes_on, length-set-there, each_on, led_on, one_on}
+use Rattle.wb_simulation.proofs.Among.{there, goes_on, length-set-there, each_on, led_on, whole_on, one_on}
 
 nobody_alone : (size most : ℕ) (words : Words) (committing : Bool) (devices : Devices (List History)) (actors : List Actor) (s : World) → Agrees size most words committing devices actors s → NobodyIsAlone s
 nobody_alone size most words committing devices actors s g b z e = let x = there s.actors actors b z (sym g.many) e in (g.each b x.0 z x.1 e).among_others
@@ -49,21 +49,22 @@ module _ (size most : ℕ) (words : Words) (committing : Bool) (devices : Device
       mode = g.mode;
       commits = g.commits;
       broken = g.broken;
-      led = led_on size most words words (λ f. f) committing devices actors a x (record x { task = Some (job, plan) }) s y g ex ey st.then_is s.shared leads (λ r. r);
+      led = led_on size most words words (λ f. f) committing devices actors a x (record x { task = Some (job, plan) }) s y g ex ey st.then_is leads s.shared refl;
+      whole = whole_on size most words words (λ f. f) committing devices actors a x (record x { task = Some (job, plan) }) s y g ex ey st.then_is leads s.shared refl;
       one_leads = one_on size most words words (λ f. f) committing devices actors a x (record x { task = Some (job, plan) }) s y g ex ey st.then_is leads;
       many = length-set-there s.actors a st.then_is ∙ g.many ∙ sym (length-set-there actors a (record x { task = Some (job, plan) }));
       each = each_on size most words words (λ f. f) committing devices actors a x (record x { task = Some (job, plan) }) s y g ex ey st.then_is (stands st.then_is st.at).0;
     });
   }
     where
-      leads : st.then_is.leads ≡ true → y.leads ≡ true
+      leads : st.then_is.leads ≡ true → st.then_is ≡ y
       leads l = let bad : true ≡ false = sym l ∙ (stands st.then_is st.at).1 in absurd (cc)
 
   -- nothing is started there, since the actor has kept something
   begins_late : (y : AbstractActor) → slice_get s.actors a ≡ Some y → StandsFor size most words x y → IsDoing size most words job plan x.card y → Goal
   begins_late y ey st doing = goes_on size most words words (λ f. f) committing devices actors a x (record x { task = Some (job, plan) }) s y g ex ey devices [] s.shared tt (shared_stays s.shared y y.task)
       (subst (λ (z : AbstractActor). StandsFor size most words (record x { task = Some (job, plan) }) z) (sym (gone_nowhere y y.task)) (record { at = doing; below = st.below; among_others = st.among_others }))
-      (λ l. ap (λ (z : AbstractActor). z.leads) (sym (gone_nowhere y y.task)) ∙ l) g.words_agree g.origin g.cache refl refl g.broken
+      (λ l. gone_nowhere y y.task) g.words_agree g.origin g.cache refl refl refl
 
 rests : (size most : ℕ) (words : Words) (x : Actor) (y : AbstractActor) → StandsFor size most words x y → x.task ≡ None → (y.task ≡ None) × (IsIdle y ⊎ (flag words.fail ≡ true))
 rests size most words x y st e = subst (λ t. IsBusyAt size most words t x.card y) e st.at
@@ -103,11 +104,14 @@ starts_followed = record {
       elim r.1 [
         | inl idle ↦ starts size most words committing devices actors a x Flush plan s ex g y.0 (FlushingFor None) (λ z. IsFlushing size [] plan false z) y.1
             (tasks_begin.flush size most [] s a y.0 y.1 idle (nobody_alone size most words committing devices actors s g))
-            (λ z at. (record {
-              at = record { job = refl; steps = refl; at = inl (record { leads = false; at = refl; failed = λ e n. absurd (cc); is = at }) };
-              below = holds_nothing z x.card (ap (λ (v : AbstractActor). v.held) at.is);
-              among_others = ap (λ (v : AbstractActor). is_alone v.task) at.is;
-            }, ap (λ (v : AbstractActor). v.leads) at.is))
+            (λ z at. (
+              record {
+                at = record { job = refl; steps = refl; at = inl (record { leads = false; at = refl; failed = λ e n. absurd (cc); is = at }) };
+                below = holds_nothing z x.card (ap (λ (v : AbstractActor). v.held) at.is);
+                among_others = ap (λ (v : AbstractActor). is_alone v.task) at.is;
+              },
+              ap (λ (v : AbstractActor). v.leads) at.is,
+            ))
         | inr f ↦ begins_late size most words committing devices actors a x Flush plan s ex g y.0 y.1 st (record { job = refl; steps = refl; at = inr (late words plan y.0 f r.0 refl) })
       ];
 }

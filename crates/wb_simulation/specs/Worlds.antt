@@ -1,14 +1,20 @@
 -- When a state of a run, where a target stands, is a state of the abstract world; and when what happens there is a run of that world.
-use Rattle.std.specs.Prelude.{◌≡◌, ℕ, Bool, true, List, [], Some, length, slice_get}
+use Rattle.std.specs.Prelude.{◌≡◌, ◌≢◌, ℕ, Bool, true, false, List, [], Option, Some, None, length, slice_get}
 use Rattle.wb_types.specs.declared.mode.Mode.TheVariants.{Writeback}
 use Rattle.wb_disk.specs.Device.{History}
 use Rattle.wb_contents.specs.Devices.{by_block}
 use Rattle.wb_words.specs.SharedWords.{Words}
 use Rattle.wb_devices.specs.declared.devices.Devices.{Devices}
+use Rattle.wb_link.specs.Tables.{Script}
 use Rattle.wb_link.specs.World.{World, Record, IsRun, after_all, Actor as AbstractActor}
 use Rattle.wb_refines.specs.Models.{WordsAgree}
 use Rattle.wb_runs.specs.States.{Actor}
 use Rattle.wb_simulation.specs.Actors.{StandsFor}
+
+-- a task that has still something to do before it answers
+abbrev pub IsUnfinished : Option Script → Type 0
+IsUnfinished None = ⊥
+IsUnfinished (Some script) = script.steps ≢ []
 
 -- These words, devices, actors, and whether the desk has a commit that runs, are those of the world. Blocks have so many sectors,
 -- and images at most so many nodes.
@@ -20,8 +26,9 @@ pub record Agrees (size most : ℕ) (words : Words) (committing : Bool) (devices
   pub commits : s.shared.committing ≡ committing
   -- a commit that was broken runs for good
   pub broken : s.shared.broken ≡ true → s.shared.committing ≡ true
-  -- one actor at most leads a commit, while one runs
+  -- One actor at most leads a commit, while one runs; until it is broken, it has still to end it.
   pub led : (a : ℕ) (y : AbstractActor) → slice_get s.actors a ≡ Some y → y.leads ≡ true → s.shared.committing ≡ true
+  pub whole : (a : ℕ) (y : AbstractActor) → slice_get s.actors a ≡ Some y → y.leads ≡ true → IsUnfinished y.task → s.shared.broken ≡ false
   pub one_leads : (a b : ℕ) (y z : AbstractActor) → slice_get s.actors a ≡ Some y → slice_get s.actors b ≡ Some z → y.leads ≡ true → z.leads ≡ true → a ≡ b
   pub many : length s.actors ≡ length actors
   pub each : (a : ℕ) (x : Actor) (y : AbstractActor) → slice_get actors a ≡ Some x → slice_get s.actors a ≡ Some y → StandsFor size most words x y
