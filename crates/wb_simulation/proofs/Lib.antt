@@ -6,3 +6,5 @@ mod Followed
 mod Moving
 mod Starting
 mod Ending
+mod Leading
+mod Flushing

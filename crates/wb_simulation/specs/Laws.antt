@@ -1,25 +1,33 @@
 -- How what actors of a run do is followed in the abstract world, where a target stands.
-use Rattle.std.specs.Prelude.{◌≡◌, ◌<◌, ◌≤◌, ◌+◌, ℕ, Bool, List, [], ◌∷◌, Option, Some, None, length, replicate, slice_get, slice_set}
+use Rattle.std.specs.Prelude.{◌≡◌, ◌≤◌, ◌+◌, ℕ, Bool, true, false, List, [], ◌∷◌, Option, Some, None, length, replicate, slice_get, slice_set}
 use Rattle.wb_types.specs.declared.extent.Extent.{Extent}
 use Rattle.wb_types.specs.declared.mode.Dev.{Dev}
-use Rattle.wb_disk.specs.Device.{Content, History}
+use Rattle.wb_types.specs.declared.mode.Dev.TheVariants.{Metadata}
+use Rattle.wb_types.specs.declared.refusal.Refusal.{Refusal}
+use Rattle.wb_disk.specs.Device.{Content, History, synced}
+use Rattle.wb_disk.specs.Failing.{synced_where}
 use Rattle.wb_disk.specs.Extents.{GivesEach, written_each, written_where}
-use Rattle.wb_words.specs.SharedWords.{Words}
+use Rattle.wb_words.specs.SharedWords.{Words, fail_word}
 use Rattle.wb_words.specs.Rule.{LockRule}
 use Rattle.wb_words.specs.Effects.{result_of, words_after, card_after}
 use Rattle.wb_words.specs.declared.step.CellStep.{CellStep}
-use Rattle.wb_tasks.specs.Plan.{Plan, want, after, got_of, table}
+use Rattle.wb_words.specs.declared.step.CellStep.TheVariants.{Look, SetFailed}
+use Rattle.wb_words.specs.declared.word.Word.TheVariants.{Fail}
+use Rattle.wb_tasks.specs.Plan.{Plan, want, after, got_of, table, device_of}
 use Rattle.wb_tasks.specs.Tables.{BlockRange, Reading, Writing, OnBlock, Flushing}
 use Rattle.wb_tasks.specs.declared.step.Answer.{Answer}
 use Rattle.wb_words.specs.declared.card.Hold.TheVariants.{Nothing}
 use Rattle.wb_tasks.specs.Ready.{Suits, HoldsBlocks}
-use Rattle.wb_tasks.specs.declared.step.Want.TheVariants.{Cell, Device, End}
-use Rattle.wb_tasks.specs.declared.step.DeviceStep.TheVariants.{Read as ReadExtent, Write as WriteExtent}
+use Rattle.wb_tasks.specs.declared.step.Want.TheVariants.{Cell, Device, Desk, End}
+use Rattle.wb_tasks.specs.declared.step.DeskStep.TheVariants.{BeginCommit, EndCommit}
+use Rattle.wb_tasks.specs.declared.step.DeviceStep.{DeviceStep}
+use Rattle.wb_tasks.specs.declared.step.DeviceStep.TheVariants.{Read as ReadExtent, Write as WriteExtent, Sync}
 use Rattle.wb_tasks.specs.declared.step.Got.{Got}
-use Rattle.wb_tasks.specs.declared.step.Got.TheVariants.{Done, Fault}
+use Rattle.wb_tasks.specs.declared.step.Got.TheVariants.{Done, Fault, Began, Refused}
 use Rattle.wb_devices.specs.declared.devices.Devices.{Devices}
 use Rattle.wb_devices.specs.Moving.{device_in}
 use Rattle.wb_link.specs.World.{World}
+use Rattle.wb_refines.specs.Flushes.{IsNoBegin}
 use Rattle.wb_runs.specs.declared.job.Job.{Job}
 use Rattle.wb_runs.specs.declared.job.Job.TheVariants.{Read, Write, Flush, Open}
 use Rattle.wb_runs.specs.States.{Actor, with_device}
@@ -78,3 +86,37 @@ abbrev pub AnswersFollowed : Type 0
 AnswersFollowed = (size most blocks : ℕ) (words : Words) (committing : Bool) (devices : Devices (List History)) (actors : List Actor) (a : ℕ) (x : Actor) (job : Job) (plan : Plan) (answer : Answer) (s : World) →
     IsRequestJob job → slice_get actors a ≡ Some x → x.task ≡ Some (job, plan) → Suits blocks plan x.card → want plan ≡ End answer → Agrees size most words committing devices actors s →
     Follows size most s words committing devices (slice_set actors a (record x { task = None }))
+
+-- Each step of a flush, with each result that it may have: on the words, on the desk, and on the devices, done or failing.
+pub record FlushStepsFollowed : Type 0 where
+  pub looks : (size most : ℕ) (words : Words) (committing : Bool) (devices : Devices (List History)) (actors : List Actor) (a : ℕ) (x : Actor) (plan : Plan) (s : World) →
+      slice_get actors a ≡ Some x → x.task ≡ Some (Flush, plan) → want plan ≡ Cell (Look Fail) → Agrees size most words committing devices actors s →
+      Follows size most s words committing devices (slice_set actors a (went words Flush plan (Look Fail) x))
+  pub begins : (size most nodes allowed : ℕ) (clean : Bool) (words : Words) (devices : Devices (List History)) (actors : List Actor) (a : ℕ) (x : Actor) (plan : Plan) (s : World) →
+      slice_get actors a ≡ Some x → x.task ≡ Some (Flush, plan) → want plan ≡ Desk (BeginCommit clean allowed) → Agrees size most words false devices actors s →
+      Follows size most s words true devices (slice_set actors a (after_step Flush plan (Began nodes) x))
+  pub is_refused : (size most allowed : ℕ) (clean : Bool) (refusal : Refusal) (words : Words) (committing : Bool) (devices : Devices (List History)) (actors : List Actor) (a : ℕ) (x : Actor) (plan : Plan) (s : World) → IsNoBegin refusal →
+      slice_get actors a ≡ Some x → x.task ≡ Some (Flush, plan) → want plan ≡ Desk (BeginCommit clean allowed) → Agrees size most words committing devices actors s →
+      Follows size most s words committing devices (slice_set actors a (after_step Flush plan (Refused refusal) x))
+  pub syncs : (size most : ℕ) (device : Dev) (words : Words) (committing : Bool) (devices : Devices (List History)) (actors : List Actor) (a : ℕ) (x : Actor) (plan : Plan) (s : World) → HoldsBlocks device →
+      slice_get actors a ≡ Some x → x.task ≡ Some (Flush, plan) → want plan ≡ Device (Sync device) → Agrees size most words committing devices actors s →
+      Follows size most s words committing (with_device device devices (synced (device_in device devices))) (slice_set actors a (after_step Flush plan Done x))
+  pub sync_fails : (size most : ℕ) (device : Dev) (lands : ℕ → Bool) (words : Words) (committing : Bool) (devices : Devices (List History)) (actors : List Actor) (a : ℕ) (x : Actor) (plan : Plan) (s : World) → HoldsBlocks device →
+      slice_get actors a ≡ Some x → x.task ≡ Some (Flush, plan) → want plan ≡ Device (Sync device) → Agrees size most words committing devices actors s →
+      Follows size most s words committing (with_device device devices (synced_where lands (device_in device devices))) (slice_set actors a (after_step Flush plan Fault x))
+  -- whatever the step leaves of the metadata
+  pub on_metadata : (size most : ℕ) (step : DeviceStep) (metadata : List History) (words : Words) (committing : Bool) (devices : Devices (List History)) (actors : List Actor) (a : ℕ) (x : Actor) (plan : Plan) (s : World) → device_of step ≡ Metadata →
+      slice_get actors a ≡ Some x → x.task ≡ Some (Flush, plan) → want plan ≡ Device step → Agrees size most words committing devices actors s →
+      Follows size most s words committing (with_device Metadata devices metadata) (slice_set actors a (after_step Flush plan Done x))
+  pub metadata_fails : (size most : ℕ) (step : DeviceStep) (metadata : List History) (words : Words) (committing : Bool) (devices : Devices (List History)) (actors : List Actor) (a : ℕ) (x : Actor) (plan : Plan) (s : World) → device_of step ≡ Metadata →
+      slice_get actors a ≡ Some x → x.task ≡ Some (Flush, plan) → want plan ≡ Device step → Agrees size most words committing devices actors s →
+      Follows size most s words committing (with_device Metadata devices metadata) (slice_set actors a (after_step Flush plan Fault x))
+  pub ends : (size most : ℕ) (words : Words) (committing : Bool) (devices : Devices (List History)) (actors : List Actor) (a : ℕ) (x : Actor) (plan : Plan) (s : World) →
+      slice_get actors a ≡ Some x → x.task ≡ Some (Flush, plan) → want plan ≡ Desk EndCommit → Agrees size most words committing devices actors s →
+      Follows size most s words false devices (slice_set actors a (after_step Flush plan Done x))
+  pub fails : (size most failures suspensions : ℕ) (words : Words) (committing : Bool) (devices : Devices (List History)) (actors : List Actor) (a : ℕ) (x : Actor) (plan : Plan) (s : World) → words.fail ≡ fail_word failures suspensions →
+      slice_get actors a ≡ Some x → x.task ≡ Some (Flush, plan) → want plan ≡ Cell SetFailed → Agrees size most words committing devices actors s →
+      Follows size most s (words_after words SetFailed) committing devices (slice_set actors a (went words Flush plan SetFailed x))
+  pub answers : (size most : ℕ) (answer : Answer) (words : Words) (committing : Bool) (devices : Devices (List History)) (actors : List Actor) (a : ℕ) (x : Actor) (plan : Plan) (s : World) →
+      slice_get actors a ≡ Some x → x.task ≡ Some (Flush, plan) → want plan ≡ End answer → Agrees size most words committing devices actors s →
+      Follows size most s words committing devices (slice_set actors a (record x { task = None }))

@@ -1,6 +1,6 @@
 //! Laws of how a run is followed in the abstract world.
 
-ghost use Rattle.wb_simulation.specs.Laws.{AnswersFollowed, CellStepsFollowed, ExtentStepsFollowed, StartsFollowed};
+ghost use Rattle.wb_simulation.specs.Laws.{AnswersFollowed, CellStepsFollowed, ExtentStepsFollowed, FlushStepsFollowed, StartsFollowed};
 
 /// Each step of a read or a write on the shared words is some records of the abstract world, which stands for the whole state of the
 /// run before them and after them: devices, words, the desk's commit and every actor.
@@ -17,4 +17,10 @@ pub fn extent_steps_are_followed()
 pub fn starts_and_answers_are_followed()
     ensures starts { StartsFollowed }
     ensures answers { AnswersFollowed }
+{}
+
+/// So is each step of a flush: its looks, the commit that it leads, or that is refused to it, its syncs and its steps on the metadata,
+/// done or failing, and its answer.
+pub fn flush_steps_are_followed()
+    ensures { FlushStepsFollowed }
 {}

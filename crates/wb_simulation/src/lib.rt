@@ -5,5 +5,6 @@
 mod law;
 
 pub use law::{
-    cell_steps_are_followed, extent_steps_are_followed, starts_and_answers_are_followed,
+    cell_steps_are_followed, extent_steps_are_followed, flush_steps_are_followed,
+    starts_and_answers_are_followed,
 };

@@ -1,0 +1,132 @@
+-- Each step of a flush is followed.
+use Rattle.std.proofs.Common.{◌≡◌, ◌≢◌, ◌+◌, ◌*◌, ◌==◌, ◌∙◌, ◌⊎◌, inl, inr, cond, if◌then◌else◌, ℕ, Bool, true, false, List, [], ◌∷◌, Option, Some, None, refl, sym, ap, subst, slice_get, slice_set}
+use Rattle.wb_types.specs.declared.mode.Dev.{Dev}
+use Rattle.wb_types.specs.declared.mode.Dev.TheVariants.{Metadata, Cache, Origin}
+use Rattle.wb_types.specs.declared.refusal.Refusal.{Refusal}
+use Rattle.wb_types.specs.declared.refusal.Refusal.TheVariants.{Failed, Busy, Memory, GenerationEnd}
+use Rattle.wb_disk.specs.Device.{History, synced}
+use Rattle.wb_disk.specs.Failing.{synced_where}
+use Rattle.wb_contents.specs.Devices.{by_block}
+use Rattle.wb_contents.proofs.Devices.{sync_is_act, failed_sync_is_act}
+use Rattle.wb_contents.specs.Acts.{all_synced, partly_synced}
+use Rattle.wb_words.specs.SharedWords.{Words, flag, fail_word}
+use Rattle.wb_words.specs.Effects.{words_after, card_after}
+use Rattle.wb_words.specs.declared.card.Card.{Card}
+use Rattle.wb_words.specs.declared.step.CellStep.TheVariants.{Look, SetFailed}
+use Rattle.wb_words.specs.declared.word.Word.TheVariants.{Fail}
+use Rattle.wb_tasks.specs.Tables.{Flushing}
+use Rattle.wb_tasks.specs.Plan.{Plan, want, after, device_of, first_step, onward, refused, commit_steps}
+use Rattle.wb_tasks.specs.Ready.{HoldsBlocks}
+use Rattle.wb_tasks.specs.declared.step.Answer.{Answer}
+use Rattle.wb_tasks.specs.declared.step.DeviceStep.{DeviceStep}
+use Rattle.wb_tasks.specs.declared.step.DeviceStep.TheVariants.{Read, Write, Sync, ReadMetadata, WriteNode, WriteRoot}
+use Rattle.wb_tasks.specs.declared.step.DeskStep.TheVariants.{BeginCommit, EndCommit}
+use Rattle.wb_tasks.specs.declared.step.Want.{Want}
+use Rattle.wb_tasks.specs.declared.step.Want.TheVariants.{Cell, Device, Desk, End}
+use Rattle.wb_tasks.specs.declared.step.Got.{Got}
+use Rattle.wb_tasks.specs.declared.step.Got.TheVariants.{Done, Fault, Word, Began, Refused}
+use Rattle.wb_devices.specs.declared.devices.Devices.{Devices}
+use Rattle.wb_devices.specs.Moving.{device_in}
+use Rattle.wb_link.specs.Tables.{Begin, End_running, Done as DoneThere, Flushing as FlushingFor}
+use Rattle.wb_link.specs.World.{World, Shared, Actor as AbstractActor, effect, is_alone}
+use Rattle.wb_refines.specs.Going.{gone}
+use Rattle.wb_refines.specs.Translation.{wants_of}
+use Rattle.wb_refines.specs.Models.{WordsAgree}
+use Rattle.wb_refines.specs.Flushes.{IsFlushing, IsOnMetadata, IsNoBegin, flushing, Leads}
+use Rattle.wb_refines.proofs.Cells.{flag_of, failed_flag}
+use Rattle.wb_refines.proofs.Flushing.{flush_steps_followed as followed_alone}
+use Rattle.wb_refines.proofs.Holding.{holds_nothing}
+use Rattle.wb_refines.proofs.Tasks.{tasks_end}
+use Rattle.wb_runs.specs.declared.job.Job.TheVariants.{Flush}
+use Rattle.wb_runs.specs.States.{Actor, with_device}
+use Rattle.wb_simulation.specs.Actors.{IsLate, IsFlushAt, IsOfFlush, LeadsAt, StandsFor}
+use Rattle.wb_simulation.specs.Worlds.{Agrees, Follows, IsUnfinished}
+use Rattle.wb_simulation.specs.Laws.{FlushStepsFollowed, after_step, went}
+use Rattle.wb_simulation.proofs.Cells.{shared_stays, gone_nowhere}
+use Rattle.wb_simulation.proofs.Among.{there, goes_on, goes_leading}
+use Rattle.wb_simulation.proofs.Followed.{doing_of}
+use Rattle.wb_simulation.proofs.Leading.{nodes_on_metadata, commits_on, has_wants, AtFlush, at_flush, stands, only_here, one_here, is_here, leads_on}
+
+module _ (size most : ℕ) (words : Words) (committing : Bool) (devices : Devices (List History)) (actors : List Actor) (a : ℕ) (x : Actor) (plan : Plan) (s : World) (y : AbstractActor) (ex : slice_get actors a ≡ Some x) (ey : slice_get s.actors a ≡ Some y) (g : Agrees size most words committing devices actors s) where
+  -- a step on a device, done, with this left
+  abbrev On : Devices (List History) → Plan → Type 0
+  On devices' plan' = Follows size most s words committing devices' (slice_set actors a (record { task = Some (Flush, plan'); card = x.card }))
+
+  -- the same on whatever it leads to there
+  goes : (devices' : Devices (List History)) (next : Want) (later : List Want) (answer : Answer) (plan' : Plan) (t : Shared) → IsFlushing size [] (flushing most (next ∷ later) answer) true y → wants_of size (FlushingFor None) (next ∷ later) ≢ [] → Leads size [] s.actors a s.shared y t plan' true →
+      plan'.job ≡ Flushing [] most → IsOfFlush most plan'.steps → LeadsAt true plan'.steps → (plan'.steps ≢ []) → WordsAgree words t → t.origin ≡ by_block size [] devices'.origin → t.cache ≡ by_block size [] devices'.cache → t.mode ≡ s.shared.mode → t.committing ≡ s.shared.committing → t.broken ≡ s.shared.broken → On devices' plan'
+  goes devices' next later answer plan' t is some l j o at unfinished w og ca mo co br =
+      leads_on size most words committing devices actors a x s y ex ey g words (λ f. f) devices' (flushing most (next ∷ later) answer) plan' x.card t next later answer is some l j o at (λ e n. absurd (unfinished n)) w og ca mo co br
+
+  -- who leads, where that is known of the step
+  leading : (next : Want) (later : List Want) (answer : Answer) (leads : Bool) → leads ≡ true → IsFlushing size [] (flushing most (next ∷ later) answer) leads y → IsFlushing size [] (flushing most (next ∷ later) answer) true y
+  leading next later answer leads e is = subst (λ (b : Bool). IsFlushing size [] (flushing most (next ∷ later) answer) b y) e is
+
+  -- cache and origin are synced
+  syncs_cache : (later : List Want) (answer : Answer) → IsOfFlush most (Device (Sync Cache) ∷ later) → IsFlushing size [] (flushing most (Device (Sync Cache) ∷ later) answer) true y →
+      On (with_device Cache devices (synced devices.cache)) (after (flushing most (Device (Sync Cache) ∷ later) answer) Done)
+  syncs_cache (Device (Sync Origin) ∷ ws) answer o is =
+      goes (with_device Cache devices (synced devices.cache)) (Device (Sync Cache)) (Device (Sync Origin) ∷ ws) answer _ _ is (λ e. absurd (cc)) (followed_alone.syncs_cache size most [] s.actors a s.shared y (Device (Sync Origin) ∷ ws) answer is) refl o refl (λ n. absurd (cc))
+      (record { fail = g.words_agree.fail; seals = g.words_agree.seals }) g.origin (ap all_synced g.cache ∙ sym (sync_is_act size [] devices.cache)) refl refl refl
+  syncs_cache later answer o is = absurd o
+
+  syncs_origin : (later : List Want) (answer : Answer) → IsOfFlush most (Device (Sync Origin) ∷ later) → IsFlushing size [] (flushing most (Device (Sync Origin) ∷ later) answer) true y →
+      On (with_device Origin devices (synced devices.origin)) (after (flushing most (Device (Sync Origin) ∷ later) answer) Done)
+  syncs_origin later answer o is =
+      goes (with_device Origin devices (synced devices.origin)) (Device (Sync Origin)) later answer (flushing most later answer) (record s.shared { origin = all_synced s.shared.origin }) is (λ e. absurd (cc)) (followed_alone.syncs_origin size most [] s.actors a s.shared y later answer is) refl (commits_on most later o).0 (commits_on most later o).1 (on_metadata_some later o)
+      (record { fail = g.words_agree.fail; seals = g.words_agree.seals }) (ap all_synced g.origin ∙ sym (sync_is_act size [] devices.origin)) g.cache refl refl refl
+    where
+      on_metadata_some : (steps : List Want) → IsOnMetadata steps → steps ≢ []
+      on_metadata_some [] m = absurd m
+      on_metadata_some (v ∷ ws) m = λ e. absurd (cc)
+
+  -- or one of them fails
+  fails_cache : (lands : ℕ → Bool) (later : List Want) (answer : Answer) → IsOfFlush most (Device (Sync Cache) ∷ later) → IsFlushing size [] (flushing most (Device (Sync Cache) ∷ later) answer) true y →
+      On (with_device Cache devices (synced_where lands devices.cache)) (after (flushing most (Device (Sync Cache) ∷ later) answer) Fault)
+  fails_cache lands later answer o is =
+      goes (with_device Cache devices (synced_where lands devices.cache)) (Device (Sync Cache)) later answer (after (flushing most (Device (Sync Cache) ∷ later) answer) Fault) (record s.shared { cache = partly_synced (λ b o. lands (b * size + o)) s.shared.cache }) is (λ e. absurd (cc))
+      (followed_alone.fails_cache size most [] s.actors a s.shared y later answer (λ b o. lands (b * size + o)) is) refl refl refl (λ n. absurd (cc))
+      (record { fail = g.words_agree.fail; seals = g.words_agree.seals }) g.origin (ap (partly_synced (λ b o. lands (b * size + o))) g.cache ∙ sym (failed_sync_is_act size [] lands devices.cache)) refl refl refl
+
+  fails_origin : (lands : ℕ → Bool) (later : List Want) (answer : Answer) → IsOfFlush most (Device (Sync Origin) ∷ later) → IsFlushing size [] (flushing most (Device (Sync Origin) ∷ later) answer) true y →
+      On (with_device Origin devices (synced_where lands devices.origin)) (after (flushing most (Device (Sync Origin) ∷ later) answer) Fault)
+  fails_origin lands later answer o is =
+      goes (with_device Origin devices (synced_where lands devices.origin)) (Device (Sync Origin)) later answer (after (flushing most (Device (Sync Origin) ∷ later) answer) Fault) (record s.shared { origin = partly_synced (λ b o. lands (b * size + o)) s.shared.origin }) is (λ e. absurd (cc))
+      (followed_alone.fails_origin size most [] s.actors a s.shared y later answer (λ b o. lands (b * size + o)) is) refl refl refl (λ n. absurd (cc))
+      (record { fail = g.words_agree.fail; seals = g.words_agree.seals }) (ap (partly_synced (λ b o. lands (b * size + o))) g.origin ∙ sym (failed_sync_is_act size [] lands devices.origin)) g.cache refl refl refl
+
+  -- a step on the metadata is done, or fails; the data devices are as they were
+  metadata_goes : (metadata : List History) (step : DeviceStep) (later : List Want) (answer : Answer) (t : Shared) → IsOnMetadata (Device step ∷ later) → IsOnMetadata later → IsFlushing size [] (flushing most (Device step ∷ later) answer) true y → Leads size [] s.actors a s.shared y t (flushing most later answer) true →
+      WordsAgree words t → t.origin ≡ s.shared.origin → t.cache ≡ s.shared.cache → t.mode ≡ s.shared.mode → t.committing ≡ s.shared.committing → t.broken ≡ s.shared.broken → On (with_device Metadata devices metadata) (flushing most later answer)
+  metadata_goes metadata step later answer t on m is l w og ca mo co br =
+      goes (with_device Metadata devices metadata) (Device step) later answer (flushing most later answer) t is (has_wants size (Device step ∷ later) on) l refl (commits_on most later m).0 (commits_on most later m).1 (some later m) w (og ∙ g.origin) (ca ∙ g.cache) mo co br
+    where
+      some : (steps : List Want) → IsOnMetadata steps → steps ≢ []
+      some [] m = absurd m
+      some (v ∷ ws) m = λ e. absurd (cc)
+
+  metadata_done : (metadata : List History) (step : DeviceStep) (later : List Want) (answer : Answer) → device_of step ≡ Metadata → IsOfFlush most (Device step ∷ later) → IsFlushing size [] (flushing most (Device step ∷ later) answer) true y → On (with_device Metadata devices metadata) (after (flushing most (Device step ∷ later) answer) Done)
+  metadata_done metadata (WriteNode number) later answer d o is = metadata_goes metadata (WriteNode number) later answer s.shared o o is (followed_alone.nodes size most number [] s.actors a s.shared y later answer is) g.words_agree refl refl refl refl refl
+  metadata_done metadata (Sync Metadata) later answer d o is = metadata_goes metadata (Sync Metadata) later answer s.shared o o is (followed_alone.syncs_metadata size most [] s.actors a s.shared y later answer is) g.words_agree refl refl refl refl refl
+  metadata_done metadata (Sync Cache) later answer d o is = absurd (cc)
+  metadata_done metadata (Sync Origin) later answer d o is = absurd (cc)
+  metadata_done metadata WriteRoot later answer d o is = metadata_goes metadata WriteRoot later answer (record s.shared { root_written = true }) o o is (followed_alone.writes_root size most [] s.actors a s.shared y later answer is) (record { fail = g.words_agree.fail; seals = g.words_agree.seals }) refl refl refl refl refl
+  metadata_done metadata (ReadMetadata left) later answer d o is = absurd o
+  metadata_done metadata (Read device e) later answer d o is = absurd o
+  metadata_done metadata (Write device e) later answer d o is = absurd o
+
+  metadata_failed : (metadata : List History) (step : DeviceStep) (later : List Want) (answer : Answer) → IsOnMetadata (Device step ∷ later) → IsFlushing size [] (flushing most (Device step ∷ later) answer) true y → On (with_device Metadata devices metadata) (after (flushing most (Device step ∷ later) answer) Fault)
+  metadata_failed metadata step later answer m is =
+      let l = followed_alone.fails_metadata size most step [] s.actors a s.shared y later answer m is in
+      goes (with_device Metadata devices metadata) (Device step) later answer (after (flushing most (Device step ∷ later) answer) Fault) (record s.shared { root_written = l.0 }) is (has_wants size (Device step ∷ later) m) l.1 refl refl refl (λ n. absurd (cc))
+      (record { fail = g.words_agree.fail; seals = g.words_agree.seals }) g.origin g.cache refl refl refl
+
+  is_on_metadata : (step : DeviceStep) (later : List Want) → device_of step ≡ Metadata → IsOfFlush most (Device step ∷ later) → IsOnMetadata (Device step ∷ later)
+  is_on_metadata (WriteNode number) later d o = o
+  is_on_metadata (Sync Metadata) later d o = o
+  is_on_metadata (Sync Cache) later d o = absurd (cc)
+  is_on_metadata (Sync Origin) later d o = absurd (cc)
+  is_on_metadata WriteRoot later d o = o
+  is_on_metadata (ReadMetadata left) later d o = absurd o
+  is_on_metadata (Read device e) later d o = absurd o
+  is_on_metadata (Write device e) later d o = absurd o
