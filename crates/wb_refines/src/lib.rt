@@ -3,6 +3,8 @@
 
 ghost use Rattle.wb_refines.specs.Laws.{TablesAgree, CellStepsFollowed, HasNoMore, ExtentStepsFollowed};
 ghost use Rattle.wb_refines.specs.Migrations.{MigrationTablesAgree};
+ghost use Rattle.wb_refines.specs.Carrying.{MigrationsBegin, CarryingFollowed};
+ghost use Rattle.wb_refines.specs.Copies.{CopiesFollowed};
 ghost use Rattle.wb_refines.specs.Flushes.{FlushStepsFollowed};
 ghost use Rattle.wb_refines.specs.Openings.{OpeningStepsFollowed};
 ghost use Rattle.wb_refines.specs.Tasks.{TasksBegin, TasksEnd, CrashesFollowed};
@@ -46,8 +48,20 @@ pub fn tasks_begin_and_end()
 {}
 
 /// The table of a migration goes on as the abstract one, a written extent as the read and the write of each of its sectors: from its
-/// start, from where it has seen its block where its order says, and where it gives everything back or has failed. No step of it is
-/// shown to be followed yet.
+/// start, from where it has seen its block where its order says, and where it gives everything back or has failed.
 pub fn migration_tables_agree()
     ensures { MigrationTablesAgree }
+{}
+
+/// So each step of a migration on an extent is followed, done or failing, where what is written is what stands at the place that is
+/// read; of a write that fails each sector has landed or not.
+pub fn copies_are_followed()
+    ensures { CopiesFollowed }
+{}
+
+/// So are its start under an order that may be given, or again under one that was kept, the look at the fail word, its block's taking where the number is looked at, a busy block, a seal, what it
+/// gives back, the failed bit, each call on the desk, also without memory, and its answer. That words and cards agree after them is not shown.
+pub fn migrations_are_followed()
+    ensures begins { MigrationsBegin }
+    ensures steps { CarryingFollowed }
 {}

@@ -6,6 +6,7 @@
 
 mod asking;
 mod committing;
+mod law;
 mod making;
 mod member;
 mod moving;
@@ -29,6 +30,7 @@ mod viewing;
 mod work;
 mod world;
 
+pub use law::headline;
 pub use making::Made;
 pub use member::Member;
 pub use opener::Opener;
