@@ -27,6 +27,8 @@ use Rattle.wb_tasks.specs.declared.step.Got.{Got}
 use Rattle.wb_tasks.specs.declared.step.Got.TheVariants.{Done, Fault, Word, Began, Refused}
 use Rattle.wb_devices.specs.declared.devices.Devices.{Devices}
 use Rattle.wb_devices.specs.Moving.{device_in}
+use Rattle.std.proofs.lemmas.Bool.{cases_eq}
+use Rattle.wb_link.proofs.Lists.{get_set_other}
 use Rattle.wb_link.specs.Tables.{Begin, End_running, Done as DoneThere, Flushing as FlushingFor}
 use Rattle.wb_link.specs.World.{World, Shared, Actor as AbstractActor, effect, is_alone}
 use Rattle.wb_refines.specs.Going.{gone}
@@ -130,3 +132,113 @@ module _ (size most : ℕ) (words : Words) (committing : Bool) (devices : Device
   is_on_metadata (ReadMetadata left) later d o = absurd o
   is_on_metadata (Read device e) later d o = absurd o
   is_on_metadata (Write device e) later d o = absurd o
+
+  -- ---- the desk and the words
+
+  -- the flush leads no commit before it and after it
+  follows_alone : (devices' : Devices (List History)) (plan' : Plan) (card' : Card) → plan'.job ≡ Flushing [] most → IsOfFlush most plan'.steps → LeadsAt false plan'.steps → Leads size [] s.actors a s.shared y s.shared plan' false →
+      devices' ≡ devices → Follows size most s words committing devices' (slice_set actors a (record { task = Some (Flush, plan'); card = card' }))
+  follows_alone devices' plan' card' j o at l d = subst (λ (ds : Devices (List History)). Follows size most s words committing ds (slice_set actors a (record { task = Some (Flush, plan'); card = card' }))) (sym d)
+      (goes_on size most words words (λ f. f) committing devices actors a x (record { task = Some (Flush, plan'); card = card' }) s y g ex ey devices l.results s.shared l.may l.shared
+      (stands size most words committing devices actors a x s y ex ey g words plan' card' false (gone y y.task l.results) j o at (λ e n. absurd (cc)) l.at)
+      (λ k. let bad : true ≡ false = sym k ∙ ap (λ (v : AbstractActor). v.leads) l.at.is in absurd (cc)) g.words_agree g.origin g.cache refl refl refl)
+
+  refused_plan : (refusal : Refusal) (later : List Want) (answer : Answer) (clean : Bool) (nodes : ℕ) → IsNoBegin refusal → (after (flushing most (Desk (BeginCommit clean nodes) ∷ later) answer) (Refused refusal)).steps ≡ []
+  refused_plan Busy later answer clean nodes n = refl
+  refused_plan Memory later answer clean nodes n = refl
+  refused_plan GenerationEnd later answer clean nodes n = refl
+  refused_plan refusal later answer clean nodes n = absurd n
+
+  refused_job : (refusal : Refusal) (later : List Want) (answer : Answer) (clean : Bool) (nodes : ℕ) → (after (flushing most (Desk (BeginCommit clean nodes) ∷ later) answer) (Refused refusal)).job ≡ Flushing [] most
+  refused_job refusal later answer clean nodes = refl
+
+  is_refused : (refusal : Refusal) (answer : Answer) → IsNoBegin refusal → IsFlushing size [] (flushing most (Desk (BeginCommit false most) ∷ []) answer) false y → On devices (after (flushing most (Desk (BeginCommit false most) ∷ []) answer) (Refused refusal))
+  is_refused refusal answer n is =
+      let steps = refused_plan refusal [] answer false most n in
+      follows_alone devices (after (flushing most (Desk (BeginCommit false most) ∷ []) answer) (Refused refusal)) x.card refl
+      (subst (λ (ws : List Want). IsOfFlush most ws) (sym steps) tt) (subst (λ (ws : List Want). LeadsAt false ws) (sym steps) tt)
+      (followed_alone.is_refused size most refusal [] s.actors a s.shared y [] answer n is) refl
+
+  -- a commit begins, which nobody has led
+  begins : (nodes : ℕ) (answer : Answer) → committing ≡ false → IsFlushing size [] (flushing most (Desk (BeginCommit false most) ∷ []) answer) false y →
+      Follows size most s words true devices (slice_set actors a (record { task = Some (Flush, after (flushing most (Desk (BeginCommit false most) ∷ []) answer) (Began nodes)); card = x.card }))
+  begins nodes answer quiet is =
+      let plan' = after (flushing most (Desk (BeginCommit false most) ∷ []) answer) (Began nodes) in
+      let none : s.shared.committing ≡ false = g.commits ∙ quiet in
+      let l = followed_alone.begins size most nodes [] s.actors a s.shared y [] answer none (by_broken s.shared.broken refl) is in
+      goes_leading size most words words (λ f. f) committing devices actors a x (record { task = Some (Flush, plan'); card = x.card }) s y g ex ey true devices l.results (effect s.shared (FlushingFor None) [] (Begin None) DoneThere) l.may l.shared
+      (stands size most words committing devices actors a x s y ex ey g words plan' x.card true (gone y y.task l.results) refl (nodes_on_metadata nodes 0) refl (λ e n. absurd (cc)) l.at)
+      (record { fail = g.words_agree.fail; seals = g.words_agree.seals }) g.origin g.cache refl refl (λ e. refl) (λ b v ev k. refl) (λ b v ev k u. by_broken s.shared.broken refl)
+      (λ b c v u ev eu k m. only b v (gone y y.task l.results) ev k ∙ sym (only c u (gone y y.task l.results) eu m))
+    where
+      runs : s.shared.committing ≡ true → ⊥
+      runs e = let bad : true ≡ false = sym e ∙ g.commits ∙ quiet in absurd (cc)
+
+      by_broken : (t : Bool) → s.shared.broken ≡ t → s.shared.broken ≡ false
+      by_broken false e = e
+      by_broken true e = absurd (runs (g.broken e))
+
+      only : (b : ℕ) (v y' : AbstractActor) → slice_get (slice_set s.actors a y') b ≡ Some v → v.leads ≡ true → b ≡ a
+      only b v y' ev k = elim (cases_eq b a) [ inl e ↦ e | inr n ↦ absurd (runs (g.led b v (sym (get_set_other s.actors a b y' n) ∙ ev) k)) ]
+
+  -- the commit ends, and nobody leads one
+  ends : (answer : Answer) → IsFlushing size [] (flushing most (Desk EndCommit ∷ []) answer) true y → Follows size most s words false devices (slice_set actors a (record { task = Some (Flush, after (flushing most (Desk EndCommit ∷ []) answer) Done); card = x.card }))
+  ends answer is =
+      let plan' = after (flushing most (Desk EndCommit ∷ []) answer) Done in
+      let l = followed_alone.ends size most [] s.actors a s.shared y answer is in
+      let lead : y.leads ≡ true = ap (λ (v : AbstractActor). v.leads) is.is in
+      let some : wants_of size (FlushingFor None) (Desk EndCommit ∷ []) ≢ [] = (λ e. absurd (cc)) in
+      let whole : s.shared.broken ≡ false = g.whole a y ey lead (subst (λ (v : AbstractActor). IsUnfinished v.task) (sym is.is) some) in
+      goes_leading size most words words (λ f. f) committing devices actors a x (record { task = Some (Flush, plan'); card = x.card }) s y g ex ey false devices l.results (effect s.shared (FlushingFor None) [] End_running DoneThere) l.may l.shared
+      (stands size most words committing devices actors a x s y ex ey g words plan' x.card false (gone y y.task l.results) refl tt tt (λ e n. absurd (cc)) l.at)
+      (record { fail = g.words_agree.fail; seals = g.words_agree.seals }) g.origin g.cache refl refl (λ e. let bad : true ≡ false = sym e ∙ whole in absurd (cc))
+      (λ b v ev k. absurd (nobody l b v ev k)) (λ b v ev k u. whole) (λ b c v u ev eu k m. absurd (nobody l b v ev k))
+    where
+      nobody : (l : Leads size [] s.actors a s.shared y (effect s.shared (FlushingFor None) [] End_running DoneThere) (after (flushing most (Desk EndCommit ∷ []) answer) Done) false) (b : ℕ) (v : AbstractActor) → slice_get (slice_set s.actors a (gone y y.task l.results)) b ≡ Some v → v.leads ≡ true → ⊥
+      nobody l b v ev k =
+          let here = is_here size most words committing devices actors a x s y ex ey g (ap (λ (z : AbstractActor). z.leads) is.is) (gone y y.task l.results) b v ev k in
+          let bad : true ≡ false = sym k ∙ ap (λ (z : AbstractActor). z.leads) (here ∙ l.at.is) in absurd (cc)
+
+  -- the failed bit is set, and the commit is broken
+  fails : (failures suspensions : ℕ) (answer : Answer) → words.fail ≡ fail_word failures suspensions → IsFlushing size [] (flushing most (Cell SetFailed ∷ []) answer) true y →
+      Follows size most s (words_after words SetFailed) committing devices (slice_set actors a (record { task = Some (Flush, after (flushing most (Cell SetFailed ∷ []) answer) Done); card = card_after words SetFailed x.card }))
+  fails f z answer e is =
+      let plan' = after (flushing most (Cell SetFailed ∷ []) answer) Done in
+      let failed : flag (words_after words SetFailed).fail ≡ true = failed_flag words.fail f z e in
+      let l = followed_alone.fails size most [] s.actors a s.shared y answer is in
+      let lead : y.leads ≡ true = ap (λ (v : AbstractActor). v.leads) is.is in
+      let y' = gone y y.task l.results in
+      let runs = g.led a y ey lead in
+      goes_leading size most words (words_after words SetFailed) (λ k. failed) committing devices actors a x (record { task = Some (Flush, plan'); card = card_after words SetFailed x.card }) s y g ex ey committing devices l.results (record s.shared { fail = true; broken = true }) l.may l.shared
+      (stands size most words committing devices actors a x s y ex ey g (words_after words SetFailed) plan' (card_after words SetFailed x.card) true y' refl tt tt (λ k n. failed) l.at)
+      (record { fail = sym failed; seals = g.words_agree.seals }) g.origin g.cache refl g.commits (λ k. runs) (λ b v ev k. runs)
+      (λ b v ev k u. absurd (subst (λ (w : AbstractActor). IsUnfinished w.task) (is_here size most words committing devices actors a x s y ex ey g lead y' b v ev k ∙ l.at.is) u refl))
+      (one_here size most words committing devices actors a x s y ex ey g lead y')
+
+  -- ---- its look at the fail word, and its answer
+
+  looks : (later : List Want) (answer : Answer) → later ≡ Desk (BeginCommit false most) ∷ [] → IsFlushing size [] (flushing most (Cell (Look Fail) ∷ later) answer) false y →
+      Follows size most s words committing devices (slice_set actors a (went words Flush (flushing most (Cell (Look Fail) ∷ later) answer) (Look Fail) x))
+  looks later answer n is = subst (λ (ws : List Want). Goal ws) (sym n) (by_test (words.fail == 0) refl)
+    where
+      Goal : List Want → Type 0
+      Goal ws = Follows size most s words committing devices (slice_set actors a (went words Flush (flushing most (Cell (Look Fail) ∷ ws) answer) (Look Fail) x))
+
+      rest : List Want
+      rest = Desk (BeginCommit false most) ∷ []
+
+      is' : IsFlushing size [] (flushing most (Cell (Look Fail) ∷ Desk (BeginCommit false most) ∷ []) answer) false y
+      is' = subst (λ (ws : List Want). IsFlushing size [] (flushing most (Cell (Look Fail) ∷ ws) answer) false y) n is
+
+      abbreviated : Plan
+      abbreviated = flushing most (Cell (Look Fail) ∷ Desk (BeginCommit false most) ∷ []) answer
+
+      by_test : (t : Bool) → (words.fail == 0) ≡ t → Goal (Desk (BeginCommit false most) ∷ [])
+      by_test true e =
+          let plan_is : after (flushing most (Cell (Look Fail) ∷ Desk (BeginCommit false most) ∷ []) answer) (Word words.fail) ≡ flushing most (Desk (BeginCommit false most) ∷ []) answer = ap (λ (t : Bool). if t then onward (flushing most (Cell (Look Fail) ∷ Desk (BeginCommit false most) ∷ []) answer) else refused (flushing most (Cell (Look Fail) ∷ Desk (BeginCommit false most) ∷ []) answer) [] Failed) e in
+          follows_alone devices (after (flushing most (Cell (Look Fail) ∷ Desk (BeginCommit false most) ∷ []) answer) (Word words.fail)) _ (ap (λ (p : Plan). p.job) plan_is)
+          (subst (λ (p : Plan). IsOfFlush most p.steps) (sym plan_is) (refl, refl, refl)) (subst (λ (p : Plan). LeadsAt false p.steps) (sym plan_is) refl) (followed_alone.looks size most words.fail [] s.actors a s.shared y answer g.words_agree.fail is') refl
+      by_test false e =
+          let plan_is : after (flushing most (Cell (Look Fail) ∷ Desk (BeginCommit false most) ∷ []) answer) (Word words.fail) ≡ refused (flushing most (Cell (Look Fail) ∷ Desk (BeginCommit false most) ∷ []) answer) [] Failed = ap (λ (t : Bool). if t then onward (flushing most (Cell (Look Fail) ∷ Desk (BeginCommit false most) ∷ []) answer) else refused (flushing most (Cell (Look Fail) ∷ Desk (BeginCommit false most) ∷ []) answer) [] Failed) e in
+          follows_alone devices (after (flushing most (Cell (Look Fail) ∷ Desk (BeginCommit false most) ∷ []) answer) (Word words.fail)) _ (ap (λ (p : Plan). p.job) plan_is)
+          (subst (λ (p : Plan). IsOfFlush most p.steps) (sym plan_is) tt) (subst (λ (p : Plan). LeadsAt false p.steps) (sym plan_is) tt) (followed_alone.looks size most words.fail [] s.actors a s.shared y answer g.words_agree.fail is') refl
