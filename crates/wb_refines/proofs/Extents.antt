@@ -16,7 +16,7 @@ use Rattle.wb_refines.specs.Data.{side, row, IsSide, SameBeside, faults}
 abbrev pub doing : Job → List Want → Answer → Held → Content → Actor
 doing job steps answer held buffer = record { task = Some (record { job = job; steps = steps; answer = answer }); held = held; order = None; leads = false; buffer = buffer }
 
-newest_side : (to : Option ℕ) (s : Shared) (b o : ℕ) → newest_at s to b o ≡ newest (side to s (row to b) o)
+pub newest_side : (to : Option ℕ) (s : Shared) (b o : ℕ) → newest_at s to b o ≡ newest (side to s (row to b) o)
 newest_side None s b o = refl
 newest_side (Some k) s b o = refl
 
@@ -25,7 +25,7 @@ put_side None s b o c = refl
 put_side (Some k) s b o c = refl
 
 -- a sector that is written is written in its list
-put_is : (size : ℕ) (blank : Content) (to : Option ℕ) (device : List History) (s : Shared) (b o : ℕ) (c : Content) → o < size → row to b * size + o < length device → IsSide size blank to device s →
+pub put_is : (size : ℕ) (blank : Content) (to : Option ℕ) (device : List History) (s : Shared) (b o : ℕ) (c : Content) → o < size → row to b * size + o < length device → IsSide size blank to device s →
     IsSide size blank to (written device (row to b * size + o) c) (put_sector s to b o c)
 put_is size blank to device s b o c l m i = put_side to s b o c ∙ ap (λ (f : ℕ → ℕ → History). changed_at f (row to b) o (added (f (row to b) o) c)) i ∙ sym (write_is_act size blank device (row to b) o c l m)
 
@@ -54,11 +54,11 @@ reads_each size blank actors a s job rest answer held to b device i (c ∷ conte
 
 -- ---- writes
 
-length-grown : (o : Option History) (device : List History) (at : ℕ) (c : Content) → length (grown o c device at) ≡ length device
+pub length-grown : (o : Option History) (device : List History) (at : ℕ) (c : Content) → length (grown o c device at) ≡ length device
 length-grown None device at c = refl
 length-grown (Some h) device at c = length-set device at _
 
-put_beside : (to : Option ℕ) (s : Shared) (b o : ℕ) (c : Content) → SameBeside to s (put_sector s to b o c)
+pub put_beside : (to : Option ℕ) (s : Shared) (b o : ℕ) (c : Content) → SameBeside to s (put_sector s to b o c)
 put_beside None s b o c = record { other = refl; seals = refl; fail = refl; images = record { mapping = refl; blocks = refl; live = refl; mode = refl; committing = refl; began = refl; ended = refl; broken = refl; committed = refl; running = refl; root_written = refl; committed_clean = refl; running_clean = refl } }
 put_beside (Some k) s b o c = record { other = refl; seals = refl; fail = refl; images = record { mapping = refl; blocks = refl; live = refl; mode = refl; committing = refl; began = refl; ended = refl; broken = refl; committed = refl; running = refl; root_written = refl; committed_clean = refl; running_clean = refl } }
 
@@ -82,7 +82,7 @@ both_images s t u p q = record {
   running_clean = q.running_clean ∙ p.running_clean;
 }
 
-both_beside : (to : Option ℕ) (s t u : Shared) → SameBeside to s t → SameBeside to t u → SameBeside to s u
+pub both_beside : (to : Option ℕ) (s t u : Shared) → SameBeside to s t → SameBeside to t u → SameBeside to s u
 both_beside to s t u p q = record { other = q.other ∙ p.other; seals = q.seals ∙ p.seals; fail = q.fail ∙ p.fail; images = both_images s t u p.images q.images }
 
 -- These results of an actor write its sectors, and leave it at this.

@@ -10,3 +10,4 @@ pub mod Flushing
 pub mod Tasks
 pub mod Openings
 pub mod Migrating
+pub mod Copying

@@ -7,3 +7,4 @@ pub mod Flushes
 pub mod Tasks
 pub mod Openings
 pub mod Migrations
+pub mod Copies

@@ -3,6 +3,7 @@
 
 ghost use Rattle.wb_refines.specs.Laws.{TablesAgree, CellStepsFollowed, HasNoMore, ExtentStepsFollowed};
 ghost use Rattle.wb_refines.specs.Migrations.{MigrationTablesAgree};
+ghost use Rattle.wb_refines.specs.Copies.{CopiesFollowed};
 ghost use Rattle.wb_refines.specs.Flushes.{FlushStepsFollowed};
 ghost use Rattle.wb_refines.specs.Openings.{OpeningStepsFollowed};
 ghost use Rattle.wb_refines.specs.Tasks.{TasksBegin, TasksEnd, CrashesFollowed};
@@ -46,8 +47,13 @@ pub fn tasks_begin_and_end()
 {}
 
 /// The table of a migration goes on as the abstract one, a written extent as the read and the write of each of its sectors: from its
-/// start, from where it has seen its block where its order says, and where it gives everything back or has failed. No step of it is
-/// shown to be followed yet.
+/// start, from where it has seen its block where its order says, and where it gives everything back or has failed.
 pub fn migration_tables_agree()
     ensures { MigrationTablesAgree }
+{}
+
+/// So each step of a migration on an extent is followed, done or failing, where what is written is what stands at the place that is
+/// read; of a write that fails each sector has landed or not. Its steps on the shared words and the desk are not shown to be so yet.
+pub fn copies_are_followed()
+    ensures { CopiesFollowed }
 {}
