@@ -11,3 +11,4 @@ pub mod Tasks
 pub mod Openings
 pub mod Migrating
 pub mod Copying
+pub mod Carrying

@@ -45,7 +45,7 @@ abbrev Works : BlockRange → CBlock → Option ℕ → Migration → Option CBl
 Works part c next migration place dirty = migration_wants part.block_sectors (order_on part c next) (offsets part.block_sectors part.extents) migration (work (Migrating migration part) place dirty)
     ≡ work_there (job_under (order_on part c next) (offsets part.block_sectors part.extents) migration) (record { location = number_of place; dirty = dirty })
 
-works : (part : BlockRange) (c : CBlock) (next : Option ℕ) (migration : Migration) (place : Option CBlock) (dirty : Bool) → 0 < part.block_sectors → Fills migration c → IsWhere migration c place → Works part c next migration place dirty
+pub works : (part : BlockRange) (c : CBlock) (next : Option ℕ) (migration : Migration) (place : Option CBlock) (dirty : Bool) → 0 < part.block_sectors → Fills migration c → IsWhere migration c place → Works part c next migration place dirty
 works part c next (Promote k) place dirty some f w = subst (λ (v : CBlock). Works part c next (Promote v) place dirty) (sym f) (fills_are part some (order_on part c next) (offsets part.block_sectors part.extents) (Promote c) c part.extents (ending (Promote c) part.block place))
 works part c next Demote place true some f w = subst (λ (v : Option CBlock). Works part c next Demote v true) (sym w) (homes_are part some (order_on part c next) (offsets part.block_sectors part.extents) Demote c part.extents (ending Demote part.block (Some c)))
 works part c next Demote place false some f w = subst (λ (v : Option CBlock). Works part c next Demote v false) (sym w) refl

@@ -8,3 +8,4 @@ pub mod Tasks
 pub mod Openings
 pub mod Migrations
 pub mod Copies
+pub mod Carrying

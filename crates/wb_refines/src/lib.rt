@@ -3,6 +3,7 @@
 
 ghost use Rattle.wb_refines.specs.Laws.{TablesAgree, CellStepsFollowed, HasNoMore, ExtentStepsFollowed};
 ghost use Rattle.wb_refines.specs.Migrations.{MigrationTablesAgree};
+ghost use Rattle.wb_refines.specs.Carrying.{MigrationsBegin, CarryingFollowed};
 ghost use Rattle.wb_refines.specs.Copies.{CopiesFollowed};
 ghost use Rattle.wb_refines.specs.Flushes.{FlushStepsFollowed};
 ghost use Rattle.wb_refines.specs.Openings.{OpeningStepsFollowed};
@@ -53,7 +54,14 @@ pub fn migration_tables_agree()
 {}
 
 /// So each step of a migration on an extent is followed, done or failing, where what is written is what stands at the place that is
-/// read; of a write that fails each sector has landed or not. Its steps on the shared words and the desk are not shown to be so yet.
+/// read; of a write that fails each sector has landed or not.
 pub fn copies_are_followed()
     ensures { CopiesFollowed }
+{}
+
+/// So are its start under an order that may be given, its block's taking where the number is looked at, a busy block, a seal, what it
+/// gives back, the failed bit, each call on the desk, also without memory, and its answer.
+pub fn migrations_are_followed()
+    ensures begins { MigrationsBegin }
+    ensures steps { CarryingFollowed }
 {}
