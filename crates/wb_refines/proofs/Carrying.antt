@@ -1,25 +1,23 @@
 -- Each step of a migration on the words and on the desk is followed.
-use Rattle.std.proofs.Common.{◌≡◌, ◌<◌, ◌∙◌, ℕ, Bool, true, false, List, [], ◌∷◌, Option, Some, None, refl, sym, ap, slice_get, slice_set}
+use Rattle.std.proofs.Common.{◌≡◌, ◌<◌, ◌∙◌, ℕ, Bool, true, false, List, [], ◌∷◌, Option, Some, refl, sym, ap, slice_get, slice_set}
 use Rattle.wb_types.specs.declared.number.CBlock.{CBlock}
 use Rattle.wb_disk.specs.Device.{Content}
 use Rattle.wb_tasks.specs.declared.step.Migration.{Migration}
 use Rattle.wb_tasks.specs.declared.step.Migration.TheVariants.{Promote, Demote, Clean}
 use Rattle.wb_tasks.specs.declared.step.Want.{Want}
-use Rattle.wb_tasks.specs.declared.step.Want.TheVariants.{Cell, Desk}
+use Rattle.wb_tasks.specs.declared.step.Want.TheVariants.{Cell}
 use Rattle.wb_words.specs.declared.word.Word.TheVariants.{Number, Cell as LockWord}
-use Rattle.wb_words.specs.declared.step.CellStep.TheVariants.{Look, Release, Seal, SetFailed}
+use Rattle.wb_words.specs.declared.step.CellStep.TheVariants.{Look, SetFailed}
 use Rattle.wb_tasks.specs.Tables.{BlockRange, Migrating, work, OnBlock}
-use Rattle.wb_link.specs.Tables.{Order, Job, Done, Lost, Own, Seen, Disown, Give_up, Want as AbstractWant, Answer as AbstractAnswer, work as work_there, Got, Short, Promoting, Demoting, Set_seal, Map_to, Unmap_from, Finished as AnsweredDone, Busy as AnsweredBusy, Failed as AnsweredFailed, Io as AnsweredIo, table as table_there}
-use Rattle.wb_link.specs.World.{Shared, Nothing, Owns, Actor, start_actor, World, Start, May, MayStart, after_record, reserved, effect, following}
+use Rattle.wb_link.specs.Tables.{Order, Job, Done, Lost, Own, Seen, Disown, Give_up, Want as AbstractWant, Answer as AbstractAnswer, work as work_there, Finished as AnsweredDone, Busy as AnsweredBusy, Failed as AnsweredFailed, Io as AnsweredIo, table as table_there}
+use Rattle.wb_link.specs.World.{Shared, Nothing, Owns, Actor, start_actor, World, Start, May, MayStart, after_record, reserved}
 use Rattle.wb_refines.specs.Translation.{number_of, offsets}
-use Rattle.wb_refines.specs.Going.{WinsBeside, shared_after, gone, MayGo}
+use Rattle.wb_refines.specs.Going.{WinsBeside}
 use Rattle.wb_refines.specs.Migrations.{job_under, order_on, Fills, IsWhere}
 use Rattle.wb_refines.specs.Copies.{migrating}
-use Rattle.wb_refines.specs.Carrying.{GoesTo, without_block, MigrationsBegin, CarryingFollowed, under}
+use Rattle.wb_refines.specs.Carrying.{GoesTo, without_block, MigrationsBegin, CarryingFollowed}
 use Rattle.wb_refines.proofs.Migrating.{works}
 use Rattle.wb_types.specs.declared.number.OBlock.{OBlock}
-use Rattle.wb_words.specs.declared.word.Access.TheVariants.{Owned}
-use Rattle.wb_tasks.specs.declared.step.DeskStep.TheVariants.{Map, Unmap, ReleaseOrder}
 use Rattle.wb_tasks.specs.Plan.{first_steps}
 use Rattle.wb_refines.specs.Tasks.{IsIdle, NobodyIsAlone}
 

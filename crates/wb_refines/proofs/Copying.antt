@@ -14,7 +14,7 @@ use Rattle.wb_tasks.specs.declared.step.Migration.TheVariants.{Promote, Demote, 
 use Rattle.wb_tasks.specs.declared.step.DeskStep.TheVariants.{ReleaseOrder}
 use Rattle.wb_tasks.specs.declared.step.Want.{Want as RealWant}
 use Rattle.wb_tasks.specs.declared.step.Want.TheVariants.{Cell, Desk}
-use Rattle.wb_link.specs.Tables.{Order, Job, Answer, Io, Want, Set_failed, Disown, Give_up, Read_at, Write_at, Got, copy_each, until_failed, steps_after_fault, release}
+use Rattle.wb_link.specs.Tables.{Order, Job, Answer, Io, Want, Set_failed, Disown, Give_up, Read_at, Write_at, copy_each, until_failed, steps_after_fault, release}
 use Rattle.wb_link.specs.World.{Shared, Owns, Actor, content_for, newest_at, put_sector, if_landed}
 use Rattle.wb_refines.specs.Translation.{location_at}
 use Rattle.wb_refines.specs.Data.{side, row, IsSide, SameBeside, IsInBlock, read_fault}

@@ -1,11 +1,11 @@
 -- The table of a migration as that of the abstract world. A real step reads or writes an extent, of up to hundreds of sectors; the
 -- abstract actor has the content of one sector at most. So a read stands for nothing by itself, and a write for the read and
 -- the write of each of its sectors: the block is owned, so its source is then what it was when it was read.
-use Rattle.std.specs.Prelude.{◌≡◌, ◌<◌, ℕ, Bool, false, List, [], ◌∷◌, Option, Some, None}
+use Rattle.std.specs.Prelude.{◌≡◌, ◌<◌, ℕ, Bool, List, [], ◌∷◌, Option, Some, None}
 use Rattle.wb_types.specs.declared.number.CBlock.{CBlock}
 use Rattle.wb_tasks.specs.declared.step.Migration.{Migration}
 use Rattle.wb_tasks.specs.declared.step.Migration.TheVariants.{Promote, Demote, Clean}
-use Rattle.wb_tasks.specs.declared.step.DeviceStep.TheVariants.{Read, Write}
+use Rattle.wb_tasks.specs.declared.step.DeviceStep.TheVariants.{Write}
 use Rattle.wb_tasks.specs.declared.step.DeskStep.TheVariants.{Map, Unmap, ReleaseOrder}
 use Rattle.wb_tasks.specs.declared.step.Want.{Want}
 use Rattle.wb_tasks.specs.declared.step.Want.TheVariants.{Cell, Device, Desk}
