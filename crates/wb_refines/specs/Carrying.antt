@@ -1,10 +1,10 @@
 -- How a migration begins, takes its block, seals, asks the desk, gives back what it has and is answered in an abstract world.
-use Rattle.std.specs.Prelude.{◌≡◌, ◌<◌, ℕ, Bool, true, List, [], ◌∷◌, Option, Some, None, slice_get, slice_set}
+use Rattle.std.specs.Prelude.{◌≡◌, ◌<◌, ℕ, Bool, true, false, List, [], ◌∷◌, Option, Some, None, slice_get, slice_set}
 use Rattle.wb_types.specs.declared.number.CBlock.{CBlock}
 use Rattle.wb_types.specs.declared.number.OBlock.{OBlock}
 use Rattle.wb_disk.specs.Device.{Content}
 use Rattle.wb_words.specs.declared.word.Access.TheVariants.{Owned}
-use Rattle.wb_words.specs.declared.word.Word.TheVariants.{Number, Cell as LockWord}
+use Rattle.wb_words.specs.declared.word.Word.TheVariants.{Number, Fail, Cell as LockWord}
 use Rattle.wb_words.specs.declared.step.CellStep.TheVariants.{Look, Release, Seal, SetFailed}
 use Rattle.wb_tasks.specs.declared.step.Migration.{Migration}
 use Rattle.wb_tasks.specs.declared.step.Migration.TheVariants.{Promote, Demote}
@@ -13,8 +13,8 @@ use Rattle.wb_tasks.specs.declared.step.Want.{Want}
 use Rattle.wb_tasks.specs.declared.step.Want.TheVariants.{Cell, Desk}
 use Rattle.wb_tasks.specs.Tables.{BlockRange, Migrating, OnBlock, work}
 use Rattle.wb_tasks.specs.Plan.{first_steps}
-use Rattle.wb_link.specs.Tables.{Order, Got, Done, Lost, Seen, Short, Promoting, Demoting, Own, Set_seal, Map_to, Unmap_from, Give_up, Answer as AbstractAnswer, Finished as AnsweredDone, Busy as AnsweredBusy, Failed as AnsweredFailed, Io as AnsweredIo}
-use Rattle.wb_link.specs.World.{Shared, Nothing, Actor, World, Start, May, MayStart, after_record, reserved, effect, following}
+use Rattle.wb_link.specs.Tables.{Order, Got, Done, Flag, Lost, Seen, Short, Promoting, Demoting, Own, Set_seal, Map_to, Unmap_from, Give_up, Answer as AbstractAnswer, Finished as AnsweredDone, Busy as AnsweredBusy, Failed as AnsweredFailed, Io as AnsweredIo}
+use Rattle.wb_link.specs.World.{Shared, Nothing, Actor, World, Start, Again, May, MayStart, MayAgain, after_record, reserved, effect, following}
 use Rattle.wb_refines.specs.Translation.{number_of, offsets}
 use Rattle.wb_refines.specs.Going.{WinsBeside, shared_after, gone, MayGo}
 use Rattle.wb_refines.specs.Tasks.{IsIdle, NobodyIsAlone}
@@ -35,7 +35,7 @@ without_block y = record y { held = Nothing }
 abbrev pub under : Option Order → Actor → Actor
 under order y = record y { order = order }
 
--- A migration starts under an order that may be given.
+-- A migration starts under an order that may be given, or begins again under the one that its actor kept.
 pub record MigrationsBegin : Type 0 where
   pub starts : (size : ℕ) (w : World) (a : ℕ) (y : Actor) (part : BlockRange) (c : CBlock) (next : Option ℕ) (migration : Migration) → slice_get w.actors a ≡ Some y → IsIdle y → NobodyIsAlone w → MayStart size w (job_under (order_on part c next) (offsets size part.extents) migration) →
       May size w (Start a (job_under (order_on part c next) (offsets size part.extents) migration))
@@ -43,9 +43,20 @@ pub record MigrationsBegin : Type 0 where
         shared = reserved w.shared (job_under (order_on part c next) (offsets size part.extents) migration);
         actors = slice_set w.actors a (without_block (migrating size (order_on part c next) (offsets size part.extents) migration (first_steps (OnBlock (Migrating migration part))) AnsweredDone y.buffer));
       })
+  pub again : (size : ℕ) (w : World) (a : ℕ) (y : Actor) (part : BlockRange) (c : CBlock) (next : Option ℕ) (migration : Migration) → slice_get w.actors a ≡ Some y → y.task ≡ None → y.held ≡ Nothing → y.order ≡ Some (order_on part c next) → y.leads ≡ false → NobodyIsAlone w → MayAgain size w.shared (job_under (order_on part c next) (offsets size part.extents) migration) →
+      May size w (Again a (job_under (order_on part c next) (offsets size part.extents) migration))
+      × (after_record w (Again a (job_under (order_on part c next) (offsets size part.extents) migration)) ≡ record {
+        shared = w.shared;
+        actors = slice_set w.actors a (without_block (migrating size (order_on part c next) (offsets size part.extents) migration (first_steps (OnBlock (Migrating migration part))) AnsweredDone y.buffer));
+      })
 
--- Each step of a migration on the words and on the desk but the first looks.
+-- Each step of a migration on the words and on the desk but those that stand for nothing.
 pub record CarryingFollowed : Type 0 where
+  pub looks_fail : (size : ℕ) (actors : List Actor) (a : ℕ) (s : Shared) (order : Order) (os : List ℕ) (migration : Migration) (block : OBlock) (answer : AbstractAnswer) (buffer : Content) → s.fail ≡ false →
+      GoesTo actors a s (without_block (migrating size order os migration (Cell (Look Fail) ∷ Cell (Look (LockWord block)) ∷ []) answer buffer)) (Flag false ∷ []) s (without_block (migrating size order os migration (Cell (Look (LockWord block)) ∷ []) answer buffer))
+  -- the order is kept
+  pub has_failed : (size : ℕ) (actors : List Actor) (a : ℕ) (s : Shared) (order : Order) (os : List ℕ) (migration : Migration) (block : OBlock) (answer : AbstractAnswer) (buffer : Content) → s.fail ≡ true →
+      GoesTo actors a s (without_block (migrating size order os migration (Cell (Look Fail) ∷ Cell (Look (LockWord block)) ∷ []) answer buffer)) (Flag true ∷ []) s (without_block (migrating size order os migration [] AnsweredFailed buffer))
   -- the block is won where the number is looked at, and is where the order says
   pub takes : (actors : List Actor) (a : ℕ) (s : Shared) (part : BlockRange) (c : CBlock) (next : Option ℕ) (migration : Migration) (place : Option CBlock) (dirty : Bool) (later : List Want) (answer : AbstractAnswer) (buffer : Content) →
       0 < part.block_sectors → Fills migration c → IsWhere migration c place → WinsBeside actors a Nothing (Own part.block.0) Done → s.seals part.block.0 ≡ record { location = number_of place; dirty = dirty } →

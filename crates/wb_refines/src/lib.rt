@@ -59,7 +59,7 @@ pub fn copies_are_followed()
     ensures { CopiesFollowed }
 {}
 
-/// So are its start under an order that may be given, its block's taking where the number is looked at, a busy block, a seal, what it
+/// So are its start under an order that may be given, or again under one that was kept, the look at the fail word, its block's taking where the number is looked at, a busy block, a seal, what it
 /// gives back, the failed bit, each call on the desk, also without memory, and its answer. That words and cards agree after them is not shown.
 pub fn migrations_are_followed()
     ensures begins { MigrationsBegin }
