@@ -1,19 +1,16 @@
 -- One actor goes on, and all others are as they were.
-use Rattle.std.proofs.Common.{arith, length, bit_or, ◌≡◌, ◌≢◌, ◌+◌, ◌==◌, ◌∙◌, inl, inr, cond, if◌then◌else◌, ℕ, zero, suc, Bool, true, false, List, [], ◌∷◌, Option, Some, None, refl, sym, ap, subst, slice_get, slice_set}
+use Rattle.std.proofs.Common.{arith, length, bit_or, ◌≡◌, ◌+◌, ◌==◌, ◌∙◌, inl, inr, cond, if◌then◌else◌, ℕ, zero, suc, Bool, true, false, List, [], ◌∷◌, Some, refl, sym, ap, subst, slice_get, slice_set}
 use Rattle.std.proofs.lemmas.Bool.{cases_eq}
-use Rattle.wb_types.specs.declared.mode.Mode.TheVariants.{Writeback}
 use Rattle.wb_disk.specs.Device.{History}
 use Rattle.wb_contents.specs.Devices.{by_block}
-use Rattle.wb_words.specs.SharedWords.{Words, word_at, flag, fail_word, with_cell, taken, counted}
+use Rattle.wb_words.specs.SharedWords.{Words, word_at, flag, fail_word, with_cell, taken}
 use Rattle.wb_words.specs.Effects.{words_after}
-use Rattle.wb_words.specs.declared.card.Card.{Card}
-use Rattle.wb_words.specs.declared.word.Kind.{Kind}
 use Rattle.wb_words.specs.declared.word.Kind.TheVariants.{ReadHit, ReadMiss, WriteHit, WriteMiss}
 use Rattle.wb_words.specs.declared.step.CellStep.{CellStep}
 use Rattle.wb_words.specs.declared.step.CellStep.TheVariants.{Look, Take, Release, Seal, Finish, Count, SetFailed, SetSuspended}
 use Rattle.wb_devices.specs.declared.devices.Devices.{Devices}
 use Rattle.wb_link.specs.Tables.{Got}
-use Rattle.wb_link.specs.World.{World, Shared, Actor as AbstractActor, after_all}
+use Rattle.wb_link.specs.World.{World, Shared, Actor as AbstractActor}
 use Rattle.wb_link.proofs.Lists.{get_set_same, get_set_other}
 use Rattle.wb_refines.specs.Going.{records, shared_after, gone, MayGo}
 use Rattle.wb_refines.specs.Models.{WordsAgree, AllBelow}

@@ -1,5 +1,5 @@
 -- A step of a read or a write on the shared words, for its own actor.
-use Rattle.std.proofs.Common.{◌≡◌, ◌<◌, ◌==◌, ◌∙◌, ◌⊎◌, inl, inr, cond, if◌then◌else◌, ℕ, Bool, true, false, List, [], ◌∷◌, Option, Some, None, refl, sym, ap, subst, slice_get}
+use Rattle.std.proofs.Common.{◌≡◌, ◌==◌, ◌∙◌, ◌⊎◌, inl, inr, cond, if◌then◌else◌, ℕ, Bool, true, false, List, [], ◌∷◌, Option, Some, None, refl, sym, ap, subst, slice_get}
 use Rattle.wb_disk.specs.Device.{Content}
 use Rattle.wb_words.specs.SharedWords.{Words, word_at, flag}
 use Rattle.wb_words.specs.Rule.{LockRule}
@@ -10,7 +10,7 @@ use Rattle.wb_words.specs.declared.step.CellStep.TheVariants.{Look, Take, Releas
 use Rattle.wb_words.specs.declared.step.CellResult.TheVariants.{Done as Won, Lost as NotWon}
 use Rattle.wb_words.specs.declared.word.Word.TheVariants.{Cell as LockWord, Seal as SealWord, Number, Count as CountWord, Fail}
 use Rattle.wb_tasks.specs.Tables.{BlockRange, BlockJob, OnBlock, range_of}
-use Rattle.wb_tasks.specs.Plan.{Plan, table, after, got_of, may_take, exchange, is_worn, gives_back, work_of, onward, refused}
+use Rattle.wb_tasks.specs.Plan.{Plan, after, got_of, may_take, exchange, is_worn, gives_back, work_of, onward, refused}
 use Rattle.wb_tasks.specs.Ready.{Suits}
 use Rattle.wb_tasks.specs.declared.step.Answer.{Answer}
 use Rattle.wb_tasks.specs.declared.step.Want.{Want}
@@ -19,8 +19,8 @@ use Rattle.wb_types.specs.declared.refusal.Refusal.TheVariants.{Failed, Worn, Bu
 use Rattle.wb_link.specs.Tables.{Script, Got}
 use Rattle.wb_link.specs.World.{Shared, Actor, job_alone, is_alone}
 use Rattle.wb_refines.specs.Going.{shared_after, gone, MayGo, AreQuiet}
-use Rattle.wb_refines.specs.Translation.{job_for, script_for}
-use Rattle.wb_refines.specs.Models.{IsRequest, plan_of, WordsAgree, SameElse, IsAt, HasStopped, IsBelow, AllBelow, TellsPlace, Follows as FollowsThere}
+use Rattle.wb_refines.specs.Translation.{job_for}
+use Rattle.wb_refines.specs.Models.{IsRequest, plan_of, WordsAgree, SameElse, IsAt, HasStopped, IsBelow, AllBelow, TellsPlace}
 use Rattle.wb_refines.proofs.Cells.{same_images, flag_of}
 use Rattle.wb_refines.proofs.Followed.{cell_steps_followed}
 use Rattle.wb_refines.proofs.Locks.{has_no_more}

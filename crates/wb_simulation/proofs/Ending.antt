@@ -1,5 +1,5 @@
 -- Answers of reads and writes are followed.
-use Rattle.std.proofs.Common.{◌≡◌, ◌∙◌, ◌⊎◌, inl, inr, ℕ, Bool, true, false, List, [], ◌∷◌, Option, Some, None, refl, sym, ap, subst, slice_get, slice_set}
+use Rattle.std.proofs.Common.{◌≡◌, ◌∙◌, ◌⊎◌, inl, inr, ℕ, Bool, true, false, List, [], ◌∷◌, Some, None, refl, sym, ap, subst, slice_get, slice_set}
 use Rattle.wb_disk.specs.Device.{Content, History}
 use Rattle.wb_words.specs.SharedWords.{Words, flag}
 use Rattle.wb_words.specs.declared.card.Hold.TheVariants.{Nothing as HoldsNothing}
@@ -10,7 +10,7 @@ use Rattle.wb_tasks.specs.declared.step.Answer.{Answer}
 use Rattle.wb_tasks.specs.declared.step.Want.{Want}
 use Rattle.wb_tasks.specs.declared.step.Want.TheVariants.{End}
 use Rattle.wb_devices.specs.declared.devices.Devices.{Devices}
-use Rattle.wb_link.specs.Tables.{Done as DoneThere, Got}
+use Rattle.wb_link.specs.Tables.{Done as DoneThere}
 use Rattle.wb_link.specs.World.{World, Actor as AbstractActor, is_alone}
 use Rattle.wb_refines.specs.Going.{gone}
 use Rattle.wb_refines.specs.Models.{IsAt, HasStopped, IsBelow, plan_of}

@@ -1,6 +1,5 @@
 -- Each step of a flush is followed.
-use Rattle.std.proofs.Common.{◌≡◌, ◌≢◌, ◌+◌, ◌*◌, ◌==◌, ◌∙◌, ◌⊎◌, inl, inr, cond, if◌then◌else◌, ℕ, Bool, true, false, List, [], ◌∷◌, Option, Some, None, refl, sym, ap, subst, slice_get, slice_set}
-use Rattle.wb_types.specs.declared.mode.Dev.{Dev}
+use Rattle.std.proofs.Common.{◌≡◌, ◌≢◌, ◌+◌, ◌*◌, ◌==◌, ◌∙◌, inl, inr, cond, if◌then◌else◌, ℕ, Bool, true, false, List, [], ◌∷◌, Some, None, refl, sym, ap, subst, slice_get, slice_set}
 use Rattle.wb_types.specs.declared.mode.Dev.TheVariants.{Metadata, Cache, Origin}
 use Rattle.wb_types.specs.declared.refusal.Refusal.{Refusal}
 use Rattle.wb_types.specs.declared.refusal.Refusal.TheVariants.{Failed, Busy, Memory, GenerationEnd}
@@ -15,22 +14,20 @@ use Rattle.wb_words.specs.declared.card.Card.{Card}
 use Rattle.wb_words.specs.declared.step.CellStep.TheVariants.{Look, SetFailed}
 use Rattle.wb_words.specs.declared.word.Word.TheVariants.{Fail}
 use Rattle.wb_tasks.specs.Tables.{Flushing}
-use Rattle.wb_tasks.specs.Plan.{Plan, want, after, device_of, first_step, onward, refused, commit_steps}
-use Rattle.wb_tasks.specs.Ready.{HoldsBlocks}
+use Rattle.wb_tasks.specs.Plan.{Plan, want, after, device_of, first_step, onward, refused, table}
 use Rattle.wb_tasks.specs.declared.step.Answer.{Answer}
+use Rattle.wb_tasks.specs.declared.step.Answer.TheVariants.{Done as Finished, Refused as Refuses}
 use Rattle.wb_tasks.specs.declared.step.DeviceStep.{DeviceStep}
 use Rattle.wb_tasks.specs.declared.step.DeviceStep.TheVariants.{Read, Write, Sync, ReadMetadata, WriteNode, WriteRoot}
 use Rattle.wb_tasks.specs.declared.step.DeskStep.TheVariants.{BeginCommit, EndCommit}
 use Rattle.wb_tasks.specs.declared.step.Want.{Want}
 use Rattle.wb_tasks.specs.declared.step.Want.TheVariants.{Cell, Device, Desk, End}
-use Rattle.wb_tasks.specs.declared.step.Got.{Got}
 use Rattle.wb_tasks.specs.declared.step.Got.TheVariants.{Done, Fault, Word, Began, Refused}
 use Rattle.wb_devices.specs.declared.devices.Devices.{Devices}
-use Rattle.wb_devices.specs.Moving.{device_in}
 use Rattle.std.proofs.lemmas.Bool.{cases_eq}
 use Rattle.wb_link.proofs.Lists.{get_set_other}
 use Rattle.wb_link.specs.Tables.{Begin, End_running, Done as DoneThere, Flushing as FlushingFor}
-use Rattle.wb_link.specs.World.{World, Shared, Actor as AbstractActor, effect, is_alone}
+use Rattle.wb_link.specs.World.{World, Shared, Nothing, Actor as AbstractActor, effect, is_alone}
 use Rattle.wb_refines.specs.Going.{gone}
 use Rattle.wb_refines.specs.Translation.{wants_of}
 use Rattle.wb_refines.specs.Models.{WordsAgree}
@@ -41,13 +38,12 @@ use Rattle.wb_refines.proofs.Holding.{holds_nothing}
 use Rattle.wb_refines.proofs.Tasks.{tasks_end}
 use Rattle.wb_runs.specs.declared.job.Job.TheVariants.{Flush}
 use Rattle.wb_runs.specs.States.{Actor, with_device}
-use Rattle.wb_simulation.specs.Actors.{IsLate, IsFlushAt, IsOfFlush, LeadsAt, StandsFor}
+use Rattle.wb_simulation.specs.Actors.{IsLate, IsOfFlush, LeadsAt, StandsFor}
 use Rattle.wb_simulation.specs.Worlds.{Agrees, Follows, IsUnfinished}
-use Rattle.wb_simulation.specs.Laws.{FlushStepsFollowed, after_step, went}
+use Rattle.wb_simulation.specs.Laws.{went}
 use Rattle.wb_simulation.proofs.Cells.{shared_stays, gone_nowhere}
-use Rattle.wb_simulation.proofs.Among.{there, goes_on, goes_leading}
-use Rattle.wb_simulation.proofs.Followed.{doing_of}
-use Rattle.wb_simulation.proofs.Leading.{nodes_on_metadata, commits_on, has_wants, AtFlush, at_flush, stands, only_here, one_here, is_here, leads_on}
+use Rattle.wb_simulation.proofs.Among.{goes_on, goes_leading}
+use Rattle.wb_simulation.proofs.Leading.{nodes_on_metadata, commits_on, has_wants, stands, one_here, is_here, leads_on}
 
 module _ (size most : ℕ) (words : Words) (committing : Bool) (devices : Devices (List History)) (actors : List Actor) (a : ℕ) (x : Actor) (plan : Plan) (s : World) (y : AbstractActor) (ex : slice_get actors a ≡ Some x) (ey : slice_get s.actors a ≡ Some y) (g : Agrees size most words committing devices actors s) where
   -- a step on a device, done, with this left
@@ -61,18 +57,18 @@ module _ (size most : ℕ) (words : Words) (committing : Bool) (devices : Device
       leads_on size most words committing devices actors a x s y ex ey g words (λ f. f) devices' (flushing most (next ∷ later) answer) plan' x.card t next later answer is some l j o at (λ e n. absurd (unfinished n)) w og ca mo co br
 
   -- who leads, where that is known of the step
-  leading : (next : Want) (later : List Want) (answer : Answer) (leads : Bool) → leads ≡ true → IsFlushing size [] (flushing most (next ∷ later) answer) leads y → IsFlushing size [] (flushing most (next ∷ later) answer) true y
+  pub leading : (next : Want) (later : List Want) (answer : Answer) (leads : Bool) → leads ≡ true → IsFlushing size [] (flushing most (next ∷ later) answer) leads y → IsFlushing size [] (flushing most (next ∷ later) answer) true y
   leading next later answer leads e is = subst (λ (b : Bool). IsFlushing size [] (flushing most (next ∷ later) answer) b y) e is
 
   -- cache and origin are synced
-  syncs_cache : (later : List Want) (answer : Answer) → IsOfFlush most (Device (Sync Cache) ∷ later) → IsFlushing size [] (flushing most (Device (Sync Cache) ∷ later) answer) true y →
+  pub syncs_cache : (later : List Want) (answer : Answer) → IsOfFlush most (Device (Sync Cache) ∷ later) → IsFlushing size [] (flushing most (Device (Sync Cache) ∷ later) answer) true y →
       On (with_device Cache devices (synced devices.cache)) (after (flushing most (Device (Sync Cache) ∷ later) answer) Done)
   syncs_cache (Device (Sync Origin) ∷ ws) answer o is =
       goes (with_device Cache devices (synced devices.cache)) (Device (Sync Cache)) (Device (Sync Origin) ∷ ws) answer _ _ is (λ e. absurd (cc)) (followed_alone.syncs_cache size most [] s.actors a s.shared y (Device (Sync Origin) ∷ ws) answer is) refl o refl (λ n. absurd (cc))
       (record { fail = g.words_agree.fail; seals = g.words_agree.seals }) g.origin (ap all_synced g.cache ∙ sym (sync_is_act size [] devices.cache)) refl refl refl
   syncs_cache later answer o is = absurd o
 
-  syncs_origin : (later : List Want) (answer : Answer) → IsOfFlush most (Device (Sync Origin) ∷ later) → IsFlushing size [] (flushing most (Device (Sync Origin) ∷ later) answer) true y →
+  pub syncs_origin : (later : List Want) (answer : Answer) → IsOfFlush most (Device (Sync Origin) ∷ later) → IsFlushing size [] (flushing most (Device (Sync Origin) ∷ later) answer) true y →
       On (with_device Origin devices (synced devices.origin)) (after (flushing most (Device (Sync Origin) ∷ later) answer) Done)
   syncs_origin later answer o is =
       goes (with_device Origin devices (synced devices.origin)) (Device (Sync Origin)) later answer (flushing most later answer) (record s.shared { origin = all_synced s.shared.origin }) is (λ e. absurd (cc)) (followed_alone.syncs_origin size most [] s.actors a s.shared y later answer is) refl (commits_on most later o).0 (commits_on most later o).1 (on_metadata_some later o)
@@ -83,14 +79,14 @@ module _ (size most : ℕ) (words : Words) (committing : Bool) (devices : Device
       on_metadata_some (v ∷ ws) m = λ e. absurd (cc)
 
   -- or one of them fails
-  fails_cache : (lands : ℕ → Bool) (later : List Want) (answer : Answer) → IsOfFlush most (Device (Sync Cache) ∷ later) → IsFlushing size [] (flushing most (Device (Sync Cache) ∷ later) answer) true y →
+  pub fails_cache : (lands : ℕ → Bool) (later : List Want) (answer : Answer) → IsOfFlush most (Device (Sync Cache) ∷ later) → IsFlushing size [] (flushing most (Device (Sync Cache) ∷ later) answer) true y →
       On (with_device Cache devices (synced_where lands devices.cache)) (after (flushing most (Device (Sync Cache) ∷ later) answer) Fault)
   fails_cache lands later answer o is =
       goes (with_device Cache devices (synced_where lands devices.cache)) (Device (Sync Cache)) later answer (after (flushing most (Device (Sync Cache) ∷ later) answer) Fault) (record s.shared { cache = partly_synced (λ b o. lands (b * size + o)) s.shared.cache }) is (λ e. absurd (cc))
       (followed_alone.fails_cache size most [] s.actors a s.shared y later answer (λ b o. lands (b * size + o)) is) refl refl refl (λ n. absurd (cc))
       (record { fail = g.words_agree.fail; seals = g.words_agree.seals }) g.origin (ap (partly_synced (λ b o. lands (b * size + o))) g.cache ∙ sym (failed_sync_is_act size [] lands devices.cache)) refl refl refl
 
-  fails_origin : (lands : ℕ → Bool) (later : List Want) (answer : Answer) → IsOfFlush most (Device (Sync Origin) ∷ later) → IsFlushing size [] (flushing most (Device (Sync Origin) ∷ later) answer) true y →
+  pub fails_origin : (lands : ℕ → Bool) (later : List Want) (answer : Answer) → IsOfFlush most (Device (Sync Origin) ∷ later) → IsFlushing size [] (flushing most (Device (Sync Origin) ∷ later) answer) true y →
       On (with_device Origin devices (synced_where lands devices.origin)) (after (flushing most (Device (Sync Origin) ∷ later) answer) Fault)
   fails_origin lands later answer o is =
       goes (with_device Origin devices (synced_where lands devices.origin)) (Device (Sync Origin)) later answer (after (flushing most (Device (Sync Origin) ∷ later) answer) Fault) (record s.shared { origin = partly_synced (λ b o. lands (b * size + o)) s.shared.origin }) is (λ e. absurd (cc))
@@ -107,7 +103,7 @@ module _ (size most : ℕ) (words : Words) (committing : Bool) (devices : Device
       some [] m = absurd m
       some (v ∷ ws) m = λ e. absurd (cc)
 
-  metadata_done : (metadata : List History) (step : DeviceStep) (later : List Want) (answer : Answer) → device_of step ≡ Metadata → IsOfFlush most (Device step ∷ later) → IsFlushing size [] (flushing most (Device step ∷ later) answer) true y → On (with_device Metadata devices metadata) (after (flushing most (Device step ∷ later) answer) Done)
+  pub metadata_done : (metadata : List History) (step : DeviceStep) (later : List Want) (answer : Answer) → device_of step ≡ Metadata → IsOfFlush most (Device step ∷ later) → IsFlushing size [] (flushing most (Device step ∷ later) answer) true y → On (with_device Metadata devices metadata) (after (flushing most (Device step ∷ later) answer) Done)
   metadata_done metadata (WriteNode number) later answer d o is = metadata_goes metadata (WriteNode number) later answer s.shared o o is (followed_alone.nodes size most number [] s.actors a s.shared y later answer is) g.words_agree refl refl refl refl refl
   metadata_done metadata (Sync Metadata) later answer d o is = metadata_goes metadata (Sync Metadata) later answer s.shared o o is (followed_alone.syncs_metadata size most [] s.actors a s.shared y later answer is) g.words_agree refl refl refl refl refl
   metadata_done metadata (Sync Cache) later answer d o is = absurd (cc)
@@ -117,13 +113,13 @@ module _ (size most : ℕ) (words : Words) (committing : Bool) (devices : Device
   metadata_done metadata (Read device e) later answer d o is = absurd o
   metadata_done metadata (Write device e) later answer d o is = absurd o
 
-  metadata_failed : (metadata : List History) (step : DeviceStep) (later : List Want) (answer : Answer) → IsOnMetadata (Device step ∷ later) → IsFlushing size [] (flushing most (Device step ∷ later) answer) true y → On (with_device Metadata devices metadata) (after (flushing most (Device step ∷ later) answer) Fault)
+  pub metadata_failed : (metadata : List History) (step : DeviceStep) (later : List Want) (answer : Answer) → IsOnMetadata (Device step ∷ later) → IsFlushing size [] (flushing most (Device step ∷ later) answer) true y → On (with_device Metadata devices metadata) (after (flushing most (Device step ∷ later) answer) Fault)
   metadata_failed metadata step later answer m is =
       let l = followed_alone.fails_metadata size most step [] s.actors a s.shared y later answer m is in
       goes (with_device Metadata devices metadata) (Device step) later answer (after (flushing most (Device step ∷ later) answer) Fault) (record s.shared { root_written = l.0 }) is (has_wants size (Device step ∷ later) m) l.1 refl refl refl (λ n. absurd (cc))
       (record { fail = g.words_agree.fail; seals = g.words_agree.seals }) g.origin g.cache refl refl refl
 
-  is_on_metadata : (step : DeviceStep) (later : List Want) → device_of step ≡ Metadata → IsOfFlush most (Device step ∷ later) → IsOnMetadata (Device step ∷ later)
+  pub is_on_metadata : (step : DeviceStep) (later : List Want) → device_of step ≡ Metadata → IsOfFlush most (Device step ∷ later) → IsOnMetadata (Device step ∷ later)
   is_on_metadata (WriteNode number) later d o = o
   is_on_metadata (Sync Metadata) later d o = o
   is_on_metadata (Sync Cache) later d o = absurd (cc)
@@ -152,7 +148,7 @@ module _ (size most : ℕ) (words : Words) (committing : Bool) (devices : Device
   refused_job : (refusal : Refusal) (later : List Want) (answer : Answer) (clean : Bool) (nodes : ℕ) → (after (flushing most (Desk (BeginCommit clean nodes) ∷ later) answer) (Refused refusal)).job ≡ Flushing [] most
   refused_job refusal later answer clean nodes = refl
 
-  is_refused : (refusal : Refusal) (answer : Answer) → IsNoBegin refusal → IsFlushing size [] (flushing most (Desk (BeginCommit false most) ∷ []) answer) false y → On devices (after (flushing most (Desk (BeginCommit false most) ∷ []) answer) (Refused refusal))
+  pub is_refused : (refusal : Refusal) (answer : Answer) → IsNoBegin refusal → IsFlushing size [] (flushing most (Desk (BeginCommit false most) ∷ []) answer) false y → On devices (after (flushing most (Desk (BeginCommit false most) ∷ []) answer) (Refused refusal))
   is_refused refusal answer n is =
       let steps = refused_plan refusal [] answer false most n in
       follows_alone devices (after (flushing most (Desk (BeginCommit false most) ∷ []) answer) (Refused refusal)) x.card refl
@@ -160,7 +156,7 @@ module _ (size most : ℕ) (words : Words) (committing : Bool) (devices : Device
       (followed_alone.is_refused size most refusal [] s.actors a s.shared y [] answer n is) refl
 
   -- a commit begins, which nobody has led
-  begins : (nodes : ℕ) (answer : Answer) → committing ≡ false → IsFlushing size [] (flushing most (Desk (BeginCommit false most) ∷ []) answer) false y →
+  pub begins : (nodes : ℕ) (answer : Answer) → committing ≡ false → IsFlushing size [] (flushing most (Desk (BeginCommit false most) ∷ []) answer) false y →
       Follows size most s words true devices (slice_set actors a (record { task = Some (Flush, after (flushing most (Desk (BeginCommit false most) ∷ []) answer) (Began nodes)); card = x.card }))
   begins nodes answer quiet is =
       let plan' = after (flushing most (Desk (BeginCommit false most) ∷ []) answer) (Began nodes) in
@@ -182,7 +178,7 @@ module _ (size most : ℕ) (words : Words) (committing : Bool) (devices : Device
       only b v y' ev k = elim (cases_eq b a) [ inl e ↦ e | inr n ↦ absurd (runs (g.led b v (sym (get_set_other s.actors a b y' n) ∙ ev) k)) ]
 
   -- the commit ends, and nobody leads one
-  ends : (answer : Answer) → IsFlushing size [] (flushing most (Desk EndCommit ∷ []) answer) true y → Follows size most s words false devices (slice_set actors a (record { task = Some (Flush, after (flushing most (Desk EndCommit ∷ []) answer) Done); card = x.card }))
+  pub ends : (answer : Answer) → IsFlushing size [] (flushing most (Desk EndCommit ∷ []) answer) true y → Follows size most s words false devices (slice_set actors a (record { task = Some (Flush, after (flushing most (Desk EndCommit ∷ []) answer) Done); card = x.card }))
   ends answer is =
       let plan' = after (flushing most (Desk EndCommit ∷ []) answer) Done in
       let l = followed_alone.ends size most [] s.actors a s.shared y answer is in
@@ -200,7 +196,7 @@ module _ (size most : ℕ) (words : Words) (committing : Bool) (devices : Device
           let bad : true ≡ false = sym k ∙ ap (λ (z : AbstractActor). z.leads) (here ∙ l.at.is) in absurd (cc)
 
   -- the failed bit is set, and the commit is broken
-  fails : (failures suspensions : ℕ) (answer : Answer) → words.fail ≡ fail_word failures suspensions → IsFlushing size [] (flushing most (Cell SetFailed ∷ []) answer) true y →
+  pub fails : (failures suspensions : ℕ) (answer : Answer) → words.fail ≡ fail_word failures suspensions → IsFlushing size [] (flushing most (Cell SetFailed ∷ []) answer) true y →
       Follows size most s (words_after words SetFailed) committing devices (slice_set actors a (record { task = Some (Flush, after (flushing most (Cell SetFailed ∷ []) answer) Done); card = card_after words SetFailed x.card }))
   fails f z answer e is =
       let plan' = after (flushing most (Cell SetFailed ∷ []) answer) Done in
@@ -217,21 +213,15 @@ module _ (size most : ℕ) (words : Words) (committing : Bool) (devices : Device
 
   -- ---- its look at the fail word, and its answer
 
-  looks : (later : List Want) (answer : Answer) → later ≡ Desk (BeginCommit false most) ∷ [] → IsFlushing size [] (flushing most (Cell (Look Fail) ∷ later) answer) false y →
+  pub looks : (later : List Want) (answer : Answer) → later ≡ Desk (BeginCommit false most) ∷ [] → IsFlushing size [] (flushing most (Cell (Look Fail) ∷ later) answer) false y →
       Follows size most s words committing devices (slice_set actors a (went words Flush (flushing most (Cell (Look Fail) ∷ later) answer) (Look Fail) x))
   looks later answer n is = subst (λ (ws : List Want). Goal ws) (sym n) (by_test (words.fail == 0) refl)
     where
       Goal : List Want → Type 0
       Goal ws = Follows size most s words committing devices (slice_set actors a (went words Flush (flushing most (Cell (Look Fail) ∷ ws) answer) (Look Fail) x))
 
-      rest : List Want
-      rest = Desk (BeginCommit false most) ∷ []
-
       is' : IsFlushing size [] (flushing most (Cell (Look Fail) ∷ Desk (BeginCommit false most) ∷ []) answer) false y
       is' = subst (λ (ws : List Want). IsFlushing size [] (flushing most (Cell (Look Fail) ∷ ws) answer) false y) n is
-
-      abbreviated : Plan
-      abbreviated = flushing most (Cell (Look Fail) ∷ Desk (BeginCommit false most) ∷ []) answer
 
       by_test : (t : Bool) → (words.fail == 0) ≡ t → Goal (Desk (BeginCommit false most) ∷ [])
       by_test true e =
@@ -242,3 +232,45 @@ module _ (size most : ℕ) (words : Words) (committing : Bool) (devices : Device
           let plan_is : after (flushing most (Cell (Look Fail) ∷ Desk (BeginCommit false most) ∷ []) answer) (Word words.fail) ≡ refused (flushing most (Cell (Look Fail) ∷ Desk (BeginCommit false most) ∷ []) answer) [] Failed = ap (λ (t : Bool). if t then onward (flushing most (Cell (Look Fail) ∷ Desk (BeginCommit false most) ∷ []) answer) else refused (flushing most (Cell (Look Fail) ∷ Desk (BeginCommit false most) ∷ []) answer) [] Failed) e in
           follows_alone devices (after (flushing most (Cell (Look Fail) ∷ Desk (BeginCommit false most) ∷ []) answer) (Word words.fail)) _ (ap (λ (p : Plan). p.job) plan_is)
           (subst (λ (p : Plan). IsOfFlush most p.steps) (sym plan_is) tt) (subst (λ (p : Plan). LeadsAt false p.steps) (sym plan_is) tt) (followed_alone.looks size most words.fail [] s.actors a s.shared y answer g.words_agree.fail is') refl
+
+  -- it answers; one that leads a commit still has failed
+  pub answers : (answer : Answer) (leads : Bool) → (leads ≡ true → flag words.fail ≡ true) → IsFlushing size [] (flushing most [] answer) leads y → Follows size most s words committing devices (slice_set actors a (record x { task = None }))
+  answers answer false f is =
+      let d = tasks_end.flush size most [] s.actors a s.shared y answer false is in
+      let idle = d.2 refl in
+      goes_on size most words words (λ k. k) committing devices actors a x (record x { task = None }) s y g ex ey devices (DoneThere ∷ []) s.shared d.0.may d.0.shared
+      (record { at = (d.0.over, inl idle); below = holds_nothing _ x.card idle.held; among_others = ap is_alone d.0.over }) (λ k. let bad : true ≡ false = sym k ∙ idle.leads in absurd (cc)) g.words_agree g.origin g.cache refl refl refl
+  answers answer true f is =
+      let d = tasks_end.flush size most [] s.actors a s.shared y answer true is in
+      let lead : y.leads ≡ true = ap (λ (v : AbstractActor). v.leads) is.is in
+      let y' = gone y y.task (DoneThere ∷ []) in
+      let held : y'.held ≡ Nothing = subst (λ (v : AbstractActor). (gone v v.task (DoneThere ∷ [])).held ≡ Nothing) (sym is.is) refl in
+      let runs = g.led a y ey lead in
+      goes_leading size most words words (λ k. k) committing devices actors a x (record x { task = None }) s y g ex ey committing devices (DoneThere ∷ []) s.shared d.0.may d.0.shared
+      (record { at = (d.0.over, inr (f refl)); below = holds_nothing y' x.card held; among_others = ap is_alone d.0.over }) g.words_agree g.origin g.cache refl g.commits g.broken (λ b v ev k. runs)
+      (λ b v ev k u. absurd (subst (λ t. IsUnfinished t) (ap (λ (v : AbstractActor). v.task) (is_here size most words committing devices actors a x s y ex ey g lead y' b v ev k) ∙ d.0.over) u))
+      (one_here size most words committing devices actors a x s y ex ey g lead y')
+
+  -- one that is late has no task there
+  pub late_looks : IsLate words plan y → StandsFor size most words x y → plan.job ≡ Flushing [] most → want plan ≡ Cell (Look Fail) → Follows size most s words committing devices (slice_set actors a (went words Flush plan (Look Fail) x))
+  late_looks l st j e = elim l.at [
+    | inl t ↦
+        let is : plan ≡ flushing most (Cell (Look Fail) ∷ Desk (BeginCommit false most) ∷ []) Finished = t ∙ ap (λ k. table k) j in
+        subst (λ (p : Plan). Follows size most s words committing devices (slice_set actors a (went words Flush p (Look Fail) x))) (sym is) (by_test (words.fail == 0) (flag_of words.fail (words.fail == 0) refl) refl)
+    | inr n ↦ absurd (let end : want plan ≡ End plan.answer = ap (λ (ws : List Want). first_step ws plan.answer) n in let bad : Cell (Look Fail) ≡ End plan.answer = sym e ∙ end in cc)
+  ]
+    where
+      by_test : (t : Bool) → flag words.fail ≡ cond t false true → (words.fail == 0) ≡ t → Follows size most s words committing devices (slice_set actors a (went words Flush (flushing most (Cell (Look Fail) ∷ Desk (BeginCommit false most) ∷ []) Finished) (Look Fail) x))
+      by_test true f k = absurd (let bad : true ≡ false = sym l.failed ∙ f in cc)
+      by_test false f k =
+          let plan_is : after (flushing most (Cell (Look Fail) ∷ Desk (BeginCommit false most) ∷ []) Finished) (Word words.fail) ≡ flushing most [] (Refuses Failed) = ap (λ (t : Bool). if t then onward (flushing most (Cell (Look Fail) ∷ Desk (BeginCommit false most) ∷ []) Finished) else refused (flushing most (Cell (Look Fail) ∷ Desk (BeginCommit false most) ∷ []) Finished) [] Failed) k in
+          subst (λ (p : Plan). Follows size most s words committing devices (slice_set actors a (record { task = Some (Flush, p); card = card_after words (Look Fail) x.card }))) (sym plan_is)
+          (goes_on size most words words (λ q. q) committing devices actors a x (record { task = Some (Flush, flushing most [] (Refuses Failed)); card = card_after words (Look Fail) x.card }) s y g ex ey devices [] s.shared tt (shared_stays s.shared y y.task)
+          (subst (λ (z : AbstractActor). StandsFor size most words (record { task = Some (Flush, flushing most [] (Refuses Failed)); card = card_after words (Look Fail) x.card }) z) (sym (gone_nowhere y y.task))
+          (record { at = record { job = refl; steps = tt; at = inr (record { failed = l.failed; nothing = l.nothing; at = inr refl }) }; below = record { owned = st.below.owned; shared = st.below.shared }; among_others = st.among_others }))
+          (λ q. gone_nowhere y y.task) g.words_agree g.origin g.cache refl refl refl)
+
+  pub late_answers : IsLate words plan y → StandsFor size most words x y → Follows size most s words committing devices (slice_set actors a (record x { task = None }))
+  late_answers l st = goes_on size most words words (λ q. q) committing devices actors a x (record x { task = None }) s y g ex ey devices [] s.shared tt (shared_stays s.shared y y.task)
+      (subst (λ (z : AbstractActor). StandsFor size most words (record x { task = None }) z) (sym (gone_nowhere y y.task)) (record { at = (l.nothing, inr l.failed); below = st.below; among_others = st.among_others }))
+      (λ q. gone_nowhere y y.task) g.words_agree g.origin g.cache refl refl refl

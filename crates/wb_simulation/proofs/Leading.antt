@@ -1,12 +1,12 @@
 -- An actor that leads a commit goes on, and nobody else leads one.
-use Rattle.std.proofs.Common.{◌≡◌, ◌≢◌, ◌∙◌, ◌⊎◌, inl, inr, ℕ, zero, suc, Bool, true, false, List, [], ◌∷◌, ◌++◌, Option, Some, None, refl, sym, ap, subst, slice_get, slice_set}
+use Rattle.std.proofs.Common.{◌≡◌, ◌≢◌, ◌∙◌, inl, inr, ℕ, zero, suc, Bool, true, false, List, [], ◌∷◌, ◌++◌, Some, None, refl, sym, ap, subst, slice_get, slice_set}
 use Rattle.std.proofs.lemmas.Bool.{cases_eq}
-use Rattle.wb_types.specs.declared.mode.Dev.TheVariants.{Metadata, Cache, Origin}
+use Rattle.wb_types.specs.declared.mode.Dev.TheVariants.{Metadata}
 use Rattle.wb_disk.specs.Device.{History}
 use Rattle.wb_contents.specs.Devices.{by_block}
 use Rattle.wb_words.specs.SharedWords.{Words, flag}
 use Rattle.wb_words.specs.declared.card.Card.{Card}
-use Rattle.wb_words.specs.declared.step.CellStep.TheVariants.{Look, SetFailed}
+use Rattle.wb_words.specs.declared.step.CellStep.TheVariants.{Look}
 use Rattle.wb_words.specs.declared.word.Word.TheVariants.{Fail}
 use Rattle.wb_tasks.specs.Tables.{Flushing}
 use Rattle.wb_tasks.specs.Plan.{Plan, want, first_step, node_writes, root_steps}
@@ -26,9 +26,9 @@ use Rattle.wb_refines.specs.Flushes.{IsFlushing, IsOnMetadata, flushing, Leads}
 use Rattle.wb_refines.proofs.Holding.{holds_nothing}
 use Rattle.wb_runs.specs.declared.job.Job.TheVariants.{Flush}
 use Rattle.wb_runs.specs.States.{Actor}
-use Rattle.wb_simulation.specs.Actors.{IsLate, IsFlushAt, IsOfFlush, LeadsAt, StandsFor}
+use Rattle.wb_simulation.specs.Actors.{IsFlushAt, IsOfFlush, LeadsAt, StandsFor}
 use Rattle.wb_simulation.specs.Worlds.{Agrees, Follows, IsUnfinished}
-use Rattle.wb_simulation.proofs.Among.{goes_leading, goes_on}
+use Rattle.wb_simulation.proofs.Among.{goes_leading}
 use Rattle.wb_simulation.proofs.Moving.{begins_by}
 
 -- ---- what is left of a commit

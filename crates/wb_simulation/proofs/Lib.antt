@@ -8,3 +8,4 @@ mod Starting
 mod Ending
 mod Leading
 mod Flushing
+mod Flushes

@@ -1,5 +1,5 @@
 -- Each step of a read or a write on an extent of a device is followed.
-use Rattle.std.proofs.Common.{length, replicate, map, ◌≡◌, ◌≢◌, ◌≤◌, ◌<◌, ◌+◌, ◌∙◌, ◌⊎◌, inl, inr, ℕ, Bool, true, false, List, [], ◌∷◌, Option, Some, None, refl, sym, ap, subst, slice_get, slice_set}
+use Rattle.std.proofs.Common.{length, replicate, map, ◌≡◌, ◌≢◌, ◌≤◌, ◌+◌, ◌∙◌, ◌⊎◌, inl, inr, ℕ, Bool, true, false, List, [], ◌∷◌, Option, Some, refl, sym, ap, subst, slice_get, slice_set}
 use Rattle.wb_types.specs.declared.extent.Extent.{Extent}
 use Rattle.wb_types.specs.declared.mode.Dev.{Dev}
 use Rattle.wb_types.specs.declared.mode.Dev.TheVariants.{Metadata, Cache, Origin}
@@ -7,9 +7,7 @@ use Rattle.wb_disk.specs.Device.{Content, History}
 use Rattle.wb_disk.specs.Extents.{GivesEach, written_each, written_where}
 use Rattle.wb_words.specs.SharedWords.{Words, word_at}
 use Rattle.wb_words.specs.declared.card.Card.{Card}
-use Rattle.wb_words.specs.declared.step.CellStep.TheVariants.{Look}
-use Rattle.wb_words.specs.declared.word.Word.TheVariants.{Fail}
-use Rattle.wb_tasks.specs.Tables.{BlockRange, BlockJob, Reading, Writing, OnBlock}
+use Rattle.wb_tasks.specs.Tables.{BlockRange, BlockJob, Reading, Writing}
 use Rattle.wb_tasks.specs.Plan.{Plan, want, after, first_step}
 use Rattle.wb_tasks.specs.Ready.{Suits, HoldsBlocks}
 use Rattle.wb_tasks.specs.declared.step.Answer.{Answer}
@@ -22,10 +20,10 @@ use Rattle.wb_tasks.specs.declared.step.Got.TheVariants.{Done, Fault}
 use Rattle.wb_devices.specs.declared.devices.Devices.{Devices}
 use Rattle.wb_devices.specs.Moving.{device_in}
 use Rattle.wb_link.specs.Tables.{Seal, Gave, Got as AbstractGot, Done as DoneThere}
-use Rattle.wb_link.specs.World.{World, Shared, Actor as AbstractActor, is_alone, job_alone}
+use Rattle.wb_link.specs.World.{World, Shared, Actor as AbstractActor, is_alone}
 use Rattle.wb_refines.specs.Going.{shared_after, gone}
-use Rattle.wb_refines.specs.Translation.{location_at, job_for}
-use Rattle.wb_refines.specs.Data.{IsSide, IsInBlock, SameBeside, Moves, faults, read_fault}
+use Rattle.wb_refines.specs.Translation.{location_at}
+use Rattle.wb_refines.specs.Data.{IsSide, SameBeside, Moves, faults, read_fault}
 use Rattle.wb_refines.specs.Models.{IsAt, HasStopped, plan_of, SealAgrees, WordsAgree}
 use Rattle.wb_refines.proofs.Locks.{has_no_more}
 use Rattle.wb_refines.proofs.Moving.{extent_steps_followed as followed_alone}
@@ -33,7 +31,7 @@ use Rattle.wb_runs.specs.declared.job.Job.{Job}
 use Rattle.wb_runs.specs.declared.job.Job.TheVariants.{Read, Write}
 use Rattle.wb_runs.specs.States.{Actor, with_device}
 use Rattle.wb_simulation.specs.Steps.{IsPart, AreOfBlock}
-use Rattle.wb_simulation.specs.Actors.{IsLate, IsRequestAt, IsDoing, StandsFor}
+use Rattle.wb_simulation.specs.Actors.{IsLate, IsRequestAt, IsDoing}
 use Rattle.wb_simulation.specs.Worlds.{Agrees, Follows}
 use Rattle.wb_simulation.specs.Laws.{ExtentStepsFollowed, after_step}
 use Rattle.wb_simulation.proofs.Among.{there, goes_on}

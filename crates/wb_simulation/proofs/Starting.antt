@@ -1,19 +1,16 @@
 -- Starts are followed.
-use Rattle.std.proofs.Common.{◌≡◌, ◌+◌, ◌≤◌, ◌%◌, ◌∙◌, ◌⊎◌, inl, inr, ℕ, Bool, true, false, List, [], ◌∷◌, Option, Some, None, refl, sym, ap, subst, slice_get, slice_set}
-use Rattle.wb_disk.specs.Device.{Content, History}
+use Rattle.std.proofs.Common.{◌≡◌, ◌∙◌, ◌⊎◌, inl, inr, ℕ, Bool, true, false, List, [], ◌∷◌, Some, None, refl, sym, ap, subst, slice_get, slice_set}
+use Rattle.wb_disk.specs.Device.{History}
 use Rattle.wb_words.specs.SharedWords.{Words, flag}
-use Rattle.wb_words.specs.declared.card.Hold.TheVariants.{Nothing as HoldsNothing}
-use Rattle.wb_tasks.specs.Tables.{BlockRange, BlockJob, Reading, Writing, OnBlock, Flushing}
+use Rattle.wb_tasks.specs.Tables.{BlockRange, Reading, Writing, OnBlock, Flushing}
 use Rattle.wb_tasks.specs.Plan.{Plan, table}
 use Rattle.wb_devices.specs.declared.devices.Devices.{Devices}
 use Rattle.wb_link.specs.Tables.{Job as AbstractJob, Flushing as FlushingFor}
-use Rattle.wb_link.specs.World.{World, Start, Actor as AbstractActor, is_alone, after_record}
-use Rattle.wb_link.proofs.Lists.{get_set_same, get_set_other}
+use Rattle.wb_link.specs.World.{World, Start, Actor as AbstractActor, is_alone}
 use Rattle.wb_refines.specs.Translation.{job_for}
-use Rattle.wb_refines.specs.Models.{IsAt, IsBelow}
+use Rattle.wb_refines.specs.Models.{IsAt}
 use Rattle.wb_refines.specs.Flushes.{IsFlushing}
 use Rattle.wb_refines.specs.Tasks.{IsIdle, NobodyIsAlone, AllInBlocks, Starts}
-use Rattle.wb_refines.proofs.Going.{with_own}
 use Rattle.wb_refines.proofs.Holding.{holds_nothing}
 use Rattle.wb_refines.proofs.Locks.{has_no_more}
 use Rattle.wb_refines.proofs.Tasks.{tasks_begin}
