@@ -9,3 +9,4 @@ mod Ending
 mod Leading
 mod Flushing
 mod Flushes
+mod Possible

@@ -4,10 +4,10 @@ use Rattle.wb_types.specs.declared.extent.Extent.{Extent}
 use Rattle.wb_types.specs.declared.mode.Dev.{Dev}
 use Rattle.wb_types.specs.declared.mode.Dev.TheVariants.{Metadata}
 use Rattle.wb_types.specs.declared.refusal.Refusal.{Refusal}
-use Rattle.wb_disk.specs.Device.{Content, History, synced}
+use Rattle.wb_disk.specs.Device.{Content, History, only, synced}
 use Rattle.wb_disk.specs.Failing.{synced_where}
 use Rattle.wb_disk.specs.Extents.{GivesEach, written_each, written_where}
-use Rattle.wb_words.specs.SharedWords.{Words, fail_word}
+use Rattle.wb_words.specs.SharedWords.{Words, fail_word, fresh_words}
 use Rattle.wb_words.specs.Rule.{LockRule}
 use Rattle.wb_words.specs.Effects.{result_of, words_after, card_after}
 use Rattle.wb_words.specs.declared.step.CellStep.{CellStep}
@@ -26,11 +26,11 @@ use Rattle.wb_tasks.specs.declared.step.Got.{Got}
 use Rattle.wb_tasks.specs.declared.step.Got.TheVariants.{Done, Fault, Began, Refused}
 use Rattle.wb_devices.specs.declared.devices.Devices.{Devices}
 use Rattle.wb_devices.specs.Moving.{device_in}
-use Rattle.wb_link.specs.World.{World}
+use Rattle.wb_link.specs.World.{World, begins as world_begins}
 use Rattle.wb_refines.specs.Flushes.{IsNoBegin}
 use Rattle.wb_runs.specs.declared.job.Job.{Job}
 use Rattle.wb_runs.specs.declared.job.Job.TheVariants.{Read, Write, Flush}
-use Rattle.wb_runs.specs.States.{Actor, with_device}
+use Rattle.wb_runs.specs.States.{Actor, resting, with_device}
 use Rattle.wb_runs.specs.Holding.{cards_of}
 use Rattle.wb_simulation.specs.Steps.{IsPart}
 use Rattle.wb_simulation.specs.Worlds.{Agrees, Follows}
@@ -120,3 +120,8 @@ pub record FlushStepsFollowed : Type 0 where
   pub answers : (size most : ℕ) (answer : Answer) (words : Words) (committing : Bool) (devices : Devices (List History)) (actors : List Actor) (a : ℕ) (x : Actor) (plan : Plan) (s : World) →
       slice_get actors a ≡ Some x → x.task ≡ Some (Flush, plan) → want plan ≡ End answer → Agrees size most words committing devices actors s →
       Follows size most s words committing devices (slice_set actors a (record x { task = None }))
+
+-- a target that was just made over empty devices of these sizes, with so many actors who have nothing to do
+abbrev pub CanAgree : Type 0
+CanAgree = (size most blocks cache origin many : ℕ) →
+    Agrees size most (fresh_words blocks) false (record { metadata = []; cache = replicate cache (only []); origin = replicate origin (only []) }) (replicate many resting) (world_begins many [])

@@ -1,6 +1,6 @@
 //! Laws of how a run is followed in the abstract world.
 
-ghost use Rattle.wb_simulation.specs.Laws.{AnswersFollowed, CellStepsFollowed, ExtentStepsFollowed, FlushStepsFollowed, StartsFollowed};
+ghost use Rattle.wb_simulation.specs.Laws.{AnswersFollowed, CanAgree, CellStepsFollowed, ExtentStepsFollowed, FlushStepsFollowed, StartsFollowed};
 
 /// Each step of a read or a write on the shared words is some records of the abstract world, which stands for the whole state of the
 /// run before them and after them: devices, words, the desk's commit and every actor.
@@ -23,4 +23,9 @@ pub fn starts_and_answers_are_followed()
 /// done or failing, and its answer.
 pub fn flush_steps_are_followed()
     ensures { FlushStepsFollowed }
+{}
+
+/// And there is a state that the abstract world stands for, whatever the sizes and however many actors: that of a target just made.
+pub fn a_state_can_agree()
+    ensures { CanAgree }
 {}

@@ -1,0 +1,64 @@
+-- A target that was just made agrees with the abstract world that begins.
+use Rattle.std.proofs.Common.{◌≡◌, ◌+◌, ◌*◌, ◌∙◌, inl, ℕ, zero, suc, Bool, true, false, cond, nat_lt, unwrap_or, [], Some, None, length, replicate, refl, sym, ap, subst, slice_get}
+use Rattle.wb_disk.specs.Device.{only}
+use Rattle.wb_contents.specs.Devices.{by_block}
+use Rattle.wb_types.specs.declared.number.OBlock.{OBlock}
+use Rattle.wb_words.specs.SharedWords.{word_at, fresh_words}
+use Rattle.wb_link.specs.World.{Actor as AbstractActor, resting as idle}
+use Rattle.wb_link.proofs.Lists.{replicated}
+use Rattle.wb_refines.specs.Models.{SealAgrees}
+use Rattle.wb_refines.proofs.Holding.{holds_nothing}
+use Rattle.wb_runs.specs.States.{Actor, resting}
+use Rattle.wb_simulation.specs.Actors.{StandsFor}
+use Rattle.wb_simulation.specs.Laws.{CanAgree}
+
+-- an empty device is empty wherever it is looked at
+empty_at : (count at : ℕ) → unwrap_or (slice_get (replicate count (only [])) at) (only []) ≡ only []
+empty_at zero at = refl
+empty_at (suc count) zero = refl
+empty_at (suc count) (suc at) = empty_at count at
+
+empty_device : (size count : ℕ) → (λ (b o : ℕ). only []) ≡ by_block size [] (replicate count (only []))
+empty_device size count = λ i b o. here (nat_lt o size) (b * size + o) i
+  where
+    here : (t : Bool) (at : ℕ) → only [] ≡ cond t (unwrap_or (slice_get (replicate count (only [])) at) (only [])) (only [])
+    here true at = sym (empty_at count at)
+    here false at = refl
+
+-- no block is sealed
+fresh_at : (blocks : ℕ) (block : OBlock) → word_at (fresh_words blocks).seals block ≡ 0
+fresh_at blocks block = zeros blocks block.0
+  where
+    zeros : (count at : ℕ) → word_at (replicate count 0) (record { 0 = at }) ≡ 0
+    zeros zero at = refl
+    zeros (suc count) zero = refl
+    zeros (suc count) (suc at) = zeros count at
+
+unsealed : SealAgrees 0 (record { location = None; dirty = false })
+unsealed = record { location = refl; dirty = λ c e. let bad : None ≡ Some c = e in absurd (cc) }
+
+length-replicated : {X : Type 0} (count : ℕ) (x : X) → length (replicate count x) ≡ count
+length-replicated zero x = refl
+length-replicated (suc count) x = ap suc (length-replicated count x)
+
+rests : (size most blocks : ℕ) → StandsFor size most (fresh_words blocks) resting idle
+rests size most blocks = record { at = (refl, inl (record { task = refl; held = refl; order = refl; leads = refl })); below = holds_nothing idle resting.card refl; among_others = refl }
+
+pub can_agree : CanAgree
+can_agree size most blocks cache origin many = record {
+  words_agree = record { fail = refl; seals = λ block. subst (λ (n : ℕ). SealAgrees n (record { location = None; dirty = false })) (sym (fresh_at blocks block)) unsealed };
+  origin = empty_device size origin;
+  cache = empty_device size cache;
+  mode = refl;
+  commits = refl;
+  broken = λ e. absurd (cc);
+  led = λ a y e l. absurd (nobody a y e l);
+  whole = λ a y e l u. absurd (nobody a y e l);
+  one_leads = λ a b y z e f l m. absurd (nobody a y e l);
+  many = length-replicated many idle ∙ sym (length-replicated many resting);
+  each = λ a x y e f. subst (λ (v : Actor). StandsFor size most (fresh_words blocks) v y) (replicated many a resting x e)
+      (subst (λ (v : AbstractActor). StandsFor size most (fresh_words blocks) resting v) (replicated many a idle y f) (rests size most blocks));
+}
+  where
+    nobody : (a : ℕ) (y : AbstractActor) → slice_get (replicate many idle) a ≡ Some y → y.leads ≡ true → ⊥
+    nobody a y e l = let bad : false ≡ true = ap (λ (v : AbstractActor). v.leads) (replicated many a idle y e) ∙ l in absurd (cc)
