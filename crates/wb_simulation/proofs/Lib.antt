@@ -10,3 +10,4 @@ mod Leading
 mod Flushing
 mod Flushes
 mod Possible
+mod Opening

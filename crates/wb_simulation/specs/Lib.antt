@@ -1,4 +1,5 @@
 pub mod Steps
 pub mod Actors
 pub mod Worlds
+pub mod Sites
 pub mod Laws

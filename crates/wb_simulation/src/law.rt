@@ -1,5 +1,6 @@
 //! Laws of how a run is followed in the abstract world.
 
+ghost use Rattle.wb_simulation.specs.Sites.{OpeningsFollowed};
 ghost use Rattle.wb_simulation.specs.Laws.{AnswersFollowed, CanAgree, CellStepsFollowed, ExtentStepsFollowed, FlushStepsFollowed, StartsFollowed};
 
 /// Each step of a read or a write on the shared words is some records of the abstract world, which stands for the whole state of the
@@ -28,4 +29,10 @@ pub fn flush_steps_are_followed()
 /// And there is a state that the abstract world stands for, whatever the sizes and however many actors: that of a target just made.
 pub fn a_state_can_agree()
     ensures { CanAgree }
+{}
+
+/// A crash, and each step of an opening until it reads the metadata, is an event there that may come, after which the devices agree
+/// with that world again: cache and origin sector by sector, and the metadata as the images that they may be read as.
+pub fn openings_are_followed()
+    ensures { OpeningsFollowed }
 {}
