@@ -1,5 +1,5 @@
 -- Crashes, and the steps of an opening until it reads, are followed.
-use Rattle.std.proofs.Common.{◌≡◌, ◌+◌, ◌*◌, ◌∙◌, inl, inr, ℕ, Bool, true, false, List, [], Option, Some, None, refl, sym, ap, subst, Contains}
+use Rattle.std.proofs.Common.{◌≡◌, ◌+◌, ◌*◌, ◌∙◌, ◌⊎◌, inl, inr, ℕ, Bool, true, false, List, [], Option, Some, None, refl, sym, ap, subst, Contains}
 use Rattle.wb_types.specs.declared.geometry.Geometry.{Geometry}
 use Rattle.wb_types.specs.declared.mode.Mode.{Mode}
 use Rattle.wb_disk.specs.Device.{History, Crashed, synced, newest, entries}
@@ -10,50 +10,57 @@ use Rattle.wb_contents.proofs.Devices.{sync_is_act, failed_sync_is_act, crash_is
 use Rattle.wb_meta.specs.Representing.{Stored}
 use Rattle.wb_roots.specs.Roots.{IsSettled}
 use Rattle.wb_roots.specs.Laws.{IsDecided}
-use Rattle.wb_roots.proofs.Deciding.{crash_decides, sync_decides, failed_sync_leaves}
+use Rattle.wb_roots.proofs.Deciding.{crash_decides, sync_decides, failed_sync_leaves, read_is_committed}
+use Rattle.wb_contents.specs.Volume.{at_location}
+use Rattle.wb_types.specs.declared.mode.Mode.TheVariants.{Writeback}
+use Rattle.wb_runs.specs.Headline.{place_of}
 use Rattle.wb_devices.specs.declared.devices.Devices.{Devices}
 use Rattle.wb_link.specs.Tables.{Choice}
 use Rattle.wb_link.specs.World.{Shared}
-use Rattle.wb_link.specs.Openings.{Site, Phase, Gone, Opens, Stage, Settling, Caching, Basing, Stopping, Outcome, Settled, Fine, Broke, Stopped, Begins, Advances, Yields, advance, advanced, next_phase, decided}
-use Rattle.wb_simulation.specs.Sites.{IsRunning, ImagesAgree, DevicesAgree, LeadsTo, OpeningsFollowed}
+use Rattle.wb_link.specs.Openings.{Site, Phase, Gone, Opens, Learnt, Stage, Settling, Caching, Basing, Looking, Rooting, Renewing, Answering, Stopping, Outcome, Settled, Fine, Learns, Refused, Broke, Shown, Stopped, Begins, Advances, Yields, advance, advanced, next_phase, decided}
+use Rattle.wb_simulation.specs.Sites.{IsRunning, ImagesAgree, DevicesAgree, LeadsTo, LeadsToOne, OpeningsFollowed}
 
--- what is decided agrees with the images, whichever it is
-pub record IsDecidedBy (geometry : Geometry) (metadata : List History) (s : Shared) : Type 0 where
+-- what is decided agrees with one image, whichever it is
+pub record IsDecidedBy (geometry : Geometry) (committed : Stored) (later : Option Stored) (metadata : List History) (s : Shared) : Type 0 where
   pub new_root : Bool
   pub written : new_root ≡ true → s.root_written ≡ true
-  pub images : ImagesAgree geometry metadata (decided s new_root)
+  pub state : Stored
+  pub one_of : (state ≡ committed) ⊎ (later ≡ Some state)
+  pub images : ImagesAgree geometry state None metadata (decided s new_root)
   pub settled : IsSettled metadata
 
-decides : (geometry : Geometry) (old new : List History) (s : Shared) (g : ImagesAgree geometry old s) → IsDecided geometry g.committed g.later new → IsDecidedBy geometry new s
-decides geometry old new s g d = elim d.1 [
-  | inl same ↦ record { new_root = false; written = λ e. absurd (cc); images = record { committed = g.committed; later = None; read = same; committed_is = g.committed_is; later_is = tt }; settled = d.0 }
+decides : (geometry : Geometry) (committed : Stored) (later : Option Stored) (old new : List History) (s : Shared) (g : ImagesAgree geometry committed later old s) → IsDecided geometry committed later new → IsDecidedBy geometry committed later new s
+decides geometry committed later old new s g d = elim d.1 [
+  | inl same ↦ record { new_root = false; written = λ e. absurd (cc); state = committed; one_of = inl refl; images = record { read = same; committed_is = g.committed_is; later_is = tt }; settled = d.0 }
   | inr r ↦
       let runs = subst (λ (o : Option Stored). IsRunning o s) r.1 g.later_is in
-      record { new_root = true; written = λ e. runs.0; images = record { committed = r.0; later = None; read = r.2; committed_is = runs.1; later_is = tt }; settled = d.0 }
+      record { new_root = true; written = λ e. runs.0; state = r.0; one_of = inr r.1; images = record { read = r.2; committed_is = runs.1; later_is = tt }; settled = d.0 }
 ]
 
 -- the images of a state of which nothing but the data devices is another
-same_images : (geometry : Geometry) (metadata : List History) (s t : Shared) → t.committed ≡ s.committed → t.running ≡ s.running → t.root_written ≡ s.root_written → ImagesAgree geometry metadata s → ImagesAgree geometry metadata t
-same_images geometry metadata s t c r w g = record { committed = g.committed; later = g.later; read = g.read; committed_is = c ∙ g.committed_is; later_is = runs g.later g.later_is }
+same_images : (geometry : Geometry) (committed : Stored) (later : Option Stored) (metadata : List History) (s t : Shared) → t.committed ≡ s.committed → t.running ≡ s.running → t.root_written ≡ s.root_written → ImagesAgree geometry committed later metadata s → ImagesAgree geometry committed later metadata t
+same_images geometry committed later metadata s t c r w g = record { read = g.read; committed_is = c ∙ g.committed_is; later_is = runs later g.later_is }
   where
     runs : (later : Option Stored) → IsRunning later s → IsRunning later t
     runs None i = tt
     runs (Some state) i = (w ∙ i.0, r ∙ i.1)
 
 -- an outcome of a stage, which leads to what it does there
-module _ (geometry : Geometry) (size : ℕ) (mode : Mode) (stage : Stage) (outcome : Outcome) (w : Site) (devices : Devices (List History)) (at : w.phase ≡ Opens mode stage) where
-  advances : Yields w.world.shared mode stage outcome → DevicesAgree geometry size devices (advanced w.world.shared mode stage outcome) → LeadsTo geometry size w (next_phase mode stage outcome) devices
+module _ (geometry : Geometry) (size : ℕ) (committed : Stored) (later : Option Stored) (mode : Mode) (stage : Stage) (outcome : Outcome) (w : Site) (devices : Devices (List History)) (at : w.phase ≡ Opens mode stage) where
+  advances : Yields w.world.shared mode stage outcome → DevicesAgree geometry size committed later devices (advanced w.world.shared mode stage outcome) → LeadsTo geometry size committed later w (next_phase mode stage outcome) devices
   advances y g = record {
     event = Advances outcome;
     may = (mode, stage, at, y);
     phase_is = ap (λ (p : Phase). (advance w.world p outcome).phase) at;
-    agrees = subst (λ (p : Phase). DevicesAgree geometry size devices (advance w.world p outcome).world.shared) (sym at) g;
+    agrees = subst (λ (p : Phase). DevicesAgree geometry size committed later devices (advance w.world p outcome).world.shared) (sym at) g;
   }
 
-module _ (geometry : Geometry) (size : ℕ) (w : Site) (devices devices' : Devices (List History)) (g : DevicesAgree geometry size devices w.world.shared) where
-  crashes : Crashed devices.metadata devices'.metadata → Crashed devices.cache devices'.cache → Crashed devices.origin devices'.origin → LeadsTo geometry size w Gone devices' × IsSettled devices'.metadata
-  crashes m c o = (
-    record {
+module _ (geometry : Geometry) (size : ℕ) (committed : Stored) (later : Option Stored) (w : Site) (devices devices' : Devices (List History)) (g : DevicesAgree geometry size committed later devices w.world.shared) where
+  crashes : Crashed devices.metadata devices'.metadata → Crashed devices.cache devices'.cache → Crashed devices.origin devices'.origin → LeadsToOne geometry size committed later w Gone devices'
+  crashes m c o = record {
+    state = d.state;
+    one_of = d.one_of;
+    leads = record {
       event = Stopped stopping;
       may = record {
         root = d.written;
@@ -61,10 +68,10 @@ module _ (geometry : Geometry) (size : ℕ) (w : Site) (devices devices' : Devic
         cache = λ b i. subst (λ (f : ℕ → ℕ → History). Contains (entries (f b i)) (newest (by_block size [] devices'.cache b i))) (sym g.cache) (left_cache.pending b i);
       };
       phase_is = refl;
-      agrees = record { origin = sym left_origin.alone; cache = sym left_cache.alone; images = same_images geometry devices'.metadata (decided w.world.shared d.new_root) _ refl refl refl d.images };
-    },
-    d.settled,
-  )
+      agrees = record { origin = sym left_origin.alone; cache = sym left_cache.alone; images = same_images geometry d.state None devices'.metadata (decided w.world.shared d.new_root) _ refl refl refl d.images };
+    };
+    settled = d.settled;
+  }
     where
       left_origin : CrashLeaves (by_block size [] devices.origin) (by_block size [] devices'.origin)
       left_origin = crash_is_act size [] devices.origin devices'.origin o
@@ -72,8 +79,8 @@ module _ (geometry : Geometry) (size : ℕ) (w : Site) (devices devices' : Devic
       left_cache : CrashLeaves (by_block size [] devices.cache) (by_block size [] devices'.cache)
       left_cache = crash_is_act size [] devices.cache devices'.cache c
 
-      d : IsDecidedBy geometry devices'.metadata w.world.shared
-      d = decides geometry devices.metadata devices'.metadata w.world.shared g.images (crash_decides geometry g.images.committed g.images.later devices.metadata devices'.metadata g.images.read m)
+      d : IsDecidedBy geometry committed later devices'.metadata w.world.shared
+      d = decides geometry committed later devices.metadata devices'.metadata w.world.shared g.images (crash_decides geometry committed later devices.metadata devices'.metadata g.images.read m)
 
       stopping : Stopping
       stopping = record { origin = λ b i. newest (by_block size [] devices'.origin b i); cache = λ b i. newest (by_block size [] devices'.cache b i); new_root = d.new_root }
@@ -81,22 +88,41 @@ module _ (geometry : Geometry) (size : ℕ) (w : Site) (devices devices' : Devic
 abbrev fault : (ℕ → ℕ → Bool) → Choice
 fault settled = record { landed = false; more = false; settled = settled }
 
+abbrev no_fault : Choice
+no_fault = fault (λ b o. false)
+
 pub openings_followed : OpeningsFollowed
 openings_followed = record {
-  crashes = λ geometry size w devices devices' g m c o. crashes geometry size w devices devices' g m c o;
-  begins = λ geometry size mode w devices g may. record { event = Begins mode; may = may; phase_is = refl; agrees = g };
-  settles = λ geometry size mode w devices at g.
-      let d = decides geometry devices.metadata (synced devices.metadata) w.world.shared g.images (sync_decides geometry g.images.committed g.images.later devices.metadata g.images.read) in
-      (advances geometry size mode Settling (Settled d.new_root) w (record devices { metadata = synced devices.metadata }) at d.written (record { origin = g.origin; cache = g.cache; images = d.images }), d.settled);
-  settling_fails = λ geometry size mode w devices metadata at g partly.
-      advances geometry size mode Settling (Broke (fault (λ b o. false))) w (record devices { metadata = metadata }) at tt
-      (record { origin = g.origin; cache = g.cache; images = record { committed = g.images.committed; later = g.images.later; read = failed_sync_leaves geometry g.images.committed g.images.later devices.metadata metadata g.images.read partly; committed_is = g.images.committed_is; later_is = g.images.later_is } });
-  syncs_cache = λ geometry size mode w devices at g. advances geometry size mode Caching Fine w (record devices { cache = synced devices.cache }) at tt
-      (record { origin = g.origin; cache = ap all_synced g.cache ∙ sym (sync_is_act size [] devices.cache); images = same_images geometry devices.metadata w.world.shared _ refl refl refl g.images });
-  cache_fails = λ geometry size mode lands w devices at g. advances geometry size mode Caching (Broke (fault (λ b o. lands (b * size + o)))) w (record devices { cache = synced_where lands devices.cache }) at tt
-      (record { origin = g.origin; cache = ap (partly_synced (λ b o. lands (b * size + o))) g.cache ∙ sym (failed_sync_is_act size [] lands devices.cache); images = same_images geometry devices.metadata w.world.shared _ refl refl refl g.images });
-  syncs_origin = λ geometry size mode w devices at g. advances geometry size mode Basing Fine w (record devices { origin = synced devices.origin }) at tt
-      (record { origin = ap all_synced g.origin ∙ sym (sync_is_act size [] devices.origin); cache = g.cache; images = same_images geometry devices.metadata w.world.shared _ refl refl refl g.images });
-  origin_fails = λ geometry size mode lands w devices at g. advances geometry size mode Basing (Broke (fault (λ b o. lands (b * size + o)))) w (record devices { origin = synced_where lands devices.origin }) at tt
-      (record { origin = ap (partly_synced (λ b o. lands (b * size + o))) g.origin ∙ sym (failed_sync_is_act size [] lands devices.origin); cache = g.cache; images = same_images geometry devices.metadata w.world.shared _ refl refl refl g.images });
+  crashes = λ geometry size committed later w devices devices' g m c o. crashes geometry size committed later w devices devices' g m c o;
+  begins = λ geometry size committed later mode w devices g may. record { event = Begins mode; may = may; phase_is = refl; agrees = g };
+  settles = λ geometry size committed later mode w devices at g.
+      let d = decides geometry committed later devices.metadata (synced devices.metadata) w.world.shared g.images (sync_decides geometry committed later devices.metadata g.images.read) in
+      record { state = d.state; one_of = d.one_of; leads = advances geometry size d.state None mode Settling (Settled d.new_root) w (record devices { metadata = synced devices.metadata }) at d.written (record { origin = g.origin; cache = g.cache; images = d.images }); settled = d.settled };
+  settling_fails = λ geometry size committed later mode w devices at g metadata partly.
+      advances geometry size committed later mode Settling (Broke no_fault) w (record devices { metadata = metadata }) at tt
+      (record { origin = g.origin; cache = g.cache; images = record { read = failed_sync_leaves geometry committed later devices.metadata metadata g.images.read partly; committed_is = g.images.committed_is; later_is = g.images.later_is } });
+  syncs_cache = λ geometry size committed later mode w devices at g. advances geometry size committed later mode Caching Fine w (record devices { cache = synced devices.cache }) at tt
+      (record { origin = g.origin; cache = ap all_synced g.cache ∙ sym (sync_is_act size [] devices.cache); images = same_images geometry committed later devices.metadata w.world.shared _ refl refl refl g.images });
+  cache_fails = λ geometry size committed later mode w devices at g lands. advances geometry size committed later mode Caching (Broke (fault (λ b o. lands (b * size + o)))) w (record devices { cache = synced_where lands devices.cache }) at tt
+      (record { origin = g.origin; cache = ap (partly_synced (λ b o. lands (b * size + o))) g.cache ∙ sym (failed_sync_is_act size [] lands devices.cache); images = same_images geometry committed later devices.metadata w.world.shared _ refl refl refl g.images });
+  syncs_origin = λ geometry size committed later mode w devices at g. advances geometry size committed later mode Basing Fine w (record devices { origin = synced devices.origin }) at tt
+      (record { origin = ap all_synced g.origin ∙ sym (sync_is_act size [] devices.origin); cache = g.cache; images = same_images geometry committed later devices.metadata w.world.shared _ refl refl refl g.images });
+  origin_fails = λ geometry size committed later mode w devices at g lands. advances geometry size committed later mode Basing (Broke (fault (λ b o. lands (b * size + o)))) w (record devices { origin = synced_where lands devices.origin }) at tt
+      (record { origin = ap (partly_synced (λ b o. lands (b * size + o))) g.origin ∙ sym (failed_sync_is_act size [] lands devices.origin); cache = g.cache; images = same_images geometry committed later devices.metadata w.world.shared _ refl refl refl g.images });
+  learns = λ geometry size committed w devices root tree used at g settled represents fits.
+      let learnt : Learnt = record { locations = w.world.shared.committed; clean = w.world.shared.committed_clean } in
+      let is = read_is_committed geometry committed devices.metadata root tree used g.images.read settled represents fits in
+      (learnt, g.images.committed_is ∙ (λ i b. place_of (sym is.1 i) b), advances geometry size committed None Writeback Looking (Learns learnt) w devices at (refl, refl, tt) g);
+  look_stops = λ geometry size committed later mode w devices at g. advances geometry size committed later mode Looking Refused w devices at tt g;
+  roots = λ learnt new metadata same geometry size committed later mode w devices at g read. advances geometry size committed (Some new) mode (Rooting learnt) Fine w (record devices { metadata = metadata }) at tt
+      (record { origin = g.origin; cache = g.cache; images = record { read = read; committed_is = g.images.committed_is; later_is = (refl, same) } });
+  root_fails = λ learnt new metadata same geometry size committed later mode w devices at g read. advances geometry size committed (Some new) mode (Rooting learnt) (Broke no_fault) w (record devices { metadata = metadata }) at tt
+      (record { origin = g.origin; cache = g.cache; images = record { read = read; committed_is = g.images.committed_is; later_is = (refl, same) } });
+  renews = λ learnt metadata geometry size committed later mode w devices at g read. advances geometry size committed later mode (Renewing learnt) Fine w (record devices { metadata = metadata }) at tt
+      (record { origin = g.origin; cache = g.cache; images = record { read = read; committed_is = g.images.committed_is; later_is = g.images.later_is } });
+  renewing_fails = λ learnt metadata geometry size committed later mode w devices at g read. advances geometry size committed later mode (Renewing learnt) (Broke no_fault) w (record devices { metadata = metadata }) at tt
+      (record { origin = g.origin; cache = g.cache; images = record { read = read; committed_is = g.images.committed_is; later_is = g.images.later_is } });
+  answers = λ learnt new blocks same free geometry size committed later mode w devices at g read.
+      advances geometry size new None mode (Answering learnt) (Shown blocks (λ b o. newest (at_location w.world.shared.origin w.world.shared.cache (learnt.locations b) b o))) w devices at (free, λ b o. refl)
+      (record { origin = g.origin; cache = g.cache; images = record { read = read; committed_is = same; later_is = tt } });
 }

@@ -1,16 +1,23 @@
 -- When the three devices are those of the abstract world: what the data devices hold, and what the metadata may be read as.
-use Rattle.std.specs.Prelude.{◌≡◌, ℕ, Bool, true, List, [], Option, Some, None}
+use Rattle.std.specs.Prelude.{◌≡◌, ◌⊎◌, ℕ, Bool, true, List, [], Option, Some, None, length, map}
 use Rattle.wb_types.specs.declared.geometry.Geometry.{Geometry}
 use Rattle.wb_types.specs.declared.mode.Mode.{Mode}
-use Rattle.wb_disk.specs.Device.{History, Crashed, PartlySynced, synced}
+use Rattle.wb_types.specs.declared.mode.Mode.TheVariants.{Writeback}
+use Rattle.wb_types.specs.declared.number.Place.{Place}
+use Rattle.wb_format.specs.declared.root.Root.{Root}
+use Rattle.wb_tree.specs.Mapping.{Mapping}
+use Rattle.wb_disk.specs.Device.{History, Crashed, PartlySynced, newest, synced}
 use Rattle.wb_disk.specs.Failing.{synced_where}
 use Rattle.wb_contents.specs.Devices.{by_block}
 use Rattle.wb_contents.specs.Volume.{Locations}
+use Rattle.wb_meta.specs.Reads.{FitsDevice}
 use Rattle.wb_meta.specs.Representing.{Stored}
+use Rattle.wb_meta.specs.States.{RepresentsState}
 use Rattle.wb_roots.specs.Roots.{MayBeReadAs, IsSettled}
 use Rattle.wb_devices.specs.declared.devices.Devices.{Devices}
-use Rattle.wb_link.specs.World.{Shared}
-use Rattle.wb_link.specs.Openings.{Site, Phase, Gone, Opens, Settling, Caching, Basing, Looking, Event, MayOpen, MayHappen, after_event}
+use Rattle.wb_contents.specs.Conditions.{IsUnnamed}
+use Rattle.wb_link.specs.World.{Shared, Block, Free, Mapped}
+use Rattle.wb_link.specs.Openings.{Site, Phase, Stands, Gone, Opens, Learnt, Stage, Settling, Caching, Basing, Looking, Rooting, Renewing, Answering, Event, MayOpen, MayHappen, after_event}
 use Rattle.wb_runs.specs.Headline.{place_of}
 
 -- where a state that is stored has each block
@@ -22,43 +29,62 @@ abbrev pub IsRunning : Option Stored → Shared → Type 0
 IsRunning None s = Unit {0}
 IsRunning (Some state) s = (s.root_written ≡ true) × (s.running ≡ locations state)
 
--- The metadata may be read as the committed image and, where a root was written over it, as the running one.
-pub record ImagesAgree (geometry : Geometry) (metadata : List History) (s : Shared) : Type 0 where
-  pub committed : Stored
-  pub later : Option Stored
+-- The metadata may be read as the committed image, that of this state, and, where a root was written over it, as the running one.
+pub record ImagesAgree (geometry : Geometry) (committed : Stored) (later : Option Stored) (metadata : List History) (s : Shared) : Type 0 where
   pub read : MayBeReadAs geometry committed later metadata
   pub committed_is : s.committed ≡ locations committed
   pub later_is : IsRunning later s
 
--- so do cache and origin
-pub record DevicesAgree (geometry : Geometry) (size : ℕ) (devices : Devices (List History)) (s : Shared) : Type 0 where
+-- cache and origin hold what they hold there, and the metadata agree
+pub record DevicesAgree (geometry : Geometry) (size : ℕ) (committed : Stored) (later : Option Stored) (devices : Devices (List History)) (s : Shared) : Type 0 where
   pub origin : s.origin ≡ by_block size [] devices.origin
   pub cache : s.cache ≡ by_block size [] devices.cache
-  pub images : ImagesAgree geometry devices.metadata s
+  pub images : ImagesAgree geometry committed later devices.metadata s
 
 -- An event may come there, which leads to this phase, these devices agreeing with it then.
-pub record LeadsTo (geometry : Geometry) (size : ℕ) (w : Site) (phase : Phase) (devices : Devices (List History)) : Type 0 where
+pub record LeadsTo (geometry : Geometry) (size : ℕ) (committed : Stored) (later : Option Stored) (w : Site) (phase : Phase) (devices : Devices (List History)) : Type 0 where
   pub event : Event
   pub may : MayHappen size w event
   pub phase_is : (after_event w event).phase ≡ phase
-  pub agrees : DevicesAgree geometry size devices (after_event w event).world.shared
+  pub agrees : DevicesAgree geometry size committed later devices (after_event w event).world.shared
 
--- Crashes, and the steps of an opening up to the reading of the metadata, done or failing.
+-- the same, once it is known as which of two images the metadata are read
+pub record LeadsToOne (geometry : Geometry) (size : ℕ) (committed : Stored) (later : Option Stored) (w : Site) (phase : Phase) (devices : Devices (List History)) : Type 0 where
+  pub state : Stored
+  pub one_of : (state ≡ committed) ⊎ (later ≡ Some state)
+  pub leads : LeadsTo geometry size state None w phase devices
+  pub settled : IsSettled devices.metadata
+
+-- a stage of an opening whose outcome is another one, or none, of this image or these two
+abbrev pub Stages : (Geometry → ℕ → Stored → Option Stored → Mode → Site → Devices (List History) → Type 0) → Stage → Type 0
+Stages Then stage = (geometry : Geometry) (size : ℕ) (committed : Stored) (later : Option Stored) (mode : Mode) (w : Site) (devices : Devices (List History)) → w.phase ≡ Opens mode stage → DevicesAgree geometry size committed later devices w.world.shared →
+    Then geometry size committed later mode w devices
+
+-- A crash, and each step of an opening, done, refused or failing.
 pub record OpeningsFollowed : Type 0 where
   -- a crash leaves of the metadata one image alone
-  pub crashes : (geometry : Geometry) (size : ℕ) (w : Site) (devices devices' : Devices (List History)) → DevicesAgree geometry size devices w.world.shared →
-      Crashed devices.metadata devices'.metadata → Crashed devices.cache devices'.cache → Crashed devices.origin devices'.origin → LeadsTo geometry size w Gone devices' × IsSettled devices'.metadata
-  pub begins : (geometry : Geometry) (size : ℕ) (mode : Mode) (w : Site) (devices : Devices (List History)) → DevicesAgree geometry size devices w.world.shared → MayOpen w → LeadsTo geometry size w (Opens mode Settling) devices
+  pub crashes : (geometry : Geometry) (size : ℕ) (committed : Stored) (later : Option Stored) (w : Site) (devices devices' : Devices (List History)) → DevicesAgree geometry size committed later devices w.world.shared →
+      Crashed devices.metadata devices'.metadata → Crashed devices.cache devices'.cache → Crashed devices.origin devices'.origin → LeadsToOne geometry size committed later w Gone devices'
+  pub begins : (geometry : Geometry) (size : ℕ) (committed : Stored) (later : Option Stored) (mode : Mode) (w : Site) (devices : Devices (List History)) → DevicesAgree geometry size committed later devices w.world.shared → MayOpen w → LeadsTo geometry size committed later w (Opens mode Settling) devices
   -- and so does its first sync, where it is done
-  pub settles : (geometry : Geometry) (size : ℕ) (mode : Mode) (w : Site) (devices : Devices (List History)) → w.phase ≡ Opens mode Settling → DevicesAgree geometry size devices w.world.shared →
-      LeadsTo geometry size w (Opens mode Caching) (record devices { metadata = synced devices.metadata }) × IsSettled (synced devices.metadata)
-  pub settling_fails : (geometry : Geometry) (size : ℕ) (mode : Mode) (w : Site) (devices : Devices (List History)) (metadata : List History) → w.phase ≡ Opens mode Settling → DevicesAgree geometry size devices w.world.shared → PartlySynced devices.metadata metadata →
-      LeadsTo geometry size w Gone (record devices { metadata = metadata })
-  pub syncs_cache : (geometry : Geometry) (size : ℕ) (mode : Mode) (w : Site) (devices : Devices (List History)) → w.phase ≡ Opens mode Caching → DevicesAgree geometry size devices w.world.shared →
-      LeadsTo geometry size w (Opens mode Basing) (record devices { cache = synced devices.cache })
-  pub cache_fails : (geometry : Geometry) (size : ℕ) (mode : Mode) (lands : ℕ → Bool) (w : Site) (devices : Devices (List History)) → w.phase ≡ Opens mode Caching → DevicesAgree geometry size devices w.world.shared →
-      LeadsTo geometry size w Gone (record devices { cache = synced_where lands devices.cache })
-  pub syncs_origin : (geometry : Geometry) (size : ℕ) (mode : Mode) (w : Site) (devices : Devices (List History)) → w.phase ≡ Opens mode Basing → DevicesAgree geometry size devices w.world.shared →
-      LeadsTo geometry size w (Opens mode Looking) (record devices { origin = synced devices.origin })
-  pub origin_fails : (geometry : Geometry) (size : ℕ) (mode : Mode) (lands : ℕ → Bool) (w : Site) (devices : Devices (List History)) → w.phase ≡ Opens mode Basing → DevicesAgree geometry size devices w.world.shared →
-      LeadsTo geometry size w Gone (record devices { origin = synced_where lands devices.origin })
+  pub settles : Stages (λ geometry size committed later mode w devices. LeadsToOne geometry size committed later w (Opens mode Caching) (record devices { metadata = synced devices.metadata })) Settling
+  pub settling_fails : Stages (λ geometry size committed later mode w devices. (metadata : List History) → PartlySynced devices.metadata metadata → LeadsTo geometry size committed later w Gone (record devices { metadata = metadata })) Settling
+  pub syncs_cache : Stages (λ geometry size committed later mode w devices. LeadsTo geometry size committed later w (Opens mode Basing) (record devices { cache = synced devices.cache })) Caching
+  pub cache_fails : Stages (λ geometry size committed later mode w devices. (lands : ℕ → Bool) → LeadsTo geometry size committed later w Gone (record devices { cache = synced_where lands devices.cache })) Caching
+  pub syncs_origin : Stages (λ geometry size committed later mode w devices. LeadsTo geometry size committed later w (Opens mode Looking) (record devices { origin = synced devices.origin })) Basing
+  pub origin_fails : Stages (λ geometry size committed later mode w devices. (lands : ℕ → Bool) → LeadsTo geometry size committed later w Gone (record devices { origin = synced_where lands devices.origin })) Basing
+  -- the tree that was read is that of the one image
+  pub learns : (geometry : Geometry) (size : ℕ) (committed : Stored) (w : Site) (devices : Devices (List History)) (root : Root) (tree : Mapping) (used : List Place) → w.phase ≡ Opens Writeback Looking → DevicesAgree geometry size committed None devices w.world.shared → IsSettled devices.metadata →
+      RepresentsState (map newest devices.metadata) root tree used → FitsDevice (length devices.metadata) root tree used →
+      (learnt : Learnt) × (learnt.locations ≡ (λ b. place_of tree.entries b)) × LeadsTo geometry size committed None w (Opens Writeback (Rooting learnt)) devices
+  pub look_stops : Stages (λ geometry size committed later mode w devices. LeadsTo geometry size committed later w Gone devices) Looking
+  -- its root leads to a state that has the same blocks
+  pub roots : (learnt : Learnt) (new : Stored) (metadata : List History) → learnt.locations ≡ locations new →
+      Stages (λ geometry size committed later mode w devices. MayBeReadAs geometry committed (Some new) metadata → LeadsTo geometry size committed (Some new) w (Opens mode (Renewing learnt)) (record devices { metadata = metadata })) (Rooting learnt)
+  pub root_fails : (learnt : Learnt) (new : Stored) (metadata : List History) → learnt.locations ≡ locations new →
+      Stages (λ geometry size committed later mode w devices. MayBeReadAs geometry committed (Some new) metadata → LeadsTo geometry size committed (Some new) w Gone (record devices { metadata = metadata })) (Rooting learnt)
+  pub renews : (learnt : Learnt) (metadata : List History) → Stages (λ geometry size committed later mode w devices. MayBeReadAs geometry committed later metadata → LeadsTo geometry size committed later w (Opens mode (Answering learnt)) (record devices { metadata = metadata })) (Renewing learnt)
+  pub renewing_fails : (learnt : Learnt) (metadata : List History) → Stages (λ geometry size committed later mode w devices. MayBeReadAs geometry committed later metadata → LeadsTo geometry size committed later w Gone (record devices { metadata = metadata })) (Renewing learnt)
+  -- and is the one image when the opening is answered done
+  pub answers : (learnt : Learnt) (new : Stored) (blocks : ℕ → Block) → learnt.locations ≡ locations new → ((k : ℕ) → (blocks k ≡ Mapped) ⊎ ((blocks k ≡ Free) × IsUnnamed learnt.locations k)) →
+      Stages (λ geometry size committed later mode w devices. MayBeReadAs geometry new None devices.metadata → LeadsTo geometry size new None w Stands devices) (Answering learnt)
