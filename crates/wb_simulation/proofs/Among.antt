@@ -1,6 +1,8 @@
 -- One actor goes on, and all others are as they were.
 use Rattle.std.proofs.Common.{arith, length, bit_or, ◌≡◌, ◌+◌, ◌==◌, ◌∙◌, inl, inr, cond, if◌then◌else◌, ℕ, zero, suc, Bool, true, false, List, [], ◌∷◌, Some, refl, sym, ap, subst, slice_get, slice_set}
 use Rattle.std.proofs.lemmas.Bool.{cases_eq}
+use Rattle.std.proofs.lemmas.List.{length-set}
+use Rattle.wb_types.proofs.Lists.{element_beside}
 use Rattle.wb_disk.specs.Device.{History}
 use Rattle.wb_contents.specs.Devices.{by_block}
 use Rattle.wb_words.specs.SharedWords.{Words, word_at, flag, fail_word, with_cell, taken}
@@ -22,22 +24,10 @@ use Rattle.wb_simulation.specs.Actors.{StandsFor}
 use Rattle.wb_simulation.specs.Worlds.{Agrees, Follows, IsUnfinished}
 use Rattle.wb_simulation.proofs.Kept.{stands_on}
 
--- where one list has something, one that is as long has, too
-pub there : {X Y : Type 0} (xs : List X) (ys : List Y) (a : ℕ) (x : X) → length ys ≡ length xs → slice_get xs a ≡ Some x → (y : Y) × (slice_get ys a ≡ Some y)
-there [] ys a x n e = absurd (cc)
-there (z ∷ xs) [] a x n e = absurd (omega (arith, n))
-there (z ∷ xs) (y ∷ ys) zero x n e = (y, refl)
-there (z ∷ xs) (y ∷ ys) (suc a) x n e = there xs ys a x (omega (arith, n)) e
-
 pub card_there : (actors : List Actor) (a : ℕ) (x : Actor) → slice_get actors a ≡ Some x → slice_get (cards_of actors) a ≡ Some x.card
 card_there [] a x e = absurd (cc)
 card_there (z ∷ xs) zero x e = let same : z ≡ x = cc in ap (λ (v : Actor). Some v.card) same
 card_there (z ∷ xs) (suc a) x e = card_there xs a x e
-
-pub length-set-there : {X : Type 0} (xs : List X) (a : ℕ) (x : X) → length (slice_set xs a x) ≡ length xs
-length-set-there [] a x = refl
-length-set-there (z ∷ xs) zero x = refl
-length-set-there (z ∷ xs) (suc a) x = ap suc (length-set-there xs a x)
 
 -- the failed bit is never cleared
 pub failed_stays : (words : Words) (step : CellStep) (failures suspensions : ℕ) → words.fail ≡ fail_word failures suspensions → flag words.fail ≡ true → flag (words_after words step).fail ≡ true
@@ -66,7 +56,7 @@ failed_stays words SetSuspended f z e t = ap (λ v. flag (bit_or v 2)) e ∙ by_
 -- no abstract actor has more than the cards count
 pub all_below : (size most : ℕ) (words : Words) (committing : Bool) (devices : Devices (List History)) (actors : List Actor) (s : World) → Agrees size most words committing devices actors s → AllBelow s.actors (cards_of actors)
 all_below size most words committing devices actors s g a y e =
-    let x = there s.actors actors a y (sym g.many) e in
+    let x = element_beside s.actors actors a y (sym g.many) e in
     (x.0.card, card_there actors a x.0 x.1, (g.each a x.0 y x.1 e).below)
 
 module _ (size most : ℕ) (words words' : Words) (up : flag words.fail ≡ true → flag words'.fail ≡ true) (committing : Bool) (devices : Devices (List History)) (actors : List Actor) (a : ℕ) (x x' : Actor) (s : World) (y : AbstractActor)
@@ -115,7 +105,7 @@ module _ (size most : ℕ) (words words' : Words) (up : flag words.fail ≡ true
               led = led;
               whole = whole;
               one_leads = one;
-              many = length-set-there s.actors a (gone y y.task results) ∙ g.many ∙ sym (length-set-there actors a x');
+              many = length-set s.actors a (gone y y.task results) ∙ g.many ∙ sym (length-set actors a x');
               each = each_on (gone y y.task results) st;
             }));
       }

@@ -9,6 +9,7 @@ use Rattle.wb_tasks.specs.Ready.{Suits}
 use Rattle.wb_tasks.specs.declared.step.Answer.{Answer}
 use Rattle.wb_tasks.specs.declared.step.Want.{Want}
 use Rattle.wb_tasks.specs.declared.step.Want.TheVariants.{End}
+use Rattle.wb_types.proofs.Lists.{element_beside}
 use Rattle.wb_devices.specs.declared.devices.Devices.{Devices}
 use Rattle.wb_link.specs.Tables.{Done as DoneThere}
 use Rattle.wb_link.specs.World.{World, Actor as AbstractActor, is_alone}
@@ -24,7 +25,7 @@ use Rattle.wb_simulation.specs.Actors.{IsLate, IsRequestAt, StandsFor}
 use Rattle.wb_simulation.specs.Worlds.{Agrees, Follows}
 use Rattle.wb_simulation.specs.Laws.{AnswersFollowed, IsRequestJob}
 use Rattle.wb_simulation.proofs.Cells.{shared_stays, gone_nowhere}
-use Rattle.wb_simulation.proofs.Among.{there, goes_on}
+use Rattle.wb_simulation.proofs.Among.{goes_on}
 use Rattle.wb_simulation.proofs.Followed.{doing_of}
 
 -- nothing is left of a plan whose next step is its answer
@@ -75,5 +76,5 @@ module _ (size most blocks : ℕ) (words : Words) (committing : Bool) (devices :
 
 pub answers_followed : AnswersFollowed
 answers_followed size most blocks words committing devices actors a x job plan answer s q ex task suits next g =
-    let y = there actors s.actors a x g.many ex in
+    let y = element_beside actors s.actors a x g.many ex in
     followed size most blocks words committing devices actors a x s y.0 ex y.1 g (g.each a x y.0 ex y.1) job plan answer q task next suits

@@ -17,6 +17,7 @@ use Rattle.wb_tasks.specs.declared.step.Want.{Want}
 use Rattle.wb_tasks.specs.declared.step.Want.TheVariants.{Cell, Device, Desk, End}
 use Rattle.wb_tasks.specs.declared.step.Got.{Got}
 use Rattle.wb_tasks.specs.declared.step.Got.TheVariants.{Done, Fault, Began, Refused}
+use Rattle.wb_types.proofs.Lists.{element_beside}
 use Rattle.wb_devices.specs.declared.devices.Devices.{Devices}
 use Rattle.wb_devices.specs.Moving.{device_in}
 use Rattle.wb_link.specs.World.{World, Actor as AbstractActor}
@@ -26,7 +27,6 @@ use Rattle.wb_runs.specs.States.{Actor, with_device}
 use Rattle.wb_simulation.specs.Actors.{IsFlushAt, IsOfFlush, LeadsAt, StandsFor}
 use Rattle.wb_simulation.specs.Worlds.{Agrees, Follows}
 use Rattle.wb_simulation.specs.Laws.{FlushStepsFollowed, after_step, went}
-use Rattle.wb_simulation.proofs.Among.{there}
 use Rattle.wb_simulation.proofs.Followed.{doing_of}
 use Rattle.wb_simulation.proofs.Leading.{AtFlush, at_flush}
 use Rattle.wb_simulation.proofs.Moving.{begins_by}
@@ -96,7 +96,7 @@ module _ (size most : ℕ) (words : Words) (committing : Bool) (devices : Device
 flush_of : (size most : ℕ) (words : Words) (committing : Bool) (devices : Devices (List History)) (actors : List Actor) (a : ℕ) (x : Actor) (plan : Plan) (s : World) (ex : slice_get actors a ≡ Some x) (g : Agrees size most words committing devices actors s) → x.task ≡ Some (Flush, plan) →
     (y : AbstractActor) × (slice_get s.actors a ≡ Some y) × StandsFor size most words x y × IsFlushAt size most words plan y
 flush_of size most words committing devices actors a x plan s ex g t =
-    let y = there actors s.actors a x g.many ex in
+    let y = element_beside actors s.actors a x g.many ex in
     let st = g.each a x y.0 ex y.1 in
     (y.0, y.1, st, doing_of size most words x y.0 Flush plan st t)
 

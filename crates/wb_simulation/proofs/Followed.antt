@@ -10,6 +10,7 @@ use Rattle.wb_tasks.specs.Plan.{Plan, want, after, got_of, first_step, work_of}
 use Rattle.wb_tasks.specs.Ready.{Suits}
 use Rattle.wb_tasks.specs.declared.step.Want.{Want}
 use Rattle.wb_tasks.specs.declared.step.Want.TheVariants.{Cell}
+use Rattle.wb_types.proofs.Lists.{element_beside}
 use Rattle.wb_devices.specs.declared.devices.Devices.{Devices}
 use Rattle.wb_link.specs.World.{World, Actor as AbstractActor, job_alone}
 use Rattle.wb_refines.specs.Going.{shared_after, gone}
@@ -25,7 +26,7 @@ use Rattle.wb_simulation.specs.Worlds.{Agrees, Follows}
 use Rattle.wb_simulation.specs.Laws.{CellStepsFollowed, went}
 use Rattle.wb_simulation.proofs.Steps.{read_of_block, write_of_block}
 use Rattle.wb_simulation.proofs.Cells.{Acted, acts_on_words}
-use Rattle.wb_simulation.proofs.Among.{there, card_there, all_below, failed_stays, goes_on}
+use Rattle.wb_simulation.proofs.Among.{card_there, all_below, failed_stays, goes_on}
 
 -- who does a read or write is at it
 pub doing_of : (size most : ℕ) (words : Words) (x : Actor) (y : AbstractActor) (job : Job) (plan : Plan) → StandsFor size most words x y → x.task ≡ Some (job, plan) → IsDoing size most words job plan x.card y
@@ -77,5 +78,5 @@ module _ (size most blocks : ℕ) (words : Words) (committing : Bool) (devices :
 
 pub cell_steps_followed : CellStepsFollowed
 cell_steps_followed size most blocks words committing devices actors a x job plan step s q rule ex task suits next g =
-    let y = there actors s.actors a x g.many ex in
+    let y = element_beside actors s.actors a x g.many ex in
     followed size most blocks words committing devices actors a x plan step s y.0 rule ex y.1 suits next g (g.each a x y.0 ex y.1) job q task

@@ -17,6 +17,7 @@ use Rattle.wb_tasks.specs.declared.step.Want.{Want}
 use Rattle.wb_tasks.specs.declared.step.Want.TheVariants.{Cell, Device}
 use Rattle.wb_tasks.specs.declared.step.Got.{Got}
 use Rattle.wb_tasks.specs.declared.step.Got.TheVariants.{Done, Fault}
+use Rattle.wb_types.proofs.Lists.{element_beside}
 use Rattle.wb_devices.specs.declared.devices.Devices.{Devices}
 use Rattle.wb_devices.specs.Moving.{device_in}
 use Rattle.wb_link.specs.Tables.{Seal, Gave, Got as AbstractGot, Done as DoneThere}
@@ -34,7 +35,7 @@ use Rattle.wb_simulation.specs.Steps.{IsPart, AreOfBlock}
 use Rattle.wb_simulation.specs.Actors.{IsLate, IsRequestAt, IsDoing}
 use Rattle.wb_simulation.specs.Worlds.{Agrees, Follows}
 use Rattle.wb_simulation.specs.Laws.{ExtentStepsFollowed, after_step}
-use Rattle.wb_simulation.proofs.Among.{there, goes_on}
+use Rattle.wb_simulation.proofs.Among.{goes_on}
 use Rattle.wb_simulation.proofs.Followed.{doing_of}
 
 -- who has a step on a device to take is at its task there
@@ -158,22 +159,22 @@ has_step size content words job_on step plan card y next r =
 pub extent_steps_followed : ExtentStepsFollowed
 extent_steps_followed = record {
   read_done = λ size most blocks words committing devices actors a x extent plan device e contents s ex task suits next h n given g.
-      let y = there actors s.actors a x g.many ex in
+      let y = element_beside actors s.actors a x g.many ex in
       let k = has_step size [] words Reading (ReadExtent device e) plan x.card y.0 next (doing_of size most words x y.0 (Read extent) plan (g.each a x y.0 ex y.1) task) in
       subst (λ (p : Plan). Follows size most s words committing devices (slice_set actors a (after_step (Read extent) p Done x))) (sym k.is)
       (read_done size most blocks words committing devices actors a x s y.0 ex y.1 g k.part k.is_part device e k.later plan.answer h extent contents k.of_block (subst (λ (p : Plan). Suits blocks p x.card) k.is suits) n given k.at);
   read_fails = λ size most blocks words committing devices actors a x extent plan device e s ex task suits next h g.
-      let y = there actors s.actors a x g.many ex in
+      let y = element_beside actors s.actors a x g.many ex in
       let k = has_step size [] words Reading (ReadExtent device e) plan x.card y.0 next (doing_of size most words x y.0 (Read extent) plan (g.each a x y.0 ex y.1) task) in
       subst (λ (p : Plan). Follows size most s words committing devices (slice_set actors a (after_step (Read extent) p Fault x))) (sym k.is)
       (read_fails size most blocks words committing devices actors a x s y.0 ex y.1 g k.part k.is_part device e k.later plan.answer h extent k.of_block k.at);
   write_done = λ size most blocks words committing devices actors a x extent content plan device e s ex task suits next h room g.
-      let y = there actors s.actors a x g.many ex in
+      let y = element_beside actors s.actors a x g.many ex in
       let k = has_step size content words Writing (WriteExtent device e) plan x.card y.0 next (doing_of size most words x y.0 (Write extent content) plan (g.each a x y.0 ex y.1) task) in
       subst (λ (p : Plan). Follows size most s words committing (with_device device devices (written_each (device_in device devices) e.first (replicate e.count content))) (slice_set actors a (after_step (Write extent content) p Done x))) (sym k.is)
       (write_done size most blocks words committing devices actors a x s y.0 ex y.1 g k.part k.is_part device e k.later plan.answer h extent content k.of_block (subst (λ (p : Plan). Suits blocks p x.card) k.is suits) room k.at);
   write_fails = λ size most blocks words committing devices actors a x extent content plan device e lands s ex task suits next h room g.
-      let y = there actors s.actors a x g.many ex in
+      let y = element_beside actors s.actors a x g.many ex in
       let k = has_step size content words Writing (WriteExtent device e) plan x.card y.0 next (doing_of size most words x y.0 (Write extent content) plan (g.each a x y.0 ex y.1) task) in
       subst (λ (p : Plan). Follows size most s words committing (with_device device devices (written_where lands (device_in device devices) e.first (replicate e.count content))) (slice_set actors a (after_step (Write extent content) p Fault x))) (sym k.is)
       (write_fails size most blocks words committing devices actors a x s y.0 ex y.1 g k.part k.is_part device e k.later plan.answer h extent content lands k.of_block room k.at);

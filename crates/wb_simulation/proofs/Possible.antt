@@ -1,5 +1,6 @@
 -- A target that was just made agrees with the abstract world that begins.
 use Rattle.std.proofs.Common.{◌≡◌, ◌+◌, ◌*◌, ◌∙◌, inl, ℕ, zero, suc, Bool, true, false, cond, nat_lt, unwrap_or, [], Some, None, length, replicate, refl, sym, ap, subst, slice_get}
+use Rattle.std.proofs.lemmas.List.{length-replicate}
 use Rattle.wb_disk.specs.Device.{only}
 use Rattle.wb_contents.specs.Devices.{by_block}
 use Rattle.wb_types.specs.declared.number.OBlock.{OBlock}
@@ -37,10 +38,6 @@ fresh_at blocks block = zeros blocks block.0
 unsealed : SealAgrees 0 (record { location = None; dirty = false })
 unsealed = record { location = refl; dirty = λ c e. let bad : None ≡ Some c = e in absurd (cc) }
 
-length-replicated : {X : Type 0} (count : ℕ) (x : X) → length (replicate count x) ≡ count
-length-replicated zero x = refl
-length-replicated (suc count) x = ap suc (length-replicated count x)
-
 rests : (size most blocks : ℕ) → StandsFor size most (fresh_words blocks) resting idle
 rests size most blocks = record { at = (refl, inl (record { task = refl; held = refl; order = refl; leads = refl })); below = holds_nothing idle resting.card refl; among_others = refl }
 
@@ -55,7 +52,7 @@ can_agree size most blocks cache origin many = record {
   led = λ a y e l. absurd (nobody a y e l);
   whole = λ a y e l u. absurd (nobody a y e l);
   one_leads = λ a b y z e f l m. absurd (nobody a y e l);
-  many = length-replicated many idle ∙ sym (length-replicated many resting);
+  many = length-replicate many idle ∙ sym (length-replicate many resting);
   each = λ a x y e f. subst (λ (v : Actor). StandsFor size most (fresh_words blocks) v y) (replicated many a resting x e)
       (subst (λ (v : AbstractActor). StandsFor size most (fresh_words blocks) resting v) (replicated many a idle y f) (rests size most blocks));
 }

@@ -1,9 +1,11 @@
 -- Starts are followed.
 use Rattle.std.proofs.Common.{◌≡◌, ◌∙◌, ◌⊎◌, inl, inr, ℕ, Bool, true, false, List, [], ◌∷◌, Some, None, refl, sym, ap, subst, slice_get, slice_set}
+use Rattle.std.proofs.lemmas.List.{length-set}
 use Rattle.wb_disk.specs.Device.{History}
 use Rattle.wb_words.specs.SharedWords.{Words, flag}
 use Rattle.wb_tasks.specs.Tables.{BlockRange, Reading, Writing, OnBlock, Flushing}
 use Rattle.wb_tasks.specs.Plan.{Plan, table}
+use Rattle.wb_types.proofs.Lists.{element_beside}
 use Rattle.wb_devices.specs.declared.devices.Devices.{Devices}
 use Rattle.wb_link.specs.Tables.{Job as AbstractJob, Flushing as FlushingFor}
 use Rattle.wb_link.specs.World.{World, Start, Actor as AbstractActor, is_alone}
@@ -22,10 +24,10 @@ use Rattle.wb_simulation.specs.Actors.{IsLate, IsBusyAt, IsDoing, StandsFor}
 use Rattle.wb_simulation.specs.Worlds.{Agrees, Follows}
 use Rattle.wb_simulation.specs.Laws.{StartsFollowed}
 use Rattle.wb_simulation.proofs.Cells.{shared_stays, gone_nowhere}
-use Rattle.wb_simulation.proofs.Among.{there, goes_on, length-set-there, each_on, led_on, whole_on, one_on}
+use Rattle.wb_simulation.proofs.Among.{goes_on, each_on, led_on, whole_on, one_on}
 
 nobody_alone : (size most : ℕ) (words : Words) (committing : Bool) (devices : Devices (List History)) (actors : List Actor) (s : World) → Agrees size most words committing devices actors s → NobodyIsAlone s
-nobody_alone size most words committing devices actors s g b z e = let x = there s.actors actors b z (sym g.many) e in (g.each b x.0 z x.1 e).among_others
+nobody_alone size most words committing devices actors s g b z e = let x = element_beside s.actors actors b z (sym g.many) e in (g.each b x.0 z x.1 e).among_others
 
 all_inside : (size : ℕ) (part : BlockRange) → IsPart size part → AllInBlocks size part.extents
 all_inside size part is e c = (is.each e c).room
@@ -49,7 +51,7 @@ module _ (size most : ℕ) (words : Words) (committing : Bool) (devices : Device
       led = led_on size most words words (λ f. f) committing devices actors a x (record x { task = Some (job, plan) }) s y g ex ey st.then_is leads s.shared refl;
       whole = whole_on size most words words (λ f. f) committing devices actors a x (record x { task = Some (job, plan) }) s y g ex ey st.then_is leads s.shared refl;
       one_leads = one_on size most words words (λ f. f) committing devices actors a x (record x { task = Some (job, plan) }) s y g ex ey st.then_is leads;
-      many = length-set-there s.actors a st.then_is ∙ g.many ∙ sym (length-set-there actors a (record x { task = Some (job, plan) }));
+      many = length-set s.actors a st.then_is ∙ g.many ∙ sym (length-set actors a (record x { task = Some (job, plan) }));
       each = each_on size most words words (λ f. f) committing devices actors a x (record x { task = Some (job, plan) }) s y g ex ey st.then_is (stands st.then_is st.at).0;
     });
   }
@@ -72,7 +74,7 @@ late words plan y f n e = record { failed = f; nothing = n; at = inl e }
 pub starts_followed : StartsFollowed
 starts_followed = record {
   read = λ size most words committing devices actors a x extent part s ex none hold is g.
-      let y = there actors s.actors a x g.many ex in
+      let y = element_beside actors s.actors a x g.many ex in
       let st = g.each a x y.0 ex y.1 in
       let r = rests size most words x y.0 st none in
       let plan = table (OnBlock (Reading part)) in
@@ -83,7 +85,7 @@ starts_followed = record {
         | inr f ↦ begins_late size most words committing devices actors a x (Read extent) plan s ex g y.0 y.1 st (record { part = part; job = refl; is_part = is; of_block = tt; at = inr (inr (late words plan y.0 f r.0 refl)) })
       ];
   write = λ size most words committing devices actors a x extent content part s ex none hold is g.
-      let y = there actors s.actors a x g.many ex in
+      let y = element_beside actors s.actors a x g.many ex in
       let st = g.each a x y.0 ex y.1 in
       let r = rests size most words x y.0 st none in
       let plan = table (OnBlock (Writing part)) in
@@ -94,7 +96,7 @@ starts_followed = record {
         | inr f ↦ begins_late size most words committing devices actors a x (Write extent content) plan s ex g y.0 y.1 st (record { part = part; job = refl; is_part = is; of_block = tt; at = inr (inr (late words plan y.0 f r.0 refl)) })
       ];
   flush = λ size most words committing devices actors a x s ex none g.
-      let y = there actors s.actors a x g.many ex in
+      let y = element_beside actors s.actors a x g.many ex in
       let st = g.each a x y.0 ex y.1 in
       let r = rests size most words x y.0 st none in
       let plan = table (Flushing [] most) in
