@@ -43,13 +43,13 @@ module _ (size most blocks : ℕ) (words : Words) (committing : Bool) (devices :
   -- it answers there, too
   answers : IsAnswered s.actors a s.shared y → IsBelow (gone y y.task (DoneThere ∷ [])) x.card → (gone y y.task (DoneThere ∷ [])).leads ≡ false → (IsIdle (gone y y.task (DoneThere ∷ [])) ⊎ (flag words.fail ≡ true)) → Goal
   answers w below leads rest = goes_on size most words words (λ f. f) committing devices actors a x (record x { task = None }) s y g ex ey devices (DoneThere ∷ []) s.shared w.may w.shared
-      (record { at = (w.over, rest); below = below; among_others = ap is_alone w.over }) (λ l. let bad : true ≡ false = sym l ∙ leads in absurd (cc)) g.words_agree g.origin g.cache refl refl refl
+      (record { at = (w.over, rest); below = below; among_others = ap is_alone w.over }) (λ l. let bad : true ≡ false = sym l ∙ leads in absurd (cc)) g.words_agree g.origin g.cache refl refl refl (refl, refl, refl)
 
   -- it has no task there
   answers_late : y.task ≡ None → flag words.fail ≡ true → Goal
   answers_late none failed = goes_on size most words words (λ f. f) committing devices actors a x (record x { task = None }) s y g ex ey devices [] s.shared tt (shared_stays s.shared y y.task)
       (subst (λ (z : AbstractActor). StandsFor size most words (record x { task = None }) z) (sym (gone_nowhere y y.task)) (record { at = (none, inr failed); below = st.below; among_others = st.among_others }))
-      (λ l. gone_nowhere y y.task) g.words_agree g.origin g.cache refl refl refl
+      (λ l. gone_nowhere y y.task) g.words_agree g.origin g.cache refl refl refl (refl, refl, refl)
 
   request_answers : (content : Content) (job_on : BlockRange → BlockJob) (part : BlockRange) (answer : Answer) → x.card.hold ≡ HoldsNothing →
       IsAt size content (plan_of (job_on part) [] answer) x.card y ⊎ HasStopped words (plan_of (job_on part) [] answer) x.card y ⊎ IsLate words (plan_of (job_on part) [] answer) y → Goal

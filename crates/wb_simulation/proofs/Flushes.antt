@@ -25,8 +25,8 @@ use Rattle.wb_refines.specs.Flushes.{IsFlushing, flushing}
 use Rattle.wb_runs.specs.declared.job.Job.TheVariants.{Flush}
 use Rattle.wb_runs.specs.States.{Actor, with_device}
 use Rattle.wb_simulation.specs.Actors.{IsFlushAt, IsOfFlush, LeadsAt, StandsFor}
-use Rattle.wb_simulation.specs.Worlds.{Agrees, Follows}
-use Rattle.wb_simulation.specs.Laws.{FlushStepsFollowed, after_step, went}
+use Rattle.wb_simulation.specs.Worlds.{Agrees, Begins, Puts, Ends, FollowsBy, Follows}
+use Rattle.wb_simulation.specs.Laws.{FlushStepsFollowed, after_step, turn_of, went}
 use Rattle.wb_simulation.proofs.Followed.{doing_of}
 use Rattle.wb_simulation.proofs.Leading.{AtFlush, at_flush}
 use Rattle.wb_simulation.proofs.Moving.{begins_by}
@@ -106,7 +106,7 @@ flush_steps_followed = record {
   begins = λ size most nodes allowed clean words devices actors a x plan s ex t e g.
       let y = flush_of size most words false devices actors a x plan s ex g t in
       let k = asks size most allowed clean words plan y.0 (at_flush size most words plan (Desk (BeginCommit clean allowed)) y.0 e (λ answer q. absurd (cc)) (λ q. absurd (cc)) y.3) in
-      subst (λ (p : Plan). Follows size most s words true devices (slice_set actors a (after_step Flush p (Began nodes) x))) (sym k.0) (begins size most words false devices actors a x plan s y.0 ex y.1 g nodes plan.answer refl k.1);
+      subst (λ (p : Plan). FollowsBy Begins size most s words true devices (slice_set actors a (after_step Flush p (Began nodes) x))) (sym k.0) (begins size most words false devices actors a x plan s y.0 ex y.1 g nodes plan.answer refl k.1);
   is_refused = λ size most allowed clean refusal words committing devices actors a x plan s n ex t e g.
       let y = flush_of size most words committing devices actors a x plan s ex g t in
       let k = asks size most allowed clean words plan y.0 (at_flush size most words plan (Desk (BeginCommit clean allowed)) y.0 e (λ answer q. absurd (cc)) (λ q. absurd (cc)) y.3) in
@@ -116,18 +116,18 @@ flush_steps_followed = record {
   on_metadata = λ size most step metadata words committing devices actors a x plan s d ex t e g.
       let y = flush_of size most words committing devices actors a x plan s ex g t in
       let k = at_flush size most words plan (Device step) y.0 e (λ answer q. absurd (cc)) (λ q. absurd (cc)) y.3 in
-      subst (λ (p : Plan). Follows size most s words committing (with_device Metadata devices metadata) (slice_set actors a (after_step Flush p Done x))) (sym k.is)
+      subst (λ (p : Plan). FollowsBy (turn_of step) size most s words committing (with_device Metadata devices metadata) (slice_set actors a (after_step Flush p Done x))) (sym k.is)
       (metadata_done size most words committing devices actors a x plan s y.0 ex y.1 g metadata step k.later plan.answer d k.rest (leading size most words committing devices actors a x plan s y.0 ex y.1 g (Device step) k.later plan.answer k.leads k.at k.same));
   metadata_fails = λ size most step metadata words committing devices actors a x plan s d ex t e g.
       let y = flush_of size most words committing devices actors a x plan s ex g t in
       let k = at_flush size most words plan (Device step) y.0 e (λ answer q. absurd (cc)) (λ q. absurd (cc)) y.3 in
-      subst (λ (p : Plan). Follows size most s words committing (with_device Metadata devices metadata) (slice_set actors a (after_step Flush p Fault x))) (sym k.is)
+      subst (λ (p : Plan). (written : Bool) × FollowsBy (Puts written) size most s words committing (with_device Metadata devices metadata) (slice_set actors a (after_step Flush p Fault x))) (sym k.is)
       (metadata_failed size most words committing devices actors a x plan s y.0 ex y.1 g metadata step k.later plan.answer (is_on_metadata size most words committing devices actors a x plan s y.0 ex y.1 g step k.later d k.rest)
       (leading size most words committing devices actors a x plan s y.0 ex y.1 g (Device step) k.later plan.answer k.leads k.at k.same));
   ends = λ size most words committing devices actors a x plan s ex t e g.
       let y = flush_of size most words committing devices actors a x plan s ex g t in
       let k = at_flush size most words plan (Desk EndCommit) y.0 e (λ answer q. absurd (cc)) (λ q. absurd (cc)) y.3 in
-      subst (λ (p : Plan). Follows size most s words false devices (slice_set actors a (after_step Flush p Done x))) (sym k.is)
+      subst (λ (p : Plan). FollowsBy Ends size most s words false devices (slice_set actors a (after_step Flush p Done x))) (sym k.is)
       (last size most words committing devices actors a x plan s y.0 ex y.1 g k.later k.rest (leading size most words committing devices actors a x plan s y.0 ex y.1 g (Desk EndCommit) k.later plan.answer k.leads k.at k.same));
   fails = λ size most failures suspensions words committing devices actors a x plan s w ex t e g.
       let y = flush_of size most words committing devices actors a x plan s ex g t in
@@ -140,6 +140,6 @@ flush_steps_followed = record {
 }
   where
     last : (size most : ℕ) (words : Words) (committing : Bool) (devices : Devices (List History)) (actors : List Actor) (a : ℕ) (x : Actor) (plan : Plan) (s : World) (y : AbstractActor) (ex : slice_get actors a ≡ Some x) (ey : slice_get s.actors a ≡ Some y) (g : Agrees size most words committing devices actors s) (later : List Want) →
-        IsOfFlush most (Desk EndCommit ∷ later) → IsFlushing size [] (flushing most (Desk EndCommit ∷ later) plan.answer) true y → Follows size most s words false devices (slice_set actors a (after_step Flush (flushing most (Desk EndCommit ∷ later) plan.answer) Done x))
+        IsOfFlush most (Desk EndCommit ∷ later) → IsFlushing size [] (flushing most (Desk EndCommit ∷ later) plan.answer) true y → FollowsBy Ends size most s words false devices (slice_set actors a (after_step Flush (flushing most (Desk EndCommit ∷ later) plan.answer) Done x))
     last size most words committing devices actors a x plan s y ex ey g [] o is = ends size most words committing devices actors a x plan s y ex ey g plan.answer is
     last size most words committing devices actors a x plan s y ex ey g (v ∷ ws) o is = absurd o

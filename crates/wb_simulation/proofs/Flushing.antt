@@ -39,22 +39,26 @@ use Rattle.wb_refines.proofs.Tasks.{tasks_end}
 use Rattle.wb_runs.specs.declared.job.Job.TheVariants.{Flush}
 use Rattle.wb_runs.specs.States.{Actor, with_device}
 use Rattle.wb_simulation.specs.Actors.{IsLate, IsOfFlush, LeadsAt, StandsFor}
-use Rattle.wb_simulation.specs.Worlds.{Agrees, Follows, IsUnfinished}
-use Rattle.wb_simulation.specs.Laws.{went}
+use Rattle.wb_simulation.specs.Worlds.{Agrees, Turn, Stays, Begins, Puts, Ends, TurnedTo, FollowsBy, Follows, IsUnfinished}
+use Rattle.wb_simulation.specs.Laws.{turn_of, went}
 use Rattle.wb_simulation.proofs.Cells.{shared_stays, gone_nowhere}
 use Rattle.wb_simulation.proofs.Among.{goes_on, goes_leading}
 use Rattle.wb_simulation.proofs.Leading.{nodes_on_metadata, commits_on, has_wants, stands, one_here, is_here, leads_on}
 
 module _ (size most : ℕ) (words : Words) (committing : Bool) (devices : Devices (List History)) (actors : List Actor) (a : ℕ) (x : Actor) (plan : Plan) (s : World) (y : AbstractActor) (ex : slice_get actors a ≡ Some x) (ey : slice_get s.actors a ≡ Some y) (g : Agrees size most words committing devices actors s) where
   -- a step on a device, done, with this left
+  abbrev OnBy : Turn → Devices (List History) → Plan → Type 0
+  OnBy turn devices' plan' = FollowsBy turn size most s words committing devices' (slice_set actors a (record { task = Some (Flush, plan'); card = x.card }))
+
+  -- and the images stay
   abbrev On : Devices (List History) → Plan → Type 0
   On devices' plan' = Follows size most s words committing devices' (slice_set actors a (record { task = Some (Flush, plan'); card = x.card }))
 
   -- the same on whatever it leads to there
-  goes : (devices' : Devices (List History)) (next : Want) (later : List Want) (answer : Answer) (plan' : Plan) (t : Shared) → IsFlushing size [] (flushing most (next ∷ later) answer) true y → wants_of size (FlushingFor None) (next ∷ later) ≢ [] → Leads size [] s.actors a s.shared y t plan' true →
-      plan'.job ≡ Flushing [] most → IsOfFlush most plan'.steps → LeadsAt true plan'.steps → (plan'.steps ≢ []) → WordsAgree words t → t.origin ≡ by_block size [] devices'.origin → t.cache ≡ by_block size [] devices'.cache → t.mode ≡ s.shared.mode → t.committing ≡ s.shared.committing → t.broken ≡ s.shared.broken → On devices' plan'
-  goes devices' next later answer plan' t is some l j o at unfinished w og ca mo co br =
-      leads_on size most words committing devices actors a x s y ex ey g words (λ f. f) devices' (flushing most (next ∷ later) answer) plan' x.card t next later answer is some l j o at (λ e n. absurd (unfinished n)) w og ca mo co br
+  goes : (turn : Turn) (devices' : Devices (List History)) (next : Want) (later : List Want) (answer : Answer) (plan' : Plan) (t : Shared) → IsFlushing size [] (flushing most (next ∷ later) answer) true y → wants_of size (FlushingFor None) (next ∷ later) ≢ [] → Leads size [] s.actors a s.shared y t plan' true →
+      plan'.job ≡ Flushing [] most → IsOfFlush most plan'.steps → LeadsAt true plan'.steps → (plan'.steps ≢ []) → WordsAgree words t → t.origin ≡ by_block size [] devices'.origin → t.cache ≡ by_block size [] devices'.cache → t.mode ≡ s.shared.mode → t.committing ≡ s.shared.committing → t.broken ≡ s.shared.broken → TurnedTo turn s.shared t → OnBy turn devices' plan'
+  goes turn devices' next later answer plan' t is some l j o at unfinished w og ca mo co br turned =
+      leads_on size most words committing devices actors a x s y ex ey g turn words (λ f. f) devices' (flushing most (next ∷ later) answer) plan' x.card t next later answer is some l j o at (λ e n. absurd (unfinished n)) w og ca mo co br turned
 
   -- who leads, where that is known of the step
   pub leading : (next : Want) (later : List Want) (answer : Answer) (leads : Bool) → leads ≡ true → IsFlushing size [] (flushing most (next ∷ later) answer) leads y → IsFlushing size [] (flushing most (next ∷ later) answer) true y
@@ -64,15 +68,15 @@ module _ (size most : ℕ) (words : Words) (committing : Bool) (devices : Device
   pub syncs_cache : (later : List Want) (answer : Answer) → IsOfFlush most (Device (Sync Cache) ∷ later) → IsFlushing size [] (flushing most (Device (Sync Cache) ∷ later) answer) true y →
       On (with_device Cache devices (synced devices.cache)) (after (flushing most (Device (Sync Cache) ∷ later) answer) Done)
   syncs_cache (Device (Sync Origin) ∷ ws) answer o is =
-      goes (with_device Cache devices (synced devices.cache)) (Device (Sync Cache)) (Device (Sync Origin) ∷ ws) answer _ _ is (λ e. absurd (cc)) (followed_alone.syncs_cache size most [] s.actors a s.shared y (Device (Sync Origin) ∷ ws) answer is) refl o refl (λ n. absurd (cc))
-      (record { fail = g.words_agree.fail; seals = g.words_agree.seals }) g.origin (ap all_synced g.cache ∙ sym (sync_is_act size [] devices.cache)) refl refl refl
+      goes Stays (with_device Cache devices (synced devices.cache)) (Device (Sync Cache)) (Device (Sync Origin) ∷ ws) answer _ _ is (λ e. absurd (cc)) (followed_alone.syncs_cache size most [] s.actors a s.shared y (Device (Sync Origin) ∷ ws) answer is) refl o refl (λ n. absurd (cc))
+      (record { fail = g.words_agree.fail; seals = g.words_agree.seals }) g.origin (ap all_synced g.cache ∙ sym (sync_is_act size [] devices.cache)) refl refl refl (refl, refl, refl)
   syncs_cache later answer o is = absurd o
 
   pub syncs_origin : (later : List Want) (answer : Answer) → IsOfFlush most (Device (Sync Origin) ∷ later) → IsFlushing size [] (flushing most (Device (Sync Origin) ∷ later) answer) true y →
       On (with_device Origin devices (synced devices.origin)) (after (flushing most (Device (Sync Origin) ∷ later) answer) Done)
   syncs_origin later answer o is =
-      goes (with_device Origin devices (synced devices.origin)) (Device (Sync Origin)) later answer (flushing most later answer) (record s.shared { origin = all_synced s.shared.origin }) is (λ e. absurd (cc)) (followed_alone.syncs_origin size most [] s.actors a s.shared y later answer is) refl (commits_on most later o).0 (commits_on most later o).1 (on_metadata_some later o)
-      (record { fail = g.words_agree.fail; seals = g.words_agree.seals }) (ap all_synced g.origin ∙ sym (sync_is_act size [] devices.origin)) g.cache refl refl refl
+      goes Stays (with_device Origin devices (synced devices.origin)) (Device (Sync Origin)) later answer (flushing most later answer) (record s.shared { origin = all_synced s.shared.origin }) is (λ e. absurd (cc)) (followed_alone.syncs_origin size most [] s.actors a s.shared y later answer is) refl (commits_on most later o).0 (commits_on most later o).1 (on_metadata_some later o)
+      (record { fail = g.words_agree.fail; seals = g.words_agree.seals }) (ap all_synced g.origin ∙ sym (sync_is_act size [] devices.origin)) g.cache refl refl refl (refl, refl, refl)
     where
       on_metadata_some : (steps : List Want) → IsOnMetadata steps → steps ≢ []
       on_metadata_some [] m = absurd m
@@ -82,42 +86,44 @@ module _ (size most : ℕ) (words : Words) (committing : Bool) (devices : Device
   pub fails_cache : (lands : ℕ → Bool) (later : List Want) (answer : Answer) → IsOfFlush most (Device (Sync Cache) ∷ later) → IsFlushing size [] (flushing most (Device (Sync Cache) ∷ later) answer) true y →
       On (with_device Cache devices (synced_where lands devices.cache)) (after (flushing most (Device (Sync Cache) ∷ later) answer) Fault)
   fails_cache lands later answer o is =
-      goes (with_device Cache devices (synced_where lands devices.cache)) (Device (Sync Cache)) later answer (after (flushing most (Device (Sync Cache) ∷ later) answer) Fault) (record s.shared { cache = partly_synced (λ b o. lands (b * size + o)) s.shared.cache }) is (λ e. absurd (cc))
+      goes Stays (with_device Cache devices (synced_where lands devices.cache)) (Device (Sync Cache)) later answer (after (flushing most (Device (Sync Cache) ∷ later) answer) Fault) (record s.shared { cache = partly_synced (λ b o. lands (b * size + o)) s.shared.cache }) is (λ e. absurd (cc))
       (followed_alone.fails_cache size most [] s.actors a s.shared y later answer (λ b o. lands (b * size + o)) is) refl refl refl (λ n. absurd (cc))
-      (record { fail = g.words_agree.fail; seals = g.words_agree.seals }) g.origin (ap (partly_synced (λ b o. lands (b * size + o))) g.cache ∙ sym (failed_sync_is_act size [] lands devices.cache)) refl refl refl
+      (record { fail = g.words_agree.fail; seals = g.words_agree.seals }) g.origin (ap (partly_synced (λ b o. lands (b * size + o))) g.cache ∙ sym (failed_sync_is_act size [] lands devices.cache)) refl refl refl (refl, refl, refl)
 
   pub fails_origin : (lands : ℕ → Bool) (later : List Want) (answer : Answer) → IsOfFlush most (Device (Sync Origin) ∷ later) → IsFlushing size [] (flushing most (Device (Sync Origin) ∷ later) answer) true y →
       On (with_device Origin devices (synced_where lands devices.origin)) (after (flushing most (Device (Sync Origin) ∷ later) answer) Fault)
   fails_origin lands later answer o is =
-      goes (with_device Origin devices (synced_where lands devices.origin)) (Device (Sync Origin)) later answer (after (flushing most (Device (Sync Origin) ∷ later) answer) Fault) (record s.shared { origin = partly_synced (λ b o. lands (b * size + o)) s.shared.origin }) is (λ e. absurd (cc))
+      goes Stays (with_device Origin devices (synced_where lands devices.origin)) (Device (Sync Origin)) later answer (after (flushing most (Device (Sync Origin) ∷ later) answer) Fault) (record s.shared { origin = partly_synced (λ b o. lands (b * size + o)) s.shared.origin }) is (λ e. absurd (cc))
       (followed_alone.fails_origin size most [] s.actors a s.shared y later answer (λ b o. lands (b * size + o)) is) refl refl refl (λ n. absurd (cc))
-      (record { fail = g.words_agree.fail; seals = g.words_agree.seals }) (ap (partly_synced (λ b o. lands (b * size + o))) g.origin ∙ sym (failed_sync_is_act size [] lands devices.origin)) g.cache refl refl refl
+      (record { fail = g.words_agree.fail; seals = g.words_agree.seals }) (ap (partly_synced (λ b o. lands (b * size + o))) g.origin ∙ sym (failed_sync_is_act size [] lands devices.origin)) g.cache refl refl refl (refl, refl, refl)
 
   -- a step on the metadata is done, or fails; the data devices are as they were
-  metadata_goes : (metadata : List History) (step : DeviceStep) (later : List Want) (answer : Answer) (t : Shared) → IsOnMetadata (Device step ∷ later) → IsOnMetadata later → IsFlushing size [] (flushing most (Device step ∷ later) answer) true y → Leads size [] s.actors a s.shared y t (flushing most later answer) true →
-      WordsAgree words t → t.origin ≡ s.shared.origin → t.cache ≡ s.shared.cache → t.mode ≡ s.shared.mode → t.committing ≡ s.shared.committing → t.broken ≡ s.shared.broken → On (with_device Metadata devices metadata) (flushing most later answer)
-  metadata_goes metadata step later answer t on m is l w og ca mo co br =
-      goes (with_device Metadata devices metadata) (Device step) later answer (flushing most later answer) t is (has_wants size (Device step ∷ later) on) l refl (commits_on most later m).0 (commits_on most later m).1 (some later m) w (og ∙ g.origin) (ca ∙ g.cache) mo co br
+  metadata_goes : (turn : Turn) (metadata : List History) (step : DeviceStep) (later : List Want) (answer : Answer) (t : Shared) → IsOnMetadata (Device step ∷ later) → IsOnMetadata later → IsFlushing size [] (flushing most (Device step ∷ later) answer) true y → Leads size [] s.actors a s.shared y t (flushing most later answer) true →
+      WordsAgree words t → t.origin ≡ s.shared.origin → t.cache ≡ s.shared.cache → t.mode ≡ s.shared.mode → t.committing ≡ s.shared.committing → t.broken ≡ s.shared.broken → TurnedTo turn s.shared t → OnBy turn (with_device Metadata devices metadata) (flushing most later answer)
+  metadata_goes turn metadata step later answer t on m is l w og ca mo co br turned =
+      goes turn (with_device Metadata devices metadata) (Device step) later answer (flushing most later answer) t is (has_wants size (Device step ∷ later) on) l refl (commits_on most later m).0 (commits_on most later m).1 (some later m) w (og ∙ g.origin) (ca ∙ g.cache) mo co br turned
     where
       some : (steps : List Want) → IsOnMetadata steps → steps ≢ []
       some [] m = absurd m
       some (v ∷ ws) m = λ e. absurd (cc)
 
-  pub metadata_done : (metadata : List History) (step : DeviceStep) (later : List Want) (answer : Answer) → device_of step ≡ Metadata → IsOfFlush most (Device step ∷ later) → IsFlushing size [] (flushing most (Device step ∷ later) answer) true y → On (with_device Metadata devices metadata) (after (flushing most (Device step ∷ later) answer) Done)
-  metadata_done metadata (WriteNode number) later answer d o is = metadata_goes metadata (WriteNode number) later answer s.shared o o is (followed_alone.nodes size most number [] s.actors a s.shared y later answer is) g.words_agree refl refl refl refl refl
-  metadata_done metadata (Sync Metadata) later answer d o is = metadata_goes metadata (Sync Metadata) later answer s.shared o o is (followed_alone.syncs_metadata size most [] s.actors a s.shared y later answer is) g.words_agree refl refl refl refl refl
+  pub metadata_done : (metadata : List History) (step : DeviceStep) (later : List Want) (answer : Answer) → device_of step ≡ Metadata → IsOfFlush most (Device step ∷ later) → IsFlushing size [] (flushing most (Device step ∷ later) answer) true y → OnBy (turn_of step) (with_device Metadata devices metadata) (after (flushing most (Device step ∷ later) answer) Done)
+  metadata_done metadata (WriteNode number) later answer d o is = metadata_goes Stays metadata (WriteNode number) later answer s.shared o o is (followed_alone.nodes size most number [] s.actors a s.shared y later answer is) g.words_agree refl refl refl refl refl (refl, refl, refl)
+  metadata_done metadata (Sync Metadata) later answer d o is = metadata_goes Stays metadata (Sync Metadata) later answer s.shared o o is (followed_alone.syncs_metadata size most [] s.actors a s.shared y later answer is) g.words_agree refl refl refl refl refl (refl, refl, refl)
   metadata_done metadata (Sync Cache) later answer d o is = absurd (cc)
   metadata_done metadata (Sync Origin) later answer d o is = absurd (cc)
-  metadata_done metadata WriteRoot later answer d o is = metadata_goes metadata WriteRoot later answer (record s.shared { root_written = true }) o o is (followed_alone.writes_root size most [] s.actors a s.shared y later answer is) (record { fail = g.words_agree.fail; seals = g.words_agree.seals }) refl refl refl refl refl
+  metadata_done metadata WriteRoot later answer d o is = metadata_goes (Puts true) metadata WriteRoot later answer (record s.shared { root_written = true }) o o is (followed_alone.writes_root size most [] s.actors a s.shared y later answer is) (record { fail = g.words_agree.fail; seals = g.words_agree.seals }) refl refl refl refl refl (refl, refl, refl)
   metadata_done metadata (ReadMetadata left) later answer d o is = absurd o
   metadata_done metadata (Read device e) later answer d o is = absurd o
   metadata_done metadata (Write device e) later answer d o is = absurd o
 
-  pub metadata_failed : (metadata : List History) (step : DeviceStep) (later : List Want) (answer : Answer) → IsOnMetadata (Device step ∷ later) → IsFlushing size [] (flushing most (Device step ∷ later) answer) true y → On (with_device Metadata devices metadata) (after (flushing most (Device step ∷ later) answer) Fault)
+  pub metadata_failed : (metadata : List History) (step : DeviceStep) (later : List Want) (answer : Answer) → IsOnMetadata (Device step ∷ later) → IsFlushing size [] (flushing most (Device step ∷ later) answer) true y → (written : Bool) × OnBy (Puts written) (with_device Metadata devices metadata) (after (flushing most (Device step ∷ later) answer) Fault)
   metadata_failed metadata step later answer m is =
-      let l = followed_alone.fails_metadata size most step [] s.actors a s.shared y later answer m is in
-      goes (with_device Metadata devices metadata) (Device step) later answer (after (flushing most (Device step ∷ later) answer) Fault) (record s.shared { root_written = l.0 }) is (has_wants size (Device step ∷ later) m) l.1 refl refl refl (λ n. absurd (cc))
-      (record { fail = g.words_agree.fail; seals = g.words_agree.seals }) g.origin g.cache refl refl refl
+      let l = followed_alone.fails_metadata size most step [] s.actors a s.shared y later answer m is in (
+        l.0,
+        goes (Puts l.0) (with_device Metadata devices metadata) (Device step) later answer (after (flushing most (Device step ∷ later) answer) Fault) (record s.shared { root_written = l.0 }) is (has_wants size (Device step ∷ later) m) l.1 refl refl refl (λ n. absurd (cc))
+            (record { fail = g.words_agree.fail; seals = g.words_agree.seals }) g.origin g.cache refl refl refl (refl, refl, refl),
+      )
 
   pub is_on_metadata : (step : DeviceStep) (later : List Want) → device_of step ≡ Metadata → IsOfFlush most (Device step ∷ later) → IsOnMetadata (Device step ∷ later)
   is_on_metadata (WriteNode number) later d o = o
@@ -137,7 +143,7 @@ module _ (size most : ℕ) (words : Words) (committing : Bool) (devices : Device
   follows_alone devices' plan' card' j o at l d = subst (λ (ds : Devices (List History)). Follows size most s words committing ds (slice_set actors a (record { task = Some (Flush, plan'); card = card' }))) (sym d)
       (goes_on size most words words (λ f. f) committing devices actors a x (record { task = Some (Flush, plan'); card = card' }) s y g ex ey devices l.results s.shared l.may l.shared
       (stands size most words committing devices actors a x s y ex ey g words plan' card' false (gone y y.task l.results) j o at (λ e n. absurd (cc)) l.at)
-      (λ k. let bad : true ≡ false = sym k ∙ ap (λ (v : AbstractActor). v.leads) l.at.is in absurd (cc)) g.words_agree g.origin g.cache refl refl refl)
+      (λ k. let bad : true ≡ false = sym k ∙ ap (λ (v : AbstractActor). v.leads) l.at.is in absurd (cc)) g.words_agree g.origin g.cache refl refl refl (refl, refl, refl))
 
   refused_plan : (refusal : Refusal) (later : List Want) (answer : Answer) (clean : Bool) (nodes : ℕ) → IsNoBegin refusal → (after (flushing most (Desk (BeginCommit clean nodes) ∷ later) answer) (Refused refusal)).steps ≡ []
   refused_plan Busy later answer clean nodes n = refl
@@ -157,15 +163,15 @@ module _ (size most : ℕ) (words : Words) (committing : Bool) (devices : Device
 
   -- a commit begins, which nobody has led
   pub begins : (nodes : ℕ) (answer : Answer) → committing ≡ false → IsFlushing size [] (flushing most (Desk (BeginCommit false most) ∷ []) answer) false y →
-      Follows size most s words true devices (slice_set actors a (record { task = Some (Flush, after (flushing most (Desk (BeginCommit false most) ∷ []) answer) (Began nodes)); card = x.card }))
+      FollowsBy Begins size most s words true devices (slice_set actors a (record { task = Some (Flush, after (flushing most (Desk (BeginCommit false most) ∷ []) answer) (Began nodes)); card = x.card }))
   begins nodes answer quiet is =
       let plan' = after (flushing most (Desk (BeginCommit false most) ∷ []) answer) (Began nodes) in
       let none : s.shared.committing ≡ false = g.commits ∙ quiet in
       let l = followed_alone.begins size most nodes [] s.actors a s.shared y [] answer none (by_broken s.shared.broken refl) is in
-      goes_leading size most words words (λ f. f) committing devices actors a x (record { task = Some (Flush, plan'); card = x.card }) s y g ex ey true devices l.results (effect s.shared (FlushingFor None) [] (Begin None) DoneThere) l.may l.shared
+      goes_leading size most words words (λ f. f) committing devices actors a x (record { task = Some (Flush, plan'); card = x.card }) s y g ex ey Begins true devices l.results (effect s.shared (FlushingFor None) [] (Begin None) DoneThere) l.may l.shared
       (stands size most words committing devices actors a x s y ex ey g words plan' x.card true (gone y y.task l.results) refl (nodes_on_metadata nodes 0) refl (λ e n. absurd (cc)) l.at)
       (record { fail = g.words_agree.fail; seals = g.words_agree.seals }) g.origin g.cache refl refl (λ e. refl) (λ b v ev k. refl) (λ b v ev k u. by_broken s.shared.broken refl)
-      (λ b c v u ev eu k m. only b v (gone y y.task l.results) ev k ∙ sym (only c u (gone y y.task l.results) eu m))
+      (λ b c v u ev eu k m. only b v (gone y y.task l.results) ev k ∙ sym (only c u (gone y y.task l.results) eu m)) (refl, refl, refl)
     where
       runs : s.shared.committing ≡ true → ⊥
       runs e = let bad : true ≡ false = sym e ∙ g.commits ∙ quiet in absurd (cc)
@@ -178,17 +184,17 @@ module _ (size most : ℕ) (words : Words) (committing : Bool) (devices : Device
       only b v y' ev k = elim (cases_eq b a) [ inl e ↦ e | inr n ↦ absurd (runs (g.led b v (sym (get_set_other s.actors a b y' n) ∙ ev) k)) ]
 
   -- the commit ends, and nobody leads one
-  pub ends : (answer : Answer) → IsFlushing size [] (flushing most (Desk EndCommit ∷ []) answer) true y → Follows size most s words false devices (slice_set actors a (record { task = Some (Flush, after (flushing most (Desk EndCommit ∷ []) answer) Done); card = x.card }))
+  pub ends : (answer : Answer) → IsFlushing size [] (flushing most (Desk EndCommit ∷ []) answer) true y → FollowsBy Ends size most s words false devices (slice_set actors a (record { task = Some (Flush, after (flushing most (Desk EndCommit ∷ []) answer) Done); card = x.card }))
   ends answer is =
       let plan' = after (flushing most (Desk EndCommit ∷ []) answer) Done in
       let l = followed_alone.ends size most [] s.actors a s.shared y answer is in
       let lead : y.leads ≡ true = ap (λ (v : AbstractActor). v.leads) is.is in
       let some : wants_of size (FlushingFor None) (Desk EndCommit ∷ []) ≢ [] = (λ e. absurd (cc)) in
       let whole : s.shared.broken ≡ false = g.whole a y ey lead (subst (λ (v : AbstractActor). IsUnfinished v.task) (sym is.is) some) in
-      goes_leading size most words words (λ f. f) committing devices actors a x (record { task = Some (Flush, plan'); card = x.card }) s y g ex ey false devices l.results (effect s.shared (FlushingFor None) [] End_running DoneThere) l.may l.shared
+      goes_leading size most words words (λ f. f) committing devices actors a x (record { task = Some (Flush, plan'); card = x.card }) s y g ex ey Ends false devices l.results (effect s.shared (FlushingFor None) [] End_running DoneThere) l.may l.shared
       (stands size most words committing devices actors a x s y ex ey g words plan' x.card false (gone y y.task l.results) refl tt tt (λ e n. absurd (cc)) l.at)
       (record { fail = g.words_agree.fail; seals = g.words_agree.seals }) g.origin g.cache refl refl (λ e. let bad : true ≡ false = sym e ∙ whole in absurd (cc))
-      (λ b v ev k. absurd (nobody l b v ev k)) (λ b v ev k u. whole) (λ b c v u ev eu k m. absurd (nobody l b v ev k))
+      (λ b v ev k. absurd (nobody l b v ev k)) (λ b v ev k u. whole) (λ b c v u ev eu k m. absurd (nobody l b v ev k)) (refl, refl)
     where
       nobody : (l : Leads size [] s.actors a s.shared y (effect s.shared (FlushingFor None) [] End_running DoneThere) (after (flushing most (Desk EndCommit ∷ []) answer) Done) false) (b : ℕ) (v : AbstractActor) → slice_get (slice_set s.actors a (gone y y.task l.results)) b ≡ Some v → v.leads ≡ true → ⊥
       nobody l b v ev k =
@@ -205,11 +211,11 @@ module _ (size most : ℕ) (words : Words) (committing : Bool) (devices : Device
       let lead : y.leads ≡ true = ap (λ (v : AbstractActor). v.leads) is.is in
       let y' = gone y y.task l.results in
       let runs = g.led a y ey lead in
-      goes_leading size most words (words_after words SetFailed) (λ k. failed) committing devices actors a x (record { task = Some (Flush, plan'); card = card_after words SetFailed x.card }) s y g ex ey committing devices l.results (record s.shared { fail = true; broken = true }) l.may l.shared
+      goes_leading size most words (words_after words SetFailed) (λ k. failed) committing devices actors a x (record { task = Some (Flush, plan'); card = card_after words SetFailed x.card }) s y g ex ey Stays committing devices l.results (record s.shared { fail = true; broken = true }) l.may l.shared
       (stands size most words committing devices actors a x s y ex ey g (words_after words SetFailed) plan' (card_after words SetFailed x.card) true y' refl tt tt (λ k n. failed) l.at)
       (record { fail = sym failed; seals = g.words_agree.seals }) g.origin g.cache refl g.commits (λ k. runs) (λ b v ev k. runs)
       (λ b v ev k u. absurd (subst (λ (w : AbstractActor). IsUnfinished w.task) (is_here size most words committing devices actors a x s y ex ey g lead y' b v ev k ∙ l.at.is) u refl))
-      (one_here size most words committing devices actors a x s y ex ey g lead y')
+      (one_here size most words committing devices actors a x s y ex ey g lead y') (refl, refl, refl)
 
   -- ---- its look at the fail word, and its answer
 
@@ -239,17 +245,17 @@ module _ (size most : ℕ) (words : Words) (committing : Bool) (devices : Device
       let d = tasks_end.flush size most [] s.actors a s.shared y answer false is in
       let idle = d.2 refl in
       goes_on size most words words (λ k. k) committing devices actors a x (record x { task = None }) s y g ex ey devices (DoneThere ∷ []) s.shared d.0.may d.0.shared
-      (record { at = (d.0.over, inl idle); below = holds_nothing _ x.card idle.held; among_others = ap is_alone d.0.over }) (λ k. let bad : true ≡ false = sym k ∙ idle.leads in absurd (cc)) g.words_agree g.origin g.cache refl refl refl
+      (record { at = (d.0.over, inl idle); below = holds_nothing _ x.card idle.held; among_others = ap is_alone d.0.over }) (λ k. let bad : true ≡ false = sym k ∙ idle.leads in absurd (cc)) g.words_agree g.origin g.cache refl refl refl (refl, refl, refl)
   answers answer true f is =
       let d = tasks_end.flush size most [] s.actors a s.shared y answer true is in
       let lead : y.leads ≡ true = ap (λ (v : AbstractActor). v.leads) is.is in
       let y' = gone y y.task (DoneThere ∷ []) in
       let held : y'.held ≡ Nothing = subst (λ (v : AbstractActor). (gone v v.task (DoneThere ∷ [])).held ≡ Nothing) (sym is.is) refl in
       let runs = g.led a y ey lead in
-      goes_leading size most words words (λ k. k) committing devices actors a x (record x { task = None }) s y g ex ey committing devices (DoneThere ∷ []) s.shared d.0.may d.0.shared
+      goes_leading size most words words (λ k. k) committing devices actors a x (record x { task = None }) s y g ex ey Stays committing devices (DoneThere ∷ []) s.shared d.0.may d.0.shared
       (record { at = (d.0.over, inr (f refl)); below = holds_nothing y' x.card held; among_others = ap is_alone d.0.over }) g.words_agree g.origin g.cache refl g.commits g.broken (λ b v ev k. runs)
       (λ b v ev k u. absurd (subst (λ t. IsUnfinished t) (ap (λ (v : AbstractActor). v.task) (is_here size most words committing devices actors a x s y ex ey g lead y' b v ev k) ∙ d.0.over) u))
-      (one_here size most words committing devices actors a x s y ex ey g lead y')
+      (one_here size most words committing devices actors a x s y ex ey g lead y') (refl, refl, refl)
 
   -- one that is late has no task there
   pub late_looks : IsLate words plan y → StandsFor size most words x y → plan.job ≡ Flushing [] most → want plan ≡ Cell (Look Fail) → Follows size most s words committing devices (slice_set actors a (went words Flush plan (Look Fail) x))
@@ -268,9 +274,9 @@ module _ (size most : ℕ) (words : Words) (committing : Bool) (devices : Device
           (goes_on size most words words (λ q. q) committing devices actors a x (record { task = Some (Flush, flushing most [] (Refuses Failed)); card = card_after words (Look Fail) x.card }) s y g ex ey devices [] s.shared tt (shared_stays s.shared y y.task)
           (subst (λ (z : AbstractActor). StandsFor size most words (record { task = Some (Flush, flushing most [] (Refuses Failed)); card = card_after words (Look Fail) x.card }) z) (sym (gone_nowhere y y.task))
           (record { at = record { job = refl; steps = tt; at = inr (record { failed = l.failed; nothing = l.nothing; at = inr refl }) }; below = record { owned = st.below.owned; shared = st.below.shared }; among_others = st.among_others }))
-          (λ q. gone_nowhere y y.task) g.words_agree g.origin g.cache refl refl refl)
+          (λ q. gone_nowhere y y.task) g.words_agree g.origin g.cache refl refl refl (refl, refl, refl))
 
   pub late_answers : IsLate words plan y → StandsFor size most words x y → Follows size most s words committing devices (slice_set actors a (record x { task = None }))
   late_answers l st = goes_on size most words words (λ q. q) committing devices actors a x (record x { task = None }) s y g ex ey devices [] s.shared tt (shared_stays s.shared y y.task)
       (subst (λ (z : AbstractActor). StandsFor size most words (record x { task = None }) z) (sym (gone_nowhere y y.task)) (record { at = (l.nothing, inr l.failed); below = st.below; among_others = st.among_others }))
-      (λ q. gone_nowhere y y.task) g.words_agree g.origin g.cache refl refl refl
+      (λ q. gone_nowhere y y.task) g.words_agree g.origin g.cache refl refl refl (refl, refl, refl)

@@ -64,7 +64,7 @@ module _ (size most blocks : ℕ) (words : Words) (committing : Bool) (devices :
       let t = shared_after s.shared y y.task acted.results in
       let k = acted.same.images in
       goes_on size most words (words_after words step) (failed_stays words step _ _ rule.logs.fail) committing devices actors a x (went words job plan step x) s y g ex ey devices acted.results t acted.may refl
-      (record { at = doing; below = acted.below; among_others = acted.among_others }) acted.leads acted.words_agree (acted.same.origin ∙ g.origin) (acted.same.cache ∙ g.cache) k.mode k.committing k.broken
+      (record { at = doing; below = acted.below; among_others = acted.among_others }) acted.leads acted.words_agree (acted.same.origin ∙ g.origin) (acted.same.cache ∙ g.cache) k.mode k.committing k.broken (k.committed, k.running, k.root_written)
 
   followed : (job : Job) → Rattle.wb_simulation.specs.Laws.IsRequestJob job → x.task ≡ Some (job, plan) → Follows size most s (words_after words step) committing devices (slice_set actors a (went words job plan step x))
   followed (Read extent) q e =

@@ -27,7 +27,7 @@ use Rattle.wb_refines.proofs.Holding.{holds_nothing}
 use Rattle.wb_runs.specs.declared.job.Job.TheVariants.{Flush}
 use Rattle.wb_runs.specs.States.{Actor}
 use Rattle.wb_simulation.specs.Actors.{IsFlushAt, IsOfFlush, LeadsAt, StandsFor}
-use Rattle.wb_simulation.specs.Worlds.{Agrees, Follows, IsUnfinished}
+use Rattle.wb_simulation.specs.Worlds.{Agrees, Turn, TurnedTo, FollowsBy, IsUnfinished}
 use Rattle.wb_simulation.proofs.Among.{goes_leading}
 use Rattle.wb_simulation.proofs.Moving.{begins_by}
 
@@ -102,13 +102,13 @@ module _ (size most : ℕ) (words : Words) (committing : Bool) (devices : Device
         let same : y' ≡ v = cc in sym same
 
   -- a flush that leads goes on, and its commit stays whole
-  pub leads_on : (words' : Words) (up : flag words.fail ≡ true → flag words'.fail ≡ true) (devices' : Devices (List History)) (plan plan' : Plan) (card' : Card) (t : Shared) (next : Want) (later : List Want) (answer : Answer) → IsFlushing size [] (flushing most (next ∷ later) answer) true y → wants_of size (FlushingFor None) (next ∷ later) ≢ [] →
+  pub leads_on : (turn : Turn) (words' : Words) (up : flag words.fail ≡ true → flag words'.fail ≡ true) (devices' : Devices (List History)) (plan plan' : Plan) (card' : Card) (t : Shared) (next : Want) (later : List Want) (answer : Answer) → IsFlushing size [] (flushing most (next ∷ later) answer) true y → wants_of size (FlushingFor None) (next ∷ later) ≢ [] →
       Leads size [] s.actors a s.shared y t plan' true → plan'.job ≡ Flushing [] most → IsOfFlush most plan'.steps → LeadsAt true plan'.steps → (true ≡ true → plan'.steps ≡ [] → flag words'.fail ≡ true) → WordsAgree words' t → t.origin ≡ by_block size [] devices'.origin → t.cache ≡ by_block size [] devices'.cache → t.mode ≡ s.shared.mode →
-      t.committing ≡ s.shared.committing → t.broken ≡ s.shared.broken → Follows size most s words' committing devices' (slice_set actors a (record { task = Some (Flush, plan'); card = card' }))
-  leads_on words' up devices' plan plan' card' t next later answer is some l j o at f w og ca mo co br =
+      t.committing ≡ s.shared.committing → t.broken ≡ s.shared.broken → TurnedTo turn s.shared t → FollowsBy turn size most s words' committing devices' (slice_set actors a (record { task = Some (Flush, plan'); card = card' }))
+  leads_on turn words' up devices' plan plan' card' t next later answer is some l j o at f w og ca mo co br turned =
       let lead : y.leads ≡ true = ap (λ (v : AbstractActor). v.leads) is.is in
       let y' = gone y y.task l.results in
       let runs = g.led a y ey lead in
       let whole : s.shared.broken ≡ false = g.whole a y ey lead (subst (λ (v : AbstractActor). IsUnfinished v.task) (sym is.is) some) in
-      goes_leading size most words words' up committing devices actors a x (record { task = Some (Flush, plan'); card = card' }) s y g ex ey committing devices' l.results t l.may l.shared
-      (stands words' plan' card' true y' j o at f l.at) w og ca mo (co ∙ g.commits) (λ e. co ∙ runs) (λ b v ev k. co ∙ runs) (λ b v ev k u. br ∙ whole) (one_here lead y')
+      goes_leading size most words words' up committing devices actors a x (record { task = Some (Flush, plan'); card = card' }) s y g ex ey turn committing devices' l.results t l.may l.shared
+      (stands words' plan' card' true y' j o at f l.at) w og ca mo (co ∙ g.commits) (λ e. co ∙ runs) (λ b v ev k. co ∙ runs) (λ b v ev k u. br ∙ whole) (one_here lead y') turned

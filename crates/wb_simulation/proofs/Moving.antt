@@ -69,12 +69,12 @@ module _ (size most : ℕ) (words : Words) (committing : Bool) (devices : Device
       let t = shared_after s.shared y y.task results in let k = m.beside.images in
       goes_on size most words words (λ f. f) committing devices actors a x (record { task = Some (job, plan); card = x.card }) s y g ex ey (with_device Cache devices list) results t m.may refl
       (record { at = doing; below = has_no_more size content plan x.card (gone y y.task results) m.at; among_others = alone }) (λ l. let bad : true ≡ false = sym l ∙ ap (λ (v : AbstractActor). v.leads) m.at.is in absurd (cc)) (words_beside words (location_at size Cache e) s.shared t m.beside g.words_agree)
-      (m.beside.other ∙ g.origin) m.side_is k.mode k.committing k.broken
+      (m.beside.other ∙ g.origin) m.side_is k.mode k.committing k.broken (k.committed, k.running, k.root_written)
   moved job content job_on plan Origin e results list h m alone doing =
       let t = shared_after s.shared y y.task results in let k = m.beside.images in
       goes_on size most words words (λ f. f) committing devices actors a x (record { task = Some (job, plan); card = x.card }) s y g ex ey (with_device Origin devices list) results t m.may refl
       (record { at = doing; below = has_no_more size content plan x.card (gone y y.task results) m.at; among_others = alone }) (λ l. let bad : true ≡ false = sym l ∙ ap (λ (v : AbstractActor). v.leads) m.at.is in absurd (cc)) (words_beside words (location_at size Origin e) s.shared t m.beside g.words_agree)
-      m.side_is (m.beside.other ∙ g.cache) k.mode k.committing k.broken
+      m.side_is (m.beside.other ∙ g.cache) k.mode k.committing k.broken (k.committed, k.running, k.root_written)
 
 same_device : (device : Dev) (devices : Devices (List History)) → HoldsBlocks device → with_device device devices (device_in device devices) ≡ devices
 same_device Cache devices h = refl

@@ -18,7 +18,7 @@ use Rattle.wb_devices.specs.declared.devices.Devices.{Devices}
 use Rattle.wb_link.specs.Tables.{Choice}
 use Rattle.wb_link.specs.World.{Shared}
 use Rattle.wb_link.specs.Openings.{Site, Phase, Gone, Opens, Learnt, Stage, Settling, Caching, Basing, Looking, Rooting, Renewing, Answering, Stopping, Outcome, Settled, Fine, Learns, Refused, Broke, Shown, Stopped, Begins, Advances, Yields, advance, advanced, next_phase, decided}
-use Rattle.wb_simulation.specs.Sites.{IsRunning, ImagesAgree, DevicesAgree, LeadsTo, LeadsToOne, OpeningsFollowed}
+use Rattle.wb_simulation.specs.Sites.{IsRunning, ImagesAgree, DevicesAgree, LeadsTo, LeadsToOne, OpeningsFollowed, ImagesFollowed}
 
 -- what is decided agrees with one image, whichever it is
 pub record IsDecidedBy (geometry : Geometry) (committed : Stored) (later : Option Stored) (metadata : List History) (s : Shared) : Type 0 where
@@ -44,6 +44,15 @@ same_images geometry committed later metadata s t c r w g = record { read = g.re
     runs : (later : Option Stored) → IsRunning later s → IsRunning later t
     runs None i = tt
     runs (Some state) i = (w ∙ i.0, r ∙ i.1)
+
+pub images_followed : ImagesFollowed
+images_followed = record {
+  stay = λ geometry committed later old new s t g turn read. same_images geometry committed later new s t turn.0 turn.1 turn.2 (record { read = read; committed_is = g.committed_is; later_is = g.later_is });
+  begin = λ geometry committed metadata s t g turn. (record { read = g.read; committed_is = turn.0 ∙ g.committed_is; later_is = tt }, turn.1);
+  put = λ geometry committed state later old new s t g turn runs read. record { read = read; committed_is = turn.0 ∙ g.committed_is; later_is = (turn.2, turn.1 ∙ runs) };
+  put_none = λ geometry committed written later old new s t g turn read. record { read = read; committed_is = turn.0 ∙ g.committed_is; later_is = tt };
+  end = λ geometry state metadata s t turn runs read. record { read = read; committed_is = turn.0 ∙ runs; later_is = tt };
+}
 
 -- an outcome of a stage, which leads to what it does there
 module _ (geometry : Geometry) (size : ℕ) (committed : Stored) (later : Option Stored) (mode : Mode) (stage : Stage) (outcome : Outcome) (w : Site) (devices : Devices (List History)) (at : w.phase ≡ Opens mode stage) where

@@ -21,7 +21,7 @@ use Rattle.wb_runs.specs.declared.job.Job.TheVariants.{Read, Write, Flush}
 use Rattle.wb_runs.specs.States.{Actor}
 use Rattle.wb_simulation.specs.Steps.{IsPart}
 use Rattle.wb_simulation.specs.Actors.{IsLate, IsBusyAt, IsDoing, StandsFor}
-use Rattle.wb_simulation.specs.Worlds.{Agrees, Follows}
+use Rattle.wb_simulation.specs.Worlds.{Agrees, Stays, TurnedTo, Follows}
 use Rattle.wb_simulation.specs.Laws.{StartsFollowed}
 use Rattle.wb_simulation.proofs.Cells.{shared_stays, gone_nowhere}
 use Rattle.wb_simulation.proofs.Among.{goes_on, each_on, led_on, whole_on, one_on}
@@ -54,6 +54,7 @@ module _ (size most : ℕ) (words : Words) (committing : Bool) (devices : Device
       many = length-set s.actors a st.then_is ∙ g.many ∙ sym (length-set actors a (record x { task = Some (job, plan) }));
       each = each_on size most words words (λ f. f) committing devices actors a x (record x { task = Some (job, plan) }) s y g ex ey st.then_is (stands st.then_is st.at).0;
     });
+    turned = subst (λ (v : World). TurnedTo Stays s.shared v.shared) (sym st.world) (refl, refl, refl);
   }
     where
       leads : st.then_is.leads ≡ true → st.then_is ≡ y
@@ -63,7 +64,7 @@ module _ (size most : ℕ) (words : Words) (committing : Bool) (devices : Device
   begins_late : (y : AbstractActor) → slice_get s.actors a ≡ Some y → StandsFor size most words x y → IsDoing size most words job plan x.card y → Goal
   begins_late y ey st doing = goes_on size most words words (λ f. f) committing devices actors a x (record x { task = Some (job, plan) }) s y g ex ey devices [] s.shared tt (shared_stays s.shared y y.task)
       (subst (λ (z : AbstractActor). StandsFor size most words (record x { task = Some (job, plan) }) z) (sym (gone_nowhere y y.task)) (record { at = doing; below = st.below; among_others = st.among_others }))
-      (λ l. gone_nowhere y y.task) g.words_agree g.origin g.cache refl refl refl
+      (λ l. gone_nowhere y y.task) g.words_agree g.origin g.cache refl refl refl (refl, refl, refl)
 
 rests : (size most : ℕ) (words : Words) (x : Actor) (y : AbstractActor) → StandsFor size most words x y → x.task ≡ None → (y.task ≡ None) × (IsIdle y ⊎ (flag words.fail ≡ true))
 rests size most words x y st e = subst (λ t. IsBusyAt size most words t x.card y) e st.at

@@ -21,7 +21,7 @@ use Rattle.wb_tasks.specs.Ready.{Suits, HoldsBlocks}
 use Rattle.wb_tasks.specs.declared.step.Want.TheVariants.{Cell, Device, Desk, End}
 use Rattle.wb_tasks.specs.declared.step.DeskStep.TheVariants.{BeginCommit, EndCommit}
 use Rattle.wb_tasks.specs.declared.step.DeviceStep.{DeviceStep}
-use Rattle.wb_tasks.specs.declared.step.DeviceStep.TheVariants.{Read as ReadExtent, Write as WriteExtent, Sync}
+use Rattle.wb_tasks.specs.declared.step.DeviceStep.TheVariants.{Read as ReadExtent, Write as WriteExtent, Sync, WriteRoot}
 use Rattle.wb_tasks.specs.declared.step.Got.{Got}
 use Rattle.wb_tasks.specs.declared.step.Got.TheVariants.{Done, Fault, Began, Refused}
 use Rattle.wb_devices.specs.declared.devices.Devices.{Devices}
@@ -33,7 +33,7 @@ use Rattle.wb_runs.specs.declared.job.Job.TheVariants.{Read, Write, Flush}
 use Rattle.wb_runs.specs.States.{Actor, resting, with_device}
 use Rattle.wb_runs.specs.Holding.{cards_of}
 use Rattle.wb_simulation.specs.Steps.{IsPart}
-use Rattle.wb_simulation.specs.Worlds.{Agrees, Follows}
+use Rattle.wb_simulation.specs.Worlds.{Agrees, Turn, Stays, Begins, Puts, Ends, FollowsBy, Follows}
 
 abbrev pub IsRequestJob : Job → Type 0
 IsRequestJob (Read extent) = Unit {0}
@@ -87,6 +87,11 @@ AnswersFollowed = (size most blocks : ℕ) (words : Words) (committing : Bool) (
     IsRequestJob job → slice_get actors a ≡ Some x → x.task ≡ Some (job, plan) → Suits blocks plan x.card → want plan ≡ End answer → Agrees size most words committing devices actors s →
     Follows size most s words committing devices (slice_set actors a (record x { task = None }))
 
+-- a step of a commit on the metadata writes the root, or is nothing to the images
+abbrev pub turn_of : DeviceStep → Turn
+turn_of WriteRoot = Puts true
+turn_of step = Stays
+
 -- Each step of a flush, with each result that it may have: on the words, on the desk, and on the devices, done or failing.
 pub record FlushStepsFollowed : Type 0 where
   pub looks : (size most : ℕ) (words : Words) (committing : Bool) (devices : Devices (List History)) (actors : List Actor) (a : ℕ) (x : Actor) (plan : Plan) (s : World) →
@@ -94,7 +99,7 @@ pub record FlushStepsFollowed : Type 0 where
       Follows size most s words committing devices (slice_set actors a (went words Flush plan (Look Fail) x))
   pub begins : (size most nodes allowed : ℕ) (clean : Bool) (words : Words) (devices : Devices (List History)) (actors : List Actor) (a : ℕ) (x : Actor) (plan : Plan) (s : World) →
       slice_get actors a ≡ Some x → x.task ≡ Some (Flush, plan) → want plan ≡ Desk (BeginCommit clean allowed) → Agrees size most words false devices actors s →
-      Follows size most s words true devices (slice_set actors a (after_step Flush plan (Began nodes) x))
+      FollowsBy Begins size most s words true devices (slice_set actors a (after_step Flush plan (Began nodes) x))
   pub is_refused : (size most allowed : ℕ) (clean : Bool) (refusal : Refusal) (words : Words) (committing : Bool) (devices : Devices (List History)) (actors : List Actor) (a : ℕ) (x : Actor) (plan : Plan) (s : World) → IsNoBegin refusal →
       slice_get actors a ≡ Some x → x.task ≡ Some (Flush, plan) → want plan ≡ Desk (BeginCommit clean allowed) → Agrees size most words committing devices actors s →
       Follows size most s words committing devices (slice_set actors a (after_step Flush plan (Refused refusal) x))
@@ -107,13 +112,13 @@ pub record FlushStepsFollowed : Type 0 where
   -- whatever the step leaves of the metadata
   pub on_metadata : (size most : ℕ) (step : DeviceStep) (metadata : List History) (words : Words) (committing : Bool) (devices : Devices (List History)) (actors : List Actor) (a : ℕ) (x : Actor) (plan : Plan) (s : World) → device_of step ≡ Metadata →
       slice_get actors a ≡ Some x → x.task ≡ Some (Flush, plan) → want plan ≡ Device step → Agrees size most words committing devices actors s →
-      Follows size most s words committing (with_device Metadata devices metadata) (slice_set actors a (after_step Flush plan Done x))
+      FollowsBy (turn_of step) size most s words committing (with_device Metadata devices metadata) (slice_set actors a (after_step Flush plan Done x))
   pub metadata_fails : (size most : ℕ) (step : DeviceStep) (metadata : List History) (words : Words) (committing : Bool) (devices : Devices (List History)) (actors : List Actor) (a : ℕ) (x : Actor) (plan : Plan) (s : World) → device_of step ≡ Metadata →
       slice_get actors a ≡ Some x → x.task ≡ Some (Flush, plan) → want plan ≡ Device step → Agrees size most words committing devices actors s →
-      Follows size most s words committing (with_device Metadata devices metadata) (slice_set actors a (after_step Flush plan Fault x))
+      (written : Bool) × FollowsBy (Puts written) size most s words committing (with_device Metadata devices metadata) (slice_set actors a (after_step Flush plan Fault x))
   pub ends : (size most : ℕ) (words : Words) (committing : Bool) (devices : Devices (List History)) (actors : List Actor) (a : ℕ) (x : Actor) (plan : Plan) (s : World) →
       slice_get actors a ≡ Some x → x.task ≡ Some (Flush, plan) → want plan ≡ Desk EndCommit → Agrees size most words committing devices actors s →
-      Follows size most s words false devices (slice_set actors a (after_step Flush plan Done x))
+      FollowsBy Ends size most s words false devices (slice_set actors a (after_step Flush plan Done x))
   pub fails : (size most failures suspensions : ℕ) (words : Words) (committing : Bool) (devices : Devices (List History)) (actors : List Actor) (a : ℕ) (x : Actor) (plan : Plan) (s : World) → words.fail ≡ fail_word failures suspensions →
       slice_get actors a ≡ Some x → x.task ≡ Some (Flush, plan) → want plan ≡ Cell SetFailed → Agrees size most words committing devices actors s →
       Follows size most s (words_after words SetFailed) committing devices (slice_set actors a (went words Flush plan SetFailed x))

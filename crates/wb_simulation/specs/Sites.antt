@@ -19,6 +19,7 @@ use Rattle.wb_contents.specs.Conditions.{IsUnnamed}
 use Rattle.wb_link.specs.World.{Shared, Block, Free, Mapped}
 use Rattle.wb_link.specs.Openings.{Site, Phase, Stands, Gone, Opens, Learnt, Stage, Settling, Caching, Basing, Looking, Rooting, Renewing, Answering, Event, MayOpen, MayHappen, after_event}
 use Rattle.wb_runs.specs.Headline.{place_of}
+use Rattle.wb_simulation.specs.Worlds.{Stays, Begins, Puts, Ends, TurnedTo}
 
 -- where a state that is stored has each block
 abbrev pub locations : Stored → Locations
@@ -88,3 +89,13 @@ pub record OpeningsFollowed : Type 0 where
   -- and is the one image when the opening is answered done
   pub answers : (learnt : Learnt) (new : Stored) (blocks : ℕ → Block) → learnt.locations ≡ locations new → ((k : ℕ) → (blocks k ≡ Mapped) ⊎ ((blocks k ≡ Free) × IsUnnamed learnt.locations k)) →
       Stages (λ geometry size committed later mode w devices. MayBeReadAs geometry new None devices.metadata → LeadsTo geometry size new None w Stands devices) (Answering learnt)
+
+-- What comes of the images (`Worlds.Turn`), where the metadata may be read so after it: where they stay, any commit or none runs;
+-- one begins of the desk's mapping, where none does; its root is put, which leads to this state, or fails; and it ends.
+pub record ImagesFollowed : Type 0 where
+  pub stay : (geometry : Geometry) (committed : Stored) (later : Option Stored) (old new : List History) (s t : Shared) → ImagesAgree geometry committed later old s → TurnedTo Stays s t → MayBeReadAs geometry committed later new → ImagesAgree geometry committed later new t
+  pub begin : (geometry : Geometry) (committed : Stored) (metadata : List History) (s t : Shared) → ImagesAgree geometry committed None metadata s → TurnedTo Begins s t → ImagesAgree geometry committed None metadata t × (t.running ≡ s.mapping)
+  pub put : (geometry : Geometry) (committed state : Stored) (later : Option Stored) (old new : List History) (s t : Shared) → ImagesAgree geometry committed later old s → TurnedTo (Puts true) s t → s.running ≡ locations state → MayBeReadAs geometry committed (Some state) new →
+      ImagesAgree geometry committed (Some state) new t
+  pub put_none : (geometry : Geometry) (committed : Stored) (written : Bool) (later : Option Stored) (old new : List History) (s t : Shared) → ImagesAgree geometry committed later old s → TurnedTo (Puts written) s t → MayBeReadAs geometry committed None new → ImagesAgree geometry committed None new t
+  pub end : (geometry : Geometry) (state : Stored) (metadata : List History) (s t : Shared) → TurnedTo Ends s t → s.running ≡ locations state → MayBeReadAs geometry state None metadata → ImagesAgree geometry state None metadata t

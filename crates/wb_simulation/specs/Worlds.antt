@@ -6,7 +6,7 @@ use Rattle.wb_contents.specs.Devices.{by_block}
 use Rattle.wb_words.specs.SharedWords.{Words}
 use Rattle.wb_devices.specs.declared.devices.Devices.{Devices}
 use Rattle.wb_link.specs.Tables.{Script}
-use Rattle.wb_link.specs.World.{World, Record, IsRun, after_all, Actor as AbstractActor}
+use Rattle.wb_link.specs.World.{World, Shared, Record, IsRun, after_all, Actor as AbstractActor}
 use Rattle.wb_refines.specs.Models.{WordsAgree}
 use Rattle.wb_runs.specs.States.{Actor}
 use Rattle.wb_simulation.specs.Actors.{StandsFor}
@@ -33,8 +33,26 @@ pub record Agrees (size most : ℕ) (words : Words) (committing : Bool) (devices
   pub many : length s.actors ≡ length actors
   pub each : (a : ℕ) (x : Actor) (y : AbstractActor) → slice_get actors a ≡ Some x → slice_get s.actors a ≡ Some y → StandsFor size most words x y
 
--- The world can go on by some records so that these are its state then.
-pub record Follows (size most : ℕ) (s : World) (words : Words) (committing : Bool) (devices : Devices (List History)) (actors : List Actor) : Type 0 where
+-- What comes of the images that the metadata stand for: they stay; a commit begins, from the desk's mapping; its root is written, or not; it ends.
+pub data Turn : Type 0 where
+  Stays : Turn
+  Begins : Turn
+  Puts : (written : Bool) → Turn
+  Ends : Turn
+
+abbrev pub TurnedTo : Turn → (s t : Shared) → Type 0
+TurnedTo Stays s t = (t.committed ≡ s.committed) × (t.running ≡ s.running) × (t.root_written ≡ s.root_written)
+TurnedTo Begins s t = (t.committed ≡ s.committed) × (t.running ≡ s.mapping) × (t.root_written ≡ s.root_written)
+TurnedTo (Puts written) s t = (t.committed ≡ s.committed) × (t.running ≡ s.running) × (t.root_written ≡ written)
+TurnedTo Ends s t = (t.committed ≡ s.running) × (t.root_written ≡ false)
+
+-- The world can go on by some records so that these are its state then, and this comes of its images.
+pub record FollowsBy (turn : Turn) (size most : ℕ) (s : World) (words : Words) (committing : Bool) (devices : Devices (List History)) (actors : List Actor) : Type 0 where
   pub records : List Record
   pub run : IsRun size s records
   pub agrees : Agrees size most words committing devices actors (after_all s records)
+  pub turned : TurnedTo turn s.shared (after_all s records).shared
+
+-- the same, and the images stay
+abbrev pub Follows : (size most : ℕ) → World → Words → Bool → Devices (List History) → List Actor → Type 0
+Follows size most s words committing devices actors = FollowsBy Stays size most s words committing devices actors

@@ -1,6 +1,6 @@
 //! Laws of how a run is followed in the abstract world.
 
-ghost use Rattle.wb_simulation.specs.Sites.{OpeningsFollowed};
+ghost use Rattle.wb_simulation.specs.Sites.{ImagesFollowed, OpeningsFollowed};
 ghost use Rattle.wb_simulation.specs.Laws.{AnswersFollowed, CanAgree, CellStepsFollowed, ExtentStepsFollowed, FlushStepsFollowed, StartsFollowed};
 
 /// Each step of a read or a write on the shared words is some records of the abstract world, which stands for the whole state of the
@@ -35,4 +35,9 @@ pub fn a_state_can_agree()
 /// with that world again: cache and origin sector by sector, and the metadata as the images that they may be read as.
 pub fn openings_are_followed()
     ensures { OpeningsFollowed }
+{}
+
+/// What a commit makes of the images there agrees with what the metadata may be read as, where its root leads to its image's state.
+pub fn images_are_followed()
+    ensures { ImagesFollowed }
 {}
