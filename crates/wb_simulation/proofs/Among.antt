@@ -21,7 +21,7 @@ use Rattle.wb_refines.proofs.Going.{goes, with_own}
 use Rattle.wb_runs.specs.States.{Actor}
 use Rattle.wb_runs.specs.Holding.{cards_of}
 use Rattle.wb_simulation.specs.Actors.{StandsFor}
-use Rattle.wb_simulation.specs.Worlds.{Agrees, Turn, Stays, TurnedTo, FollowsBy, Follows, IsUnfinished}
+use Rattle.wb_simulation.specs.Worlds.{zeros, Agrees, Turn, Stays, TurnedTo, Telling, IsTold, FollowsBy, Follows, IsUnfinished}
 use Rattle.wb_simulation.proofs.Kept.{stands_on}
 
 pub card_there : (actors : List Actor) (a : ℕ) (x : Actor) → slice_get actors a ≡ Some x → slice_get (cards_of actors) a ≡ Some x.card
@@ -83,13 +83,13 @@ module _ (size most : ℕ) (words words' : Words) (up : flag words.fail ≡ true
   ]
 
   -- it goes on by these results, which lead to this
-  pub goes_leading : (turn : Turn) (committing' : Bool) (devices' : Devices (List History)) (results : List Got) (t : Shared) → MayGo s.actors a s.shared y y.task results → shared_after s.shared y y.task results ≡ t → StandsFor size most words' x' (gone y y.task results) → WordsAgree words' t →
-      t.origin ≡ by_block size [] devices'.origin → t.cache ≡ by_block size [] devices'.cache → t.mode ≡ s.shared.mode → t.committing ≡ committing' → (t.broken ≡ true → t.committing ≡ true) →
+  pub goes_leading : (turn : Turn) (telling : Telling) (committing' : Bool) (devices' : Devices (List History)) (results : List Got) (t : Shared) → IsTold telling a y.task (records a y.task results) → MayGo s.actors a s.shared y y.task results → shared_after s.shared y y.task results ≡ t → StandsFor size most words' x' (gone y y.task results) → WordsAgree words' t →
+      t.origin ≡ by_block size zeros devices'.origin → t.cache ≡ by_block size zeros devices'.cache → t.mode ≡ s.shared.mode → t.committing ≡ committing' → (t.broken ≡ true → t.committing ≡ true) →
       ((b : ℕ) (v : AbstractActor) → slice_get (slice_set s.actors a (gone y y.task results)) b ≡ Some v → v.leads ≡ true → t.committing ≡ true) →
       ((b : ℕ) (v : AbstractActor) → slice_get (slice_set s.actors a (gone y y.task results)) b ≡ Some v → v.leads ≡ true → IsUnfinished v.task → t.broken ≡ false) →
       ((b c : ℕ) (v u : AbstractActor) → slice_get (slice_set s.actors a (gone y y.task results)) b ≡ Some v → slice_get (slice_set s.actors a (gone y y.task results)) c ≡ Some u → v.leads ≡ true → u.leads ≡ true → b ≡ c) → TurnedTo turn s.shared t →
-      FollowsBy turn size most s words' committing' devices' (slice_set actors a x')
-  goes_leading turn committing' devices' results t may is st w o c m k b led whole one turned =
+      FollowsBy turn telling size most a s words' committing' devices' (slice_set actors a x')
+  goes_leading turn telling committing' devices' results t told may is st w o c m k b led whole one turned =
       let went = goes size results s a y y.task ey refl may in
       record {
         records = records a y.task results;
@@ -109,6 +109,7 @@ module _ (size most : ℕ) (words words' : Words) (up : flag words.fail ≡ true
               each = each_on (gone y y.task results) st;
             }));
         turned = subst (λ (v : World). TurnedTo turn s.shared v.shared) (sym went.is) (subst (λ (v : Shared). TurnedTo turn s.shared v) (sym is) turned);
+        told = λ z ez. let both : Some y ≡ Some z = sym ey ∙ ez in let same : y ≡ z = cc in subst (λ (v : AbstractActor). IsTold telling a v.task (records a y.task results)) same told;
       }
 
   module _ (y' : AbstractActor) (keeps : y'.leads ≡ true → y' ≡ y) where
@@ -122,8 +123,8 @@ module _ (size most : ℕ) (words words' : Words) (up : flag words.fail ≡ true
     one_on b c v u ev eu l m = g.one_leads b c v u (old_lead y' keeps b v ev l) (old_lead y' keeps c u eu m) l m
 
   -- no commit begins, ends or is broken by it
-  pub goes_on : (devices' : Devices (List History)) (results : List Got) (t : Shared) → MayGo s.actors a s.shared y y.task results → shared_after s.shared y y.task results ≡ t → StandsFor size most words' x' (gone y y.task results) → ((gone y y.task results).leads ≡ true → gone y y.task results ≡ y) → WordsAgree words' t →
-      t.origin ≡ by_block size [] devices'.origin → t.cache ≡ by_block size [] devices'.cache → t.mode ≡ s.shared.mode → t.committing ≡ s.shared.committing → t.broken ≡ s.shared.broken → TurnedTo Stays s.shared t →
-      Follows size most s words' committing devices' (slice_set actors a x')
-  goes_on devices' results t may is st keeps w o c m k b turned = goes_leading Stays committing devices' results t may is st w o c m (k ∙ g.commits) (λ e. k ∙ g.broken (sym b ∙ e))
+  pub goes_on : (telling : Telling) (devices' : Devices (List History)) (results : List Got) (t : Shared) → IsTold telling a y.task (records a y.task results) → MayGo s.actors a s.shared y y.task results → shared_after s.shared y y.task results ≡ t → StandsFor size most words' x' (gone y y.task results) → ((gone y y.task results).leads ≡ true → gone y y.task results ≡ y) → WordsAgree words' t →
+      t.origin ≡ by_block size zeros devices'.origin → t.cache ≡ by_block size zeros devices'.cache → t.mode ≡ s.shared.mode → t.committing ≡ s.shared.committing → t.broken ≡ s.shared.broken → TurnedTo Stays s.shared t →
+      Follows telling size most a s words' committing devices' (slice_set actors a x')
+  goes_on telling devices' results t told may is st keeps w o c m k b turned = goes_leading Stays telling committing devices' results t told may is st w o c m (k ∙ g.commits) (λ e. k ∙ g.broken (sym b ∙ e))
       (led_on (gone y y.task results) keeps t k) (whole_on (gone y y.task results) keeps t b) (one_on (gone y y.task results) keeps) turned

@@ -18,7 +18,7 @@ use Rattle.wb_tasks.specs.declared.step.Want.TheVariants.{Cell}
 use Rattle.wb_types.specs.declared.refusal.Refusal.TheVariants.{Failed, Worn, Busy}
 use Rattle.wb_link.specs.Tables.{Script, Got}
 use Rattle.wb_link.specs.World.{Shared, Actor, job_alone, is_alone}
-use Rattle.wb_refines.specs.Going.{shared_after, gone, MayGo, AreQuiet}
+use Rattle.wb_refines.specs.Going.{records, shared_after, gone, MayGo, AreQuiet}
 use Rattle.wb_refines.specs.Translation.{job_for}
 use Rattle.wb_refines.specs.Models.{IsRequest, plan_of, WordsAgree, SameElse, IsAt, HasStopped, IsBelow, AllBelow, TellsPlace}
 use Rattle.wb_refines.proofs.Cells.{same_images, flag_of}
@@ -49,9 +49,14 @@ pub gone_nowhere : (y : Actor) (task : Option Script) → gone y task [] ≡ y
 gone_nowhere y None = refl
 gone_nowhere y (Some script) = refl
 
-quiet_none : (task : Option Script) → AreQuiet task []
+pub quiet_none : (task : Option Script) → AreQuiet task []
 quiet_none None = tt
 quiet_none (Some script) = tt
+
+-- and nothing is told of it, whatever the results
+pub nothing_told : (a : ℕ) (task : Option Script) (results : List Got) → task ≡ None → records a task [] ≡ records a task results
+nothing_told a None results e = refl
+nothing_told a (Some script) results e = absurd (cc)
 
 same_else : (s : Shared) → SameElse s s
 same_else s = record { origin = refl; cache = refl; images = same_images s }
@@ -193,14 +198,14 @@ module _ (size : ℕ) (content : Content) (job_on : BlockRange → BlockJob) (re
             Acted size content actors a s y words job_on (if t then onward (plan_of (job_on part) (Cell (Look Fail) ∷ ws) answer) else refused (plan_of (job_on part) (Cell (Look Fail) ∷ ws) answer) [] Failed) (card_after words (Look Fail) card)
         by_test true f = let bad : true ≡ false = sym failed ∙ f in absurd (cc)
         by_test false f = nothing words (refused (plan_of (job_on part) (Cell (Look Fail) ∷ ws) answer) [] Failed) (card_after words (Look Fail) card) w
-            (record { part = part; job = refl; is_part = is_part; of_block = tt; at = inr (inr (record { failed = failed; nothing = none; at = inr refl })) })
+            (record { part = part; job = refl; is_part = is_part; of_block = tt; at = inr (inr (record { failed = failed; nothing = none; at = inr (refl, λ e. absurd (cc)) })) })
             (record { owned = below.owned; shared = below.shared }) alone
 
     late : (step : CellStep) (ws : List Want) → is_alone y.task ≡ false → IsBelow y card → IsLate words (plan_of (job_on part) (Cell step ∷ ws) answer) y → Goal step ws
     late step ws alone below l = elim l.at [
       | inl e ↦ let steps : Cell step ∷ ws ≡ Cell (Look Fail) ∷ Cell (Look (LockWord (range_of (job_on part)).block)) ∷ [] = ap (λ (p : Plan). p.steps) e in
           let same : step ≡ Look Fail = cc in subst (λ (v : CellStep). Goal v ws) (sym same) (looks_late ws alone below l.failed l.nothing)
-      | inr e ↦ let bad : Cell step ∷ ws ≡ [] = e in absurd (cc)
+      | inr e ↦ let bad : Cell step ∷ ws ≡ [] = e.0 in absurd (cc)
     ]
 
     -- whichever it is

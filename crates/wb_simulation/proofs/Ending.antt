@@ -22,9 +22,9 @@ use Rattle.wb_runs.specs.declared.job.Job.{Job}
 use Rattle.wb_runs.specs.declared.job.Job.TheVariants.{Read, Write, Flush, Open}
 use Rattle.wb_runs.specs.States.{Actor}
 use Rattle.wb_simulation.specs.Actors.{IsLate, IsRequestAt, StandsFor}
-use Rattle.wb_simulation.specs.Worlds.{Agrees, Follows}
+use Rattle.wb_simulation.specs.Worlds.{Agrees, By, Follows}
 use Rattle.wb_simulation.specs.Laws.{AnswersFollowed, IsRequestJob}
-use Rattle.wb_simulation.proofs.Cells.{shared_stays, gone_nowhere}
+use Rattle.wb_simulation.proofs.Cells.{shared_stays, gone_nowhere, nothing_told}
 use Rattle.wb_simulation.proofs.Among.{goes_on}
 use Rattle.wb_simulation.proofs.Followed.{doing_of}
 
@@ -38,16 +38,16 @@ nothing_left plan answer e never = by_steps plan.steps refl
 
 module _ (size most blocks : ℕ) (words : Words) (committing : Bool) (devices : Devices (List History)) (actors : List Actor) (a : ℕ) (x : Actor) (s : World) (y : AbstractActor) (ex : slice_get actors a ≡ Some x) (ey : slice_get s.actors a ≡ Some y) (g : Agrees size most words committing devices actors s) (st : StandsFor size most words x y) where
   abbrev Goal : Type 0
-  Goal = Follows size most s words committing devices (slice_set actors a (record x { task = None }))
+  Goal = Follows (By (DoneThere ∷ [])) size most a s words committing devices (slice_set actors a (record x { task = None }))
 
   -- it answers there, too
   answers : IsAnswered s.actors a s.shared y → IsBelow (gone y y.task (DoneThere ∷ [])) x.card → (gone y y.task (DoneThere ∷ [])).leads ≡ false → (IsIdle (gone y y.task (DoneThere ∷ [])) ⊎ (flag words.fail ≡ true)) → Goal
-  answers w below leads rest = goes_on size most words words (λ f. f) committing devices actors a x (record x { task = None }) s y g ex ey devices (DoneThere ∷ []) s.shared w.may w.shared
+  answers w below leads rest = goes_on size most words words (λ f. f) committing devices actors a x (record x { task = None }) s y g ex ey (By (DoneThere ∷ [])) devices (DoneThere ∷ []) s.shared refl w.may w.shared
       (record { at = (w.over, rest); below = below; among_others = ap is_alone w.over }) (λ l. let bad : true ≡ false = sym l ∙ leads in absurd (cc)) g.words_agree g.origin g.cache refl refl refl (refl, refl, refl)
 
   -- it has no task there
   answers_late : y.task ≡ None → flag words.fail ≡ true → Goal
-  answers_late none failed = goes_on size most words words (λ f. f) committing devices actors a x (record x { task = None }) s y g ex ey devices [] s.shared tt (shared_stays s.shared y y.task)
+  answers_late none failed = goes_on size most words words (λ f. f) committing devices actors a x (record x { task = None }) s y g ex ey (By (DoneThere ∷ [])) devices [] s.shared (nothing_told a y.task (DoneThere ∷ []) none) tt (shared_stays s.shared y y.task)
       (subst (λ (z : AbstractActor). StandsFor size most words (record x { task = None }) z) (sym (gone_nowhere y y.task)) (record { at = (none, inr failed); below = st.below; among_others = st.among_others }))
       (λ l. gone_nowhere y y.task) g.words_agree g.origin g.cache refl refl refl (refl, refl, refl)
 

@@ -20,12 +20,13 @@ use Rattle.wb_tasks.specs.declared.step.Got.TheVariants.{Done, Fault, Began, Ref
 use Rattle.wb_types.proofs.Lists.{element_beside}
 use Rattle.wb_devices.specs.declared.devices.Devices.{Devices}
 use Rattle.wb_devices.specs.Moving.{device_in}
+use Rattle.wb_link.specs.Tables.{Done as DoneThere}
 use Rattle.wb_link.specs.World.{World, Actor as AbstractActor}
 use Rattle.wb_refines.specs.Flushes.{IsFlushing, flushing}
 use Rattle.wb_runs.specs.declared.job.Job.TheVariants.{Flush}
 use Rattle.wb_runs.specs.States.{Actor, with_device}
 use Rattle.wb_simulation.specs.Actors.{IsFlushAt, IsOfFlush, LeadsAt, StandsFor}
-use Rattle.wb_simulation.specs.Worlds.{Agrees, Begins, Puts, Ends, FollowsBy, Follows}
+use Rattle.wb_simulation.specs.Worlds.{Agrees, Begins, Puts, Ends, Quietly, By, FollowsBy, Follows}
 use Rattle.wb_simulation.specs.Laws.{FlushStepsFollowed, after_step, turn_of, went}
 use Rattle.wb_simulation.proofs.Followed.{doing_of}
 use Rattle.wb_simulation.proofs.Leading.{AtFlush, at_flush}
@@ -52,7 +53,7 @@ nothing_left most plan answer e o = by_steps plan.steps refl
 module _ (size most : ℕ) (words : Words) (committing : Bool) (devices : Devices (List History)) (actors : List Actor) (a : ℕ) (x : Actor) (plan : Plan) (s : World) (y : AbstractActor) (ex : slice_get actors a ≡ Some x) (ey : slice_get s.actors a ≡ Some y) (g : Agrees size most words committing devices actors s)
     (st : StandsFor size most words x y) (f : IsFlushAt size most words plan y) where
   abbrev Then : Devices (List History) → Plan → Got → Type 0
-  Then ds p got = Follows size most s words committing ds (slice_set actors a (after_step Flush p got x))
+  Then ds p got = Follows Quietly size most a s words committing ds (slice_set actors a (after_step Flush p got x))
 
   sync : (device : Dev) → HoldsBlocks device → want plan ≡ Device (Sync device) → Then (with_device device devices (synced (device_in device devices))) plan Done
   sync Cache h e = let k = at_flush size most words plan (Device (Sync Cache)) y e (λ answer q. absurd (cc)) (λ q. absurd (cc)) f in
@@ -72,19 +73,19 @@ module _ (size most : ℕ) (words : Words) (committing : Bool) (devices : Device
       (leading size most words committing devices actors a x plan s y ex ey g (Device (Sync Origin)) k.later plan.answer k.leads k.at k.same))
   sync_fails lands Metadata h e = absurd h
 
-  look : want plan ≡ Cell (Look Fail) → Follows size most s words committing devices (slice_set actors a (went words Flush plan (Look Fail) x))
+  look : want plan ≡ Cell (Look Fail) → Follows Quietly size most a s words committing devices (slice_set actors a (went words Flush plan (Look Fail) x))
   look e = elim f.at [
     | inl l ↦
         let b = begins_by plan (Cell (Look Fail)) e (λ answer q. absurd (cc)) in
         let is : plan ≡ flushing most (Cell (Look Fail) ∷ b.0) plan.answer = (λ i. record { job = f.job i; steps = b.1 i; answer = plan.answer }) in
         let none : l.leads ≡ false = subst (λ (ws : List Want). LeadsAt l.leads ws) b.1 l.at in
-        subst (λ (p : Plan). Follows size most s words committing devices (slice_set actors a (went words Flush p (Look Fail) x))) (sym is)
+        subst (λ (p : Plan). Follows Quietly size most a s words committing devices (slice_set actors a (went words Flush p (Look Fail) x))) (sym is)
         (looks size most words committing devices actors a x plan s y ex ey g b.0 plan.answer (subst (λ (ws : List Want). IsOfFlush most ws) b.1 f.steps)
         (subst (λ (q : Bool). IsFlushing size [] (flushing most (Cell (Look Fail) ∷ b.0) plan.answer) q y) none (subst (λ (p : Plan). IsFlushing size [] p l.leads y) is l.is)))
     | inr l ↦ late_looks size most words committing devices actors a x plan s y ex ey g l st f.job e
   ]
 
-  answer_given : (answer : Answer) → want plan ≡ End answer → Follows size most s words committing devices (slice_set actors a (record x { task = None }))
+  answer_given : (answer : Answer) → want plan ≡ End answer → Follows (By (DoneThere ∷ [])) size most a s words committing devices (slice_set actors a (record x { task = None }))
   answer_given answer e = elim f.at [
     | inl l ↦
         let none = nothing_left most plan answer e f.steps in
@@ -106,40 +107,40 @@ flush_steps_followed = record {
   begins = λ size most nodes allowed clean words devices actors a x plan s ex t e g.
       let y = flush_of size most words false devices actors a x plan s ex g t in
       let k = asks size most allowed clean words plan y.0 (at_flush size most words plan (Desk (BeginCommit clean allowed)) y.0 e (λ answer q. absurd (cc)) (λ q. absurd (cc)) y.3) in
-      subst (λ (p : Plan). FollowsBy Begins size most s words true devices (slice_set actors a (after_step Flush p (Began nodes) x))) (sym k.0) (begins size most words false devices actors a x plan s y.0 ex y.1 g nodes plan.answer refl k.1);
+      subst (λ (p : Plan). FollowsBy Begins Quietly size most a s words true devices (slice_set actors a (after_step Flush p (Began nodes) x))) (sym k.0) (begins size most words false devices actors a x plan s y.0 ex y.1 g nodes plan.answer refl k.1);
   is_refused = λ size most allowed clean refusal words committing devices actors a x plan s n ex t e g.
       let y = flush_of size most words committing devices actors a x plan s ex g t in
       let k = asks size most allowed clean words plan y.0 (at_flush size most words plan (Desk (BeginCommit clean allowed)) y.0 e (λ answer q. absurd (cc)) (λ q. absurd (cc)) y.3) in
-      subst (λ (p : Plan). Follows size most s words committing devices (slice_set actors a (after_step Flush p (Refused refusal) x))) (sym k.0) (is_refused size most words committing devices actors a x plan s y.0 ex y.1 g refusal plan.answer n k.1);
+      subst (λ (p : Plan). Follows Quietly size most a s words committing devices (slice_set actors a (after_step Flush p (Refused refusal) x))) (sym k.0) (is_refused size most words committing devices actors a x plan s y.0 ex y.1 g refusal plan.answer n k.1);
   syncs = λ size most device words committing devices actors a x plan s h ex t e g. let y = flush_of size most words committing devices actors a x plan s ex g t in sync size most words committing devices actors a x plan s y.0 ex y.1 g y.2 y.3 device h e;
   sync_fails = λ size most device lands words committing devices actors a x plan s h ex t e g. let y = flush_of size most words committing devices actors a x plan s ex g t in sync_fails size most words committing devices actors a x plan s y.0 ex y.1 g y.2 y.3 lands device h e;
   on_metadata = λ size most step metadata words committing devices actors a x plan s d ex t e g.
       let y = flush_of size most words committing devices actors a x plan s ex g t in
       let k = at_flush size most words plan (Device step) y.0 e (λ answer q. absurd (cc)) (λ q. absurd (cc)) y.3 in
-      subst (λ (p : Plan). FollowsBy (turn_of step) size most s words committing (with_device Metadata devices metadata) (slice_set actors a (after_step Flush p Done x))) (sym k.is)
+      subst (λ (p : Plan). FollowsBy (turn_of step) Quietly size most a s words committing (with_device Metadata devices metadata) (slice_set actors a (after_step Flush p Done x))) (sym k.is)
       (metadata_done size most words committing devices actors a x plan s y.0 ex y.1 g metadata step k.later plan.answer d k.rest (leading size most words committing devices actors a x plan s y.0 ex y.1 g (Device step) k.later plan.answer k.leads k.at k.same));
   metadata_fails = λ size most step metadata words committing devices actors a x plan s d ex t e g.
       let y = flush_of size most words committing devices actors a x plan s ex g t in
       let k = at_flush size most words plan (Device step) y.0 e (λ answer q. absurd (cc)) (λ q. absurd (cc)) y.3 in
-      subst (λ (p : Plan). (written : Bool) × FollowsBy (Puts written) size most s words committing (with_device Metadata devices metadata) (slice_set actors a (after_step Flush p Fault x))) (sym k.is)
+      subst (λ (p : Plan). (written : Bool) × FollowsBy (Puts written) Quietly size most a s words committing (with_device Metadata devices metadata) (slice_set actors a (after_step Flush p Fault x))) (sym k.is)
       (metadata_failed size most words committing devices actors a x plan s y.0 ex y.1 g metadata step k.later plan.answer (is_on_metadata size most words committing devices actors a x plan s y.0 ex y.1 g step k.later d k.rest)
       (leading size most words committing devices actors a x plan s y.0 ex y.1 g (Device step) k.later plan.answer k.leads k.at k.same));
   ends = λ size most words committing devices actors a x plan s ex t e g.
       let y = flush_of size most words committing devices actors a x plan s ex g t in
       let k = at_flush size most words plan (Desk EndCommit) y.0 e (λ answer q. absurd (cc)) (λ q. absurd (cc)) y.3 in
-      subst (λ (p : Plan). FollowsBy Ends size most s words false devices (slice_set actors a (after_step Flush p Done x))) (sym k.is)
+      subst (λ (p : Plan). FollowsBy Ends Quietly size most a s words false devices (slice_set actors a (after_step Flush p Done x))) (sym k.is)
       (last size most words committing devices actors a x plan s y.0 ex y.1 g k.later k.rest (leading size most words committing devices actors a x plan s y.0 ex y.1 g (Desk EndCommit) k.later plan.answer k.leads k.at k.same));
   fails = λ size most failures suspensions words committing devices actors a x plan s w ex t e g.
       let y = flush_of size most words committing devices actors a x plan s ex g t in
       let k = at_flush size most words plan (Cell SetFailed) y.0 e (λ answer q. absurd (cc)) (λ q. absurd (cc)) y.3 in
       let same : flushing most (Cell SetFailed ∷ k.later) plan.answer ≡ flushing most (Cell SetFailed ∷ []) plan.answer = ap (λ (ws : List Want). flushing most (Cell SetFailed ∷ ws) plan.answer) k.rest in
       let is = leading size most words committing devices actors a x plan s y.0 ex y.1 g (Cell SetFailed) k.later plan.answer k.leads k.at k.same in
-      subst (λ (p : Plan). Follows size most s (words_after words SetFailed) committing devices (slice_set actors a (went words Flush p SetFailed x))) (sym (k.is ∙ same))
+      subst (λ (p : Plan). Follows Quietly size most a s (words_after words SetFailed) committing devices (slice_set actors a (went words Flush p SetFailed x))) (sym (k.is ∙ same))
       (fails size most words committing devices actors a x plan s y.0 ex y.1 g failures suspensions plan.answer w (subst (λ (p : Plan). IsFlushing size [] p true y.0) same is));
   answers = λ size most answer words committing devices actors a x plan s ex t e g. let y = flush_of size most words committing devices actors a x plan s ex g t in answer_given size most words committing devices actors a x plan s y.0 ex y.1 g y.2 y.3 answer e;
 }
   where
     last : (size most : ℕ) (words : Words) (committing : Bool) (devices : Devices (List History)) (actors : List Actor) (a : ℕ) (x : Actor) (plan : Plan) (s : World) (y : AbstractActor) (ex : slice_get actors a ≡ Some x) (ey : slice_get s.actors a ≡ Some y) (g : Agrees size most words committing devices actors s) (later : List Want) →
-        IsOfFlush most (Desk EndCommit ∷ later) → IsFlushing size [] (flushing most (Desk EndCommit ∷ later) plan.answer) true y → FollowsBy Ends size most s words false devices (slice_set actors a (after_step Flush (flushing most (Desk EndCommit ∷ later) plan.answer) Done x))
+        IsOfFlush most (Desk EndCommit ∷ later) → IsFlushing size [] (flushing most (Desk EndCommit ∷ later) plan.answer) true y → FollowsBy Ends Quietly size most a s words false devices (slice_set actors a (after_step Flush (flushing most (Desk EndCommit ∷ later) plan.answer) Done x))
     last size most words committing devices actors a x plan s y ex ey g [] o is = ends size most words committing devices actors a x plan s y ex ey g plan.answer is
     last size most words committing devices actors a x plan s y ex ey g (v ∷ ws) o is = absurd o

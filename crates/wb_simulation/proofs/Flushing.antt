@@ -39,24 +39,24 @@ use Rattle.wb_refines.proofs.Tasks.{tasks_end}
 use Rattle.wb_runs.specs.declared.job.Job.TheVariants.{Flush}
 use Rattle.wb_runs.specs.States.{Actor, with_device}
 use Rattle.wb_simulation.specs.Actors.{IsLate, IsOfFlush, LeadsAt, StandsFor}
-use Rattle.wb_simulation.specs.Worlds.{Agrees, Turn, Stays, Begins, Puts, Ends, TurnedTo, FollowsBy, Follows, IsUnfinished}
+use Rattle.wb_simulation.specs.Worlds.{zeros, Agrees, Turn, Stays, Begins, Puts, Ends, TurnedTo, Quietly, By, FollowsBy, Follows, IsUnfinished}
 use Rattle.wb_simulation.specs.Laws.{turn_of, went}
-use Rattle.wb_simulation.proofs.Cells.{shared_stays, gone_nowhere}
+use Rattle.wb_simulation.proofs.Cells.{shared_stays, gone_nowhere, quiet_none, nothing_told}
 use Rattle.wb_simulation.proofs.Among.{goes_on, goes_leading}
 use Rattle.wb_simulation.proofs.Leading.{nodes_on_metadata, commits_on, has_wants, stands, one_here, is_here, leads_on}
 
 module _ (size most : ℕ) (words : Words) (committing : Bool) (devices : Devices (List History)) (actors : List Actor) (a : ℕ) (x : Actor) (plan : Plan) (s : World) (y : AbstractActor) (ex : slice_get actors a ≡ Some x) (ey : slice_get s.actors a ≡ Some y) (g : Agrees size most words committing devices actors s) where
   -- a step on a device, done, with this left
   abbrev OnBy : Turn → Devices (List History) → Plan → Type 0
-  OnBy turn devices' plan' = FollowsBy turn size most s words committing devices' (slice_set actors a (record { task = Some (Flush, plan'); card = x.card }))
+  OnBy turn devices' plan' = FollowsBy turn Quietly size most a s words committing devices' (slice_set actors a (record { task = Some (Flush, plan'); card = x.card }))
 
   -- and the images stay
   abbrev On : Devices (List History) → Plan → Type 0
-  On devices' plan' = Follows size most s words committing devices' (slice_set actors a (record { task = Some (Flush, plan'); card = x.card }))
+  On devices' plan' = Follows Quietly size most a s words committing devices' (slice_set actors a (record { task = Some (Flush, plan'); card = x.card }))
 
   -- the same on whatever it leads to there
   goes : (turn : Turn) (devices' : Devices (List History)) (next : Want) (later : List Want) (answer : Answer) (plan' : Plan) (t : Shared) → IsFlushing size [] (flushing most (next ∷ later) answer) true y → wants_of size (FlushingFor None) (next ∷ later) ≢ [] → Leads size [] s.actors a s.shared y t plan' true →
-      plan'.job ≡ Flushing [] most → IsOfFlush most plan'.steps → LeadsAt true plan'.steps → (plan'.steps ≢ []) → WordsAgree words t → t.origin ≡ by_block size [] devices'.origin → t.cache ≡ by_block size [] devices'.cache → t.mode ≡ s.shared.mode → t.committing ≡ s.shared.committing → t.broken ≡ s.shared.broken → TurnedTo turn s.shared t → OnBy turn devices' plan'
+      plan'.job ≡ Flushing [] most → IsOfFlush most plan'.steps → LeadsAt true plan'.steps → (plan'.steps ≢ []) → WordsAgree words t → t.origin ≡ by_block size zeros devices'.origin → t.cache ≡ by_block size zeros devices'.cache → t.mode ≡ s.shared.mode → t.committing ≡ s.shared.committing → t.broken ≡ s.shared.broken → TurnedTo turn s.shared t → OnBy turn devices' plan'
   goes turn devices' next later answer plan' t is some l j o at unfinished w og ca mo co br turned =
       leads_on size most words committing devices actors a x s y ex ey g turn words (λ f. f) devices' (flushing most (next ∷ later) answer) plan' x.card t next later answer is some l j o at (λ e n. absurd (unfinished n)) w og ca mo co br turned
 
@@ -69,14 +69,14 @@ module _ (size most : ℕ) (words : Words) (committing : Bool) (devices : Device
       On (with_device Cache devices (synced devices.cache)) (after (flushing most (Device (Sync Cache) ∷ later) answer) Done)
   syncs_cache (Device (Sync Origin) ∷ ws) answer o is =
       goes Stays (with_device Cache devices (synced devices.cache)) (Device (Sync Cache)) (Device (Sync Origin) ∷ ws) answer _ _ is (λ e. absurd (cc)) (followed_alone.syncs_cache size most [] s.actors a s.shared y (Device (Sync Origin) ∷ ws) answer is) refl o refl (λ n. absurd (cc))
-      (record { fail = g.words_agree.fail; seals = g.words_agree.seals }) g.origin (ap all_synced g.cache ∙ sym (sync_is_act size [] devices.cache)) refl refl refl (refl, refl, refl)
+      (record { fail = g.words_agree.fail; seals = g.words_agree.seals }) g.origin (ap all_synced g.cache ∙ sym (sync_is_act size zeros devices.cache)) refl refl refl (refl, refl, refl)
   syncs_cache later answer o is = absurd o
 
   pub syncs_origin : (later : List Want) (answer : Answer) → IsOfFlush most (Device (Sync Origin) ∷ later) → IsFlushing size [] (flushing most (Device (Sync Origin) ∷ later) answer) true y →
       On (with_device Origin devices (synced devices.origin)) (after (flushing most (Device (Sync Origin) ∷ later) answer) Done)
   syncs_origin later answer o is =
       goes Stays (with_device Origin devices (synced devices.origin)) (Device (Sync Origin)) later answer (flushing most later answer) (record s.shared { origin = all_synced s.shared.origin }) is (λ e. absurd (cc)) (followed_alone.syncs_origin size most [] s.actors a s.shared y later answer is) refl (commits_on most later o).0 (commits_on most later o).1 (on_metadata_some later o)
-      (record { fail = g.words_agree.fail; seals = g.words_agree.seals }) (ap all_synced g.origin ∙ sym (sync_is_act size [] devices.origin)) g.cache refl refl refl (refl, refl, refl)
+      (record { fail = g.words_agree.fail; seals = g.words_agree.seals }) (ap all_synced g.origin ∙ sym (sync_is_act size zeros devices.origin)) g.cache refl refl refl (refl, refl, refl)
     where
       on_metadata_some : (steps : List Want) → IsOnMetadata steps → steps ≢ []
       on_metadata_some [] m = absurd m
@@ -88,14 +88,14 @@ module _ (size most : ℕ) (words : Words) (committing : Bool) (devices : Device
   fails_cache lands later answer o is =
       goes Stays (with_device Cache devices (synced_where lands devices.cache)) (Device (Sync Cache)) later answer (after (flushing most (Device (Sync Cache) ∷ later) answer) Fault) (record s.shared { cache = partly_synced (λ b o. lands (b * size + o)) s.shared.cache }) is (λ e. absurd (cc))
       (followed_alone.fails_cache size most [] s.actors a s.shared y later answer (λ b o. lands (b * size + o)) is) refl refl refl (λ n. absurd (cc))
-      (record { fail = g.words_agree.fail; seals = g.words_agree.seals }) g.origin (ap (partly_synced (λ b o. lands (b * size + o))) g.cache ∙ sym (failed_sync_is_act size [] lands devices.cache)) refl refl refl (refl, refl, refl)
+      (record { fail = g.words_agree.fail; seals = g.words_agree.seals }) g.origin (ap (partly_synced (λ b o. lands (b * size + o))) g.cache ∙ sym (failed_sync_is_act size zeros lands devices.cache)) refl refl refl (refl, refl, refl)
 
   pub fails_origin : (lands : ℕ → Bool) (later : List Want) (answer : Answer) → IsOfFlush most (Device (Sync Origin) ∷ later) → IsFlushing size [] (flushing most (Device (Sync Origin) ∷ later) answer) true y →
       On (with_device Origin devices (synced_where lands devices.origin)) (after (flushing most (Device (Sync Origin) ∷ later) answer) Fault)
   fails_origin lands later answer o is =
       goes Stays (with_device Origin devices (synced_where lands devices.origin)) (Device (Sync Origin)) later answer (after (flushing most (Device (Sync Origin) ∷ later) answer) Fault) (record s.shared { origin = partly_synced (λ b o. lands (b * size + o)) s.shared.origin }) is (λ e. absurd (cc))
       (followed_alone.fails_origin size most [] s.actors a s.shared y later answer (λ b o. lands (b * size + o)) is) refl refl refl (λ n. absurd (cc))
-      (record { fail = g.words_agree.fail; seals = g.words_agree.seals }) (ap (partly_synced (λ b o. lands (b * size + o))) g.origin ∙ sym (failed_sync_is_act size [] lands devices.origin)) g.cache refl refl refl (refl, refl, refl)
+      (record { fail = g.words_agree.fail; seals = g.words_agree.seals }) (ap (partly_synced (λ b o. lands (b * size + o))) g.origin ∙ sym (failed_sync_is_act size zeros lands devices.origin)) g.cache refl refl refl (refl, refl, refl)
 
   -- a step on the metadata is done, or fails; the data devices are as they were
   metadata_goes : (turn : Turn) (metadata : List History) (step : DeviceStep) (later : List Want) (answer : Answer) (t : Shared) → IsOnMetadata (Device step ∷ later) → IsOnMetadata later → IsFlushing size [] (flushing most (Device step ∷ later) answer) true y → Leads size [] s.actors a s.shared y t (flushing most later answer) true →
@@ -139,9 +139,9 @@ module _ (size most : ℕ) (words : Words) (committing : Bool) (devices : Device
 
   -- the flush leads no commit before it and after it
   follows_alone : (devices' : Devices (List History)) (plan' : Plan) (card' : Card) → plan'.job ≡ Flushing [] most → IsOfFlush most plan'.steps → LeadsAt false plan'.steps → Leads size [] s.actors a s.shared y s.shared plan' false →
-      devices' ≡ devices → Follows size most s words committing devices' (slice_set actors a (record { task = Some (Flush, plan'); card = card' }))
-  follows_alone devices' plan' card' j o at l d = subst (λ (ds : Devices (List History)). Follows size most s words committing ds (slice_set actors a (record { task = Some (Flush, plan'); card = card' }))) (sym d)
-      (goes_on size most words words (λ f. f) committing devices actors a x (record { task = Some (Flush, plan'); card = card' }) s y g ex ey devices l.results s.shared l.may l.shared
+      devices' ≡ devices → Follows Quietly size most a s words committing devices' (slice_set actors a (record { task = Some (Flush, plan'); card = card' }))
+  follows_alone devices' plan' card' j o at l d = subst (λ (ds : Devices (List History)). Follows Quietly size most a s words committing ds (slice_set actors a (record { task = Some (Flush, plan'); card = card' }))) (sym d)
+      (goes_on size most words words (λ f. f) committing devices actors a x (record { task = Some (Flush, plan'); card = card' }) s y g ex ey Quietly devices l.results s.shared (l.results, l.quiet, refl) l.may l.shared
       (stands size most words committing devices actors a x s y ex ey g words plan' card' false (gone y y.task l.results) j o at (λ e n. absurd (cc)) l.at)
       (λ k. let bad : true ≡ false = sym k ∙ ap (λ (v : AbstractActor). v.leads) l.at.is in absurd (cc)) g.words_agree g.origin g.cache refl refl refl (refl, refl, refl))
 
@@ -163,12 +163,12 @@ module _ (size most : ℕ) (words : Words) (committing : Bool) (devices : Device
 
   -- a commit begins, which nobody has led
   pub begins : (nodes : ℕ) (answer : Answer) → committing ≡ false → IsFlushing size [] (flushing most (Desk (BeginCommit false most) ∷ []) answer) false y →
-      FollowsBy Begins size most s words true devices (slice_set actors a (record { task = Some (Flush, after (flushing most (Desk (BeginCommit false most) ∷ []) answer) (Began nodes)); card = x.card }))
+      FollowsBy Begins Quietly size most a s words true devices (slice_set actors a (record { task = Some (Flush, after (flushing most (Desk (BeginCommit false most) ∷ []) answer) (Began nodes)); card = x.card }))
   begins nodes answer quiet is =
       let plan' = after (flushing most (Desk (BeginCommit false most) ∷ []) answer) (Began nodes) in
       let none : s.shared.committing ≡ false = g.commits ∙ quiet in
       let l = followed_alone.begins size most nodes [] s.actors a s.shared y [] answer none (by_broken s.shared.broken refl) is in
-      goes_leading size most words words (λ f. f) committing devices actors a x (record { task = Some (Flush, plan'); card = x.card }) s y g ex ey Begins true devices l.results (effect s.shared (FlushingFor None) [] (Begin None) DoneThere) l.may l.shared
+      goes_leading size most words words (λ f. f) committing devices actors a x (record { task = Some (Flush, plan'); card = x.card }) s y g ex ey Begins Quietly true devices l.results (effect s.shared (FlushingFor None) [] (Begin None) DoneThere) (l.results, l.quiet, refl) l.may l.shared
       (stands size most words committing devices actors a x s y ex ey g words plan' x.card true (gone y y.task l.results) refl (nodes_on_metadata nodes 0) refl (λ e n. absurd (cc)) l.at)
       (record { fail = g.words_agree.fail; seals = g.words_agree.seals }) g.origin g.cache refl refl (λ e. refl) (λ b v ev k. refl) (λ b v ev k u. by_broken s.shared.broken refl)
       (λ b c v u ev eu k m. only b v (gone y y.task l.results) ev k ∙ sym (only c u (gone y y.task l.results) eu m)) (refl, refl, refl)
@@ -184,14 +184,14 @@ module _ (size most : ℕ) (words : Words) (committing : Bool) (devices : Device
       only b v y' ev k = elim (cases_eq b a) [ inl e ↦ e | inr n ↦ absurd (runs (g.led b v (sym (get_set_other s.actors a b y' n) ∙ ev) k)) ]
 
   -- the commit ends, and nobody leads one
-  pub ends : (answer : Answer) → IsFlushing size [] (flushing most (Desk EndCommit ∷ []) answer) true y → FollowsBy Ends size most s words false devices (slice_set actors a (record { task = Some (Flush, after (flushing most (Desk EndCommit ∷ []) answer) Done); card = x.card }))
+  pub ends : (answer : Answer) → IsFlushing size [] (flushing most (Desk EndCommit ∷ []) answer) true y → FollowsBy Ends Quietly size most a s words false devices (slice_set actors a (record { task = Some (Flush, after (flushing most (Desk EndCommit ∷ []) answer) Done); card = x.card }))
   ends answer is =
       let plan' = after (flushing most (Desk EndCommit ∷ []) answer) Done in
       let l = followed_alone.ends size most [] s.actors a s.shared y answer is in
       let lead : y.leads ≡ true = ap (λ (v : AbstractActor). v.leads) is.is in
       let some : wants_of size (FlushingFor None) (Desk EndCommit ∷ []) ≢ [] = (λ e. absurd (cc)) in
       let whole : s.shared.broken ≡ false = g.whole a y ey lead (subst (λ (v : AbstractActor). IsUnfinished v.task) (sym is.is) some) in
-      goes_leading size most words words (λ f. f) committing devices actors a x (record { task = Some (Flush, plan'); card = x.card }) s y g ex ey Ends false devices l.results (effect s.shared (FlushingFor None) [] End_running DoneThere) l.may l.shared
+      goes_leading size most words words (λ f. f) committing devices actors a x (record { task = Some (Flush, plan'); card = x.card }) s y g ex ey Ends Quietly false devices l.results (effect s.shared (FlushingFor None) [] End_running DoneThere) (l.results, l.quiet, refl) l.may l.shared
       (stands size most words committing devices actors a x s y ex ey g words plan' x.card false (gone y y.task l.results) refl tt tt (λ e n. absurd (cc)) l.at)
       (record { fail = g.words_agree.fail; seals = g.words_agree.seals }) g.origin g.cache refl refl (λ e. let bad : true ≡ false = sym e ∙ whole in absurd (cc))
       (λ b v ev k. absurd (nobody l b v ev k)) (λ b v ev k u. whole) (λ b c v u ev eu k m. absurd (nobody l b v ev k)) (refl, refl)
@@ -203,7 +203,7 @@ module _ (size most : ℕ) (words : Words) (committing : Bool) (devices : Device
 
   -- the failed bit is set, and the commit is broken
   pub fails : (failures suspensions : ℕ) (answer : Answer) → words.fail ≡ fail_word failures suspensions → IsFlushing size [] (flushing most (Cell SetFailed ∷ []) answer) true y →
-      Follows size most s (words_after words SetFailed) committing devices (slice_set actors a (record { task = Some (Flush, after (flushing most (Cell SetFailed ∷ []) answer) Done); card = card_after words SetFailed x.card }))
+      Follows Quietly size most a s (words_after words SetFailed) committing devices (slice_set actors a (record { task = Some (Flush, after (flushing most (Cell SetFailed ∷ []) answer) Done); card = card_after words SetFailed x.card }))
   fails f z answer e is =
       let plan' = after (flushing most (Cell SetFailed ∷ []) answer) Done in
       let failed : flag (words_after words SetFailed).fail ≡ true = failed_flag words.fail f z e in
@@ -211,7 +211,7 @@ module _ (size most : ℕ) (words : Words) (committing : Bool) (devices : Device
       let lead : y.leads ≡ true = ap (λ (v : AbstractActor). v.leads) is.is in
       let y' = gone y y.task l.results in
       let runs = g.led a y ey lead in
-      goes_leading size most words (words_after words SetFailed) (λ k. failed) committing devices actors a x (record { task = Some (Flush, plan'); card = card_after words SetFailed x.card }) s y g ex ey Stays committing devices l.results (record s.shared { fail = true; broken = true }) l.may l.shared
+      goes_leading size most words (words_after words SetFailed) (λ k. failed) committing devices actors a x (record { task = Some (Flush, plan'); card = card_after words SetFailed x.card }) s y g ex ey Stays Quietly committing devices l.results (record s.shared { fail = true; broken = true }) (l.results, l.quiet, refl) l.may l.shared
       (stands size most words committing devices actors a x s y ex ey g (words_after words SetFailed) plan' (card_after words SetFailed x.card) true y' refl tt tt (λ k n. failed) l.at)
       (record { fail = sym failed; seals = g.words_agree.seals }) g.origin g.cache refl g.commits (λ k. runs) (λ b v ev k. runs)
       (λ b v ev k u. absurd (subst (λ (w : AbstractActor). IsUnfinished w.task) (is_here size most words committing devices actors a x s y ex ey g lead y' b v ev k ∙ l.at.is) u refl))
@@ -220,11 +220,11 @@ module _ (size most : ℕ) (words : Words) (committing : Bool) (devices : Device
   -- ---- its look at the fail word, and its answer
 
   pub looks : (later : List Want) (answer : Answer) → later ≡ Desk (BeginCommit false most) ∷ [] → IsFlushing size [] (flushing most (Cell (Look Fail) ∷ later) answer) false y →
-      Follows size most s words committing devices (slice_set actors a (went words Flush (flushing most (Cell (Look Fail) ∷ later) answer) (Look Fail) x))
+      Follows Quietly size most a s words committing devices (slice_set actors a (went words Flush (flushing most (Cell (Look Fail) ∷ later) answer) (Look Fail) x))
   looks later answer n is = subst (λ (ws : List Want). Goal ws) (sym n) (by_test (words.fail == 0) refl)
     where
       Goal : List Want → Type 0
-      Goal ws = Follows size most s words committing devices (slice_set actors a (went words Flush (flushing most (Cell (Look Fail) ∷ ws) answer) (Look Fail) x))
+      Goal ws = Follows Quietly size most a s words committing devices (slice_set actors a (went words Flush (flushing most (Cell (Look Fail) ∷ ws) answer) (Look Fail) x))
 
       is' : IsFlushing size [] (flushing most (Cell (Look Fail) ∷ Desk (BeginCommit false most) ∷ []) answer) false y
       is' = subst (λ (ws : List Want). IsFlushing size [] (flushing most (Cell (Look Fail) ∷ ws) answer) false y) n is
@@ -240,11 +240,11 @@ module _ (size most : ℕ) (words : Words) (committing : Bool) (devices : Device
           (subst (λ (p : Plan). IsOfFlush most p.steps) (sym plan_is) tt) (subst (λ (p : Plan). LeadsAt false p.steps) (sym plan_is) tt) (followed_alone.looks size most words.fail [] s.actors a s.shared y answer g.words_agree.fail is') refl
 
   -- it answers; one that leads a commit still has failed
-  pub answers : (answer : Answer) (leads : Bool) → (leads ≡ true → flag words.fail ≡ true) → IsFlushing size [] (flushing most [] answer) leads y → Follows size most s words committing devices (slice_set actors a (record x { task = None }))
+  pub answers : (answer : Answer) (leads : Bool) → (leads ≡ true → flag words.fail ≡ true) → IsFlushing size [] (flushing most [] answer) leads y → Follows (By (DoneThere ∷ [])) size most a s words committing devices (slice_set actors a (record x { task = None }))
   answers answer false f is =
       let d = tasks_end.flush size most [] s.actors a s.shared y answer false is in
       let idle = d.2 refl in
-      goes_on size most words words (λ k. k) committing devices actors a x (record x { task = None }) s y g ex ey devices (DoneThere ∷ []) s.shared d.0.may d.0.shared
+      goes_on size most words words (λ k. k) committing devices actors a x (record x { task = None }) s y g ex ey (By (DoneThere ∷ [])) devices (DoneThere ∷ []) s.shared refl d.0.may d.0.shared
       (record { at = (d.0.over, inl idle); below = holds_nothing _ x.card idle.held; among_others = ap is_alone d.0.over }) (λ k. let bad : true ≡ false = sym k ∙ idle.leads in absurd (cc)) g.words_agree g.origin g.cache refl refl refl (refl, refl, refl)
   answers answer true f is =
       let d = tasks_end.flush size most [] s.actors a s.shared y answer true is in
@@ -252,31 +252,31 @@ module _ (size most : ℕ) (words : Words) (committing : Bool) (devices : Device
       let y' = gone y y.task (DoneThere ∷ []) in
       let held : y'.held ≡ Nothing = subst (λ (v : AbstractActor). (gone v v.task (DoneThere ∷ [])).held ≡ Nothing) (sym is.is) refl in
       let runs = g.led a y ey lead in
-      goes_leading size most words words (λ k. k) committing devices actors a x (record x { task = None }) s y g ex ey Stays committing devices (DoneThere ∷ []) s.shared d.0.may d.0.shared
+      goes_leading size most words words (λ k. k) committing devices actors a x (record x { task = None }) s y g ex ey Stays (By (DoneThere ∷ [])) committing devices (DoneThere ∷ []) s.shared refl d.0.may d.0.shared
       (record { at = (d.0.over, inr (f refl)); below = holds_nothing y' x.card held; among_others = ap is_alone d.0.over }) g.words_agree g.origin g.cache refl g.commits g.broken (λ b v ev k. runs)
       (λ b v ev k u. absurd (subst (λ t. IsUnfinished t) (ap (λ (v : AbstractActor). v.task) (is_here size most words committing devices actors a x s y ex ey g lead y' b v ev k) ∙ d.0.over) u))
       (one_here size most words committing devices actors a x s y ex ey g lead y') (refl, refl, refl)
 
   -- one that is late has no task there
-  pub late_looks : IsLate words plan y → StandsFor size most words x y → plan.job ≡ Flushing [] most → want plan ≡ Cell (Look Fail) → Follows size most s words committing devices (slice_set actors a (went words Flush plan (Look Fail) x))
+  pub late_looks : IsLate words plan y → StandsFor size most words x y → plan.job ≡ Flushing [] most → want plan ≡ Cell (Look Fail) → Follows Quietly size most a s words committing devices (slice_set actors a (went words Flush plan (Look Fail) x))
   late_looks l st j e = elim l.at [
     | inl t ↦
         let is : plan ≡ flushing most (Cell (Look Fail) ∷ Desk (BeginCommit false most) ∷ []) Finished = t ∙ ap (λ k. table k) j in
-        subst (λ (p : Plan). Follows size most s words committing devices (slice_set actors a (went words Flush p (Look Fail) x))) (sym is) (by_test (words.fail == 0) (flag_of words.fail (words.fail == 0) refl) refl)
-    | inr n ↦ absurd (let end : want plan ≡ End plan.answer = ap (λ (ws : List Want). first_step ws plan.answer) n in let bad : Cell (Look Fail) ≡ End plan.answer = sym e ∙ end in cc)
+        subst (λ (p : Plan). Follows Quietly size most a s words committing devices (slice_set actors a (went words Flush p (Look Fail) x))) (sym is) (by_test (words.fail == 0) (flag_of words.fail (words.fail == 0) refl) refl)
+    | inr n ↦ absurd (let end : want plan ≡ End plan.answer = ap (λ (ws : List Want). first_step ws plan.answer) n.0 in let bad : Cell (Look Fail) ≡ End plan.answer = sym e ∙ end in cc)
   ]
     where
-      by_test : (t : Bool) → flag words.fail ≡ cond t false true → (words.fail == 0) ≡ t → Follows size most s words committing devices (slice_set actors a (went words Flush (flushing most (Cell (Look Fail) ∷ Desk (BeginCommit false most) ∷ []) Finished) (Look Fail) x))
+      by_test : (t : Bool) → flag words.fail ≡ cond t false true → (words.fail == 0) ≡ t → Follows Quietly size most a s words committing devices (slice_set actors a (went words Flush (flushing most (Cell (Look Fail) ∷ Desk (BeginCommit false most) ∷ []) Finished) (Look Fail) x))
       by_test true f k = absurd (let bad : true ≡ false = sym l.failed ∙ f in cc)
       by_test false f k =
           let plan_is : after (flushing most (Cell (Look Fail) ∷ Desk (BeginCommit false most) ∷ []) Finished) (Word words.fail) ≡ flushing most [] (Refuses Failed) = ap (λ (t : Bool). if t then onward (flushing most (Cell (Look Fail) ∷ Desk (BeginCommit false most) ∷ []) Finished) else refused (flushing most (Cell (Look Fail) ∷ Desk (BeginCommit false most) ∷ []) Finished) [] Failed) k in
-          subst (λ (p : Plan). Follows size most s words committing devices (slice_set actors a (record { task = Some (Flush, p); card = card_after words (Look Fail) x.card }))) (sym plan_is)
-          (goes_on size most words words (λ q. q) committing devices actors a x (record { task = Some (Flush, flushing most [] (Refuses Failed)); card = card_after words (Look Fail) x.card }) s y g ex ey devices [] s.shared tt (shared_stays s.shared y y.task)
+          subst (λ (p : Plan). Follows Quietly size most a s words committing devices (slice_set actors a (record { task = Some (Flush, p); card = card_after words (Look Fail) x.card }))) (sym plan_is)
+          (goes_on size most words words (λ q. q) committing devices actors a x (record { task = Some (Flush, flushing most [] (Refuses Failed)); card = card_after words (Look Fail) x.card }) s y g ex ey Quietly devices [] s.shared ([], quiet_none y.task, refl) tt (shared_stays s.shared y y.task)
           (subst (λ (z : AbstractActor). StandsFor size most words (record { task = Some (Flush, flushing most [] (Refuses Failed)); card = card_after words (Look Fail) x.card }) z) (sym (gone_nowhere y y.task))
-          (record { at = record { job = refl; steps = tt; at = inr (record { failed = l.failed; nothing = l.nothing; at = inr refl }) }; below = record { owned = st.below.owned; shared = st.below.shared }; among_others = st.among_others }))
+          (record { at = record { job = refl; steps = tt; at = inr (record { failed = l.failed; nothing = l.nothing; at = inr (refl, λ e. absurd (cc)) }) }; below = record { owned = st.below.owned; shared = st.below.shared }; among_others = st.among_others }))
           (λ q. gone_nowhere y y.task) g.words_agree g.origin g.cache refl refl refl (refl, refl, refl))
 
-  pub late_answers : IsLate words plan y → StandsFor size most words x y → Follows size most s words committing devices (slice_set actors a (record x { task = None }))
-  late_answers l st = goes_on size most words words (λ q. q) committing devices actors a x (record x { task = None }) s y g ex ey devices [] s.shared tt (shared_stays s.shared y y.task)
+  pub late_answers : IsLate words plan y → StandsFor size most words x y → Follows (By (DoneThere ∷ [])) size most a s words committing devices (slice_set actors a (record x { task = None }))
+  late_answers l st = goes_on size most words words (λ q. q) committing devices actors a x (record x { task = None }) s y g ex ey (By (DoneThere ∷ [])) devices [] s.shared (nothing_told a y.task (DoneThere ∷ []) l.nothing) tt (shared_stays s.shared y y.task)
       (subst (λ (z : AbstractActor). StandsFor size most words (record x { task = None }) z) (sym (gone_nowhere y y.task)) (record { at = (l.nothing, inr l.failed); below = st.below; among_others = st.among_others }))
       (λ q. gone_nowhere y y.task) g.words_agree g.origin g.cache refl refl refl (refl, refl, refl)

@@ -22,7 +22,7 @@ use Rattle.wb_runs.specs.States.{Actor}
 use Rattle.wb_runs.specs.Holding.{cards_of}
 use Rattle.wb_simulation.specs.Steps.{IsPart, AreOfBlock}
 use Rattle.wb_simulation.specs.Actors.{IsRequestAt, IsDoing, IsBusyAt, StandsFor}
-use Rattle.wb_simulation.specs.Worlds.{Agrees, Follows}
+use Rattle.wb_simulation.specs.Worlds.{Agrees, Quietly, Follows}
 use Rattle.wb_simulation.specs.Laws.{CellStepsFollowed, went}
 use Rattle.wb_simulation.proofs.Steps.{read_of_block, write_of_block}
 use Rattle.wb_simulation.proofs.Cells.{Acted, acts_on_words}
@@ -59,14 +59,14 @@ module _ (size most blocks : ℕ) (words : Words) (committing : Bool) (devices :
   -- among all others
   among_all : (job : Job) (content : Content) (job_on : BlockRange → BlockJob) → (acted : Acted size content s.actors a s.shared y (words_after words step) job_on (after plan (got_of (result_of words step))) (card_after words step x.card)) →
       IsDoing size most (words_after words step) job (after plan (got_of (result_of words step))) (card_after words step x.card) (gone y y.task acted.results) →
-      Follows size most s (words_after words step) committing devices (slice_set actors a (went words job plan step x))
+      Follows Quietly size most a s (words_after words step) committing devices (slice_set actors a (went words job plan step x))
   among_all job content job_on acted doing =
       let t = shared_after s.shared y y.task acted.results in
       let k = acted.same.images in
-      goes_on size most words (words_after words step) (failed_stays words step _ _ rule.logs.fail) committing devices actors a x (went words job plan step x) s y g ex ey devices acted.results t acted.may refl
+      goes_on size most words (words_after words step) (failed_stays words step _ _ rule.logs.fail) committing devices actors a x (went words job plan step x) s y g ex ey Quietly devices acted.results t (acted.results, acted.quiet, refl) acted.may refl
       (record { at = doing; below = acted.below; among_others = acted.among_others }) acted.leads acted.words_agree (acted.same.origin ∙ g.origin) (acted.same.cache ∙ g.cache) k.mode k.committing k.broken (k.committed, k.running, k.root_written)
 
-  followed : (job : Job) → Rattle.wb_simulation.specs.Laws.IsRequestJob job → x.task ≡ Some (job, plan) → Follows size most s (words_after words step) committing devices (slice_set actors a (went words job plan step x))
+  followed : (job : Job) → Rattle.wb_simulation.specs.Laws.IsRequestJob job → x.task ≡ Some (job, plan) → Follows Quietly size most a s (words_after words step) committing devices (slice_set actors a (went words job plan step x))
   followed (Read extent) q e =
       let acted = request_acts [] Reading (λ part. tt) (λ part. refl) (read_of_block size) (λ part. refl) (doing_of size most words x y (Read extent) plan st e) in
       among_all (Read extent) [] Reading acted acted.request

@@ -27,7 +27,7 @@ use Rattle.wb_refines.proofs.Holding.{holds_nothing}
 use Rattle.wb_runs.specs.declared.job.Job.TheVariants.{Flush}
 use Rattle.wb_runs.specs.States.{Actor}
 use Rattle.wb_simulation.specs.Actors.{IsFlushAt, IsOfFlush, LeadsAt, StandsFor}
-use Rattle.wb_simulation.specs.Worlds.{Agrees, Turn, TurnedTo, FollowsBy, IsUnfinished}
+use Rattle.wb_simulation.specs.Worlds.{zeros, Agrees, Turn, TurnedTo, Quietly, FollowsBy, IsUnfinished}
 use Rattle.wb_simulation.proofs.Among.{goes_leading}
 use Rattle.wb_simulation.proofs.Moving.{begins_by}
 
@@ -70,7 +70,7 @@ at_flush size most words plan next y e not_end not_look f =
       | inl l ↦ record { later = b.0; is = is; rest = subst (λ (ws : List Want). IsOfFlush most ws) b.1 f.steps; leads = l.leads; at = subst (λ (ws : List Want). LeadsAt l.leads ws) b.1 l.at; same = subst (λ (p : Plan). IsFlushing size [] p l.leads y) is l.is }
       | inr l ↦ absurd (elim l.at [
         | inl t ↦ not_look (sym e ∙ ap want (t ∙ ap (λ j. Rattle.wb_tasks.specs.Plan.table j) f.job))
-        | inr n ↦ (let bad : next ∷ b.0 ≡ [] = sym b.1 ∙ n in absurd (cc))
+        | inr n ↦ (let bad : next ∷ b.0 ≡ [] = sym b.1 ∙ n.0 in absurd (cc))
       ])
     ]
 
@@ -103,12 +103,12 @@ module _ (size most : ℕ) (words : Words) (committing : Bool) (devices : Device
 
   -- a flush that leads goes on, and its commit stays whole
   pub leads_on : (turn : Turn) (words' : Words) (up : flag words.fail ≡ true → flag words'.fail ≡ true) (devices' : Devices (List History)) (plan plan' : Plan) (card' : Card) (t : Shared) (next : Want) (later : List Want) (answer : Answer) → IsFlushing size [] (flushing most (next ∷ later) answer) true y → wants_of size (FlushingFor None) (next ∷ later) ≢ [] →
-      Leads size [] s.actors a s.shared y t plan' true → plan'.job ≡ Flushing [] most → IsOfFlush most plan'.steps → LeadsAt true plan'.steps → (true ≡ true → plan'.steps ≡ [] → flag words'.fail ≡ true) → WordsAgree words' t → t.origin ≡ by_block size [] devices'.origin → t.cache ≡ by_block size [] devices'.cache → t.mode ≡ s.shared.mode →
-      t.committing ≡ s.shared.committing → t.broken ≡ s.shared.broken → TurnedTo turn s.shared t → FollowsBy turn size most s words' committing devices' (slice_set actors a (record { task = Some (Flush, plan'); card = card' }))
+      Leads size [] s.actors a s.shared y t plan' true → plan'.job ≡ Flushing [] most → IsOfFlush most plan'.steps → LeadsAt true plan'.steps → (true ≡ true → plan'.steps ≡ [] → flag words'.fail ≡ true) → WordsAgree words' t → t.origin ≡ by_block size zeros devices'.origin → t.cache ≡ by_block size zeros devices'.cache → t.mode ≡ s.shared.mode →
+      t.committing ≡ s.shared.committing → t.broken ≡ s.shared.broken → TurnedTo turn s.shared t → FollowsBy turn Quietly size most a s words' committing devices' (slice_set actors a (record { task = Some (Flush, plan'); card = card' }))
   leads_on turn words' up devices' plan plan' card' t next later answer is some l j o at f w og ca mo co br turned =
       let lead : y.leads ≡ true = ap (λ (v : AbstractActor). v.leads) is.is in
       let y' = gone y y.task l.results in
       let runs = g.led a y ey lead in
       let whole : s.shared.broken ≡ false = g.whole a y ey lead (subst (λ (v : AbstractActor). IsUnfinished v.task) (sym is.is) some) in
-      goes_leading size most words words' up committing devices actors a x (record { task = Some (Flush, plan'); card = card' }) s y g ex ey turn committing devices' l.results t l.may l.shared
+      goes_leading size most words words' up committing devices actors a x (record { task = Some (Flush, plan'); card = card' }) s y g ex ey turn Quietly committing devices' l.results t (l.results, l.quiet, refl) l.may l.shared
       (stands words' plan' card' true y' j o at f l.at) w og ca mo (co ∙ g.commits) (λ e. co ∙ runs) (λ b v ev k. co ∙ runs) (λ b v ev k u. br ∙ whole) (one_here lead y') turned

@@ -33,7 +33,7 @@ use Rattle.wb_runs.specs.declared.job.Job.TheVariants.{Read, Write}
 use Rattle.wb_runs.specs.States.{Actor, with_device}
 use Rattle.wb_simulation.specs.Steps.{IsPart, AreOfBlock}
 use Rattle.wb_simulation.specs.Actors.{IsLate, IsRequestAt, IsDoing}
-use Rattle.wb_simulation.specs.Worlds.{Agrees, Follows}
+use Rattle.wb_simulation.specs.Worlds.{zeros, Agrees, By, Follows}
 use Rattle.wb_simulation.specs.Laws.{ExtentStepsFollowed, after_step}
 use Rattle.wb_simulation.proofs.Among.{goes_on}
 use Rattle.wb_simulation.proofs.Followed.{doing_of}
@@ -46,7 +46,7 @@ at_device size content words job_on part step ws answer card y (inl i) = i
 at_device size content words job_on part step ws answer card y (inr (inl k)) = absurd k.over
 at_device size content words job_on part step ws answer card y (inr (inr l)) = elim l.at [
   | inl e ↦ let steps = ap (λ (p : Plan). first_step p.steps p.answer) e in absurd (cc)
-  | inr e ↦ let bad : Device step ∷ ws ≡ [] = e in absurd (cc)
+  | inr e ↦ let bad : Device step ∷ ws ≡ [] = e.0 in absurd (cc)
 ]
 
 -- the words tell of the world what they told
@@ -55,24 +55,24 @@ words_beside words to s t b w = record { fail = b.fail ∙ w.fail; seals = λ bl
 
 module _ (size most : ℕ) (words : Words) (committing : Bool) (devices : Devices (List History)) (actors : List Actor) (a : ℕ) (x : Actor) (s : World) (y : AbstractActor) (ex : slice_get actors a ≡ Some x) (ey : slice_get s.actors a ≡ Some y) (g : Agrees size most words committing devices actors s) where
   -- the device of a location is its list
-  side_of : (device : Dev) (e : Extent) → HoldsBlocks device → IsSide size [] (location_at size device e) (device_in device devices) s.shared
+  side_of : (device : Dev) (e : Extent) → HoldsBlocks device → IsSide size zeros (location_at size device e) (device_in device devices) s.shared
   side_of Cache e h = g.cache
   side_of Origin e h = g.origin
   side_of Metadata e h = absurd h
 
   -- an actor of a request has moved an extent, and its device is this list now
   moved : (job : Job) (content : Content) (job_on : BlockRange → BlockJob) (plan : Plan) (device : Dev) (e : Extent) (results : List AbstractGot) (list : List History) → HoldsBlocks device →
-      Moves size [] content s.actors a s.shared y (location_at size device e) results list plan x.card → is_alone (gone y y.task results).task ≡ false → IsDoing size most words job plan x.card (gone y y.task results) →
-      Follows size most s words committing (with_device device devices list) (slice_set actors a (record { task = Some (job, plan); card = x.card }))
+      Moves size zeros content s.actors a s.shared y (location_at size device e) results list plan x.card → is_alone (gone y y.task results).task ≡ false → IsDoing size most words job plan x.card (gone y y.task results) →
+      Follows (By results) size most a s words committing (with_device device devices list) (slice_set actors a (record { task = Some (job, plan); card = x.card }))
   moved job content job_on plan Metadata e results list h m alone doing = absurd h
   moved job content job_on plan Cache e results list h m alone doing =
       let t = shared_after s.shared y y.task results in let k = m.beside.images in
-      goes_on size most words words (λ f. f) committing devices actors a x (record { task = Some (job, plan); card = x.card }) s y g ex ey (with_device Cache devices list) results t m.may refl
+      goes_on size most words words (λ f. f) committing devices actors a x (record { task = Some (job, plan); card = x.card }) s y g ex ey (By results) (with_device Cache devices list) results t refl m.may refl
       (record { at = doing; below = has_no_more size content plan x.card (gone y y.task results) m.at; among_others = alone }) (λ l. let bad : true ≡ false = sym l ∙ ap (λ (v : AbstractActor). v.leads) m.at.is in absurd (cc)) (words_beside words (location_at size Cache e) s.shared t m.beside g.words_agree)
       (m.beside.other ∙ g.origin) m.side_is k.mode k.committing k.broken (k.committed, k.running, k.root_written)
   moved job content job_on plan Origin e results list h m alone doing =
       let t = shared_after s.shared y y.task results in let k = m.beside.images in
-      goes_on size most words words (λ f. f) committing devices actors a x (record { task = Some (job, plan); card = x.card }) s y g ex ey (with_device Origin devices list) results t m.may refl
+      goes_on size most words words (λ f. f) committing devices actors a x (record { task = Some (job, plan); card = x.card }) s y g ex ey (By results) (with_device Origin devices list) results t refl m.may refl
       (record { at = doing; below = has_no_more size content plan x.card (gone y y.task results) m.at; among_others = alone }) (λ l. let bad : true ≡ false = sym l ∙ ap (λ (v : AbstractActor). v.leads) m.at.is in absurd (cc)) (words_beside words (location_at size Origin e) s.shared t m.beside g.words_agree)
       m.side_is (m.beside.other ∙ g.cache) k.mode k.committing k.broken (k.committed, k.running, k.root_written)
 
@@ -97,37 +97,37 @@ module _ (size most blocks : ℕ) (words : Words) (committing : Bool) (devices :
   abbrev writing : Plan
   writing = plan_of (Writing part) (Device (WriteExtent device e) ∷ ws) answer
 
-  abbrev Then : Devices (List History) → Job → Plan → Got → Type 0
-  Then devices' job plan got = Follows size most s words committing devices' (slice_set actors a (after_step job plan got x))
+  abbrev Then : List AbstractGot → Devices (List History) → Job → Plan → Got → Type 0
+  Then results devices' job plan got = Follows (By results) size most a s words committing devices' (slice_set actors a (after_step job plan got x))
 
   abbrev list : List History
   list = device_in device devices
 
-  read_done : (extent : Extent) (contents : List Content) → AreOfBlock size part.block.0 (Device (ReadExtent device e) ∷ ws) → Suits blocks reading x.card → length contents ≡ e.count → GivesEach list e.first contents → IsAt size [] reading x.card y → Then devices (Read extent) reading Done
+  read_done : (extent : Extent) (contents : List Content) → AreOfBlock size part.block.0 (Device (ReadExtent device e) ∷ ws) → Suits blocks reading x.card → length contents ≡ e.count → GivesEach list e.first contents → IsAt size [] reading x.card y → Then (map Gave contents) devices (Read extent) reading Done
   read_done extent contents o suits n given is =
-      let m = followed_alone.read_done size [] [] s.actors a x.card s.shared y part device e ws answer list contents o.0 (suits.1.1.0, suits.1.1.1.1) (side_of size most words committing devices actors a x s y ex ey g device e h) n given is in
-      subst (λ (ds : Devices (List History)). Then ds (Read extent) reading Done) (same_device device devices h)
+      let m = followed_alone.read_done size zeros [] s.actors a x.card s.shared y part device e ws answer list contents o.0 (suits.1.1.0, suits.1.1.1.1) (side_of size most words committing devices actors a x s y ex ey g device e h) n given is in
+      subst (λ (ds : Devices (List History)). Then (map Gave contents) ds (Read extent) reading Done) (same_device device devices h)
       (moved size most words committing devices actors a x s y ex ey g (Read extent) [] Reading (after reading Done) device e (map Gave contents) list h m (ap (λ (v : AbstractActor). is_alone v.task) m.at.is)
       (record { part = part; job = refl; is_part = is_part; of_block = o.1; at = inl m.at }))
 
-  read_fails : (extent : Extent) → AreOfBlock size part.block.0 (Device (ReadExtent device e) ∷ ws) → IsAt size [] reading x.card y → Then devices (Read extent) reading Fault
+  read_fails : (extent : Extent) → AreOfBlock size part.block.0 (Device (ReadExtent device e) ∷ ws) → IsAt size [] reading x.card y → Then read_fault devices (Read extent) reading Fault
   read_fails extent o is =
-      let m = followed_alone.read_fails size [] [] s.actors a x.card s.shared y part device e ws answer list o.0 (side_of size most words committing devices actors a x s y ex ey g device e h) is in
-      subst (λ (ds : Devices (List History)). Then ds (Read extent) reading Fault) (same_device device devices h)
+      let m = followed_alone.read_fails size zeros [] s.actors a x.card s.shared y part device e ws answer list o.0 (side_of size most words committing devices actors a x s y ex ey g device e h) is in
+      subst (λ (ds : Devices (List History)). Then read_fault ds (Read extent) reading Fault) (same_device device devices h)
       (moved size most words committing devices actors a x s y ex ey g (Read extent) [] Reading (after reading Fault) device e read_fault list h m (ap (λ (v : AbstractActor). is_alone v.task) m.at.is)
       (record { part = part; job = refl; is_part = is_part; of_block = tt; at = inl m.at }))
 
   write_done : (extent : Extent) (content : Content) → AreOfBlock size part.block.0 (Device (WriteExtent device e) ∷ ws) → Suits blocks writing x.card → e.first + e.count ≤ length list → IsAt size content writing x.card y →
-      Then (with_device device devices (written_each list e.first (replicate e.count content))) (Write extent content) writing Done
+      Then (replicate e.count DoneThere) (with_device device devices (written_each list e.first (replicate e.count content))) (Write extent content) writing Done
   write_done extent content o suits room is =
-      let m = followed_alone.write_done size [] content s.actors a x.card s.shared y part device e ws answer list o.0 (suits.1.1.0, suits.1.1.1.1) (side_of size most words committing devices actors a x s y ex ey g device e h) room is in
+      let m = followed_alone.write_done size zeros content s.actors a x.card s.shared y part device e ws answer list o.0 (suits.1.1.0, suits.1.1.1.1) (side_of size most words committing devices actors a x s y ex ey g device e h) room is in
       moved size most words committing devices actors a x s y ex ey g (Write extent content) content Writing (after writing Done) device e (replicate e.count DoneThere) (written_each list e.first (replicate e.count content)) h m (ap (λ (v : AbstractActor). is_alone v.task) m.at.is)
       (record { part = part; job = refl; is_part = is_part; of_block = o.1; at = inl m.at })
 
   write_fails : (extent : Extent) (content : Content) (lands : ℕ → Bool) → AreOfBlock size part.block.0 (Device (WriteExtent device e) ∷ ws) → e.first + e.count ≤ length list → IsAt size content writing x.card y →
-      Then (with_device device devices (written_where lands list e.first (replicate e.count content))) (Write extent content) writing Fault
+      Then (faults lands e.first e.count) (with_device device devices (written_where lands list e.first (replicate e.count content))) (Write extent content) writing Fault
   write_fails extent content lands o room is =
-      let m = followed_alone.write_fails size [] content s.actors a x.card s.shared y part device e ws answer list lands o.0 (side_of size most words committing devices actors a x s y ex ey g device e h) room is in
+      let m = followed_alone.write_fails size zeros content s.actors a x.card s.shared y part device e ws answer list lands o.0 (side_of size most words committing devices actors a x s y ex ey g device e h) room is in
       moved size most words committing devices actors a x s y ex ey g (Write extent content) content Writing (after writing Fault) device e (faults lands e.first e.count) (written_where lands list e.first (replicate e.count content)) h m (ap (λ (v : AbstractActor). is_alone v.task) m.at.is)
       (record { part = part; job = refl; is_part = is_part; of_block = tt; at = inl m.at })
 
@@ -161,21 +161,21 @@ extent_steps_followed = record {
   read_done = λ size most blocks words committing devices actors a x extent plan device e contents s ex task suits next h n given g.
       let y = element_beside actors s.actors a x g.many ex in
       let k = has_step size [] words Reading (ReadExtent device e) plan x.card y.0 next (doing_of size most words x y.0 (Read extent) plan (g.each a x y.0 ex y.1) task) in
-      subst (λ (p : Plan). Follows size most s words committing devices (slice_set actors a (after_step (Read extent) p Done x))) (sym k.is)
+      subst (λ (p : Plan). Follows (By (map Gave contents)) size most a s words committing devices (slice_set actors a (after_step (Read extent) p Done x))) (sym k.is)
       (read_done size most blocks words committing devices actors a x s y.0 ex y.1 g k.part k.is_part device e k.later plan.answer h extent contents k.of_block (subst (λ (p : Plan). Suits blocks p x.card) k.is suits) n given k.at);
   read_fails = λ size most blocks words committing devices actors a x extent plan device e s ex task suits next h g.
       let y = element_beside actors s.actors a x g.many ex in
       let k = has_step size [] words Reading (ReadExtent device e) plan x.card y.0 next (doing_of size most words x y.0 (Read extent) plan (g.each a x y.0 ex y.1) task) in
-      subst (λ (p : Plan). Follows size most s words committing devices (slice_set actors a (after_step (Read extent) p Fault x))) (sym k.is)
+      subst (λ (p : Plan). Follows (By read_fault) size most a s words committing devices (slice_set actors a (after_step (Read extent) p Fault x))) (sym k.is)
       (read_fails size most blocks words committing devices actors a x s y.0 ex y.1 g k.part k.is_part device e k.later plan.answer h extent k.of_block k.at);
   write_done = λ size most blocks words committing devices actors a x extent content plan device e s ex task suits next h room g.
       let y = element_beside actors s.actors a x g.many ex in
       let k = has_step size content words Writing (WriteExtent device e) plan x.card y.0 next (doing_of size most words x y.0 (Write extent content) plan (g.each a x y.0 ex y.1) task) in
-      subst (λ (p : Plan). Follows size most s words committing (with_device device devices (written_each (device_in device devices) e.first (replicate e.count content))) (slice_set actors a (after_step (Write extent content) p Done x))) (sym k.is)
+      subst (λ (p : Plan). Follows (By (replicate e.count DoneThere)) size most a s words committing (with_device device devices (written_each (device_in device devices) e.first (replicate e.count content))) (slice_set actors a (after_step (Write extent content) p Done x))) (sym k.is)
       (write_done size most blocks words committing devices actors a x s y.0 ex y.1 g k.part k.is_part device e k.later plan.answer h extent content k.of_block (subst (λ (p : Plan). Suits blocks p x.card) k.is suits) room k.at);
   write_fails = λ size most blocks words committing devices actors a x extent content plan device e lands s ex task suits next h room g.
       let y = element_beside actors s.actors a x g.many ex in
       let k = has_step size content words Writing (WriteExtent device e) plan x.card y.0 next (doing_of size most words x y.0 (Write extent content) plan (g.each a x y.0 ex y.1) task) in
-      subst (λ (p : Plan). Follows size most s words committing (with_device device devices (written_where lands (device_in device devices) e.first (replicate e.count content))) (slice_set actors a (after_step (Write extent content) p Fault x))) (sym k.is)
+      subst (λ (p : Plan). Follows (By (faults lands e.first e.count)) size most a s words committing (with_device device devices (written_where lands (device_in device devices) e.first (replicate e.count content))) (slice_set actors a (after_step (Write extent content) p Fault x))) (sym k.is)
       (write_fails size most blocks words committing devices actors a x s y.0 ex y.1 g k.part k.is_part device e k.later plan.answer h extent content lands k.of_block room k.at);
 }

@@ -1,5 +1,5 @@
 -- Crashes, and the steps of an opening until it reads, are followed.
-use Rattle.std.proofs.Common.{◌≡◌, ◌+◌, ◌*◌, ◌∙◌, ◌⊎◌, inl, inr, ℕ, Bool, true, false, List, [], Option, Some, None, refl, sym, ap, subst, Contains}
+use Rattle.std.proofs.Common.{◌≡◌, ◌+◌, ◌*◌, ◌∙◌, ◌⊎◌, inl, inr, ℕ, Bool, true, false, List, Option, Some, None, refl, sym, ap, subst, Contains}
 use Rattle.wb_types.specs.declared.geometry.Geometry.{Geometry}
 use Rattle.wb_types.specs.declared.mode.Mode.{Mode}
 use Rattle.wb_disk.specs.Device.{History, Crashed, synced, newest, entries}
@@ -19,6 +19,7 @@ use Rattle.wb_link.specs.Tables.{Choice}
 use Rattle.wb_link.specs.World.{Shared}
 use Rattle.wb_link.specs.Openings.{Site, Phase, Gone, Opens, Learnt, Stage, Settling, Caching, Basing, Looking, Rooting, Renewing, Answering, Stopping, Outcome, Settled, Fine, Learns, Refused, Broke, Shown, Stopped, Begins, Advances, Yields, advance, advanced, next_phase, decided}
 use Rattle.wb_simulation.specs.Sites.{IsRunning, ImagesAgree, DevicesAgree, LeadsTo, LeadsToOne, OpeningsFollowed, ImagesFollowed}
+use Rattle.wb_simulation.specs.Worlds.{zeros}
 
 -- what is decided agrees with one image, whichever it is
 pub record IsDecidedBy (geometry : Geometry) (committed : Stored) (later : Option Stored) (metadata : List History) (s : Shared) : Type 0 where
@@ -73,8 +74,8 @@ module _ (geometry : Geometry) (size : ℕ) (committed : Stored) (later : Option
       event = Stopped stopping;
       may = record {
         root = d.written;
-        origin = λ b i. subst (λ (f : ℕ → ℕ → History). Contains (entries (f b i)) (newest (by_block size [] devices'.origin b i))) (sym g.origin) (left_origin.pending b i);
-        cache = λ b i. subst (λ (f : ℕ → ℕ → History). Contains (entries (f b i)) (newest (by_block size [] devices'.cache b i))) (sym g.cache) (left_cache.pending b i);
+        origin = λ b i. subst (λ (f : ℕ → ℕ → History). Contains (entries (f b i)) (newest (by_block size zeros devices'.origin b i))) (sym g.origin) (left_origin.pending b i);
+        cache = λ b i. subst (λ (f : ℕ → ℕ → History). Contains (entries (f b i)) (newest (by_block size zeros devices'.cache b i))) (sym g.cache) (left_cache.pending b i);
       };
       phase_is = refl;
       agrees = record { origin = sym left_origin.alone; cache = sym left_cache.alone; images = same_images geometry d.state None devices'.metadata (decided w.world.shared d.new_root) _ refl refl refl d.images };
@@ -82,17 +83,17 @@ module _ (geometry : Geometry) (size : ℕ) (committed : Stored) (later : Option
     settled = d.settled;
   }
     where
-      left_origin : CrashLeaves (by_block size [] devices.origin) (by_block size [] devices'.origin)
-      left_origin = crash_is_act size [] devices.origin devices'.origin o
+      left_origin : CrashLeaves (by_block size zeros devices.origin) (by_block size zeros devices'.origin)
+      left_origin = crash_is_act size zeros devices.origin devices'.origin o
 
-      left_cache : CrashLeaves (by_block size [] devices.cache) (by_block size [] devices'.cache)
-      left_cache = crash_is_act size [] devices.cache devices'.cache c
+      left_cache : CrashLeaves (by_block size zeros devices.cache) (by_block size zeros devices'.cache)
+      left_cache = crash_is_act size zeros devices.cache devices'.cache c
 
       d : IsDecidedBy geometry committed later devices'.metadata w.world.shared
       d = decides geometry committed later devices.metadata devices'.metadata w.world.shared g.images (crash_decides geometry committed later devices.metadata devices'.metadata g.images.read m)
 
       stopping : Stopping
-      stopping = record { origin = λ b i. newest (by_block size [] devices'.origin b i); cache = λ b i. newest (by_block size [] devices'.cache b i); new_root = d.new_root }
+      stopping = record { origin = λ b i. newest (by_block size zeros devices'.origin b i); cache = λ b i. newest (by_block size zeros devices'.cache b i); new_root = d.new_root }
 
 abbrev fault : (ℕ → ℕ → Bool) → Choice
 fault settled = record { landed = false; more = false; settled = settled }
@@ -111,13 +112,13 @@ openings_followed = record {
       advances geometry size committed later mode Settling (Broke no_fault) w (record devices { metadata = metadata }) at tt
       (record { origin = g.origin; cache = g.cache; images = record { read = failed_sync_leaves geometry committed later devices.metadata metadata g.images.read partly; committed_is = g.images.committed_is; later_is = g.images.later_is } });
   syncs_cache = λ geometry size committed later mode w devices at g. advances geometry size committed later mode Caching Fine w (record devices { cache = synced devices.cache }) at tt
-      (record { origin = g.origin; cache = ap all_synced g.cache ∙ sym (sync_is_act size [] devices.cache); images = same_images geometry committed later devices.metadata w.world.shared _ refl refl refl g.images });
+      (record { origin = g.origin; cache = ap all_synced g.cache ∙ sym (sync_is_act size zeros devices.cache); images = same_images geometry committed later devices.metadata w.world.shared _ refl refl refl g.images });
   cache_fails = λ geometry size committed later mode w devices at g lands. advances geometry size committed later mode Caching (Broke (fault (λ b o. lands (b * size + o)))) w (record devices { cache = synced_where lands devices.cache }) at tt
-      (record { origin = g.origin; cache = ap (partly_synced (λ b o. lands (b * size + o))) g.cache ∙ sym (failed_sync_is_act size [] lands devices.cache); images = same_images geometry committed later devices.metadata w.world.shared _ refl refl refl g.images });
+      (record { origin = g.origin; cache = ap (partly_synced (λ b o. lands (b * size + o))) g.cache ∙ sym (failed_sync_is_act size zeros lands devices.cache); images = same_images geometry committed later devices.metadata w.world.shared _ refl refl refl g.images });
   syncs_origin = λ geometry size committed later mode w devices at g. advances geometry size committed later mode Basing Fine w (record devices { origin = synced devices.origin }) at tt
-      (record { origin = ap all_synced g.origin ∙ sym (sync_is_act size [] devices.origin); cache = g.cache; images = same_images geometry committed later devices.metadata w.world.shared _ refl refl refl g.images });
+      (record { origin = ap all_synced g.origin ∙ sym (sync_is_act size zeros devices.origin); cache = g.cache; images = same_images geometry committed later devices.metadata w.world.shared _ refl refl refl g.images });
   origin_fails = λ geometry size committed later mode w devices at g lands. advances geometry size committed later mode Basing (Broke (fault (λ b o. lands (b * size + o)))) w (record devices { origin = synced_where lands devices.origin }) at tt
-      (record { origin = ap (partly_synced (λ b o. lands (b * size + o))) g.origin ∙ sym (failed_sync_is_act size [] lands devices.origin); cache = g.cache; images = same_images geometry committed later devices.metadata w.world.shared _ refl refl refl g.images });
+      (record { origin = ap (partly_synced (λ b o. lands (b * size + o))) g.origin ∙ sym (failed_sync_is_act size zeros lands devices.origin); cache = g.cache; images = same_images geometry committed later devices.metadata w.world.shared _ refl refl refl g.images });
   learns = λ geometry size committed w devices root tree used at g settled represents fits.
       let learnt : Learnt = record { locations = w.world.shared.committed; clean = w.world.shared.committed_clean } in
       let is = read_is_committed geometry committed devices.metadata root tree used g.images.read settled represents fits in

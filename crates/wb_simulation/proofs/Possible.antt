@@ -1,7 +1,7 @@
 -- A target that was just made agrees with the abstract world that begins.
-use Rattle.std.proofs.Common.{◌≡◌, ◌+◌, ◌*◌, ◌∙◌, inl, ℕ, zero, suc, Bool, true, false, cond, nat_lt, unwrap_or, [], Some, None, replicate, refl, sym, ap, subst, slice_get}
+use Rattle.std.proofs.Common.{◌≡◌, ◌+◌, ◌*◌, ◌∙◌, inl, ℕ, zero, suc, Bool, true, false, cond, nat_lt, unwrap_or, Some, None, replicate, refl, sym, ap, subst, slice_get}
 use Rattle.std.proofs.lemmas.List.{length-replicate}
-use Rattle.wb_disk.specs.Device.{only}
+use Rattle.wb_disk.specs.Device.{Content, only}
 use Rattle.wb_contents.specs.Devices.{by_block}
 use Rattle.wb_types.specs.declared.number.OBlock.{OBlock}
 use Rattle.wb_words.specs.SharedWords.{word_at, fresh_words}
@@ -12,28 +12,29 @@ use Rattle.wb_refines.proofs.Holding.{holds_nothing}
 use Rattle.wb_runs.specs.States.{Actor, resting}
 use Rattle.wb_simulation.specs.Actors.{StandsFor}
 use Rattle.wb_simulation.specs.Laws.{CanAgree}
+use Rattle.wb_simulation.specs.Worlds.{zeros}
 
 -- an empty device is empty wherever it is looked at
-empty_at : (count at : ℕ) → unwrap_or (slice_get (replicate count (only [])) at) (only []) ≡ only []
-empty_at zero at = refl
-empty_at (suc count) zero = refl
-empty_at (suc count) (suc at) = empty_at count at
+empty_at : (c : Content) (count at : ℕ) → unwrap_or (slice_get (replicate count (only c)) at) (only c) ≡ only c
+empty_at c zero at = refl
+empty_at c (suc count) zero = refl
+empty_at c (suc count) (suc at) = empty_at c count at
 
-empty_device : (size count : ℕ) → (λ (b o : ℕ). only []) ≡ by_block size [] (replicate count (only []))
-empty_device size count = λ i b o. here (nat_lt o size) (b * size + o) i
+pub empty_device : (c : Content) (size count : ℕ) → (λ (b o : ℕ). only c) ≡ by_block size c (replicate count (only c))
+empty_device c size count = λ i b o. here (nat_lt o size) (b * size + o) i
   where
-    here : (t : Bool) (at : ℕ) → only [] ≡ cond t (unwrap_or (slice_get (replicate count (only [])) at) (only [])) (only [])
-    here true at = sym (empty_at count at)
+    here : (t : Bool) (at : ℕ) → only c ≡ cond t (unwrap_or (slice_get (replicate count (only c)) at) (only c)) (only c)
+    here true at = sym (empty_at c count at)
     here false at = refl
 
 -- no block is sealed
 fresh_at : (blocks : ℕ) (block : OBlock) → word_at (fresh_words blocks).seals block ≡ 0
-fresh_at blocks block = zeros blocks block.0
+fresh_at blocks block = none_at blocks block.0
   where
-    zeros : (count at : ℕ) → word_at (replicate count 0) (record { 0 = at }) ≡ 0
-    zeros zero at = refl
-    zeros (suc count) zero = refl
-    zeros (suc count) (suc at) = zeros count at
+    none_at : (count at : ℕ) → word_at (replicate count 0) (record { 0 = at }) ≡ 0
+    none_at zero at = refl
+    none_at (suc count) zero = refl
+    none_at (suc count) (suc at) = none_at count at
 
 unsealed : SealAgrees 0 (record { location = None; dirty = false })
 unsealed = record { location = refl; dirty = λ c e. let bad : None ≡ Some c = e in absurd (cc) }
@@ -44,8 +45,8 @@ rests size most blocks = record { at = (refl, inl (record { task = refl; held = 
 pub can_agree : CanAgree
 can_agree size most blocks cache origin many = record {
   words_agree = record { fail = refl; seals = λ block. subst (λ (n : ℕ). SealAgrees n (record { location = None; dirty = false })) (sym (fresh_at blocks block)) unsealed };
-  origin = empty_device size origin;
-  cache = empty_device size cache;
+  origin = empty_device zeros size origin;
+  cache = empty_device zeros size cache;
   mode = refl;
   commits = refl;
   broken = λ e. absurd (cc);

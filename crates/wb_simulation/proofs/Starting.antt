@@ -12,7 +12,7 @@ use Rattle.wb_link.specs.World.{World, Start, Actor as AbstractActor, is_alone}
 use Rattle.wb_refines.specs.Translation.{job_for}
 use Rattle.wb_refines.specs.Models.{IsAt}
 use Rattle.wb_refines.specs.Flushes.{IsFlushing}
-use Rattle.wb_refines.specs.Tasks.{IsIdle, NobodyIsAlone, AllInBlocks, Starts}
+use Rattle.wb_refines.specs.Tasks.{IsIdle, NobodyIsAlone, AllInBlocks, Starts as CanStart}
 use Rattle.wb_refines.proofs.Holding.{holds_nothing}
 use Rattle.wb_refines.proofs.Locks.{has_no_more}
 use Rattle.wb_refines.proofs.Tasks.{tasks_begin}
@@ -21,9 +21,9 @@ use Rattle.wb_runs.specs.declared.job.Job.TheVariants.{Read, Write, Flush}
 use Rattle.wb_runs.specs.States.{Actor}
 use Rattle.wb_simulation.specs.Steps.{IsPart}
 use Rattle.wb_simulation.specs.Actors.{IsLate, IsBusyAt, IsDoing, StandsFor}
-use Rattle.wb_simulation.specs.Worlds.{Agrees, Stays, TurnedTo, Follows}
+use Rattle.wb_simulation.specs.Worlds.{Agrees, Stays, TurnedTo, Quietly, Starts, Follows}
 use Rattle.wb_simulation.specs.Laws.{StartsFollowed}
-use Rattle.wb_simulation.proofs.Cells.{shared_stays, gone_nowhere}
+use Rattle.wb_simulation.proofs.Cells.{shared_stays, gone_nowhere, quiet_none}
 use Rattle.wb_simulation.proofs.Among.{goes_on, each_on, led_on, whole_on, one_on}
 
 nobody_alone : (size most : ℕ) (words : Words) (committing : Bool) (devices : Devices (List History)) (actors : List Actor) (s : World) → Agrees size most words committing devices actors s → NobodyIsAlone s
@@ -34,10 +34,10 @@ all_inside size part is e c = (is.each e c).room
 
 module _ (size most : ℕ) (words : Words) (committing : Bool) (devices : Devices (List History)) (actors : List Actor) (a : ℕ) (x : Actor) (job : Job) (plan : Plan) (s : World) (ex : slice_get actors a ≡ Some x) (g : Agrees size most words committing devices actors s) where
   abbrev Goal : Type 0
-  Goal = Follows size most s words committing devices (slice_set actors a (record x { task = Some (job, plan) }))
+  Goal = Follows Quietly size most a s words committing devices (slice_set actors a (record x { task = Some (job, plan) }))
 
   -- the same job is started there
-  starts : (y : AbstractActor) (abstract_job : AbstractJob) (Is : AbstractActor → Type 0) → slice_get s.actors a ≡ Some y → Starts size s a abstract_job Is → ((z : AbstractActor) → Is z → StandsFor size most words (record x { task = Some (job, plan) }) z × (z.leads ≡ false)) → Goal
+  starts : (y : AbstractActor) (abstract_job : AbstractJob) (Is : AbstractActor → Type 0) → slice_get s.actors a ≡ Some y → CanStart size s a abstract_job Is → ((z : AbstractActor) → Is z → StandsFor size most words (record x { task = Some (job, plan) }) z × (z.leads ≡ false)) → Follows (Starts abstract_job) size most a s words committing devices (slice_set actors a (record x { task = Some (job, plan) }))
   starts y abstract_job Is ey st stands = record {
     records = Start a abstract_job ∷ [];
     run = (st.may, tt);
@@ -55,6 +55,7 @@ module _ (size most : ℕ) (words : Words) (committing : Bool) (devices : Device
       each = each_on size most words words (λ f. f) committing devices actors a x (record x { task = Some (job, plan) }) s y g ex ey st.then_is (stands st.then_is st.at).0;
     });
     turned = subst (λ (v : World). TurnedTo Stays s.shared v.shared) (sym st.world) (refl, refl, refl);
+    told = λ z e. refl;
   }
     where
       leads : st.then_is.leads ≡ true → st.then_is ≡ y
@@ -62,7 +63,7 @@ module _ (size most : ℕ) (words : Words) (committing : Bool) (devices : Device
 
   -- nothing is started there, since the actor has kept something
   begins_late : (y : AbstractActor) → slice_get s.actors a ≡ Some y → StandsFor size most words x y → IsDoing size most words job plan x.card y → Goal
-  begins_late y ey st doing = goes_on size most words words (λ f. f) committing devices actors a x (record x { task = Some (job, plan) }) s y g ex ey devices [] s.shared tt (shared_stays s.shared y y.task)
+  begins_late y ey st doing = goes_on size most words words (λ f. f) committing devices actors a x (record x { task = Some (job, plan) }) s y g ex ey Quietly devices [] s.shared ([], quiet_none y.task, refl) tt (shared_stays s.shared y y.task)
       (subst (λ (z : AbstractActor). StandsFor size most words (record x { task = Some (job, plan) }) z) (sym (gone_nowhere y y.task)) (record { at = doing; below = st.below; among_others = st.among_others }))
       (λ l. gone_nowhere y y.task) g.words_agree g.origin g.cache refl refl refl (refl, refl, refl)
 
@@ -80,10 +81,10 @@ starts_followed = record {
       let r = rests size most words x y.0 st none in
       let plan = table (OnBlock (Reading part)) in
       elim r.1 [
-        | inl idle ↦ starts size most words committing devices actors a x (Read extent) plan s ex g y.0 (job_for size [] (OnBlock (Reading part))) (λ z. IsAt size [] plan x.card z) y.1
+        | inl idle ↦ inl (starts size most words committing devices actors a x (Read extent) plan s ex g y.0 (job_for size [] (OnBlock (Reading part))) (λ z. IsAt size [] plan x.card z) y.1
             (tasks_begin.read size [] s a y.0 x.card part y.1 idle (nobody_alone size most words committing devices actors s g) (all_inside size part is) hold)
-            (λ z at. (record { at = record { part = part; job = refl; is_part = is; of_block = tt; at = inl at }; below = has_no_more size [] plan x.card z at; among_others = ap (λ (v : AbstractActor). is_alone v.task) at.is }, ap (λ (v : AbstractActor). v.leads) at.is))
-        | inr f ↦ begins_late size most words committing devices actors a x (Read extent) plan s ex g y.0 y.1 st (record { part = part; job = refl; is_part = is; of_block = tt; at = inr (inr (late words plan y.0 f r.0 refl)) })
+            (λ z at. (record { at = record { part = part; job = refl; is_part = is; of_block = tt; at = inl at }; below = has_no_more size [] plan x.card z at; among_others = ap (λ (v : AbstractActor). is_alone v.task) at.is }, ap (λ (v : AbstractActor). v.leads) at.is)))
+        | inr f ↦ inr (begins_late size most words committing devices actors a x (Read extent) plan s ex g y.0 y.1 st (record { part = part; job = refl; is_part = is; of_block = tt; at = inr (inr (late words plan y.0 f r.0 refl)) }))
       ];
   write = λ size most words committing devices actors a x extent content part s ex none hold is g.
       let y = element_beside actors s.actors a x g.many ex in
@@ -91,10 +92,10 @@ starts_followed = record {
       let r = rests size most words x y.0 st none in
       let plan = table (OnBlock (Writing part)) in
       elim r.1 [
-        | inl idle ↦ starts size most words committing devices actors a x (Write extent content) plan s ex g y.0 (job_for size content (OnBlock (Writing part))) (λ z. IsAt size content plan x.card z) y.1
+        | inl idle ↦ inl (starts size most words committing devices actors a x (Write extent content) plan s ex g y.0 (job_for size content (OnBlock (Writing part))) (λ z. IsAt size content plan x.card z) y.1
             (tasks_begin.write size content s a y.0 x.card part y.1 idle (nobody_alone size most words committing devices actors s g) (all_inside size part is) g.mode hold)
-            (λ z at. (record { at = record { part = part; job = refl; is_part = is; of_block = tt; at = inl at }; below = has_no_more size content plan x.card z at; among_others = ap (λ (v : AbstractActor). is_alone v.task) at.is }, ap (λ (v : AbstractActor). v.leads) at.is))
-        | inr f ↦ begins_late size most words committing devices actors a x (Write extent content) plan s ex g y.0 y.1 st (record { part = part; job = refl; is_part = is; of_block = tt; at = inr (inr (late words plan y.0 f r.0 refl)) })
+            (λ z at. (record { at = record { part = part; job = refl; is_part = is; of_block = tt; at = inl at }; below = has_no_more size content plan x.card z at; among_others = ap (λ (v : AbstractActor). is_alone v.task) at.is }, ap (λ (v : AbstractActor). v.leads) at.is)))
+        | inr f ↦ inr (begins_late size most words committing devices actors a x (Write extent content) plan s ex g y.0 y.1 st (record { part = part; job = refl; is_part = is; of_block = tt; at = inr (inr (late words plan y.0 f r.0 refl)) }))
       ];
   flush = λ size most words committing devices actors a x s ex none g.
       let y = element_beside actors s.actors a x g.many ex in
@@ -102,7 +103,7 @@ starts_followed = record {
       let r = rests size most words x y.0 st none in
       let plan = table (Flushing [] most) in
       elim r.1 [
-        | inl idle ↦ starts size most words committing devices actors a x Flush plan s ex g y.0 (FlushingFor None) (λ z. IsFlushing size [] plan false z) y.1
+        | inl idle ↦ inl (starts size most words committing devices actors a x Flush plan s ex g y.0 (FlushingFor None) (λ z. IsFlushing size [] plan false z) y.1
             (tasks_begin.flush size most [] s a y.0 y.1 idle (nobody_alone size most words committing devices actors s g))
             (λ z at. (
               record {
@@ -111,7 +112,7 @@ starts_followed = record {
                 among_others = ap (λ (v : AbstractActor). is_alone v.task) at.is;
               },
               ap (λ (v : AbstractActor). v.leads) at.is,
-            ))
-        | inr f ↦ begins_late size most words committing devices actors a x Flush plan s ex g y.0 y.1 st (record { job = refl; steps = refl; at = inr (late words plan y.0 f r.0 refl) })
+            )))
+        | inr f ↦ inr (begins_late size most words committing devices actors a x Flush plan s ex g y.0 y.1 st (record { job = refl; steps = refl; at = inr (late words plan y.0 f r.0 refl) }))
       ];
 }

@@ -1,5 +1,5 @@
 -- When an actor of a run is one of the abstract world, where a target stands.
-use Rattle.std.specs.Prelude.{◌≡◌, ◌⊎◌, ℕ, Bool, true, false, List, [], ◌∷◌, Option, Some, None}
+use Rattle.std.specs.Prelude.{◌≡◌, ◌≢◌, ◌⊎◌, ℕ, Bool, true, false, List, [], ◌∷◌, Option, Some, None}
 use Rattle.wb_disk.specs.Device.{Content}
 use Rattle.wb_words.specs.SharedWords.{Words, flag}
 use Rattle.wb_words.specs.declared.card.Card.{Card}
@@ -7,6 +7,7 @@ use Rattle.wb_words.specs.declared.step.CellStep.TheVariants.{Look, SetFailed}
 use Rattle.wb_words.specs.declared.word.Word.TheVariants.{Fail}
 use Rattle.wb_tasks.specs.Tables.{BlockRange, BlockJob, Reading, Writing, OnBlock, Flushing}
 use Rattle.wb_tasks.specs.Plan.{Plan, table}
+use Rattle.wb_tasks.specs.declared.step.Answer.TheVariants.{Done as Finished}
 use Rattle.wb_tasks.specs.declared.step.Want.{Want}
 use Rattle.wb_tasks.specs.declared.step.Want.TheVariants.{Cell, Device, Desk}
 use Rattle.wb_tasks.specs.declared.step.DeviceStep.TheVariants.{Sync}
@@ -25,7 +26,7 @@ use Rattle.wb_simulation.specs.Steps.{IsPart, AreOfBlock}
 pub record IsLate (words : Words) (plan : Plan) (y : AbstractActor) : Type 0 where
   pub failed : flag words.fail ≡ true
   pub nothing : y.task ≡ None
-  pub at : (plan ≡ table plan.job) ⊎ (plan.steps ≡ [])
+  pub at : (plan ≡ table plan.job) ⊎ ((plan.steps ≡ []) × (plan.answer ≢ Finished))
 
 -- a read or write, which writes this: it is at the same there, has only to answer, or is late
 pub record IsRequestAt (size : ℕ) (content : Content) (words : Words) (job_on : BlockRange → BlockJob) (plan : Plan) (card : Card) (y : AbstractActor) : Type 0 where

@@ -1,5 +1,5 @@
 -- How what actors of a run do is followed in the abstract world, where a target stands.
-use Rattle.std.specs.Prelude.{◌≡◌, ◌≤◌, ◌+◌, ℕ, Bool, true, false, List, [], Some, None, length, replicate, slice_get, slice_set}
+use Rattle.std.specs.Prelude.{◌≡◌, ◌≤◌, ◌+◌, ◌⊎◌, ℕ, Bool, true, false, List, [], ◌∷◌, Some, None, length, map, replicate, slice_get, slice_set}
 use Rattle.wb_types.specs.declared.extent.Extent.{Extent}
 use Rattle.wb_types.specs.declared.mode.Dev.{Dev}
 use Rattle.wb_types.specs.declared.mode.Dev.TheVariants.{Metadata}
@@ -26,6 +26,9 @@ use Rattle.wb_tasks.specs.declared.step.Got.{Got}
 use Rattle.wb_tasks.specs.declared.step.Got.TheVariants.{Done, Fault, Began, Refused}
 use Rattle.wb_devices.specs.declared.devices.Devices.{Devices}
 use Rattle.wb_devices.specs.Moving.{device_in}
+use Rattle.wb_link.specs.Tables.{Gave, Done as DoneThere, Job as AbstractJob, Flushing as FlushingFor}
+use Rattle.wb_refines.specs.Data.{faults, read_fault}
+use Rattle.wb_refines.specs.Translation.{job_for}
 use Rattle.wb_link.specs.World.{World, begins as world_begins}
 use Rattle.wb_refines.specs.Flushes.{IsNoBegin}
 use Rattle.wb_runs.specs.declared.job.Job.{Job}
@@ -33,7 +36,7 @@ use Rattle.wb_runs.specs.declared.job.Job.TheVariants.{Read, Write, Flush}
 use Rattle.wb_runs.specs.States.{Actor, resting, with_device}
 use Rattle.wb_runs.specs.Holding.{cards_of}
 use Rattle.wb_simulation.specs.Steps.{IsPart}
-use Rattle.wb_simulation.specs.Worlds.{Agrees, Turn, Stays, Begins, Puts, Ends, FollowsBy, Follows}
+use Rattle.wb_simulation.specs.Worlds.{zeros, Agrees, Turn, Stays, Begins, Puts, Ends, Quietly, By, Starts, FollowsBy, Follows}
 
 abbrev pub IsRequestJob : Job → Type 0
 IsRequestJob (Read extent) = Unit {0}
@@ -48,7 +51,7 @@ went words job plan step x = record { task = Some (job, after plan (got_of (resu
 abbrev pub CellStepsFollowed : Type 0
 CellStepsFollowed = (size most blocks : ℕ) (words : Words) (committing : Bool) (devices : Devices (List History)) (actors : List Actor) (a : ℕ) (x : Actor) (job : Job) (plan : Plan) (step : CellStep) (s : World) →
     IsRequestJob job → LockRule blocks words (cards_of actors) → slice_get actors a ≡ Some x → x.task ≡ Some (job, plan) → Suits blocks plan x.card → want plan ≡ Cell step → Agrees size most words committing devices actors s →
-    Follows size most s (words_after words step) committing devices (slice_set actors a (went words job plan step x))
+    Follows Quietly size most a s (words_after words step) committing devices (slice_set actors a (went words job plan step x))
 
 -- an actor that has gone on with its task, and knows what it knew
 abbrev pub after_step : Job → Plan → Got → Actor → Actor
@@ -58,34 +61,38 @@ after_step job plan got x = record { task = Some (job, after plan got); card = x
 pub record ExtentStepsFollowed : Type 0 where
   pub read_done : (size most blocks : ℕ) (words : Words) (committing : Bool) (devices : Devices (List History)) (actors : List Actor) (a : ℕ) (x : Actor) (extent : Extent) (plan : Plan) (device : Dev) (e : Extent) (contents : List Content) (s : World) →
       slice_get actors a ≡ Some x → x.task ≡ Some (Read extent, plan) → Suits blocks plan x.card → want plan ≡ Device (ReadExtent device e) → HoldsBlocks device → length contents ≡ e.count → GivesEach (device_in device devices) e.first contents →
-      Agrees size most words committing devices actors s → Follows size most s words committing devices (slice_set actors a (after_step (Read extent) plan Done x))
+      Agrees size most words committing devices actors s → Follows (By (map Gave contents)) size most a s words committing devices (slice_set actors a (after_step (Read extent) plan Done x))
   pub read_fails : (size most blocks : ℕ) (words : Words) (committing : Bool) (devices : Devices (List History)) (actors : List Actor) (a : ℕ) (x : Actor) (extent : Extent) (plan : Plan) (device : Dev) (e : Extent) (s : World) →
       slice_get actors a ≡ Some x → x.task ≡ Some (Read extent, plan) → Suits blocks plan x.card → want plan ≡ Device (ReadExtent device e) → HoldsBlocks device →
-      Agrees size most words committing devices actors s → Follows size most s words committing devices (slice_set actors a (after_step (Read extent) plan Fault x))
+      Agrees size most words committing devices actors s → Follows (By read_fault) size most a s words committing devices (slice_set actors a (after_step (Read extent) plan Fault x))
   pub write_done : (size most blocks : ℕ) (words : Words) (committing : Bool) (devices : Devices (List History)) (actors : List Actor) (a : ℕ) (x : Actor) (extent : Extent) (content : Content) (plan : Plan) (device : Dev) (e : Extent) (s : World) →
       slice_get actors a ≡ Some x → x.task ≡ Some (Write extent content, plan) → Suits blocks plan x.card → want plan ≡ Device (WriteExtent device e) → HoldsBlocks device → e.first + e.count ≤ length (device_in device devices) →
-      Agrees size most words committing devices actors s → Follows size most s words committing (with_device device devices (written_each (device_in device devices) e.first (replicate e.count content))) (slice_set actors a (after_step (Write extent content) plan Done x))
+      Agrees size most words committing devices actors s → Follows (By (replicate e.count DoneThere)) size most a s words committing (with_device device devices (written_each (device_in device devices) e.first (replicate e.count content))) (slice_set actors a (after_step (Write extent content) plan Done x))
   pub write_fails : (size most blocks : ℕ) (words : Words) (committing : Bool) (devices : Devices (List History)) (actors : List Actor) (a : ℕ) (x : Actor) (extent : Extent) (content : Content) (plan : Plan) (device : Dev) (e : Extent) (lands : ℕ → Bool) (s : World) →
       slice_get actors a ≡ Some x → x.task ≡ Some (Write extent content, plan) → Suits blocks plan x.card → want plan ≡ Device (WriteExtent device e) → HoldsBlocks device → e.first + e.count ≤ length (device_in device devices) →
-      Agrees size most words committing devices actors s → Follows size most s words committing (with_device device devices (written_where lands (device_in device devices) e.first (replicate e.count content))) (slice_set actors a (after_step (Write extent content) plan Fault x))
+      Agrees size most words committing devices actors s → Follows (By (faults lands e.first e.count)) size most a s words committing (with_device device devices (written_where lands (device_in device devices) e.first (replicate e.count content))) (slice_set actors a (after_step (Write extent content) plan Fault x))
+
+-- The job is given to the actor there too, or to nobody, since the actor has kept something at a failure.
+abbrev pub Begun : AbstractJob → (size most a : ℕ) → World → Words → Bool → Devices (List History) → List Actor → Type 0
+Begun job size most a s words committing devices actors = Follows (Starts job) size most a s words committing devices actors ⊎ Follows Quietly size most a s words committing devices actors
 
 -- A read or write of one part of a block, or a flush, begins, whether its actor has kept something at a failure or not.
 pub record StartsFollowed : Type 0 where
   pub read : (size most : ℕ) (words : Words) (committing : Bool) (devices : Devices (List History)) (actors : List Actor) (a : ℕ) (x : Actor) (extent : Extent) (part : BlockRange) (s : World) →
       slice_get actors a ≡ Some x → x.task ≡ None → x.card.hold ≡ Nothing → IsPart size part → Agrees size most words committing devices actors s →
-      Follows size most s words committing devices (slice_set actors a (record x { task = Some (Read extent, table (OnBlock (Reading part))) }))
+      Begun (job_for size [] (OnBlock (Reading part))) size most a s words committing devices (slice_set actors a (record x { task = Some (Read extent, table (OnBlock (Reading part))) }))
   pub write : (size most : ℕ) (words : Words) (committing : Bool) (devices : Devices (List History)) (actors : List Actor) (a : ℕ) (x : Actor) (extent : Extent) (content : Content) (part : BlockRange) (s : World) →
       slice_get actors a ≡ Some x → x.task ≡ None → x.card.hold ≡ Nothing → IsPart size part → Agrees size most words committing devices actors s →
-      Follows size most s words committing devices (slice_set actors a (record x { task = Some (Write extent content, table (OnBlock (Writing part))) }))
+      Begun (job_for size content (OnBlock (Writing part))) size most a s words committing devices (slice_set actors a (record x { task = Some (Write extent content, table (OnBlock (Writing part))) }))
   pub flush : (size most : ℕ) (words : Words) (committing : Bool) (devices : Devices (List History)) (actors : List Actor) (a : ℕ) (x : Actor) (s : World) →
       slice_get actors a ≡ Some x → x.task ≡ None → Agrees size most words committing devices actors s →
-      Follows size most s words committing devices (slice_set actors a (record x { task = Some (Flush, table (Flushing [] most)) }))
+      Begun (FlushingFor None) size most a s words committing devices (slice_set actors a (record x { task = Some (Flush, table (Flushing [] most)) }))
 
 -- A read or write is answered, whether it was done, refused, or stopped by a failure.
 abbrev pub AnswersFollowed : Type 0
 AnswersFollowed = (size most blocks : ℕ) (words : Words) (committing : Bool) (devices : Devices (List History)) (actors : List Actor) (a : ℕ) (x : Actor) (job : Job) (plan : Plan) (answer : Answer) (s : World) →
     IsRequestJob job → slice_get actors a ≡ Some x → x.task ≡ Some (job, plan) → Suits blocks plan x.card → want plan ≡ End answer → Agrees size most words committing devices actors s →
-    Follows size most s words committing devices (slice_set actors a (record x { task = None }))
+    Follows (By (DoneThere ∷ [])) size most a s words committing devices (slice_set actors a (record x { task = None }))
 
 -- a step of a commit on the metadata writes the root, or is nothing to the images
 abbrev pub turn_of : DeviceStep → Turn
@@ -96,37 +103,37 @@ turn_of step = Stays
 pub record FlushStepsFollowed : Type 0 where
   pub looks : (size most : ℕ) (words : Words) (committing : Bool) (devices : Devices (List History)) (actors : List Actor) (a : ℕ) (x : Actor) (plan : Plan) (s : World) →
       slice_get actors a ≡ Some x → x.task ≡ Some (Flush, plan) → want plan ≡ Cell (Look Fail) → Agrees size most words committing devices actors s →
-      Follows size most s words committing devices (slice_set actors a (went words Flush plan (Look Fail) x))
+      Follows Quietly size most a s words committing devices (slice_set actors a (went words Flush plan (Look Fail) x))
   pub begins : (size most nodes allowed : ℕ) (clean : Bool) (words : Words) (devices : Devices (List History)) (actors : List Actor) (a : ℕ) (x : Actor) (plan : Plan) (s : World) →
       slice_get actors a ≡ Some x → x.task ≡ Some (Flush, plan) → want plan ≡ Desk (BeginCommit clean allowed) → Agrees size most words false devices actors s →
-      FollowsBy Begins size most s words true devices (slice_set actors a (after_step Flush plan (Began nodes) x))
+      FollowsBy Begins Quietly size most a s words true devices (slice_set actors a (after_step Flush plan (Began nodes) x))
   pub is_refused : (size most allowed : ℕ) (clean : Bool) (refusal : Refusal) (words : Words) (committing : Bool) (devices : Devices (List History)) (actors : List Actor) (a : ℕ) (x : Actor) (plan : Plan) (s : World) → IsNoBegin refusal →
       slice_get actors a ≡ Some x → x.task ≡ Some (Flush, plan) → want plan ≡ Desk (BeginCommit clean allowed) → Agrees size most words committing devices actors s →
-      Follows size most s words committing devices (slice_set actors a (after_step Flush plan (Refused refusal) x))
+      Follows Quietly size most a s words committing devices (slice_set actors a (after_step Flush plan (Refused refusal) x))
   pub syncs : (size most : ℕ) (device : Dev) (words : Words) (committing : Bool) (devices : Devices (List History)) (actors : List Actor) (a : ℕ) (x : Actor) (plan : Plan) (s : World) → HoldsBlocks device →
       slice_get actors a ≡ Some x → x.task ≡ Some (Flush, plan) → want plan ≡ Device (Sync device) → Agrees size most words committing devices actors s →
-      Follows size most s words committing (with_device device devices (synced (device_in device devices))) (slice_set actors a (after_step Flush plan Done x))
+      Follows Quietly size most a s words committing (with_device device devices (synced (device_in device devices))) (slice_set actors a (after_step Flush plan Done x))
   pub sync_fails : (size most : ℕ) (device : Dev) (lands : ℕ → Bool) (words : Words) (committing : Bool) (devices : Devices (List History)) (actors : List Actor) (a : ℕ) (x : Actor) (plan : Plan) (s : World) → HoldsBlocks device →
       slice_get actors a ≡ Some x → x.task ≡ Some (Flush, plan) → want plan ≡ Device (Sync device) → Agrees size most words committing devices actors s →
-      Follows size most s words committing (with_device device devices (synced_where lands (device_in device devices))) (slice_set actors a (after_step Flush plan Fault x))
+      Follows Quietly size most a s words committing (with_device device devices (synced_where lands (device_in device devices))) (slice_set actors a (after_step Flush plan Fault x))
   -- whatever the step leaves of the metadata
   pub on_metadata : (size most : ℕ) (step : DeviceStep) (metadata : List History) (words : Words) (committing : Bool) (devices : Devices (List History)) (actors : List Actor) (a : ℕ) (x : Actor) (plan : Plan) (s : World) → device_of step ≡ Metadata →
       slice_get actors a ≡ Some x → x.task ≡ Some (Flush, plan) → want plan ≡ Device step → Agrees size most words committing devices actors s →
-      FollowsBy (turn_of step) size most s words committing (with_device Metadata devices metadata) (slice_set actors a (after_step Flush plan Done x))
+      FollowsBy (turn_of step) Quietly size most a s words committing (with_device Metadata devices metadata) (slice_set actors a (after_step Flush plan Done x))
   pub metadata_fails : (size most : ℕ) (step : DeviceStep) (metadata : List History) (words : Words) (committing : Bool) (devices : Devices (List History)) (actors : List Actor) (a : ℕ) (x : Actor) (plan : Plan) (s : World) → device_of step ≡ Metadata →
       slice_get actors a ≡ Some x → x.task ≡ Some (Flush, plan) → want plan ≡ Device step → Agrees size most words committing devices actors s →
-      (written : Bool) × FollowsBy (Puts written) size most s words committing (with_device Metadata devices metadata) (slice_set actors a (after_step Flush plan Fault x))
+      (written : Bool) × FollowsBy (Puts written) Quietly size most a s words committing (with_device Metadata devices metadata) (slice_set actors a (after_step Flush plan Fault x))
   pub ends : (size most : ℕ) (words : Words) (committing : Bool) (devices : Devices (List History)) (actors : List Actor) (a : ℕ) (x : Actor) (plan : Plan) (s : World) →
       slice_get actors a ≡ Some x → x.task ≡ Some (Flush, plan) → want plan ≡ Desk EndCommit → Agrees size most words committing devices actors s →
-      FollowsBy Ends size most s words false devices (slice_set actors a (after_step Flush plan Done x))
+      FollowsBy Ends Quietly size most a s words false devices (slice_set actors a (after_step Flush plan Done x))
   pub fails : (size most failures suspensions : ℕ) (words : Words) (committing : Bool) (devices : Devices (List History)) (actors : List Actor) (a : ℕ) (x : Actor) (plan : Plan) (s : World) → words.fail ≡ fail_word failures suspensions →
       slice_get actors a ≡ Some x → x.task ≡ Some (Flush, plan) → want plan ≡ Cell SetFailed → Agrees size most words committing devices actors s →
-      Follows size most s (words_after words SetFailed) committing devices (slice_set actors a (went words Flush plan SetFailed x))
+      Follows Quietly size most a s (words_after words SetFailed) committing devices (slice_set actors a (went words Flush plan SetFailed x))
   pub answers : (size most : ℕ) (answer : Answer) (words : Words) (committing : Bool) (devices : Devices (List History)) (actors : List Actor) (a : ℕ) (x : Actor) (plan : Plan) (s : World) →
       slice_get actors a ≡ Some x → x.task ≡ Some (Flush, plan) → want plan ≡ End answer → Agrees size most words committing devices actors s →
-      Follows size most s words committing devices (slice_set actors a (record x { task = None }))
+      Follows (By (DoneThere ∷ [])) size most a s words committing devices (slice_set actors a (record x { task = None }))
 
 -- a target that was just made over empty devices of these sizes, with so many actors who have nothing to do
 abbrev pub CanAgree : Type 0
 CanAgree = (size most blocks cache origin many : ℕ) →
-    Agrees size most (fresh_words blocks) false (record { metadata = []; cache = replicate cache (only []); origin = replicate origin (only []) }) (replicate many resting) (world_begins many [])
+    Agrees size most (fresh_words blocks) false (record { metadata = []; cache = replicate cache (only zeros); origin = replicate origin (only zeros) }) (replicate many resting) (world_begins many zeros)

@@ -1,5 +1,5 @@
 -- When the three devices are those of the abstract world: what the data devices hold, and what the metadata may be read as.
-use Rattle.std.specs.Prelude.{◌≡◌, ◌⊎◌, ℕ, Bool, true, List, [], Option, Some, None, length, map}
+use Rattle.std.specs.Prelude.{◌≡◌, ◌⊎◌, ℕ, Bool, true, List, Option, Some, None, length, map}
 use Rattle.wb_types.specs.declared.geometry.Geometry.{Geometry}
 use Rattle.wb_types.specs.declared.mode.Mode.{Mode}
 use Rattle.wb_types.specs.declared.mode.Mode.TheVariants.{Writeback}
@@ -19,7 +19,7 @@ use Rattle.wb_contents.specs.Conditions.{IsUnnamed}
 use Rattle.wb_link.specs.World.{Shared, Block, Free, Mapped}
 use Rattle.wb_link.specs.Openings.{Site, Phase, Stands, Gone, Opens, Learnt, Stage, Settling, Caching, Basing, Looking, Rooting, Renewing, Answering, Event, MayOpen, MayHappen, after_event}
 use Rattle.wb_runs.specs.Headline.{place_of}
-use Rattle.wb_simulation.specs.Worlds.{Stays, Begins, Puts, Ends, TurnedTo}
+use Rattle.wb_simulation.specs.Worlds.{zeros, Stays, Begins, Puts, Ends, TurnedTo}
 
 -- where a state that is stored has each block
 abbrev pub locations : Stored → Locations
@@ -38,8 +38,8 @@ pub record ImagesAgree (geometry : Geometry) (committed : Stored) (later : Optio
 
 -- cache and origin hold what they hold there, and the metadata agree
 pub record DevicesAgree (geometry : Geometry) (size : ℕ) (committed : Stored) (later : Option Stored) (devices : Devices (List History)) (s : Shared) : Type 0 where
-  pub origin : s.origin ≡ by_block size [] devices.origin
-  pub cache : s.cache ≡ by_block size [] devices.cache
+  pub origin : s.origin ≡ by_block size zeros devices.origin
+  pub cache : s.cache ≡ by_block size zeros devices.cache
   pub images : ImagesAgree geometry committed later devices.metadata s
 
 -- An event may come there, which leads to this phase, these devices agreeing with it then.

@@ -1,15 +1,20 @@
 -- When a state of a run, where a target stands, is a state of the abstract world; and when what happens there is a run of that world.
-use Rattle.std.specs.Prelude.{◌≡◌, ◌≢◌, ℕ, Bool, true, false, List, [], Option, Some, None, length, slice_get}
+use Rattle.std.specs.Prelude.{◌≡◌, ◌≢◌, ℕ, Bool, true, false, List, [], ◌∷◌, Option, Some, None, length, replicate, slice_get}
 use Rattle.wb_types.specs.declared.mode.Mode.TheVariants.{Writeback}
-use Rattle.wb_disk.specs.Device.{History}
+use Rattle.wb_disk.specs.Device.{Content, History}
 use Rattle.wb_contents.specs.Devices.{by_block}
 use Rattle.wb_words.specs.SharedWords.{Words}
 use Rattle.wb_devices.specs.declared.devices.Devices.{Devices}
-use Rattle.wb_link.specs.Tables.{Script}
-use Rattle.wb_link.specs.World.{World, Shared, Record, IsRun, after_all, Actor as AbstractActor}
+use Rattle.wb_link.specs.Tables.{Script, Got, Job}
+use Rattle.wb_link.specs.World.{World, Shared, Record, Start, IsRun, after_all, Actor as AbstractActor}
+use Rattle.wb_refines.specs.Going.{records, AreQuiet}
 use Rattle.wb_refines.specs.Models.{WordsAgree}
 use Rattle.wb_runs.specs.States.{Actor}
 use Rattle.wb_simulation.specs.Actors.{StandsFor}
+
+-- a sector before anything was written; behind the end of a device there is nothing else
+abbrev pub zeros : Content
+zeros = replicate 512 0
 
 -- a task that has still something to do before it answers
 abbrev pub IsUnfinished : Option Script → Type 0
@@ -20,8 +25,8 @@ IsUnfinished (Some script) = script.steps ≢ []
 -- and images at most so many nodes.
 pub record Agrees (size most : ℕ) (words : Words) (committing : Bool) (devices : Devices (List History)) (actors : List Actor) (s : World) : Type 0 where
   pub words_agree : WordsAgree words s.shared
-  pub origin : s.shared.origin ≡ by_block size [] devices.origin
-  pub cache : s.shared.cache ≡ by_block size [] devices.cache
+  pub origin : s.shared.origin ≡ by_block size zeros devices.origin
+  pub cache : s.shared.cache ≡ by_block size zeros devices.cache
   pub mode : s.shared.mode ≡ Writeback
   pub commits : s.shared.committing ≡ committing
   -- a commit that was broken runs for good
@@ -46,13 +51,26 @@ TurnedTo Begins s t = (t.committed ≡ s.committed) × (t.running ≡ s.mapping)
 TurnedTo (Puts written) s t = (t.committed ≡ s.committed) × (t.running ≡ s.running) × (t.root_written ≡ written)
 TurnedTo Ends s t = (t.committed ≡ s.running) × (t.root_written ≡ false)
 
--- The world can go on by some records so that these are its state then, and this comes of its images.
-pub record FollowsBy (turn : Turn) (size most : ℕ) (s : World) (words : Words) (committing : Bool) (devices : Devices (List History)) (actors : List Actor) : Type 0 where
+-- What a clerk there is told of it, who sees the records of this actor's task: nothing that is noted; what comes of steps with these
+-- results; or that the actor is given a job.
+pub data Telling : Type 0 where
+  Quietly : Telling
+  By : List Got → Telling
+  Starts : Job → Telling
+
+abbrev pub IsTold : Telling → ℕ → Option Script → List Record → Type 0
+IsTold Quietly a task told = (results : List Got) × AreQuiet task results × (told ≡ records a task results)
+IsTold (By results) a task told = told ≡ records a task results
+IsTold (Starts job) a task told = told ≡ Start a job ∷ []
+
+-- The world can go on by some records of this actor so that these are its state then, and this comes of its images.
+pub record FollowsBy (turn : Turn) (telling : Telling) (size most a : ℕ) (s : World) (words : Words) (committing : Bool) (devices : Devices (List History)) (actors : List Actor) : Type 0 where
   pub records : List Record
   pub run : IsRun size s records
   pub agrees : Agrees size most words committing devices actors (after_all s records)
   pub turned : TurnedTo turn s.shared (after_all s records).shared
+  pub told : (y : AbstractActor) → slice_get s.actors a ≡ Some y → IsTold telling a y.task records
 
 -- the same, and the images stay
-abbrev pub Follows : (size most : ℕ) → World → Words → Bool → Devices (List History) → List Actor → Type 0
-Follows size most s words committing devices actors = FollowsBy Stays size most s words committing devices actors
+abbrev pub Follows : Telling → (size most a : ℕ) → World → Words → Bool → Devices (List History) → List Actor → Type 0
+Follows telling size most a s words committing devices actors = FollowsBy Stays telling size most a s words committing devices actors
