@@ -11,3 +11,5 @@ mod Flushing
 mod Flushes
 mod Possible
 mod Opening
+mod Counts
+mod Told

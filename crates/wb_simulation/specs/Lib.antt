@@ -2,4 +2,5 @@ pub mod Steps
 pub mod Actors
 pub mod Worlds
 pub mod Sites
+pub mod Noting
 pub mod Laws
