@@ -114,7 +114,7 @@ failed_flag n f z e = ap (λ v. flag (bit_or v 1)) e ∙ by_bits (flag f) (flag 
     by_bits false true = refl
     by_bits false false = refl
 
-refused_undone : (job : AbstractJob) (refusal : Refusal) → answer_for job (Refuses refusal) ≢ AnsweredDone
+pub refused_undone : (job : AbstractJob) (refusal : Refusal) → answer_for job (Refuses refusal) ≢ AnsweredDone
 refused_undone job Failed e = absurd (cc)
 refused_undone job (Io device) e = absurd (cc)
 refused_undone (FlushingFor order) refusal e = absurd (cc)

@@ -33,18 +33,18 @@ may_on actors a z [] s y task m = tt
 may_on actors a z (got ∷ gots) s y None m = absurd m
 may_on actors a z (got ∷ gots) s y (Some script) m = (m.0, beside_on actors a z y.held (want script) got m.1, may_on actors a z gots _ _ _ m.2)
 
-set_twice : {X : Type 0} (xs : List X) (i : ℕ) (x y : X) → slice_set (slice_set xs i x) i y ≡ slice_set xs i y
+pub set_twice : {X : Type 0} (xs : List X) (i : ℕ) (x y : X) → slice_set (slice_set xs i x) i y ≡ slice_set xs i y
 set_twice [] i x y = refl
 set_twice (z ∷ xs) zero x y = refl
 set_twice (z ∷ xs) (suc i) x y = ap (λ ys. z ∷ ys) (set_twice xs i x y)
 
-set_same : {X : Type 0} (xs : List X) (i : ℕ) (x : X) → slice_get xs i ≡ Some x → slice_set xs i x ≡ xs
+pub set_same : {X : Type 0} (xs : List X) (i : ℕ) (x : X) → slice_get xs i ≡ Some x → slice_set xs i x ≡ xs
 set_same [] i x e = refl
 set_same (z ∷ xs) zero x e = let same : z ≡ x = cc in ap (λ v. v ∷ xs) (sym same)
 set_same (z ∷ xs) (suc i) x e = ap (λ ys. z ∷ ys) (set_same xs i x e)
 
 -- one step of it
-step_own : (w : World) (a : ℕ) (y : Actor) (script : Script) (got : Got) → slice_get w.actors a ≡ Some y → y.task ≡ Some script →
+pub step_own : (w : World) (a : ℕ) (y : Actor) (script : Script) (got : Got) → slice_get w.actors a ≡ Some y → y.task ≡ Some script →
     after_record w (Step a (want script) got) ≡ with_own w a (effect w.shared script.job y.buffer (want script) got) (actor_after y script (want script) got)
 step_own w a y script got e t = ap (λ o. step_actor w a o got) e ∙ ap (λ o. step_task w a y o got) t
 

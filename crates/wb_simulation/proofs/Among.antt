@@ -21,7 +21,8 @@ use Rattle.wb_refines.proofs.Going.{goes, with_own}
 use Rattle.wb_runs.specs.States.{Actor}
 use Rattle.wb_runs.specs.Holding.{cards_of}
 use Rattle.wb_simulation.specs.Actors.{StandsFor}
-use Rattle.wb_simulation.specs.Worlds.{zeros, Agrees, Turn, Stays, TurnedTo, Telling, IsTold, FollowsBy, Follows, IsUnfinished}
+use Rattle.wb_simulation.specs.Telling.{Telling, IsTold}
+use Rattle.wb_simulation.specs.Worlds.{zeros, Agrees, Turn, Stays, TurnedTo, FollowsBy, Follows, IsUnfinished}
 use Rattle.wb_simulation.proofs.Kept.{stands_on}
 
 pub card_there : (actors : List Actor) (a : ℕ) (x : Actor) → slice_get actors a ≡ Some x → slice_get (cards_of actors) a ≡ Some x.card

@@ -18,7 +18,7 @@ use Rattle.wb_tasks.specs.declared.step.Want.TheVariants.{Cell}
 use Rattle.wb_types.specs.declared.refusal.Refusal.TheVariants.{Failed, Worn, Busy}
 use Rattle.wb_link.specs.Tables.{Script, Got}
 use Rattle.wb_link.specs.World.{Shared, Actor, job_alone, is_alone}
-use Rattle.wb_refines.specs.Going.{records, shared_after, gone, MayGo, AreQuiet}
+use Rattle.wb_refines.specs.Going.{shared_after, gone, MayGo, AreQuiet}
 use Rattle.wb_refines.specs.Translation.{job_for}
 use Rattle.wb_refines.specs.Models.{IsRequest, plan_of, WordsAgree, SameElse, IsAt, HasStopped, IsBelow, AllBelow, TellsPlace}
 use Rattle.wb_refines.proofs.Cells.{same_images, flag_of}
@@ -49,14 +49,9 @@ pub gone_nowhere : (y : Actor) (task : Option Script) → gone y task [] ≡ y
 gone_nowhere y None = refl
 gone_nowhere y (Some script) = refl
 
-pub quiet_none : (task : Option Script) → AreQuiet task []
+quiet_none : (task : Option Script) → AreQuiet task []
 quiet_none None = tt
 quiet_none (Some script) = tt
-
--- and nothing is told of it, whatever the results
-pub nothing_told : (a : ℕ) (task : Option Script) (results : List Got) → task ≡ None → records a task [] ≡ records a task results
-nothing_told a None results e = refl
-nothing_told a (Some script) results e = absurd (cc)
 
 same_else : (s : Shared) → SameElse s s
 same_else s = record { origin = refl; cache = refl; images = same_images s }

@@ -22,9 +22,11 @@ use Rattle.wb_runs.specs.declared.job.Job.{Job}
 use Rattle.wb_runs.specs.declared.job.Job.TheVariants.{Read, Write, Flush, Open}
 use Rattle.wb_runs.specs.States.{Actor}
 use Rattle.wb_simulation.specs.Actors.{IsLate, IsRequestAt, StandsFor}
-use Rattle.wb_simulation.specs.Worlds.{Agrees, By, Follows}
+use Rattle.wb_simulation.specs.Telling.{Answers, AnswersSo}
+use Rattle.wb_simulation.specs.Worlds.{Agrees, Follows}
 use Rattle.wb_simulation.specs.Laws.{AnswersFollowed, IsRequestJob}
-use Rattle.wb_simulation.proofs.Cells.{shared_stays, gone_nowhere, nothing_told}
+use Rattle.wb_simulation.proofs.Cells.{shared_stays, gone_nowhere}
+use Rattle.wb_simulation.proofs.Telling.{nothing_told, answers_at, stopped_answers, late_answers_so}
 use Rattle.wb_simulation.proofs.Among.{goes_on}
 use Rattle.wb_simulation.proofs.Followed.{doing_of}
 
@@ -37,30 +39,31 @@ nothing_left plan answer e never = by_steps plan.steps refl
     by_steps (v ∷ ws) k = absurd (never v ws k (sym (ap (λ (us : List Want). first_step us plan.answer) k) ∙ e))
 
 module _ (size most blocks : ℕ) (words : Words) (committing : Bool) (devices : Devices (List History)) (actors : List Actor) (a : ℕ) (x : Actor) (s : World) (y : AbstractActor) (ex : slice_get actors a ≡ Some x) (ey : slice_get s.actors a ≡ Some y) (g : Agrees size most words committing devices actors s) (st : StandsFor size most words x y) where
-  abbrev Goal : Type 0
-  Goal = Follows (By (DoneThere ∷ [])) size most a s words committing devices (slice_set actors a (record x { task = None }))
+  abbrev Goal : Answer → Type 0
+  Goal answer = Follows (Answers answer) size most a s words committing devices (slice_set actors a (record x { task = None }))
 
   -- it answers there, too
-  answers : IsAnswered s.actors a s.shared y → IsBelow (gone y y.task (DoneThere ∷ [])) x.card → (gone y y.task (DoneThere ∷ [])).leads ≡ false → (IsIdle (gone y y.task (DoneThere ∷ [])) ⊎ (flag words.fail ≡ true)) → Goal
-  answers w below leads rest = goes_on size most words words (λ f. f) committing devices actors a x (record x { task = None }) s y g ex ey (By (DoneThere ∷ [])) devices (DoneThere ∷ []) s.shared refl w.may w.shared
+  answers : (answer : Answer) → AnswersSo answer y.task → IsAnswered s.actors a s.shared y → IsBelow (gone y y.task (DoneThere ∷ [])) x.card → (gone y y.task (DoneThere ∷ [])).leads ≡ false → (IsIdle (gone y y.task (DoneThere ∷ [])) ⊎ (flag words.fail ≡ true)) → Goal answer
+  answers answer so w below leads rest = goes_on size most words words (λ f. f) committing devices actors a x (record x { task = None }) s y g ex ey (Answers answer) devices (DoneThere ∷ []) s.shared (so, refl) w.may w.shared
       (record { at = (w.over, rest); below = below; among_others = ap is_alone w.over }) (λ l. let bad : true ≡ false = sym l ∙ leads in absurd (cc)) g.words_agree g.origin g.cache refl refl refl (refl, refl, refl)
 
   -- it has no task there
-  answers_late : y.task ≡ None → flag words.fail ≡ true → Goal
-  answers_late none failed = goes_on size most words words (λ f. f) committing devices actors a x (record x { task = None }) s y g ex ey (By (DoneThere ∷ [])) devices [] s.shared (nothing_told a y.task (DoneThere ∷ []) none) tt (shared_stays s.shared y y.task)
+  answers_late : (answer : Answer) → AnswersSo answer y.task → y.task ≡ None → flag words.fail ≡ true → Goal answer
+  answers_late answer so none failed = goes_on size most words words (λ f. f) committing devices actors a x (record x { task = None }) s y g ex ey (Answers answer) devices [] s.shared (so, nothing_told a y.task (DoneThere ∷ []) none) tt (shared_stays s.shared y y.task)
       (subst (λ (z : AbstractActor). StandsFor size most words (record x { task = None }) z) (sym (gone_nowhere y y.task)) (record { at = (none, inr failed); below = st.below; among_others = st.among_others }))
       (λ l. gone_nowhere y y.task) g.words_agree g.origin g.cache refl refl refl (refl, refl, refl)
 
   request_answers : (content : Content) (job_on : BlockRange → BlockJob) (part : BlockRange) (answer : Answer) → x.card.hold ≡ HoldsNothing →
-      IsAt size content (plan_of (job_on part) [] answer) x.card y ⊎ HasStopped words (plan_of (job_on part) [] answer) x.card y ⊎ IsLate words (plan_of (job_on part) [] answer) y → Goal
-  request_answers content job_on part answer h (inl i) = let d = tasks_end.done size content s.actors a s.shared y (job_on part) answer x.card h i in answers d.0 (holds_nothing _ x.card d.1.held) d.1.leads (inl d.1)
-  request_answers content job_on part answer h (inr (inl k)) = let d = tasks_end.stopped s.actors a s.shared y words answer (OnBlock (job_on part)) x.card k in answers d.0 d.1 d.2 d.3
-  request_answers content job_on part answer h (inr (inr l)) = answers_late l.nothing l.failed
+      IsAt size content (plan_of (job_on part) [] answer) x.card y ⊎ HasStopped words (plan_of (job_on part) [] answer) x.card y ⊎ IsLate words (plan_of (job_on part) [] answer) y → Goal answer
+  request_answers content job_on part answer h (inl i) = let d = tasks_end.done size content s.actors a s.shared y (job_on part) answer x.card h i in answers answer (answers_at size content (OnBlock (job_on part)) answer y (ap (λ (v : AbstractActor). v.task) i.is)) d.0 (holds_nothing _ x.card d.1.held) d.1.leads (inl d.1)
+  request_answers content job_on part answer h (inr (inl k)) = let d = tasks_end.stopped s.actors a s.shared y words answer (OnBlock (job_on part)) x.card k in answers answer (stopped_answers words (plan_of (job_on part) [] answer) x.card answer y refl k) d.0 d.1 d.2 d.3
+  request_answers content job_on part answer h (inr (inr l)) = answers_late answer (late_answers_so words (plan_of (job_on part) [] answer) answer y refl (λ t. let bad = ap (λ (p : Plan). p.steps) t in absurd (cc)) l) l.nothing l.failed
 
-  of_plan : (content : Content) (job_on : BlockRange → BlockJob) (plan : Plan) (answer : Answer) → want plan ≡ End answer → Suits blocks plan x.card → IsRequestAt size content words job_on plan x.card y → Goal
+  of_plan : (content : Content) (job_on : BlockRange → BlockJob) (plan : Plan) (answer : Answer) → want plan ≡ End answer → Suits blocks plan x.card → IsRequestAt size content words job_on plan x.card y → Goal answer
   of_plan content job_on plan answer e suits r =
       let none = nothing_left plan answer e (λ next later k same. absurd (subst (λ (p : Plan). Suits blocks p x.card) (with_steps (End answer ∷ later) (k ∙ ap (λ (v : Want). v ∷ later) same)) suits).1.1.1) in
-      request_answers content job_on r.part plan.answer (subst (λ (p : Plan). Suits blocks p x.card) (with_steps [] none) suits).1 (subst At (with_steps [] none) r.at)
+      let is_given : plan.answer ≡ answer = (let same : End plan.answer ≡ End answer = sym (ap (λ (ws : List Want). first_step ws plan.answer) none) ∙ e in cc) in
+      subst Goal is_given (request_answers content job_on r.part plan.answer (subst (λ (p : Plan). Suits blocks p x.card) (with_steps [] none) suits).1 (subst At (with_steps [] none) r.at))
     where
       At : Plan → Type 0
       At p = IsAt size content p x.card y ⊎ HasStopped words p x.card y ⊎ IsLate words p y
@@ -68,7 +71,7 @@ module _ (size most blocks : ℕ) (words : Words) (committing : Bool) (devices :
       with_steps : (steps : List Want) → plan.steps ≡ steps → plan ≡ plan_of (job_on r.part) steps plan.answer
       with_steps steps k = λ i. record { job = r.job i; steps = k i; answer = plan.answer }
 
-  followed : (job : Job) (plan : Plan) (answer : Answer) → IsRequestJob job → x.task ≡ Some (job, plan) → want plan ≡ End answer → Suits blocks plan x.card → Goal
+  followed : (job : Job) (plan : Plan) (answer : Answer) → IsRequestJob job → x.task ≡ Some (job, plan) → want plan ≡ End answer → Suits blocks plan x.card → Goal answer
   followed (Read extent) plan answer q e next suits = of_plan [] Reading plan answer next suits (doing_of size most words x y (Read extent) plan st e)
   followed (Write extent content) plan answer q e next suits = of_plan content Writing plan answer next suits (doing_of size most words x y (Write extent content) plan st e)
   followed Flush plan answer q e next suits = absurd q

@@ -20,13 +20,13 @@ use Rattle.wb_tasks.specs.declared.step.Got.TheVariants.{Done, Fault, Began, Ref
 use Rattle.wb_types.proofs.Lists.{element_beside}
 use Rattle.wb_devices.specs.declared.devices.Devices.{Devices}
 use Rattle.wb_devices.specs.Moving.{device_in}
-use Rattle.wb_link.specs.Tables.{Done as DoneThere}
 use Rattle.wb_link.specs.World.{World, Actor as AbstractActor}
 use Rattle.wb_refines.specs.Flushes.{IsFlushing, flushing}
 use Rattle.wb_runs.specs.declared.job.Job.TheVariants.{Flush}
 use Rattle.wb_runs.specs.States.{Actor, with_device}
 use Rattle.wb_simulation.specs.Actors.{IsFlushAt, IsOfFlush, LeadsAt, StandsFor}
-use Rattle.wb_simulation.specs.Worlds.{Agrees, Begins, Puts, Ends, Quietly, By, FollowsBy, Follows}
+use Rattle.wb_simulation.specs.Telling.{Quietly, Answers}
+use Rattle.wb_simulation.specs.Worlds.{Agrees, Begins, Puts, Ends, FollowsBy, Follows}
 use Rattle.wb_simulation.specs.Laws.{FlushStepsFollowed, after_step, turn_of, went}
 use Rattle.wb_simulation.proofs.Followed.{doing_of}
 use Rattle.wb_simulation.proofs.Leading.{AtFlush, at_flush}
@@ -85,14 +85,19 @@ module _ (size most : ℕ) (words : Words) (committing : Bool) (devices : Device
     | inr l ↦ late_looks size most words committing devices actors a x plan s y ex ey g l st f.job e
   ]
 
-  answer_given : (answer : Answer) → want plan ≡ End answer → Follows (By (DoneThere ∷ [])) size most a s words committing devices (slice_set actors a (record x { task = None }))
-  answer_given answer e = elim f.at [
+  answer_given : (answer : Answer) → want plan ≡ End answer → Follows (Answers answer) size most a s words committing devices (slice_set actors a (record x { task = None }))
+  answer_given answer e = subst (λ (given : Answer). Follows (Answers given) size most a s words committing devices (slice_set actors a (record x { task = None }))) is_given (elim f.at [
     | inl l ↦
-        let none = nothing_left most plan answer e f.steps in
         let is : plan ≡ flushing most [] plan.answer = (λ i. record { job = f.job i; steps = none i; answer = plan.answer }) in
         answers size most words committing devices actors a x plan s y ex ey g plan.answer l.leads (λ q. l.failed q none) (subst (λ (p : Plan). IsFlushing size [] p l.leads y) is l.is)
-    | inr l ↦ late_answers size most words committing devices actors a x plan s y ex ey g l st
-  ]
+    | inr l ↦ late_answers size most words committing devices actors a x plan s y ex ey g l f.job none st
+  ])
+    where
+      none : plan.steps ≡ []
+      none = nothing_left most plan answer e f.steps
+
+      is_given : plan.answer ≡ answer
+      is_given = let same : End plan.answer ≡ End answer = sym (ap (λ (ws : List Want). first_step ws plan.answer) none) ∙ e in cc
 
 flush_of : (size most : ℕ) (words : Words) (committing : Bool) (devices : Devices (List History)) (actors : List Actor) (a : ℕ) (x : Actor) (plan : Plan) (s : World) (ex : slice_get actors a ≡ Some x) (g : Agrees size most words committing devices actors s) → x.task ≡ Some (Flush, plan) →
     (y : AbstractActor) × (slice_get s.actors a ≡ Some y) × StandsFor size most words x y × IsFlushAt size most words plan y

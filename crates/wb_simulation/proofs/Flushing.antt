@@ -39,9 +39,11 @@ use Rattle.wb_refines.proofs.Tasks.{tasks_end}
 use Rattle.wb_runs.specs.declared.job.Job.TheVariants.{Flush}
 use Rattle.wb_runs.specs.States.{Actor, with_device}
 use Rattle.wb_simulation.specs.Actors.{IsLate, IsOfFlush, LeadsAt, StandsFor}
-use Rattle.wb_simulation.specs.Worlds.{zeros, Agrees, Turn, Stays, Begins, Puts, Ends, TurnedTo, Quietly, By, FollowsBy, Follows, IsUnfinished}
+use Rattle.wb_simulation.specs.Telling.{Quietly, Answers}
+use Rattle.wb_simulation.specs.Worlds.{zeros, Agrees, Turn, Stays, Begins, Puts, Ends, TurnedTo, FollowsBy, Follows, IsUnfinished}
 use Rattle.wb_simulation.specs.Laws.{turn_of, went}
-use Rattle.wb_simulation.proofs.Cells.{shared_stays, gone_nowhere, quiet_none, nothing_told}
+use Rattle.wb_simulation.proofs.Cells.{shared_stays, gone_nowhere}
+use Rattle.wb_simulation.proofs.Telling.{answers_at, late_answers_so, unnoted_none, nothing_told, quiet_are_unnoted}
 use Rattle.wb_simulation.proofs.Among.{goes_on, goes_leading}
 use Rattle.wb_simulation.proofs.Leading.{nodes_on_metadata, commits_on, has_wants, stands, one_here, is_here, leads_on}
 
@@ -141,7 +143,7 @@ module _ (size most : ℕ) (words : Words) (committing : Bool) (devices : Device
   follows_alone : (devices' : Devices (List History)) (plan' : Plan) (card' : Card) → plan'.job ≡ Flushing [] most → IsOfFlush most plan'.steps → LeadsAt false plan'.steps → Leads size [] s.actors a s.shared y s.shared plan' false →
       devices' ≡ devices → Follows Quietly size most a s words committing devices' (slice_set actors a (record { task = Some (Flush, plan'); card = card' }))
   follows_alone devices' plan' card' j o at l d = subst (λ (ds : Devices (List History)). Follows Quietly size most a s words committing ds (slice_set actors a (record { task = Some (Flush, plan'); card = card' }))) (sym d)
-      (goes_on size most words words (λ f. f) committing devices actors a x (record { task = Some (Flush, plan'); card = card' }) s y g ex ey Quietly devices l.results s.shared (l.results, l.quiet, refl) l.may l.shared
+      (goes_on size most words words (λ f. f) committing devices actors a x (record { task = Some (Flush, plan'); card = card' }) s y g ex ey Quietly devices l.results s.shared (l.results, quiet_are_unnoted y.task l.results l.quiet, refl) l.may l.shared
       (stands size most words committing devices actors a x s y ex ey g words plan' card' false (gone y y.task l.results) j o at (λ e n. absurd (cc)) l.at)
       (λ k. let bad : true ≡ false = sym k ∙ ap (λ (v : AbstractActor). v.leads) l.at.is in absurd (cc)) g.words_agree g.origin g.cache refl refl refl (refl, refl, refl))
 
@@ -168,7 +170,7 @@ module _ (size most : ℕ) (words : Words) (committing : Bool) (devices : Device
       let plan' = after (flushing most (Desk (BeginCommit false most) ∷ []) answer) (Began nodes) in
       let none : s.shared.committing ≡ false = g.commits ∙ quiet in
       let l = followed_alone.begins size most nodes [] s.actors a s.shared y [] answer none (by_broken s.shared.broken refl) is in
-      goes_leading size most words words (λ f. f) committing devices actors a x (record { task = Some (Flush, plan'); card = x.card }) s y g ex ey Begins Quietly true devices l.results (effect s.shared (FlushingFor None) [] (Begin None) DoneThere) (l.results, l.quiet, refl) l.may l.shared
+      goes_leading size most words words (λ f. f) committing devices actors a x (record { task = Some (Flush, plan'); card = x.card }) s y g ex ey Begins Quietly true devices l.results (effect s.shared (FlushingFor None) [] (Begin None) DoneThere) (l.results, quiet_are_unnoted y.task l.results l.quiet, refl) l.may l.shared
       (stands size most words committing devices actors a x s y ex ey g words plan' x.card true (gone y y.task l.results) refl (nodes_on_metadata nodes 0) refl (λ e n. absurd (cc)) l.at)
       (record { fail = g.words_agree.fail; seals = g.words_agree.seals }) g.origin g.cache refl refl (λ e. refl) (λ b v ev k. refl) (λ b v ev k u. by_broken s.shared.broken refl)
       (λ b c v u ev eu k m. only b v (gone y y.task l.results) ev k ∙ sym (only c u (gone y y.task l.results) eu m)) (refl, refl, refl)
@@ -191,7 +193,7 @@ module _ (size most : ℕ) (words : Words) (committing : Bool) (devices : Device
       let lead : y.leads ≡ true = ap (λ (v : AbstractActor). v.leads) is.is in
       let some : wants_of size (FlushingFor None) (Desk EndCommit ∷ []) ≢ [] = (λ e. absurd (cc)) in
       let whole : s.shared.broken ≡ false = g.whole a y ey lead (subst (λ (v : AbstractActor). IsUnfinished v.task) (sym is.is) some) in
-      goes_leading size most words words (λ f. f) committing devices actors a x (record { task = Some (Flush, plan'); card = x.card }) s y g ex ey Ends Quietly false devices l.results (effect s.shared (FlushingFor None) [] End_running DoneThere) (l.results, l.quiet, refl) l.may l.shared
+      goes_leading size most words words (λ f. f) committing devices actors a x (record { task = Some (Flush, plan'); card = x.card }) s y g ex ey Ends Quietly false devices l.results (effect s.shared (FlushingFor None) [] End_running DoneThere) (l.results, quiet_are_unnoted y.task l.results l.quiet, refl) l.may l.shared
       (stands size most words committing devices actors a x s y ex ey g words plan' x.card false (gone y y.task l.results) refl tt tt (λ e n. absurd (cc)) l.at)
       (record { fail = g.words_agree.fail; seals = g.words_agree.seals }) g.origin g.cache refl refl (λ e. let bad : true ≡ false = sym e ∙ whole in absurd (cc))
       (λ b v ev k. absurd (nobody l b v ev k)) (λ b v ev k u. whole) (λ b c v u ev eu k m. absurd (nobody l b v ev k)) (refl, refl)
@@ -211,7 +213,7 @@ module _ (size most : ℕ) (words : Words) (committing : Bool) (devices : Device
       let lead : y.leads ≡ true = ap (λ (v : AbstractActor). v.leads) is.is in
       let y' = gone y y.task l.results in
       let runs = g.led a y ey lead in
-      goes_leading size most words (words_after words SetFailed) (λ k. failed) committing devices actors a x (record { task = Some (Flush, plan'); card = card_after words SetFailed x.card }) s y g ex ey Stays Quietly committing devices l.results (record s.shared { fail = true; broken = true }) (l.results, l.quiet, refl) l.may l.shared
+      goes_leading size most words (words_after words SetFailed) (λ k. failed) committing devices actors a x (record { task = Some (Flush, plan'); card = card_after words SetFailed x.card }) s y g ex ey Stays Quietly committing devices l.results (record s.shared { fail = true; broken = true }) (l.results, quiet_are_unnoted y.task l.results l.quiet, refl) l.may l.shared
       (stands size most words committing devices actors a x s y ex ey g (words_after words SetFailed) plan' (card_after words SetFailed x.card) true y' refl tt tt (λ k n. failed) l.at)
       (record { fail = sym failed; seals = g.words_agree.seals }) g.origin g.cache refl g.commits (λ k. runs) (λ b v ev k. runs)
       (λ b v ev k u. absurd (subst (λ (w : AbstractActor). IsUnfinished w.task) (is_here size most words committing devices actors a x s y ex ey g lead y' b v ev k ∙ l.at.is) u refl))
@@ -240,11 +242,11 @@ module _ (size most : ℕ) (words : Words) (committing : Bool) (devices : Device
           (subst (λ (p : Plan). IsOfFlush most p.steps) (sym plan_is) tt) (subst (λ (p : Plan). LeadsAt false p.steps) (sym plan_is) tt) (followed_alone.looks size most words.fail [] s.actors a s.shared y answer g.words_agree.fail is') refl
 
   -- it answers; one that leads a commit still has failed
-  pub answers : (answer : Answer) (leads : Bool) → (leads ≡ true → flag words.fail ≡ true) → IsFlushing size [] (flushing most [] answer) leads y → Follows (By (DoneThere ∷ [])) size most a s words committing devices (slice_set actors a (record x { task = None }))
+  pub answers : (answer : Answer) (leads : Bool) → (leads ≡ true → flag words.fail ≡ true) → IsFlushing size [] (flushing most [] answer) leads y → Follows (Answers answer) size most a s words committing devices (slice_set actors a (record x { task = None }))
   answers answer false f is =
       let d = tasks_end.flush size most [] s.actors a s.shared y answer false is in
       let idle = d.2 refl in
-      goes_on size most words words (λ k. k) committing devices actors a x (record x { task = None }) s y g ex ey (By (DoneThere ∷ [])) devices (DoneThere ∷ []) s.shared refl d.0.may d.0.shared
+      goes_on size most words words (λ k. k) committing devices actors a x (record x { task = None }) s y g ex ey (Answers answer) devices (DoneThere ∷ []) s.shared (answers_at size [] (Flushing [] most) answer y (ap (λ (v : AbstractActor). v.task) is.is), refl) d.0.may d.0.shared
       (record { at = (d.0.over, inl idle); below = holds_nothing _ x.card idle.held; among_others = ap is_alone d.0.over }) (λ k. let bad : true ≡ false = sym k ∙ idle.leads in absurd (cc)) g.words_agree g.origin g.cache refl refl refl (refl, refl, refl)
   answers answer true f is =
       let d = tasks_end.flush size most [] s.actors a s.shared y answer true is in
@@ -252,7 +254,7 @@ module _ (size most : ℕ) (words : Words) (committing : Bool) (devices : Device
       let y' = gone y y.task (DoneThere ∷ []) in
       let held : y'.held ≡ Nothing = subst (λ (v : AbstractActor). (gone v v.task (DoneThere ∷ [])).held ≡ Nothing) (sym is.is) refl in
       let runs = g.led a y ey lead in
-      goes_leading size most words words (λ k. k) committing devices actors a x (record x { task = None }) s y g ex ey Stays (By (DoneThere ∷ [])) committing devices (DoneThere ∷ []) s.shared refl d.0.may d.0.shared
+      goes_leading size most words words (λ k. k) committing devices actors a x (record x { task = None }) s y g ex ey Stays (Answers answer) committing devices (DoneThere ∷ []) s.shared (answers_at size [] (Flushing [] most) answer y (ap (λ (v : AbstractActor). v.task) is.is), refl) d.0.may d.0.shared
       (record { at = (d.0.over, inr (f refl)); below = holds_nothing y' x.card held; among_others = ap is_alone d.0.over }) g.words_agree g.origin g.cache refl g.commits g.broken (λ b v ev k. runs)
       (λ b v ev k u. absurd (subst (λ t. IsUnfinished t) (ap (λ (v : AbstractActor). v.task) (is_here size most words committing devices actors a x s y ex ey g lead y' b v ev k) ∙ d.0.over) u))
       (one_here size most words committing devices actors a x s y ex ey g lead y') (refl, refl, refl)
@@ -271,12 +273,12 @@ module _ (size most : ℕ) (words : Words) (committing : Bool) (devices : Device
       by_test false f k =
           let plan_is : after (flushing most (Cell (Look Fail) ∷ Desk (BeginCommit false most) ∷ []) Finished) (Word words.fail) ≡ flushing most [] (Refuses Failed) = ap (λ (t : Bool). if t then onward (flushing most (Cell (Look Fail) ∷ Desk (BeginCommit false most) ∷ []) Finished) else refused (flushing most (Cell (Look Fail) ∷ Desk (BeginCommit false most) ∷ []) Finished) [] Failed) k in
           subst (λ (p : Plan). Follows Quietly size most a s words committing devices (slice_set actors a (record { task = Some (Flush, p); card = card_after words (Look Fail) x.card }))) (sym plan_is)
-          (goes_on size most words words (λ q. q) committing devices actors a x (record { task = Some (Flush, flushing most [] (Refuses Failed)); card = card_after words (Look Fail) x.card }) s y g ex ey Quietly devices [] s.shared ([], quiet_none y.task, refl) tt (shared_stays s.shared y y.task)
+          (goes_on size most words words (λ q. q) committing devices actors a x (record { task = Some (Flush, flushing most [] (Refuses Failed)); card = card_after words (Look Fail) x.card }) s y g ex ey Quietly devices [] s.shared ([], unnoted_none y.task, refl) tt (shared_stays s.shared y y.task)
           (subst (λ (z : AbstractActor). StandsFor size most words (record { task = Some (Flush, flushing most [] (Refuses Failed)); card = card_after words (Look Fail) x.card }) z) (sym (gone_nowhere y y.task))
           (record { at = record { job = refl; steps = tt; at = inr (record { failed = l.failed; nothing = l.nothing; at = inr (refl, λ e. absurd (cc)) }) }; below = record { owned = st.below.owned; shared = st.below.shared }; among_others = st.among_others }))
           (λ q. gone_nowhere y y.task) g.words_agree g.origin g.cache refl refl refl (refl, refl, refl))
 
-  pub late_answers : IsLate words plan y → StandsFor size most words x y → Follows (By (DoneThere ∷ [])) size most a s words committing devices (slice_set actors a (record x { task = None }))
-  late_answers l st = goes_on size most words words (λ q. q) committing devices actors a x (record x { task = None }) s y g ex ey (By (DoneThere ∷ [])) devices [] s.shared (nothing_told a y.task (DoneThere ∷ []) l.nothing) tt (shared_stays s.shared y y.task)
+  pub late_answers : IsLate words plan y → plan.job ≡ Flushing [] most → plan.steps ≡ [] → StandsFor size most words x y → Follows (Answers plan.answer) size most a s words committing devices (slice_set actors a (record x { task = None }))
+  late_answers l j none st = goes_on size most words words (λ q. q) committing devices actors a x (record x { task = None }) s y g ex ey (Answers plan.answer) devices [] s.shared (late_answers_so words plan plan.answer y refl (λ t. let bad : [] ≡ Cell (Look Fail) ∷ Desk (BeginCommit false most) ∷ [] = sym none ∙ ap (λ (p : Plan). p.steps) t ∙ ap (λ k. (table k).steps) j in absurd (cc)) l, nothing_told a y.task (DoneThere ∷ []) l.nothing) tt (shared_stays s.shared y y.task)
       (subst (λ (z : AbstractActor). StandsFor size most words (record x { task = None }) z) (sym (gone_nowhere y y.task)) (record { at = (l.nothing, inr l.failed); below = st.below; among_others = st.among_others }))
       (λ q. gone_nowhere y y.task) g.words_agree g.origin g.cache refl refl refl (refl, refl, refl)

@@ -22,8 +22,10 @@ use Rattle.wb_runs.specs.States.{Actor}
 use Rattle.wb_runs.specs.Holding.{cards_of}
 use Rattle.wb_simulation.specs.Steps.{IsPart, AreOfBlock}
 use Rattle.wb_simulation.specs.Actors.{IsRequestAt, IsDoing, IsBusyAt, StandsFor}
-use Rattle.wb_simulation.specs.Worlds.{Agrees, Quietly, Follows}
+use Rattle.wb_simulation.specs.Telling.{Quietly}
+use Rattle.wb_simulation.specs.Worlds.{Agrees, Follows}
 use Rattle.wb_simulation.specs.Laws.{CellStepsFollowed, went}
+use Rattle.wb_simulation.proofs.Telling.{quiet_are_unnoted}
 use Rattle.wb_simulation.proofs.Steps.{read_of_block, write_of_block}
 use Rattle.wb_simulation.proofs.Cells.{Acted, acts_on_words}
 use Rattle.wb_simulation.proofs.Among.{card_there, all_below, failed_stays, goes_on}
@@ -63,7 +65,7 @@ module _ (size most blocks : ℕ) (words : Words) (committing : Bool) (devices :
   among_all job content job_on acted doing =
       let t = shared_after s.shared y y.task acted.results in
       let k = acted.same.images in
-      goes_on size most words (words_after words step) (failed_stays words step _ _ rule.logs.fail) committing devices actors a x (went words job plan step x) s y g ex ey Quietly devices acted.results t (acted.results, acted.quiet, refl) acted.may refl
+      goes_on size most words (words_after words step) (failed_stays words step _ _ rule.logs.fail) committing devices actors a x (went words job plan step x) s y g ex ey Quietly devices acted.results t (acted.results, quiet_are_unnoted y.task acted.results acted.quiet, refl) acted.may refl
       (record { at = doing; below = acted.below; among_others = acted.among_others }) acted.leads acted.words_agree (acted.same.origin ∙ g.origin) (acted.same.cache ∙ g.cache) k.mode k.committing k.broken (k.committed, k.running, k.root_written)
 
   followed : (job : Job) → Rattle.wb_simulation.specs.Laws.IsRequestJob job → x.task ≡ Some (job, plan) → Follows Quietly size most a s (words_after words step) committing devices (slice_set actors a (went words job plan step x))

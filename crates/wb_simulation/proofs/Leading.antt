@@ -27,7 +27,9 @@ use Rattle.wb_refines.proofs.Holding.{holds_nothing}
 use Rattle.wb_runs.specs.declared.job.Job.TheVariants.{Flush}
 use Rattle.wb_runs.specs.States.{Actor}
 use Rattle.wb_simulation.specs.Actors.{IsFlushAt, IsOfFlush, LeadsAt, StandsFor}
-use Rattle.wb_simulation.specs.Worlds.{zeros, Agrees, Turn, TurnedTo, Quietly, FollowsBy, IsUnfinished}
+use Rattle.wb_simulation.specs.Telling.{Quietly}
+use Rattle.wb_simulation.specs.Worlds.{zeros, Agrees, Turn, TurnedTo, FollowsBy, IsUnfinished}
+use Rattle.wb_simulation.proofs.Telling.{quiet_are_unnoted}
 use Rattle.wb_simulation.proofs.Among.{goes_leading}
 use Rattle.wb_simulation.proofs.Moving.{begins_by}
 
@@ -110,5 +112,5 @@ module _ (size most : ℕ) (words : Words) (committing : Bool) (devices : Device
       let y' = gone y y.task l.results in
       let runs = g.led a y ey lead in
       let whole : s.shared.broken ≡ false = g.whole a y ey lead (subst (λ (v : AbstractActor). IsUnfinished v.task) (sym is.is) some) in
-      goes_leading size most words words' up committing devices actors a x (record { task = Some (Flush, plan'); card = card' }) s y g ex ey turn Quietly committing devices' l.results t (l.results, l.quiet, refl) l.may l.shared
+      goes_leading size most words words' up committing devices actors a x (record { task = Some (Flush, plan'); card = card' }) s y g ex ey turn Quietly committing devices' l.results t (l.results, quiet_are_unnoted y.task l.results l.quiet, refl) l.may l.shared
       (stands words' plan' card' true y' j o at f l.at) w og ca mo (co ∙ g.commits) (λ e. co ∙ runs) (λ b v ev k. co ∙ runs) (λ b v ev k u. br ∙ whole) (one_here lead y') turned

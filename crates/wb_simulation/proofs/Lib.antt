@@ -1,5 +1,6 @@
 mod Steps
 mod Kept
+mod Telling
 mod Cells
 mod Among
 mod Followed

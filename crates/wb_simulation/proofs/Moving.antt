@@ -1,5 +1,5 @@
 -- Each step of a read or a write on an extent of a device is followed.
-use Rattle.std.proofs.Common.{length, replicate, map, ◌≡◌, ◌≢◌, ◌≤◌, ◌+◌, ◌∙◌, ◌⊎◌, inl, inr, ℕ, Bool, true, false, List, [], ◌∷◌, Option, Some, refl, sym, ap, subst, slice_get, slice_set}
+use Rattle.std.proofs.Common.{arith, zero, suc, Some, ◌<◌, ◌%◌, length, replicate, map, ◌≡◌, ◌≢◌, ◌≤◌, ◌+◌, ◌∙◌, ◌⊎◌, inl, inr, ℕ, Bool, true, false, List, [], ◌∷◌, Option, refl, sym, ap, subst, slice_get, slice_set}
 use Rattle.wb_types.specs.declared.extent.Extent.{Extent}
 use Rattle.wb_types.specs.declared.mode.Dev.{Dev}
 use Rattle.wb_types.specs.declared.mode.Dev.TheVariants.{Metadata, Cache, Origin}
@@ -7,7 +7,7 @@ use Rattle.wb_disk.specs.Device.{Content, History}
 use Rattle.wb_disk.specs.Extents.{GivesEach, written_each, written_where}
 use Rattle.wb_words.specs.SharedWords.{Words, word_at}
 use Rattle.wb_words.specs.declared.card.Card.{Card}
-use Rattle.wb_tasks.specs.Tables.{BlockRange, BlockJob, Reading, Writing}
+use Rattle.wb_tasks.specs.Tables.{BlockRange, BlockJob, Reading, Writing, TaskJob, OnBlock, range_of}
 use Rattle.wb_tasks.specs.Plan.{Plan, want, after, first_step}
 use Rattle.wb_tasks.specs.Ready.{Suits, HoldsBlocks}
 use Rattle.wb_tasks.specs.declared.step.Answer.{Answer}
@@ -20,10 +20,10 @@ use Rattle.wb_tasks.specs.declared.step.Got.TheVariants.{Done, Fault}
 use Rattle.wb_types.proofs.Lists.{element_beside}
 use Rattle.wb_devices.specs.declared.devices.Devices.{Devices}
 use Rattle.wb_devices.specs.Moving.{device_in}
-use Rattle.wb_link.specs.Tables.{Seal, Gave, Got as AbstractGot, Done as DoneThere}
+use Rattle.wb_link.specs.Tables.{Seal, Gave, Got as AbstractGot, Done as DoneThere, read_each}
 use Rattle.wb_link.specs.World.{World, Shared, Actor as AbstractActor, is_alone}
-use Rattle.wb_refines.specs.Going.{shared_after, gone}
-use Rattle.wb_refines.specs.Translation.{location_at}
+use Rattle.wb_refines.specs.Going.{records, shared_after, gone}
+use Rattle.wb_refines.specs.Translation.{location_at, wants_of, job_for, answer_for, offsets}
 use Rattle.wb_refines.specs.Data.{IsSide, SameBeside, Moves, faults, read_fault}
 use Rattle.wb_refines.specs.Models.{IsAt, HasStopped, plan_of, SealAgrees, WordsAgree}
 use Rattle.wb_refines.proofs.Locks.{has_no_more}
@@ -31,9 +31,12 @@ use Rattle.wb_refines.proofs.Moving.{extent_steps_followed as followed_alone}
 use Rattle.wb_runs.specs.declared.job.Job.{Job}
 use Rattle.wb_runs.specs.declared.job.Job.TheVariants.{Read, Write}
 use Rattle.wb_runs.specs.States.{Actor, with_device}
+use Rattle.wb_types.specs.Extents.{rising}
+use Rattle.wb_simulation.proofs.Telling.{done_are_writes, faults_are_writes}
 use Rattle.wb_simulation.specs.Steps.{IsPart, AreOfBlock}
 use Rattle.wb_simulation.specs.Actors.{IsLate, IsRequestAt, IsDoing}
-use Rattle.wb_simulation.specs.Worlds.{zeros, Agrees, By, Follows}
+use Rattle.wb_simulation.specs.Telling.{Telling, IsTold, Quietly, Reads, Writes, reading as reading_script, AreUnnoted, AreWrites}
+use Rattle.wb_simulation.specs.Worlds.{zeros, Agrees, Follows}
 use Rattle.wb_simulation.specs.Laws.{ExtentStepsFollowed, after_step}
 use Rattle.wb_simulation.proofs.Among.{goes_on}
 use Rattle.wb_simulation.proofs.Followed.{doing_of}
@@ -61,18 +64,18 @@ module _ (size most : ℕ) (words : Words) (committing : Bool) (devices : Device
   side_of Metadata e h = absurd h
 
   -- an actor of a request has moved an extent, and its device is this list now
-  moved : (job : Job) (content : Content) (job_on : BlockRange → BlockJob) (plan : Plan) (device : Dev) (e : Extent) (results : List AbstractGot) (list : List History) → HoldsBlocks device →
+  moved : (telling : Telling) (job : Job) (content : Content) (job_on : BlockRange → BlockJob) (plan : Plan) (device : Dev) (e : Extent) (results : List AbstractGot) (list : List History) → IsTold telling a y.task (records a y.task results) → HoldsBlocks device →
       Moves size zeros content s.actors a s.shared y (location_at size device e) results list plan x.card → is_alone (gone y y.task results).task ≡ false → IsDoing size most words job plan x.card (gone y y.task results) →
-      Follows (By results) size most a s words committing (with_device device devices list) (slice_set actors a (record { task = Some (job, plan); card = x.card }))
-  moved job content job_on plan Metadata e results list h m alone doing = absurd h
-  moved job content job_on plan Cache e results list h m alone doing =
+      Follows telling size most a s words committing (with_device device devices list) (slice_set actors a (record { task = Some (job, plan); card = x.card }))
+  moved telling job content job_on plan Metadata e results list told h m alone doing = absurd h
+  moved telling job content job_on plan Cache e results list told h m alone doing =
       let t = shared_after s.shared y y.task results in let k = m.beside.images in
-      goes_on size most words words (λ f. f) committing devices actors a x (record { task = Some (job, plan); card = x.card }) s y g ex ey (By results) (with_device Cache devices list) results t refl m.may refl
+      goes_on size most words words (λ f. f) committing devices actors a x (record { task = Some (job, plan); card = x.card }) s y g ex ey telling (with_device Cache devices list) results t told m.may refl
       (record { at = doing; below = has_no_more size content plan x.card (gone y y.task results) m.at; among_others = alone }) (λ l. let bad : true ≡ false = sym l ∙ ap (λ (v : AbstractActor). v.leads) m.at.is in absurd (cc)) (words_beside words (location_at size Cache e) s.shared t m.beside g.words_agree)
       (m.beside.other ∙ g.origin) m.side_is k.mode k.committing k.broken (k.committed, k.running, k.root_written)
-  moved job content job_on plan Origin e results list h m alone doing =
+  moved telling job content job_on plan Origin e results list told h m alone doing =
       let t = shared_after s.shared y y.task results in let k = m.beside.images in
-      goes_on size most words words (λ f. f) committing devices actors a x (record { task = Some (job, plan); card = x.card }) s y g ex ey (By results) (with_device Origin devices list) results t refl m.may refl
+      goes_on size most words words (λ f. f) committing devices actors a x (record { task = Some (job, plan); card = x.card }) s y g ex ey telling (with_device Origin devices list) results t told m.may refl
       (record { at = doing; below = has_no_more size content plan x.card (gone y y.task results) m.at; among_others = alone }) (λ l. let bad : true ≡ false = sym l ∙ ap (λ (v : AbstractActor). v.leads) m.at.is in absurd (cc)) (words_beside words (location_at size Origin e) s.shared t m.beside g.words_agree)
       m.side_is (m.beside.other ∙ g.cache) k.mode k.committing k.broken (k.committed, k.running, k.root_written)
 
@@ -97,85 +100,124 @@ module _ (size most blocks : ℕ) (words : Words) (committing : Bool) (devices :
   abbrev writing : Plan
   writing = plan_of (Writing part) (Device (WriteExtent device e) ∷ ws) answer
 
-  abbrev Then : List AbstractGot → Devices (List History) → Job → Plan → Got → Type 0
-  Then results devices' job plan got = Follows (By results) size most a s words committing devices' (slice_set actors a (after_step job plan got x))
+  abbrev Then : Telling → Devices (List History) → Job → Plan → Got → Type 0
+  Then telling devices' job plan got = Follows telling size most a s words committing devices' (slice_set actors a (after_step job plan got x))
 
   abbrev list : List History
   list = device_in device devices
 
-  read_done : (extent : Extent) (contents : List Content) → AreOfBlock size part.block.0 (Device (ReadExtent device e) ∷ ws) → Suits blocks reading x.card → length contents ≡ e.count → GivesEach list e.first contents → IsAt size [] reading x.card y → Then (map Gave contents) devices (Read extent) reading Done
+  -- what it is told as: its next steps are these sectors
+  read_told : (contents : List Content) → length contents ≡ e.count → IsAt size [] reading x.card y → IsTold (Reads part.block.0 (e.first % size) contents) a y.task (records a y.task (map Gave contents))
+  read_told contents n is = record {
+    location = location_at size device e;
+    all = offsets size part.extents;
+    rest = wants_of size (job_for size [] (OnBlock (Reading part))) ws;
+    answer = answer_for (job_for size [] (OnBlock (Reading part))) answer;
+    at = ap (λ (v : AbstractActor). v.task) is.is ∙ ap (λ (k : ℕ). Some (reading_script part.block.0 (offsets size part.extents) (read_each (location_at size device e) part.block.0 (rising (e.first % size) k) (wants_of size (job_for size [] (OnBlock (Reading part))) ws)) (answer_for (job_for size [] (OnBlock (Reading part))) answer))) (sym n);
+    told_is = refl;
+  }
+
+  fails_told : AreOfBlock size part.block.0 (Device (ReadExtent device e) ∷ ws) → IsAt size [] reading x.card y → IsTold Quietly a y.task (records a y.task read_fault)
+  fails_told o is = (read_fault, subst (λ (v : AbstractActor). AreUnnoted v.task read_fault) (sym is.is) (by_count e.count o.0.some), refl)
+    where
+      by_count : (k : ℕ) → 0 < k → AreUnnoted (Some (reading_script part.block.0 (offsets size part.extents) (read_each (location_at size device e) part.block.0 (rising (e.first % size) k) (wants_of size (job_for size [] (OnBlock (Reading part))) ws)) (answer_for (job_for size [] (OnBlock (Reading part))) answer))) read_fault
+      by_count zero l = absurd (omega (arith, l))
+      by_count (suc k) l = (tt, tt)
+
+  write_told : (content : Content) (results : List AbstractGot) → AreWrites e.count results → IsAt size content writing x.card y → IsTold (Writes part.block.0 (e.first % size) e.count content) a y.task (records a y.task results)
+  write_told content results are is = record {
+    location = location_at size device e;
+    all = offsets size part.extents;
+    rest = wants_of size (job_for size content (OnBlock (Writing part))) ws;
+    answer = answer_for (job_for size content (OnBlock (Writing part))) answer;
+    results = results;
+    are = are;
+    at = ap (λ (v : AbstractActor). v.task) is.is;
+    told_is = refl;
+  }
+
+  read_done : (extent : Extent) (contents : List Content) → AreOfBlock size part.block.0 (Device (ReadExtent device e) ∷ ws) → Suits blocks reading x.card → length contents ≡ e.count → GivesEach list e.first contents → IsAt size [] reading x.card y → Then (Reads part.block.0 (e.first % size) contents) devices (Read extent) reading Done
   read_done extent contents o suits n given is =
       let m = followed_alone.read_done size zeros [] s.actors a x.card s.shared y part device e ws answer list contents o.0 (suits.1.1.0, suits.1.1.1.1) (side_of size most words committing devices actors a x s y ex ey g device e h) n given is in
-      subst (λ (ds : Devices (List History)). Then (map Gave contents) ds (Read extent) reading Done) (same_device device devices h)
-      (moved size most words committing devices actors a x s y ex ey g (Read extent) [] Reading (after reading Done) device e (map Gave contents) list h m (ap (λ (v : AbstractActor). is_alone v.task) m.at.is)
+      subst (λ (ds : Devices (List History)). Then (Reads part.block.0 (e.first % size) contents) ds (Read extent) reading Done) (same_device device devices h)
+      (moved size most words committing devices actors a x s y ex ey g (Reads part.block.0 (e.first % size) contents) (Read extent) [] Reading (after reading Done) device e (map Gave contents) list (read_told contents n is) h m (ap (λ (v : AbstractActor). is_alone v.task) m.at.is)
       (record { part = part; job = refl; is_part = is_part; of_block = o.1; at = inl m.at }))
 
-  read_fails : (extent : Extent) → AreOfBlock size part.block.0 (Device (ReadExtent device e) ∷ ws) → IsAt size [] reading x.card y → Then read_fault devices (Read extent) reading Fault
+  read_fails : (extent : Extent) → AreOfBlock size part.block.0 (Device (ReadExtent device e) ∷ ws) → IsAt size [] reading x.card y → Then Quietly devices (Read extent) reading Fault
   read_fails extent o is =
       let m = followed_alone.read_fails size zeros [] s.actors a x.card s.shared y part device e ws answer list o.0 (side_of size most words committing devices actors a x s y ex ey g device e h) is in
-      subst (λ (ds : Devices (List History)). Then read_fault ds (Read extent) reading Fault) (same_device device devices h)
-      (moved size most words committing devices actors a x s y ex ey g (Read extent) [] Reading (after reading Fault) device e read_fault list h m (ap (λ (v : AbstractActor). is_alone v.task) m.at.is)
+      subst (λ (ds : Devices (List History)). Then Quietly ds (Read extent) reading Fault) (same_device device devices h)
+      (moved size most words committing devices actors a x s y ex ey g Quietly (Read extent) [] Reading (after reading Fault) device e read_fault list (fails_told o is) h m (ap (λ (v : AbstractActor). is_alone v.task) m.at.is)
       (record { part = part; job = refl; is_part = is_part; of_block = tt; at = inl m.at }))
 
   write_done : (extent : Extent) (content : Content) → AreOfBlock size part.block.0 (Device (WriteExtent device e) ∷ ws) → Suits blocks writing x.card → e.first + e.count ≤ length list → IsAt size content writing x.card y →
-      Then (replicate e.count DoneThere) (with_device device devices (written_each list e.first (replicate e.count content))) (Write extent content) writing Done
+      Then (Writes part.block.0 (e.first % size) e.count content) (with_device device devices (written_each list e.first (replicate e.count content))) (Write extent content) writing Done
   write_done extent content o suits room is =
       let m = followed_alone.write_done size zeros content s.actors a x.card s.shared y part device e ws answer list o.0 (suits.1.1.0, suits.1.1.1.1) (side_of size most words committing devices actors a x s y ex ey g device e h) room is in
-      moved size most words committing devices actors a x s y ex ey g (Write extent content) content Writing (after writing Done) device e (replicate e.count DoneThere) (written_each list e.first (replicate e.count content)) h m (ap (λ (v : AbstractActor). is_alone v.task) m.at.is)
+      moved size most words committing devices actors a x s y ex ey g (Writes part.block.0 (e.first % size) e.count content) (Write extent content) content Writing (after writing Done) device e (replicate e.count DoneThere) (written_each list e.first (replicate e.count content)) (write_told content (replicate e.count DoneThere) (done_are_writes e.count) is) h m (ap (λ (v : AbstractActor). is_alone v.task) m.at.is)
       (record { part = part; job = refl; is_part = is_part; of_block = o.1; at = inl m.at })
 
   write_fails : (extent : Extent) (content : Content) (lands : ℕ → Bool) → AreOfBlock size part.block.0 (Device (WriteExtent device e) ∷ ws) → e.first + e.count ≤ length list → IsAt size content writing x.card y →
-      Then (faults lands e.first e.count) (with_device device devices (written_where lands list e.first (replicate e.count content))) (Write extent content) writing Fault
+      Then (Writes part.block.0 (e.first % size) e.count content) (with_device device devices (written_where lands list e.first (replicate e.count content))) (Write extent content) writing Fault
   write_fails extent content lands o room is =
       let m = followed_alone.write_fails size zeros content s.actors a x.card s.shared y part device e ws answer list lands o.0 (side_of size most words committing devices actors a x s y ex ey g device e h) room is in
-      moved size most words committing devices actors a x s y ex ey g (Write extent content) content Writing (after writing Fault) device e (faults lands e.first e.count) (written_where lands list e.first (replicate e.count content)) h m (ap (λ (v : AbstractActor). is_alone v.task) m.at.is)
+      moved size most words committing devices actors a x s y ex ey g (Writes part.block.0 (e.first % size) e.count content) (Write extent content) content Writing (after writing Fault) device e (faults lands e.first e.count) (written_where lands list e.first (replicate e.count content)) (write_told content (faults lands e.first e.count) (faults_are_writes lands e.first e.count) is) h m (ap (λ (v : AbstractActor). is_alone v.task) m.at.is)
       (record { part = part; job = refl; is_part = is_part; of_block = tt; at = inl m.at })
 
--- a request whose next step is on a device, as it is there
-pub record HasStep (size : ℕ) (content : Content) (words : Words) (job_on : BlockRange → BlockJob) (step : DeviceStep) (plan : Plan) (card : Card) (y : AbstractActor) : Type 0 where
-  pub part : BlockRange
+-- a request of this part whose next step is on a device, as it is there
+pub record HasStep (size : ℕ) (content : Content) (words : Words) (job_on : BlockRange → BlockJob) (part : BlockRange) (step : DeviceStep) (plan : Plan) (card : Card) (y : AbstractActor) : Type 0 where
   pub is_part : IsPart size part
   pub later : List Want
   pub is : plan ≡ plan_of (job_on part) (Device step ∷ later) plan.answer
   pub of_block : AreOfBlock size part.block.0 (Device step ∷ later)
   pub at : IsAt size content (plan_of (job_on part) (Device step ∷ later) plan.answer) card y
 
-has_step : (size : ℕ) (content : Content) (words : Words) (job_on : BlockRange → BlockJob) (step : DeviceStep) (plan : Plan) (card : Card) (y : AbstractActor) → want plan ≡ Device step → IsRequestAt size content words job_on plan card y → HasStep size content words job_on step plan card y
-has_step size content words job_on step plan card y next r =
-    let b = begins_by plan (Device step) next (λ answer k. absurd (cc)) in
-    let is : plan ≡ plan_of (job_on r.part) (Device step ∷ b.0) plan.answer = (λ i. record { job = r.job i; steps = b.1 i; answer = plan.answer }) in
-    record {
-      part = r.part;
-      is_part = r.is_part;
-      later = b.0;
-      is = is;
-      of_block = subst (λ (ws : List Want). AreOfBlock size r.part.block.0 ws) b.1 r.of_block;
-      at = at_device size content words job_on r.part step b.0 plan.answer card y (subst At is r.at);
-    }
+abbrev part_in : BlockRange → TaskJob → BlockRange
+part_in other (OnBlock job) = range_of job
+part_in other job = other
+
+has_step : (size : ℕ) (content : Content) (words : Words) (job_on : BlockRange → BlockJob) → ((part : BlockRange) → range_of (job_on part) ≡ part) → (part : BlockRange) (step : DeviceStep) (plan : Plan) (card : Card) (y : AbstractActor) → want plan ≡ Device step → plan.job ≡ OnBlock (job_on part) →
+    IsRequestAt size content words job_on plan card y → HasStep size content words job_on part step plan card y
+has_step size content words job_on range part step plan card y next of_part r = subst (λ (p : BlockRange). HasStep size content words job_on p step plan card y) same (record {
+  is_part = r.is_part;
+  later = b.0;
+  is = is;
+  of_block = subst (λ (ws : List Want). AreOfBlock size r.part.block.0 ws) b.1 r.of_block;
+  at = at_device size content words job_on r.part step b.0 plan.answer card y (subst At is r.at);
+})
   where
     At : Plan → Type 0
     At p = IsAt size content p card y ⊎ HasStopped words p card y ⊎ IsLate words p y
 
+    b : (ws : List Want) × (plan.steps ≡ Device step ∷ ws)
+    b = begins_by plan (Device step) next (λ answer k. absurd (cc))
+
+    is : plan ≡ plan_of (job_on r.part) (Device step ∷ b.0) plan.answer
+    is = λ i. record { job = r.job i; steps = b.1 i; answer = plan.answer }
+
+    same : r.part ≡ part
+    same = sym (range r.part) ∙ ap (part_in part) (sym r.job ∙ of_part) ∙ range part
+
 pub extent_steps_followed : ExtentStepsFollowed
 extent_steps_followed = record {
-  read_done = λ size most blocks words committing devices actors a x extent plan device e contents s ex task suits next h n given g.
+  read_done = λ size most blocks words committing devices actors a x extent part plan device e contents s ex task of_part suits next h n given g.
       let y = element_beside actors s.actors a x g.many ex in
-      let k = has_step size [] words Reading (ReadExtent device e) plan x.card y.0 next (doing_of size most words x y.0 (Read extent) plan (g.each a x y.0 ex y.1) task) in
-      subst (λ (p : Plan). Follows (By (map Gave contents)) size most a s words committing devices (slice_set actors a (after_step (Read extent) p Done x))) (sym k.is)
-      (read_done size most blocks words committing devices actors a x s y.0 ex y.1 g k.part k.is_part device e k.later plan.answer h extent contents k.of_block (subst (λ (p : Plan). Suits blocks p x.card) k.is suits) n given k.at);
-  read_fails = λ size most blocks words committing devices actors a x extent plan device e s ex task suits next h g.
+      let k = has_step size [] words Reading (λ p. refl) part (ReadExtent device e) plan x.card y.0 next of_part (doing_of size most words x y.0 (Read extent) plan (g.each a x y.0 ex y.1) task) in
+      subst (λ (p : Plan). Follows (Reads part.block.0 (e.first % size) contents) size most a s words committing devices (slice_set actors a (after_step (Read extent) p Done x))) (sym k.is)
+      (read_done size most blocks words committing devices actors a x s y.0 ex y.1 g part k.is_part device e k.later plan.answer h extent contents k.of_block (subst (λ (p : Plan). Suits blocks p x.card) k.is suits) n given k.at);
+  read_fails = λ size most blocks words committing devices actors a x extent part plan device e s ex task of_part suits next h g.
       let y = element_beside actors s.actors a x g.many ex in
-      let k = has_step size [] words Reading (ReadExtent device e) plan x.card y.0 next (doing_of size most words x y.0 (Read extent) plan (g.each a x y.0 ex y.1) task) in
-      subst (λ (p : Plan). Follows (By read_fault) size most a s words committing devices (slice_set actors a (after_step (Read extent) p Fault x))) (sym k.is)
-      (read_fails size most blocks words committing devices actors a x s y.0 ex y.1 g k.part k.is_part device e k.later plan.answer h extent k.of_block k.at);
-  write_done = λ size most blocks words committing devices actors a x extent content plan device e s ex task suits next h room g.
+      let k = has_step size [] words Reading (λ p. refl) part (ReadExtent device e) plan x.card y.0 next of_part (doing_of size most words x y.0 (Read extent) plan (g.each a x y.0 ex y.1) task) in
+      subst (λ (p : Plan). Follows Quietly size most a s words committing devices (slice_set actors a (after_step (Read extent) p Fault x))) (sym k.is)
+      (read_fails size most blocks words committing devices actors a x s y.0 ex y.1 g part k.is_part device e k.later plan.answer h extent k.of_block k.at);
+  write_done = λ size most blocks words committing devices actors a x extent content part plan device e s ex task of_part suits next h room g.
       let y = element_beside actors s.actors a x g.many ex in
-      let k = has_step size content words Writing (WriteExtent device e) plan x.card y.0 next (doing_of size most words x y.0 (Write extent content) plan (g.each a x y.0 ex y.1) task) in
-      subst (λ (p : Plan). Follows (By (replicate e.count DoneThere)) size most a s words committing (with_device device devices (written_each (device_in device devices) e.first (replicate e.count content))) (slice_set actors a (after_step (Write extent content) p Done x))) (sym k.is)
-      (write_done size most blocks words committing devices actors a x s y.0 ex y.1 g k.part k.is_part device e k.later plan.answer h extent content k.of_block (subst (λ (p : Plan). Suits blocks p x.card) k.is suits) room k.at);
-  write_fails = λ size most blocks words committing devices actors a x extent content plan device e lands s ex task suits next h room g.
+      let k = has_step size content words Writing (λ p. refl) part (WriteExtent device e) plan x.card y.0 next of_part (doing_of size most words x y.0 (Write extent content) plan (g.each a x y.0 ex y.1) task) in
+      subst (λ (p : Plan). Follows (Writes part.block.0 (e.first % size) e.count content) size most a s words committing (with_device device devices (written_each (device_in device devices) e.first (replicate e.count content))) (slice_set actors a (after_step (Write extent content) p Done x))) (sym k.is)
+      (write_done size most blocks words committing devices actors a x s y.0 ex y.1 g part k.is_part device e k.later plan.answer h extent content k.of_block (subst (λ (p : Plan). Suits blocks p x.card) k.is suits) room k.at);
+  write_fails = λ size most blocks words committing devices actors a x extent content part plan device e lands s ex task of_part suits next h room g.
       let y = element_beside actors s.actors a x g.many ex in
-      let k = has_step size content words Writing (WriteExtent device e) plan x.card y.0 next (doing_of size most words x y.0 (Write extent content) plan (g.each a x y.0 ex y.1) task) in
-      subst (λ (p : Plan). Follows (By (faults lands e.first e.count)) size most a s words committing (with_device device devices (written_where lands (device_in device devices) e.first (replicate e.count content))) (slice_set actors a (after_step (Write extent content) p Fault x))) (sym k.is)
-      (write_fails size most blocks words committing devices actors a x s y.0 ex y.1 g k.part k.is_part device e k.later plan.answer h extent content lands k.of_block room k.at);
+      let k = has_step size content words Writing (λ p. refl) part (WriteExtent device e) plan x.card y.0 next of_part (doing_of size most words x y.0 (Write extent content) plan (g.each a x y.0 ex y.1) task) in
+      subst (λ (p : Plan). Follows (Writes part.block.0 (e.first % size) e.count content) size most a s words committing (with_device device devices (written_where lands (device_in device devices) e.first (replicate e.count content))) (slice_set actors a (after_step (Write extent content) p Fault x))) (sym k.is)
+      (write_fails size most blocks words committing devices actors a x s y.0 ex y.1 g part k.is_part device e k.later plan.answer h extent content lands k.of_block room k.at);
 }

@@ -21,9 +21,11 @@ use Rattle.wb_runs.specs.declared.job.Job.TheVariants.{Read, Write, Flush}
 use Rattle.wb_runs.specs.States.{Actor}
 use Rattle.wb_simulation.specs.Steps.{IsPart}
 use Rattle.wb_simulation.specs.Actors.{IsLate, IsBusyAt, IsDoing, StandsFor}
-use Rattle.wb_simulation.specs.Worlds.{Agrees, Stays, TurnedTo, Quietly, Starts, Follows}
+use Rattle.wb_simulation.specs.Telling.{Quietly, Starts}
+use Rattle.wb_simulation.specs.Worlds.{Agrees, Stays, TurnedTo, Follows}
 use Rattle.wb_simulation.specs.Laws.{StartsFollowed}
-use Rattle.wb_simulation.proofs.Cells.{shared_stays, gone_nowhere, quiet_none}
+use Rattle.wb_simulation.proofs.Cells.{shared_stays, gone_nowhere}
+use Rattle.wb_simulation.proofs.Telling.{unnoted_none}
 use Rattle.wb_simulation.proofs.Among.{goes_on, each_on, led_on, whole_on, one_on}
 
 nobody_alone : (size most : ℕ) (words : Words) (committing : Bool) (devices : Devices (List History)) (actors : List Actor) (s : World) → Agrees size most words committing devices actors s → NobodyIsAlone s
@@ -63,7 +65,7 @@ module _ (size most : ℕ) (words : Words) (committing : Bool) (devices : Device
 
   -- nothing is started there, since the actor has kept something
   begins_late : (y : AbstractActor) → slice_get s.actors a ≡ Some y → StandsFor size most words x y → IsDoing size most words job plan x.card y → Goal
-  begins_late y ey st doing = goes_on size most words words (λ f. f) committing devices actors a x (record x { task = Some (job, plan) }) s y g ex ey Quietly devices [] s.shared ([], quiet_none y.task, refl) tt (shared_stays s.shared y y.task)
+  begins_late y ey st doing = goes_on size most words words (λ f. f) committing devices actors a x (record x { task = Some (job, plan) }) s y g ex ey Quietly devices [] s.shared ([], unnoted_none y.task, refl) tt (shared_stays s.shared y y.task)
       (subst (λ (z : AbstractActor). StandsFor size most words (record x { task = Some (job, plan) }) z) (sym (gone_nowhere y y.task)) (record { at = doing; below = st.below; among_others = st.among_others }))
       (λ l. gone_nowhere y y.task) g.words_agree g.origin g.cache refl refl refl (refl, refl, refl)
 

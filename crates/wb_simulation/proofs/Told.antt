@@ -1,9 +1,8 @@
 -- What the abstract world's clerk notes of the steps of an actor's task.
-use Rattle.std.proofs.Common.{◌≡◌, ◌≢◌, ◌<◌, ◌≤◌, ◌+◌, ◌*◌, ◌∙◌, ◌++◌, inl, inr, ℕ, zero, suc, Bool, true, false, cond, List, [], ◌∷◌, Option, Some, None, length, map, replicate, refl, sym, ap, subst, arith, slice_get, unwrap_or}
+use Rattle.std.proofs.Common.{◌≡◌, ◌≢◌, ◌<◌, ◌≤◌, ◌+◌, ◌*◌, ◌∙◌, ◌++◌, inl, inr, ℕ, zero, suc, Bool, true, false, cond, List, [], ◌∷◌, Option, Some, None, length, map, refl, sym, ap, subst, arith, slice_get, unwrap_or}
 use Rattle.std.proofs.lemmas.Bool.{cases_eq, lt-ltb}
 use Rattle.std.proofs.lemmas.Option.{slice_get-get_or}
 use Rattle.wb_types.specs.Extents.{rising}
-use Rattle.wb_words.specs.SharedWords.{flag}
 use Rattle.wb_disk.specs.Device.{Content, History, newest, added, only, written, grown}
 use Rattle.wb_contents.specs.Volume.{changed, changed_at}
 use Rattle.wb_contents.specs.Devices.{by_block}
@@ -13,10 +12,10 @@ use Rattle.wb_link.specs.Tables.{Script, Job, Reading, Writing, Writing_through,
 use Rattle.wb_link.specs.World.{Record, Step, task_after}
 use Rattle.wb_link.specs.Clerk.{Notes, Entry, note, noted_step, histories_after, entered_after, finished_after, floors_after, job_noted, GivesLatest}
 use Rattle.wb_link.specs.Openings.{On, noted, AllRight}
-use Rattle.wb_refines.specs.Data.{faults}
-use Rattle.wb_refines.specs.Going.{records, IsQuiet, AreQuiet}
+use Rattle.wb_refines.specs.Going.{records}
 use Rattle.wb_runs.specs.Clerk.{Position, Entering, enter, enter_each, next_position}
 use Rattle.wb_simulation.specs.Noting.{AreEntries}
+use Rattle.wb_simulation.specs.Telling.{IsUnnoted, AreUnnoted, AreWrites, reading, writing}
 use Rattle.wb_simulation.specs.Worlds.{zeros}
 use Rattle.wb_simulation.proofs.Counts.{one_entry_more}
 
@@ -35,26 +34,6 @@ changed_nothing f a v e = λ i b. at b i
     ]
 
 -- ---- steps of which nothing is noted
-
-abbrev pub IsUnnoted : Want → Type 0
-IsUnnoted (Write_at location b o) = ⊥
-IsUnnoted (End answer) = ⊥
-IsUnnoted w = Unit {0}
-
-abbrev pub AreUnnoted : Option Script → List Got → Type 0
-AreUnnoted None gots = Unit {0}
-AreUnnoted (Some script) [] = Unit {0}
-AreUnnoted (Some script) (got ∷ gots) = IsUnnoted (want script) × AreUnnoted (task_after script (want script) got) gots
-
-quiet_unnoted : (w : Want) → IsQuiet w → IsUnnoted w
-quiet_unnoted (Write_at location b o) q = q
-quiet_unnoted (End answer) q = q
-quiet_unnoted w q = tt
-
-pub quiet_are_unnoted : (task : Option Script) (gots : List Got) → AreQuiet task gots → AreUnnoted task gots
-quiet_are_unnoted None gots q = tt
-quiet_are_unnoted (Some script) [] q = tt
-quiet_are_unnoted (Some script) (got ∷ gots) q = (quiet_unnoted (want script) q.0, quiet_are_unnoted (task_after script (want script) got) gots q.1)
 
 histories_stay : (h : ℕ → ℕ → History) (job : Job) (w : Want) → IsUnnoted w → histories_after h job w ≡ h
 histories_stay h (Writing b os c) (Write_at location b' o) u = absurd u
@@ -134,16 +113,7 @@ abbrev pub AreNewest : (ℕ → ℕ → History) → ℕ → ℕ → List Conten
 AreNewest histories b o [] = Unit {0}
 AreNewest histories b o (c ∷ contents) = (c ≡ newest (histories b o)) × AreNewest histories b (o + 1) contents
 
-abbrev reading : ℕ → List ℕ → List Want → Answer → Script
-reading b all steps answer = record { job = Reading b all; steps = steps; answer = answer }
-
--- what a read is given is not noted
-pub reads_unnoted : (location : Option ℕ) (b : ℕ) (all : List ℕ) (rest : List Want) (answer : Answer) (contents : List Content) (o : ℕ) →
-    AreUnnoted (Some (reading b all (read_each location b (rising o (length contents)) rest) answer)) (map Gave contents)
-reads_unnoted location b all rest answer [] o = tt
-reads_unnoted location b all rest answer (c ∷ contents) o = (tt, reads_unnoted location b all rest answer contents (o + 1))
-
--- and is right, each sector by itself
+-- what a read is given is right, each sector by itself
 pub reads_newest : (location : Option ℕ) (b : ℕ) (all : List ℕ) (rest : List Want) (answer : Answer) (contents : List Content) (o : ℕ) (m : Notes) (a : ℕ) → m.jobs a ≡ Some (Reading b all) →
     AllRight m (map (λ (r : Record). On r) (records a (Some (reading b all (read_each location b (rising o (length contents)) rest) answer)) (map Gave contents))) → AreNewest m.histories b o contents
 reads_newest location b all rest answer [] o m a j r = tt
@@ -162,24 +132,6 @@ next_there size h b o l inside =
     let found = slice_get-get_or h (b * size + o) (only zeros) inside in
     ap (λ (t : Bool). length (cond t (unwrap_or (slice_get h (b * size + o)) (only zeros)) (only zeros)).later + 1) (lt-ltb o size l)
     ∙ ap (λ (v : Option History). length (unwrap_or v (only zeros)).later + 1) found ∙ sym (ap next_position found)
-
--- Each sector is written, or its write fails and goes on with the next.
-abbrev pub AreWrites : ℕ → List Got → Type 0
-AreWrites zero [] = Unit {0}
-AreWrites (suc count) (Done ∷ gots) = AreWrites count gots
-AreWrites (suc count) (Fault choice ∷ gots) = (choice.more ≡ flag count) × AreWrites count gots
-AreWrites count gots = ⊥
-
-pub done_are_writes : (count : ℕ) → AreWrites count (replicate count Done)
-done_are_writes zero = tt
-done_are_writes (suc count) = done_are_writes count
-
-pub faults_are_writes : (lands : ℕ → Bool) (at count : ℕ) → AreWrites count (faults lands at count)
-faults_are_writes lands at zero = tt
-faults_are_writes lands at (suc count) = (refl, faults_are_writes lands (suc at) count)
-
-abbrev writing : ℕ → List ℕ → Content → List Want → Answer → Script
-writing b all c steps answer = record { job = Writing b all c; steps = steps; answer = answer }
 
 -- What is noted of a write: these histories and entries; and nothing else.
 pub record Wrote (size sectors a : ℕ) (m m' : Notes) (e : Entering) : Type 0 where

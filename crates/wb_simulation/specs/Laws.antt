@@ -1,5 +1,5 @@
 -- How what actors of a run do is followed in the abstract world, where a target stands.
-use Rattle.std.specs.Prelude.{◌≡◌, ◌≤◌, ◌+◌, ◌⊎◌, ℕ, Bool, true, false, List, [], ◌∷◌, Some, None, length, map, replicate, slice_get, slice_set}
+use Rattle.std.specs.Prelude.{◌%◌, ◌≡◌, ◌≤◌, ◌+◌, ◌⊎◌, ℕ, Bool, true, false, List, [], Some, None, length, replicate, slice_get, slice_set}
 use Rattle.wb_types.specs.declared.extent.Extent.{Extent}
 use Rattle.wb_types.specs.declared.mode.Dev.{Dev}
 use Rattle.wb_types.specs.declared.mode.Dev.TheVariants.{Metadata}
@@ -26,8 +26,7 @@ use Rattle.wb_tasks.specs.declared.step.Got.{Got}
 use Rattle.wb_tasks.specs.declared.step.Got.TheVariants.{Done, Fault, Began, Refused}
 use Rattle.wb_devices.specs.declared.devices.Devices.{Devices}
 use Rattle.wb_devices.specs.Moving.{device_in}
-use Rattle.wb_link.specs.Tables.{Gave, Done as DoneThere, Job as AbstractJob, Flushing as FlushingFor}
-use Rattle.wb_refines.specs.Data.{faults, read_fault}
+use Rattle.wb_link.specs.Tables.{Job as AbstractJob, Flushing as FlushingFor}
 use Rattle.wb_refines.specs.Translation.{job_for}
 use Rattle.wb_link.specs.World.{World, begins as world_begins}
 use Rattle.wb_refines.specs.Flushes.{IsNoBegin}
@@ -36,7 +35,8 @@ use Rattle.wb_runs.specs.declared.job.Job.TheVariants.{Read, Write, Flush}
 use Rattle.wb_runs.specs.States.{Actor, resting, with_device}
 use Rattle.wb_runs.specs.Holding.{cards_of}
 use Rattle.wb_simulation.specs.Steps.{IsPart}
-use Rattle.wb_simulation.specs.Worlds.{zeros, Agrees, Turn, Stays, Begins, Puts, Ends, Quietly, By, Starts, FollowsBy, Follows}
+use Rattle.wb_simulation.specs.Telling.{Quietly, Reads, Writes, Answers, Starts}
+use Rattle.wb_simulation.specs.Worlds.{zeros, Agrees, Turn, Stays, Begins, Puts, Ends, FollowsBy, Follows}
 
 abbrev pub IsRequestJob : Job → Type 0
 IsRequestJob (Read extent) = Unit {0}
@@ -59,18 +59,18 @@ after_step job plan got x = record { task = Some (job, after plan got); card = x
 
 -- A step of a read or a write on an extent of a device, done or failing; of a write that fails each sector has landed or not.
 pub record ExtentStepsFollowed : Type 0 where
-  pub read_done : (size most blocks : ℕ) (words : Words) (committing : Bool) (devices : Devices (List History)) (actors : List Actor) (a : ℕ) (x : Actor) (extent : Extent) (plan : Plan) (device : Dev) (e : Extent) (contents : List Content) (s : World) →
-      slice_get actors a ≡ Some x → x.task ≡ Some (Read extent, plan) → Suits blocks plan x.card → want plan ≡ Device (ReadExtent device e) → HoldsBlocks device → length contents ≡ e.count → GivesEach (device_in device devices) e.first contents →
-      Agrees size most words committing devices actors s → Follows (By (map Gave contents)) size most a s words committing devices (slice_set actors a (after_step (Read extent) plan Done x))
-  pub read_fails : (size most blocks : ℕ) (words : Words) (committing : Bool) (devices : Devices (List History)) (actors : List Actor) (a : ℕ) (x : Actor) (extent : Extent) (plan : Plan) (device : Dev) (e : Extent) (s : World) →
-      slice_get actors a ≡ Some x → x.task ≡ Some (Read extent, plan) → Suits blocks plan x.card → want plan ≡ Device (ReadExtent device e) → HoldsBlocks device →
-      Agrees size most words committing devices actors s → Follows (By read_fault) size most a s words committing devices (slice_set actors a (after_step (Read extent) plan Fault x))
-  pub write_done : (size most blocks : ℕ) (words : Words) (committing : Bool) (devices : Devices (List History)) (actors : List Actor) (a : ℕ) (x : Actor) (extent : Extent) (content : Content) (plan : Plan) (device : Dev) (e : Extent) (s : World) →
-      slice_get actors a ≡ Some x → x.task ≡ Some (Write extent content, plan) → Suits blocks plan x.card → want plan ≡ Device (WriteExtent device e) → HoldsBlocks device → e.first + e.count ≤ length (device_in device devices) →
-      Agrees size most words committing devices actors s → Follows (By (replicate e.count DoneThere)) size most a s words committing (with_device device devices (written_each (device_in device devices) e.first (replicate e.count content))) (slice_set actors a (after_step (Write extent content) plan Done x))
-  pub write_fails : (size most blocks : ℕ) (words : Words) (committing : Bool) (devices : Devices (List History)) (actors : List Actor) (a : ℕ) (x : Actor) (extent : Extent) (content : Content) (plan : Plan) (device : Dev) (e : Extent) (lands : ℕ → Bool) (s : World) →
-      slice_get actors a ≡ Some x → x.task ≡ Some (Write extent content, plan) → Suits blocks plan x.card → want plan ≡ Device (WriteExtent device e) → HoldsBlocks device → e.first + e.count ≤ length (device_in device devices) →
-      Agrees size most words committing devices actors s → Follows (By (faults lands e.first e.count)) size most a s words committing (with_device device devices (written_where lands (device_in device devices) e.first (replicate e.count content))) (slice_set actors a (after_step (Write extent content) plan Fault x))
+  pub read_done : (size most blocks : ℕ) (words : Words) (committing : Bool) (devices : Devices (List History)) (actors : List Actor) (a : ℕ) (x : Actor) (extent : Extent) (part : BlockRange) (plan : Plan) (device : Dev) (e : Extent) (contents : List Content) (s : World) →
+      slice_get actors a ≡ Some x → x.task ≡ Some (Read extent, plan) → plan.job ≡ OnBlock (Reading part) → Suits blocks plan x.card → want plan ≡ Device (ReadExtent device e) → HoldsBlocks device → length contents ≡ e.count → GivesEach (device_in device devices) e.first contents →
+      Agrees size most words committing devices actors s → Follows (Reads part.block.0 (e.first % size) contents) size most a s words committing devices (slice_set actors a (after_step (Read extent) plan Done x))
+  pub read_fails : (size most blocks : ℕ) (words : Words) (committing : Bool) (devices : Devices (List History)) (actors : List Actor) (a : ℕ) (x : Actor) (extent : Extent) (part : BlockRange) (plan : Plan) (device : Dev) (e : Extent) (s : World) →
+      slice_get actors a ≡ Some x → x.task ≡ Some (Read extent, plan) → plan.job ≡ OnBlock (Reading part) → Suits blocks plan x.card → want plan ≡ Device (ReadExtent device e) → HoldsBlocks device →
+      Agrees size most words committing devices actors s → Follows Quietly size most a s words committing devices (slice_set actors a (after_step (Read extent) plan Fault x))
+  pub write_done : (size most blocks : ℕ) (words : Words) (committing : Bool) (devices : Devices (List History)) (actors : List Actor) (a : ℕ) (x : Actor) (extent : Extent) (content : Content) (part : BlockRange) (plan : Plan) (device : Dev) (e : Extent) (s : World) →
+      slice_get actors a ≡ Some x → x.task ≡ Some (Write extent content, plan) → plan.job ≡ OnBlock (Writing part) → Suits blocks plan x.card → want plan ≡ Device (WriteExtent device e) → HoldsBlocks device → e.first + e.count ≤ length (device_in device devices) →
+      Agrees size most words committing devices actors s → Follows (Writes part.block.0 (e.first % size) e.count content) size most a s words committing (with_device device devices (written_each (device_in device devices) e.first (replicate e.count content))) (slice_set actors a (after_step (Write extent content) plan Done x))
+  pub write_fails : (size most blocks : ℕ) (words : Words) (committing : Bool) (devices : Devices (List History)) (actors : List Actor) (a : ℕ) (x : Actor) (extent : Extent) (content : Content) (part : BlockRange) (plan : Plan) (device : Dev) (e : Extent) (lands : ℕ → Bool) (s : World) →
+      slice_get actors a ≡ Some x → x.task ≡ Some (Write extent content, plan) → plan.job ≡ OnBlock (Writing part) → Suits blocks plan x.card → want plan ≡ Device (WriteExtent device e) → HoldsBlocks device → e.first + e.count ≤ length (device_in device devices) →
+      Agrees size most words committing devices actors s → Follows (Writes part.block.0 (e.first % size) e.count content) size most a s words committing (with_device device devices (written_where lands (device_in device devices) e.first (replicate e.count content))) (slice_set actors a (after_step (Write extent content) plan Fault x))
 
 -- The job is given to the actor there too, or to nobody, since the actor has kept something at a failure.
 abbrev pub Begun : AbstractJob → (size most a : ℕ) → World → Words → Bool → Devices (List History) → List Actor → Type 0
@@ -92,7 +92,7 @@ pub record StartsFollowed : Type 0 where
 abbrev pub AnswersFollowed : Type 0
 AnswersFollowed = (size most blocks : ℕ) (words : Words) (committing : Bool) (devices : Devices (List History)) (actors : List Actor) (a : ℕ) (x : Actor) (job : Job) (plan : Plan) (answer : Answer) (s : World) →
     IsRequestJob job → slice_get actors a ≡ Some x → x.task ≡ Some (job, plan) → Suits blocks plan x.card → want plan ≡ End answer → Agrees size most words committing devices actors s →
-    Follows (By (DoneThere ∷ [])) size most a s words committing devices (slice_set actors a (record x { task = None }))
+    Follows (Answers answer) size most a s words committing devices (slice_set actors a (record x { task = None }))
 
 -- a step of a commit on the metadata writes the root, or is nothing to the images
 abbrev pub turn_of : DeviceStep → Turn
@@ -131,7 +131,7 @@ pub record FlushStepsFollowed : Type 0 where
       Follows Quietly size most a s (words_after words SetFailed) committing devices (slice_set actors a (went words Flush plan SetFailed x))
   pub answers : (size most : ℕ) (answer : Answer) (words : Words) (committing : Bool) (devices : Devices (List History)) (actors : List Actor) (a : ℕ) (x : Actor) (plan : Plan) (s : World) →
       slice_get actors a ≡ Some x → x.task ≡ Some (Flush, plan) → want plan ≡ End answer → Agrees size most words committing devices actors s →
-      Follows (By (DoneThere ∷ [])) size most a s words committing devices (slice_set actors a (record x { task = None }))
+      Follows (Answers answer) size most a s words committing devices (slice_set actors a (record x { task = None }))
 
 -- a target that was just made over empty devices of these sizes, with so many actors who have nothing to do
 abbrev pub CanAgree : Type 0

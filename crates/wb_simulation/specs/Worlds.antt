@@ -1,16 +1,16 @@
 -- When a state of a run, where a target stands, is a state of the abstract world; and when what happens there is a run of that world.
-use Rattle.std.specs.Prelude.{◌≡◌, ◌≢◌, ℕ, Bool, true, false, List, [], ◌∷◌, Option, Some, None, length, replicate, slice_get}
+use Rattle.std.specs.Prelude.{◌≡◌, ◌≢◌, ℕ, Bool, true, false, List, [], Option, Some, None, length, replicate, slice_get}
 use Rattle.wb_types.specs.declared.mode.Mode.TheVariants.{Writeback}
 use Rattle.wb_disk.specs.Device.{Content, History}
 use Rattle.wb_contents.specs.Devices.{by_block}
 use Rattle.wb_words.specs.SharedWords.{Words}
 use Rattle.wb_devices.specs.declared.devices.Devices.{Devices}
-use Rattle.wb_link.specs.Tables.{Script, Got, Job}
-use Rattle.wb_link.specs.World.{World, Shared, Record, Start, IsRun, after_all, Actor as AbstractActor}
-use Rattle.wb_refines.specs.Going.{records, AreQuiet}
+use Rattle.wb_link.specs.Tables.{Script}
+use Rattle.wb_link.specs.World.{World, Shared, Record, IsRun, after_all, Actor as AbstractActor}
 use Rattle.wb_refines.specs.Models.{WordsAgree}
 use Rattle.wb_runs.specs.States.{Actor}
 use Rattle.wb_simulation.specs.Actors.{StandsFor}
+use Rattle.wb_simulation.specs.Telling.{Telling, IsTold}
 
 -- a sector before anything was written; behind the end of a device there is nothing else
 abbrev pub zeros : Content
@@ -50,18 +50,6 @@ TurnedTo Stays s t = (t.committed ≡ s.committed) × (t.running ≡ s.running) 
 TurnedTo Begins s t = (t.committed ≡ s.committed) × (t.running ≡ s.mapping) × (t.root_written ≡ s.root_written)
 TurnedTo (Puts written) s t = (t.committed ≡ s.committed) × (t.running ≡ s.running) × (t.root_written ≡ written)
 TurnedTo Ends s t = (t.committed ≡ s.running) × (t.root_written ≡ false)
-
--- What a clerk there is told of it, who sees the records of this actor's task: nothing that is noted; what comes of steps with these
--- results; or that the actor is given a job.
-pub data Telling : Type 0 where
-  Quietly : Telling
-  By : List Got → Telling
-  Starts : Job → Telling
-
-abbrev pub IsTold : Telling → ℕ → Option Script → List Record → Type 0
-IsTold Quietly a task told = (results : List Got) × AreQuiet task results × (told ≡ records a task results)
-IsTold (By results) a task told = told ≡ records a task results
-IsTold (Starts job) a task told = told ≡ Start a job ∷ []
 
 -- The world can go on by some records of this actor so that these are its state then, and this comes of its images.
 pub record FollowsBy (turn : Turn) (telling : Telling) (size most a : ℕ) (s : World) (words : Words) (committing : Bool) (devices : Devices (List History)) (actors : List Actor) : Type 0 where

@@ -1,0 +1,72 @@
+-- What steps of an actor are told as.
+use Rattle.std.proofs.Common.{◌+◌, ◌≡◌, ◌≢◌, inl, inr, sym, subst, ℕ, zero, suc, Bool, List, [], ◌∷◌, Option, Some, None, length, map, replicate, refl}
+use Rattle.wb_types.specs.Extents.{rising}
+use Rattle.wb_disk.specs.Device.{Content}
+use Rattle.wb_words.specs.SharedWords.{Words}
+use Rattle.wb_words.specs.declared.card.Card.{Card}
+use Rattle.wb_tasks.specs.Tables.{TaskJob}
+use Rattle.wb_tasks.specs.Plan.{Plan, table}
+use Rattle.wb_tasks.specs.declared.step.Answer.{Answer}
+use Rattle.wb_tasks.specs.declared.step.Answer.TheVariants.{Done as Finished, Refused as Refuses}
+use Rattle.wb_link.specs.Tables.{Script, Want, Write_at, End, Got, Gave, Done, Answer as AbstractAnswer, want, read_each}
+use Rattle.wb_link.specs.World.{Actor as AbstractActor, task_after}
+use Rattle.wb_refines.specs.Data.{faults}
+use Rattle.wb_refines.specs.Going.{records, IsQuiet, AreQuiet}
+use Rattle.wb_refines.specs.Translation.{script_for, job_for}
+use Rattle.wb_refines.specs.Models.{HasStopped}
+use Rattle.wb_refines.proofs.Cells.{refused_undone}
+use Rattle.wb_simulation.specs.Actors.{IsLate}
+use Rattle.wb_simulation.specs.Telling.{IsUnnoted, AreUnnoted, AreWrites, AnswersSo, reading}
+
+pub unnoted_none : (task : Option Script) → AreUnnoted task []
+unnoted_none None = tt
+unnoted_none (Some script) = tt
+
+quiet_unnoted : (next : Want) → IsQuiet next → IsUnnoted next
+quiet_unnoted (Write_at location block offset) q = q
+quiet_unnoted (End answer) q = q
+quiet_unnoted next q = tt
+
+-- nothing is noted of what touches no device and is no answer
+pub quiet_are_unnoted : (task : Option Script) (gots : List Got) → AreQuiet task gots → AreUnnoted task gots
+quiet_are_unnoted None gots q = tt
+quiet_are_unnoted (Some script) [] q = tt
+quiet_are_unnoted (Some script) (got ∷ gots) q = (quiet_unnoted (want script) q.0, quiet_are_unnoted (task_after script (want script) got) gots q.1)
+
+-- nothing is told of who has no task, whatever the results
+pub nothing_told : (a : ℕ) (task : Option Script) (results : List Got) → task ≡ None → records a task [] ≡ records a task results
+nothing_told a None results e = refl
+nothing_told a (Some script) results e = absurd (cc)
+
+-- what a read is given is not noted
+pub reads_unnoted : (location : Option ℕ) (b : ℕ) (all : List ℕ) (rest : List Want) (answer : AbstractAnswer) (contents : List Content) (o : ℕ) →
+    AreUnnoted (Some (reading b all (read_each location b (rising o (length contents)) rest) answer)) (map Gave contents)
+reads_unnoted location b all rest answer [] o = tt
+reads_unnoted location b all rest answer (c ∷ contents) o = (tt, reads_unnoted location b all rest answer contents (o + 1))
+
+pub done_are_writes : (count : ℕ) → AreWrites count (replicate count Done)
+done_are_writes zero = tt
+done_are_writes (suc count) = done_are_writes count
+
+pub faults_are_writes : (lands : ℕ → Bool) (at count : ℕ) → AreWrites count (faults lands at count)
+faults_are_writes lands at zero = tt
+faults_are_writes lands at (suc count) = (refl, faults_are_writes lands (suc at) count)
+
+-- ---- answers
+
+-- who is at the same there, with nothing left, answers the same
+pub answers_at : (size : ℕ) (content : Content) (job : TaskJob) (answer : Answer) (y : AbstractActor) → y.task ≡ Some (script_for size content (record { job = job; steps = []; answer = answer })) → AnswersSo answer y.task
+answers_at size content job Finished y e = subst (λ (t : Option Script). AnswersSo Finished t) (sym e) (refl, refl)
+answers_at size content job (Refuses refusal) y e = subst (λ (t : Option Script). AnswersSo (Refuses refusal) t) (sym e) (refl, refused_undone (job_for size content job) refusal)
+
+pub stopped_answers : (words : Words) (plan : Plan) (card : Card) (answer : Answer) (y : AbstractActor) → plan.answer ≡ answer → HasStopped words plan card y → AnswersSo answer y.task
+stopped_answers words plan card Finished y e k = absurd (k.refused e)
+stopped_answers words plan card (Refuses refusal) y e k = subst (λ (t : Option Script). AnswersSo (Refuses refusal) t) (sym k.task) (k.nothing, k.undone)
+
+-- who is late has been refused
+pub late_answers_so : (words : Words) (plan : Plan) (answer : Answer) (y : AbstractActor) → plan.answer ≡ answer → (plan ≡ table plan.job → ⊥) → IsLate words plan y → AnswersSo answer y.task
+late_answers_so words plan answer y e begun l = elim l.at [ inl t ↦ absurd (begun t) | inr n ↦ by answer e n.1 ]
+  where
+    by : (answer : Answer) → plan.answer ≡ answer → plan.answer ≢ Finished → AnswersSo answer y.task
+    by Finished e n = absurd (n e)
+    by (Refuses refusal) e n = subst (λ (t : Option Script). AnswersSo (Refuses refusal) t) (sym l.nothing) tt

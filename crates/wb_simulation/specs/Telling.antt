@@ -1,0 +1,79 @@
+-- What the abstract world's clerk is told, who sees the records of one actor.
+use Rattle.std.specs.Prelude.{◌≡◌, ◌≢◌, ℕ, zero, suc, List, [], ◌∷◌, Option, Some, None, length, map}
+use Rattle.wb_types.specs.Extents.{rising}
+use Rattle.wb_disk.specs.Device.{Content}
+use Rattle.wb_words.specs.SharedWords.{flag}
+use Rattle.wb_tasks.specs.declared.step.Answer.{Answer}
+use Rattle.wb_tasks.specs.declared.step.Answer.TheVariants.{Done as Finished, Refused as Refuses}
+use Rattle.wb_link.specs.Tables.{Script, Job, Reading, Writing, Want, Write_at, End, Got, Gave, Done, Fault, Finished as AnsweredDone, Answer as AbstractAnswer, want, read_each, write_each}
+use Rattle.wb_link.specs.World.{Record, Start, task_after}
+use Rattle.wb_refines.specs.Going.{records}
+
+-- A step of which nothing is noted: no write, and no answer.
+abbrev pub IsUnnoted : Want → Type 0
+IsUnnoted (Write_at location block offset) = ⊥
+IsUnnoted (End answer) = ⊥
+IsUnnoted next = Unit {0}
+
+-- so is each of the steps that have these results
+abbrev pub AreUnnoted : Option Script → List Got → Type 0
+AreUnnoted None gots = Unit {0}
+AreUnnoted (Some script) [] = Unit {0}
+AreUnnoted (Some script) (got ∷ gots) = IsUnnoted (want script) × AreUnnoted (task_after script (want script) got) gots
+
+-- So many sectors are written, each done or failing; one that fails goes on with the next.
+abbrev pub AreWrites : ℕ → List Got → Type 0
+AreWrites zero [] = Unit {0}
+AreWrites (suc count) (Done ∷ gots) = AreWrites count gots
+AreWrites (suc count) (Fault choice ∷ gots) = (choice.more ≡ flag count) × AreWrites count gots
+AreWrites count gots = ⊥
+
+-- a job of one block
+abbrev pub reading : ℕ → List ℕ → List Want → AbstractAnswer → Script
+reading block all steps answer = record { job = Reading block all; steps = steps; answer = answer }
+
+abbrev pub writing : ℕ → List ℕ → Content → List Want → AbstractAnswer → Script
+writing block all content steps answer = record { job = Writing block all content; steps = steps; answer = answer }
+
+-- It is told nothing that it notes; that a read is given these contents of a block's sectors from an offset on; that a write writes
+-- this content to so many of them, done or failing; that a task is answered; or that the actor is given a job.
+pub data Telling : Type 0 where
+  Quietly : Telling
+  Reads : (block offset : ℕ) → List Content → Telling
+  Writes : (block offset count : ℕ) → Content → Telling
+  Answers : Answer → Telling
+  Starts : Job → Telling
+
+-- the next steps of a read are these
+pub record IsReading (a block offset : ℕ) (contents : List Content) (task : Option Script) (told : List Record) : Type 0 where
+  pub location : Option ℕ
+  pub all : List ℕ
+  pub rest : List Want
+  pub answer : AbstractAnswer
+  pub at : task ≡ Some (reading block all (read_each location block (rising offset (length contents)) rest) answer)
+  pub told_is : told ≡ records a task (map Gave contents)
+
+-- and those of a write
+pub record IsWriting (a block offset count : ℕ) (content : Content) (task : Option Script) (told : List Record) : Type 0 where
+  pub location : Option ℕ
+  pub all : List ℕ
+  pub rest : List Want
+  pub answer : AbstractAnswer
+  pub results : List Got
+  pub are : AreWrites count results
+  pub at : task ≡ Some (writing block all content (write_each location block (rising offset count) rest) answer)
+  pub told_is : told ≡ records a task results
+
+-- nothing is left but the answer, which is done there too, or is not; who is late has no task there
+abbrev pub AnswersSo : Answer → Option Script → Type 0
+AnswersSo Finished None = ⊥
+AnswersSo Finished (Some script) = (script.steps ≡ []) × (script.answer ≡ AnsweredDone)
+AnswersSo (Refuses refusal) None = Unit {0}
+AnswersSo (Refuses refusal) (Some script) = (script.steps ≡ []) × (script.answer ≢ AnsweredDone)
+
+abbrev pub IsTold : Telling → ℕ → Option Script → List Record → Type 0
+IsTold Quietly a task told = (results : List Got) × AreUnnoted task results × (told ≡ records a task results)
+IsTold (Reads block offset contents) a task told = IsReading a block offset contents task told
+IsTold (Writes block offset count content) a task told = IsWriting a block offset count content task told
+IsTold (Answers answer) a task told = AnswersSo answer task × (told ≡ records a task (Done ∷ []))
+IsTold (Starts job) a task told = told ≡ Start a job ∷ []
