@@ -11,9 +11,10 @@ use Rattle.wb_tasks.specs.declared.step.Want.{Want}
 use Rattle.wb_tasks.specs.declared.step.Want.TheVariants.{End}
 use Rattle.wb_types.proofs.Lists.{element_beside}
 use Rattle.wb_devices.specs.declared.devices.Devices.{Devices}
-use Rattle.wb_link.specs.Tables.{Done as DoneThere}
+use Rattle.wb_link.specs.Tables.{Job as AbstractJob, Done as DoneThere}
 use Rattle.wb_link.specs.World.{World, Actor as AbstractActor, is_alone}
 use Rattle.wb_refines.specs.Going.{gone}
+use Rattle.wb_refines.specs.Translation.{job_for}
 use Rattle.wb_refines.specs.Models.{IsAt, HasStopped, IsBelow, plan_of}
 use Rattle.wb_refines.specs.Tasks.{IsIdle, IsAnswered}
 use Rattle.wb_refines.proofs.Holding.{holds_nothing}
@@ -24,7 +25,7 @@ use Rattle.wb_runs.specs.States.{Actor}
 use Rattle.wb_simulation.specs.Actors.{IsLate, IsRequestAt, StandsFor}
 use Rattle.wb_simulation.specs.Telling.{Answers, AnswersSo}
 use Rattle.wb_simulation.specs.Worlds.{Agrees, Follows}
-use Rattle.wb_simulation.specs.Laws.{AnswersFollowed, IsRequestJob}
+use Rattle.wb_simulation.specs.Laws.{AnswersFollowed, IsRequestJob, content_of}
 use Rattle.wb_simulation.proofs.Cells.{shared_stays, gone_nowhere}
 use Rattle.wb_simulation.proofs.Telling.{nothing_told, answers_at, stopped_answers, late_answers_so}
 use Rattle.wb_simulation.proofs.Among.{goes_on}
@@ -39,31 +40,31 @@ nothing_left plan answer e never = by_steps plan.steps refl
     by_steps (v ∷ ws) k = absurd (never v ws k (sym (ap (λ (us : List Want). first_step us plan.answer) k) ∙ e))
 
 module _ (size most blocks : ℕ) (words : Words) (committing : Bool) (devices : Devices (List History)) (actors : List Actor) (a : ℕ) (x : Actor) (s : World) (y : AbstractActor) (ex : slice_get actors a ≡ Some x) (ey : slice_get s.actors a ≡ Some y) (g : Agrees size most words committing devices actors s) (st : StandsFor size most words x y) where
-  abbrev Goal : Answer → Type 0
-  Goal answer = Follows (Answers answer) size most a s words committing devices (slice_set actors a (record x { task = None }))
+  abbrev Goal : AbstractJob → Answer → Type 0
+  Goal abstract answer = Follows (Answers abstract answer) size most a s words committing devices (slice_set actors a (record x { task = None }))
 
   -- it answers there, too
-  answers : (answer : Answer) → AnswersSo answer y.task → IsAnswered s.actors a s.shared y → IsBelow (gone y y.task (DoneThere ∷ [])) x.card → (gone y y.task (DoneThere ∷ [])).leads ≡ false → (IsIdle (gone y y.task (DoneThere ∷ [])) ⊎ (flag words.fail ≡ true)) → Goal answer
-  answers answer so w below leads rest = goes_on size most words words (λ f. f) committing devices actors a x (record x { task = None }) s y g ex ey (Answers answer) devices (DoneThere ∷ []) s.shared (so, refl) w.may w.shared
+  answers : (abstract : AbstractJob) (answer : Answer) → AnswersSo abstract answer y.task → IsAnswered s.actors a s.shared y → IsBelow (gone y y.task (DoneThere ∷ [])) x.card → (gone y y.task (DoneThere ∷ [])).leads ≡ false → (IsIdle (gone y y.task (DoneThere ∷ [])) ⊎ (flag words.fail ≡ true)) → Goal abstract answer
+  answers abstract answer so w below leads rest = goes_on size most words words (λ f. f) committing devices actors a x (record x { task = None }) s y g ex ey (Answers abstract answer) devices (DoneThere ∷ []) s.shared (so, refl) w.may w.shared
       (record { at = (w.over, rest); below = below; among_others = ap is_alone w.over }) (λ l. let bad : true ≡ false = sym l ∙ leads in absurd (cc)) g.words_agree g.origin g.cache refl refl refl (refl, refl, refl)
 
   -- it has no task there
-  answers_late : (answer : Answer) → AnswersSo answer y.task → y.task ≡ None → flag words.fail ≡ true → Goal answer
-  answers_late answer so none failed = goes_on size most words words (λ f. f) committing devices actors a x (record x { task = None }) s y g ex ey (Answers answer) devices [] s.shared (so, nothing_told a y.task (DoneThere ∷ []) none) tt (shared_stays s.shared y y.task)
+  answers_late : (abstract : AbstractJob) (answer : Answer) → AnswersSo abstract answer y.task → y.task ≡ None → flag words.fail ≡ true → Goal abstract answer
+  answers_late abstract answer so none failed = goes_on size most words words (λ f. f) committing devices actors a x (record x { task = None }) s y g ex ey (Answers abstract answer) devices [] s.shared (so, nothing_told a y.task (DoneThere ∷ []) none) tt (shared_stays s.shared y y.task)
       (subst (λ (z : AbstractActor). StandsFor size most words (record x { task = None }) z) (sym (gone_nowhere y y.task)) (record { at = (none, inr failed); below = st.below; among_others = st.among_others }))
       (λ l. gone_nowhere y y.task) g.words_agree g.origin g.cache refl refl refl (refl, refl, refl)
 
   request_answers : (content : Content) (job_on : BlockRange → BlockJob) (part : BlockRange) (answer : Answer) → x.card.hold ≡ HoldsNothing →
-      IsAt size content (plan_of (job_on part) [] answer) x.card y ⊎ HasStopped words (plan_of (job_on part) [] answer) x.card y ⊎ IsLate words (plan_of (job_on part) [] answer) y → Goal answer
-  request_answers content job_on part answer h (inl i) = let d = tasks_end.done size content s.actors a s.shared y (job_on part) answer x.card h i in answers answer (answers_at size content (OnBlock (job_on part)) answer y (ap (λ (v : AbstractActor). v.task) i.is)) d.0 (holds_nothing _ x.card d.1.held) d.1.leads (inl d.1)
-  request_answers content job_on part answer h (inr (inl k)) = let d = tasks_end.stopped s.actors a s.shared y words answer (OnBlock (job_on part)) x.card k in answers answer (stopped_answers words (plan_of (job_on part) [] answer) x.card answer y refl k) d.0 d.1 d.2 d.3
-  request_answers content job_on part answer h (inr (inr l)) = answers_late answer (late_answers_so words (plan_of (job_on part) [] answer) answer y refl (λ t. let bad = ap (λ (p : Plan). p.steps) t in absurd (cc)) l) l.nothing l.failed
+      IsAt size content (plan_of (job_on part) [] answer) x.card y ⊎ HasStopped words (plan_of (job_on part) [] answer) x.card y ⊎ IsLate words (plan_of (job_on part) [] answer) y → Goal (job_for size content (OnBlock (job_on part))) answer
+  request_answers content job_on part answer h (inl i) = let d = tasks_end.done size content s.actors a s.shared y (job_on part) answer x.card h i in answers (job_for size content (OnBlock (job_on part))) answer (answers_at size content (OnBlock (job_on part)) answer y (ap (λ (v : AbstractActor). v.task) i.is)) d.0 (holds_nothing _ x.card d.1.held) d.1.leads (inl d.1)
+  request_answers content job_on part answer h (inr (inl k)) = let d = tasks_end.stopped s.actors a s.shared y words answer (OnBlock (job_on part)) x.card k in answers (job_for size content (OnBlock (job_on part))) answer (stopped_answers (job_for size content (OnBlock (job_on part))) words (plan_of (job_on part) [] answer) x.card answer y refl k) d.0 d.1 d.2 d.3
+  request_answers content job_on part answer h (inr (inr l)) = answers_late (job_for size content (OnBlock (job_on part))) answer (late_answers_so (job_for size content (OnBlock (job_on part))) words (plan_of (job_on part) [] answer) answer y refl (λ t. let bad = ap (λ (p : Plan). p.steps) t in absurd (cc)) l) l.nothing l.failed
 
-  of_plan : (content : Content) (job_on : BlockRange → BlockJob) (plan : Plan) (answer : Answer) → want plan ≡ End answer → Suits blocks plan x.card → IsRequestAt size content words job_on plan x.card y → Goal answer
+  of_plan : (content : Content) (job_on : BlockRange → BlockJob) (plan : Plan) (answer : Answer) → want plan ≡ End answer → Suits blocks plan x.card → IsRequestAt size content words job_on plan x.card y → Goal (job_for size content plan.job) answer
   of_plan content job_on plan answer e suits r =
       let none = nothing_left plan answer e (λ next later k same. absurd (subst (λ (p : Plan). Suits blocks p x.card) (with_steps (End answer ∷ later) (k ∙ ap (λ (v : Want). v ∷ later) same)) suits).1.1.1) in
       let is_given : plan.answer ≡ answer = (let same : End plan.answer ≡ End answer = sym (ap (λ (ws : List Want). first_step ws plan.answer) none) ∙ e in cc) in
-      subst Goal is_given (request_answers content job_on r.part plan.answer (subst (λ (p : Plan). Suits blocks p x.card) (with_steps [] none) suits).1 (subst At (with_steps [] none) r.at))
+      subst (λ (abstract : AbstractJob). Goal abstract answer) (ap (job_for size content) (sym r.job)) (subst (Goal (job_for size content (OnBlock (job_on r.part)))) is_given (request_answers content job_on r.part plan.answer (subst (λ (p : Plan). Suits blocks p x.card) (with_steps [] none) suits).1 (subst At (with_steps [] none) r.at)))
     where
       At : Plan → Type 0
       At p = IsAt size content p x.card y ⊎ HasStopped words p x.card y ⊎ IsLate words p y
@@ -71,7 +72,7 @@ module _ (size most blocks : ℕ) (words : Words) (committing : Bool) (devices :
       with_steps : (steps : List Want) → plan.steps ≡ steps → plan ≡ plan_of (job_on r.part) steps plan.answer
       with_steps steps k = λ i. record { job = r.job i; steps = k i; answer = plan.answer }
 
-  followed : (job : Job) (plan : Plan) (answer : Answer) → IsRequestJob job → x.task ≡ Some (job, plan) → want plan ≡ End answer → Suits blocks plan x.card → Goal answer
+  followed : (job : Job) (plan : Plan) (answer : Answer) → IsRequestJob job → x.task ≡ Some (job, plan) → want plan ≡ End answer → Suits blocks plan x.card → Goal (job_for size (content_of job) plan.job) answer
   followed (Read extent) plan answer q e next suits = of_plan [] Reading plan answer next suits (doing_of size most words x y (Read extent) plan st e)
   followed (Write extent content) plan answer q e next suits = of_plan content Writing plan answer next suits (doing_of size most words x y (Write extent content) plan st e)
   followed Flush plan answer q e next suits = absurd q

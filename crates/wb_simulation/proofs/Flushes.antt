@@ -20,6 +20,7 @@ use Rattle.wb_tasks.specs.declared.step.Got.TheVariants.{Done, Fault, Began, Ref
 use Rattle.wb_types.proofs.Lists.{element_beside}
 use Rattle.wb_devices.specs.declared.devices.Devices.{Devices}
 use Rattle.wb_devices.specs.Moving.{device_in}
+use Rattle.wb_link.specs.Tables.{Flushing as FlushingFor}
 use Rattle.wb_link.specs.World.{World, Actor as AbstractActor}
 use Rattle.wb_refines.specs.Flushes.{IsFlushing, flushing}
 use Rattle.wb_runs.specs.declared.job.Job.TheVariants.{Flush}
@@ -85,8 +86,8 @@ module _ (size most : ℕ) (words : Words) (committing : Bool) (devices : Device
     | inr l ↦ late_looks size most words committing devices actors a x plan s y ex ey g l st f.job e
   ]
 
-  answer_given : (answer : Answer) → want plan ≡ End answer → Follows (Answers answer) size most a s words committing devices (slice_set actors a (record x { task = None }))
-  answer_given answer e = subst (λ (given : Answer). Follows (Answers given) size most a s words committing devices (slice_set actors a (record x { task = None }))) is_given (elim f.at [
+  answer_given : (answer : Answer) → want plan ≡ End answer → Follows (Answers (FlushingFor None) answer) size most a s words committing devices (slice_set actors a (record x { task = None }))
+  answer_given answer e = subst (λ (given : Answer). Follows (Answers (FlushingFor None) given) size most a s words committing devices (slice_set actors a (record x { task = None }))) is_given (elim f.at [
     | inl l ↦
         let is : plan ≡ flushing most [] plan.answer = (λ i. record { job = f.job i; steps = none i; answer = plan.answer }) in
         answers size most words committing devices actors a x plan s y ex ey g plan.answer l.leads (λ q. l.failed q none) (subst (λ (p : Plan). IsFlushing size [] p l.leads y) is l.is)

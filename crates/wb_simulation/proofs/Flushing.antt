@@ -242,11 +242,11 @@ module _ (size most : ℕ) (words : Words) (committing : Bool) (devices : Device
           (subst (λ (p : Plan). IsOfFlush most p.steps) (sym plan_is) tt) (subst (λ (p : Plan). LeadsAt false p.steps) (sym plan_is) tt) (followed_alone.looks size most words.fail [] s.actors a s.shared y answer g.words_agree.fail is') refl
 
   -- it answers; one that leads a commit still has failed
-  pub answers : (answer : Answer) (leads : Bool) → (leads ≡ true → flag words.fail ≡ true) → IsFlushing size [] (flushing most [] answer) leads y → Follows (Answers answer) size most a s words committing devices (slice_set actors a (record x { task = None }))
+  pub answers : (answer : Answer) (leads : Bool) → (leads ≡ true → flag words.fail ≡ true) → IsFlushing size [] (flushing most [] answer) leads y → Follows (Answers (FlushingFor None) answer) size most a s words committing devices (slice_set actors a (record x { task = None }))
   answers answer false f is =
       let d = tasks_end.flush size most [] s.actors a s.shared y answer false is in
       let idle = d.2 refl in
-      goes_on size most words words (λ k. k) committing devices actors a x (record x { task = None }) s y g ex ey (Answers answer) devices (DoneThere ∷ []) s.shared (answers_at size [] (Flushing [] most) answer y (ap (λ (v : AbstractActor). v.task) is.is), refl) d.0.may d.0.shared
+      goes_on size most words words (λ k. k) committing devices actors a x (record x { task = None }) s y g ex ey (Answers (FlushingFor None) answer) devices (DoneThere ∷ []) s.shared (answers_at size [] (Flushing [] most) answer y (ap (λ (v : AbstractActor). v.task) is.is), refl) d.0.may d.0.shared
       (record { at = (d.0.over, inl idle); below = holds_nothing _ x.card idle.held; among_others = ap is_alone d.0.over }) (λ k. let bad : true ≡ false = sym k ∙ idle.leads in absurd (cc)) g.words_agree g.origin g.cache refl refl refl (refl, refl, refl)
   answers answer true f is =
       let d = tasks_end.flush size most [] s.actors a s.shared y answer true is in
@@ -254,7 +254,7 @@ module _ (size most : ℕ) (words : Words) (committing : Bool) (devices : Device
       let y' = gone y y.task (DoneThere ∷ []) in
       let held : y'.held ≡ Nothing = subst (λ (v : AbstractActor). (gone v v.task (DoneThere ∷ [])).held ≡ Nothing) (sym is.is) refl in
       let runs = g.led a y ey lead in
-      goes_leading size most words words (λ k. k) committing devices actors a x (record x { task = None }) s y g ex ey Stays (Answers answer) committing devices (DoneThere ∷ []) s.shared (answers_at size [] (Flushing [] most) answer y (ap (λ (v : AbstractActor). v.task) is.is), refl) d.0.may d.0.shared
+      goes_leading size most words words (λ k. k) committing devices actors a x (record x { task = None }) s y g ex ey Stays (Answers (FlushingFor None) answer) committing devices (DoneThere ∷ []) s.shared (answers_at size [] (Flushing [] most) answer y (ap (λ (v : AbstractActor). v.task) is.is), refl) d.0.may d.0.shared
       (record { at = (d.0.over, inr (f refl)); below = holds_nothing y' x.card held; among_others = ap is_alone d.0.over }) g.words_agree g.origin g.cache refl g.commits g.broken (λ b v ev k. runs)
       (λ b v ev k u. absurd (subst (λ t. IsUnfinished t) (ap (λ (v : AbstractActor). v.task) (is_here size most words committing devices actors a x s y ex ey g lead y' b v ev k) ∙ d.0.over) u))
       (one_here size most words committing devices actors a x s y ex ey g lead y') (refl, refl, refl)
@@ -278,7 +278,7 @@ module _ (size most : ℕ) (words : Words) (committing : Bool) (devices : Device
           (record { at = record { job = refl; steps = tt; at = inr (record { failed = l.failed; nothing = l.nothing; at = inr (refl, λ e. absurd (cc)) }) }; below = record { owned = st.below.owned; shared = st.below.shared }; among_others = st.among_others }))
           (λ q. gone_nowhere y y.task) g.words_agree g.origin g.cache refl refl refl (refl, refl, refl))
 
-  pub late_answers : IsLate words plan y → plan.job ≡ Flushing [] most → plan.steps ≡ [] → StandsFor size most words x y → Follows (Answers plan.answer) size most a s words committing devices (slice_set actors a (record x { task = None }))
-  late_answers l j none st = goes_on size most words words (λ q. q) committing devices actors a x (record x { task = None }) s y g ex ey (Answers plan.answer) devices [] s.shared (late_answers_so words plan plan.answer y refl (λ t. let bad : [] ≡ Cell (Look Fail) ∷ Desk (BeginCommit false most) ∷ [] = sym none ∙ ap (λ (p : Plan). p.steps) t ∙ ap (λ k. (table k).steps) j in absurd (cc)) l, nothing_told a y.task (DoneThere ∷ []) l.nothing) tt (shared_stays s.shared y y.task)
+  pub late_answers : IsLate words plan y → plan.job ≡ Flushing [] most → plan.steps ≡ [] → StandsFor size most words x y → Follows (Answers (FlushingFor None) plan.answer) size most a s words committing devices (slice_set actors a (record x { task = None }))
+  late_answers l j none st = goes_on size most words words (λ q. q) committing devices actors a x (record x { task = None }) s y g ex ey (Answers (FlushingFor None) plan.answer) devices [] s.shared (late_answers_so (FlushingFor None) words plan plan.answer y refl (λ t. let bad : [] ≡ Cell (Look Fail) ∷ Desk (BeginCommit false most) ∷ [] = sym none ∙ ap (λ (p : Plan). p.steps) t ∙ ap (λ k. (table k).steps) j in absurd (cc)) l, nothing_told a y.task (DoneThere ∷ []) l.nothing) tt (shared_stays s.shared y y.task)
       (subst (λ (z : AbstractActor). StandsFor size most words (record x { task = None }) z) (sym (gone_nowhere y y.task)) (record { at = (l.nothing, inr l.failed); below = st.below; among_others = st.among_others }))
       (λ q. gone_nowhere y y.task) g.words_agree g.origin g.cache refl refl refl (refl, refl, refl)

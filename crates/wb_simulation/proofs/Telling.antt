@@ -8,7 +8,7 @@ use Rattle.wb_tasks.specs.Tables.{TaskJob}
 use Rattle.wb_tasks.specs.Plan.{Plan, table}
 use Rattle.wb_tasks.specs.declared.step.Answer.{Answer}
 use Rattle.wb_tasks.specs.declared.step.Answer.TheVariants.{Done as Finished, Refused as Refuses}
-use Rattle.wb_link.specs.Tables.{Script, Want, Write_at, End, Got, Gave, Done, Answer as AbstractAnswer, want, read_each}
+use Rattle.wb_link.specs.Tables.{Job as AbstractJob, Script, Want, Write_at, End, Got, Gave, Done, Answer as AbstractAnswer, want, read_each}
 use Rattle.wb_link.specs.World.{Actor as AbstractActor, task_after}
 use Rattle.wb_refines.specs.Data.{faults}
 use Rattle.wb_refines.specs.Going.{records, IsQuiet, AreQuiet}
@@ -55,18 +55,18 @@ faults_are_writes lands at (suc count) = (refl, faults_are_writes lands (suc at)
 -- ---- answers
 
 -- who is at the same there, with nothing left, answers the same
-pub answers_at : (size : ℕ) (content : Content) (job : TaskJob) (answer : Answer) (y : AbstractActor) → y.task ≡ Some (script_for size content (record { job = job; steps = []; answer = answer })) → AnswersSo answer y.task
-answers_at size content job Finished y e = subst (λ (t : Option Script). AnswersSo Finished t) (sym e) (refl, refl)
-answers_at size content job (Refuses refusal) y e = subst (λ (t : Option Script). AnswersSo (Refuses refusal) t) (sym e) (refl, refused_undone (job_for size content job) refusal)
+pub answers_at : (size : ℕ) (content : Content) (job : TaskJob) (answer : Answer) (y : AbstractActor) → y.task ≡ Some (script_for size content (record { job = job; steps = []; answer = answer })) → AnswersSo (job_for size content job) answer y.task
+answers_at size content job Finished y e = subst (λ (t : Option Script). AnswersSo (job_for size content job) Finished t) (sym e) (refl, refl, refl)
+answers_at size content job (Refuses refusal) y e = subst (λ (t : Option Script). AnswersSo (job_for size content job) (Refuses refusal) t) (sym e) (refl, refused_undone (job_for size content job) refusal)
 
-pub stopped_answers : (words : Words) (plan : Plan) (card : Card) (answer : Answer) (y : AbstractActor) → plan.answer ≡ answer → HasStopped words plan card y → AnswersSo answer y.task
-stopped_answers words plan card Finished y e k = absurd (k.refused e)
-stopped_answers words plan card (Refuses refusal) y e k = subst (λ (t : Option Script). AnswersSo (Refuses refusal) t) (sym k.task) (k.nothing, k.undone)
+pub stopped_answers : (job : AbstractJob) (words : Words) (plan : Plan) (card : Card) (answer : Answer) (y : AbstractActor) → plan.answer ≡ answer → HasStopped words plan card y → AnswersSo job answer y.task
+stopped_answers job words plan card Finished y e k = absurd (k.refused e)
+stopped_answers job words plan card (Refuses refusal) y e k = subst (λ (t : Option Script). AnswersSo job (Refuses refusal) t) (sym k.task) (k.nothing, k.undone)
 
 -- who is late has been refused
-pub late_answers_so : (words : Words) (plan : Plan) (answer : Answer) (y : AbstractActor) → plan.answer ≡ answer → (plan ≡ table plan.job → ⊥) → IsLate words plan y → AnswersSo answer y.task
-late_answers_so words plan answer y e begun l = elim l.at [ inl t ↦ absurd (begun t) | inr n ↦ by answer e n.1 ]
+pub late_answers_so : (job : AbstractJob) (words : Words) (plan : Plan) (answer : Answer) (y : AbstractActor) → plan.answer ≡ answer → (plan ≡ table plan.job → ⊥) → IsLate words plan y → AnswersSo job answer y.task
+late_answers_so job words plan answer y e begun l = elim l.at [ inl t ↦ absurd (begun t) | inr n ↦ by answer e n.1 ]
   where
-    by : (answer : Answer) → plan.answer ≡ answer → plan.answer ≢ Finished → AnswersSo answer y.task
+    by : (answer : Answer) → plan.answer ≡ answer → plan.answer ≢ Finished → AnswersSo job answer y.task
     by Finished e n = absurd (n e)
-    by (Refuses refusal) e n = subst (λ (t : Option Script). AnswersSo (Refuses refusal) t) (sym l.nothing) tt
+    by (Refuses refusal) e n = subst (λ (t : Option Script). AnswersSo job (Refuses refusal) t) (sym l.nothing) tt

@@ -88,11 +88,16 @@ pub record StartsFollowed : Type 0 where
       slice_get actors a ≡ Some x → x.task ≡ None → Agrees size most words committing devices actors s →
       Begun (FlushingFor None) size most a s words committing devices (slice_set actors a (record x { task = Some (Flush, table (Flushing [] most)) }))
 
+-- what a job writes to each of its sectors
+abbrev pub content_of : Job → Content
+content_of (Write extent content) = content
+content_of job = []
+
 -- A read or write is answered, whether it was done, refused, or stopped by a failure.
 abbrev pub AnswersFollowed : Type 0
 AnswersFollowed = (size most blocks : ℕ) (words : Words) (committing : Bool) (devices : Devices (List History)) (actors : List Actor) (a : ℕ) (x : Actor) (job : Job) (plan : Plan) (answer : Answer) (s : World) →
     IsRequestJob job → slice_get actors a ≡ Some x → x.task ≡ Some (job, plan) → Suits blocks plan x.card → want plan ≡ End answer → Agrees size most words committing devices actors s →
-    Follows (Answers answer) size most a s words committing devices (slice_set actors a (record x { task = None }))
+    Follows (Answers (job_for size (content_of job) plan.job) answer) size most a s words committing devices (slice_set actors a (record x { task = None }))
 
 -- a step of a commit on the metadata writes the root, or is nothing to the images
 abbrev pub turn_of : DeviceStep → Turn
@@ -131,7 +136,7 @@ pub record FlushStepsFollowed : Type 0 where
       Follows Quietly size most a s (words_after words SetFailed) committing devices (slice_set actors a (went words Flush plan SetFailed x))
   pub answers : (size most : ℕ) (answer : Answer) (words : Words) (committing : Bool) (devices : Devices (List History)) (actors : List Actor) (a : ℕ) (x : Actor) (plan : Plan) (s : World) →
       slice_get actors a ≡ Some x → x.task ≡ Some (Flush, plan) → want plan ≡ End answer → Agrees size most words committing devices actors s →
-      Follows (Answers answer) size most a s words committing devices (slice_set actors a (record x { task = None }))
+      Follows (Answers (FlushingFor None) answer) size most a s words committing devices (slice_set actors a (record x { task = None }))
 
 -- a target that was just made over empty devices of these sizes, with so many actors who have nothing to do
 abbrev pub CanAgree : Type 0

@@ -36,12 +36,12 @@ abbrev pub writing : ℕ → List ℕ → Content → List Want → AbstractAnsw
 writing block all content steps answer = record { job = Writing block all content; steps = steps; answer = answer }
 
 -- It is told nothing that it notes; that a read is given these contents of a block's sectors from an offset on; that a write writes
--- this content to so many of them, done or failing; that a task is answered; or that the actor is given a job.
+-- this content to so many of them, done or failing; that a task of this job is answered; or that the actor is given a job.
 pub data Telling : Type 0 where
   Quietly : Telling
   Reads : (block offset : ℕ) → List Content → Telling
   Writes : (block offset count : ℕ) → Content → Telling
-  Answers : Answer → Telling
+  Answers : Job → Answer → Telling
   Starts : Job → Telling
 
 -- the next steps of a read are these
@@ -64,16 +64,16 @@ pub record IsWriting (a block offset count : ℕ) (content : Content) (task : Op
   pub at : task ≡ Some (writing block all content (write_each location block (rising offset count) rest) answer)
   pub told_is : told ≡ records a task results
 
--- nothing is left but the answer, which is done there too, or is not; who is late has no task there
-abbrev pub AnswersSo : Answer → Option Script → Type 0
-AnswersSo Finished None = ⊥
-AnswersSo Finished (Some script) = (script.steps ≡ []) × (script.answer ≡ AnsweredDone)
-AnswersSo (Refuses refusal) None = Unit {0}
-AnswersSo (Refuses refusal) (Some script) = (script.steps ≡ []) × (script.answer ≢ AnsweredDone)
+-- nothing is left but the answer: this job is done there too, or some job is not; who is late has no task there
+abbrev pub AnswersSo : Job → Answer → Option Script → Type 0
+AnswersSo job Finished None = ⊥
+AnswersSo job Finished (Some script) = (script.steps ≡ []) × (script.answer ≡ AnsweredDone) × (script.job ≡ job)
+AnswersSo job (Refuses refusal) None = Unit {0}
+AnswersSo job (Refuses refusal) (Some script) = (script.steps ≡ []) × (script.answer ≢ AnsweredDone)
 
 abbrev pub IsTold : Telling → ℕ → Option Script → List Record → Type 0
 IsTold Quietly a task told = (results : List Got) × AreUnnoted task results × (told ≡ records a task results)
 IsTold (Reads block offset contents) a task told = IsReading a block offset contents task told
 IsTold (Writes block offset count content) a task told = IsWriting a block offset count content task told
-IsTold (Answers answer) a task told = AnswersSo answer task × (told ≡ records a task (Done ∷ []))
+IsTold (Answers job answer) a task told = AnswersSo job answer task × (told ≡ records a task (Done ∷ []))
 IsTold (Starts job) a task told = told ≡ Start a job ∷ []
