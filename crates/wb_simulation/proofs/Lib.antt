@@ -14,3 +14,4 @@ mod Possible
 mod Opening
 mod Counts
 mod Told
+mod Noted

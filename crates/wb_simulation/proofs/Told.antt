@@ -3,7 +3,7 @@ use Rattle.std.proofs.Common.{◌≡◌, ◌≢◌, ◌<◌, ◌≤◌, ◌+◌,
 use Rattle.std.proofs.lemmas.Bool.{cases_eq, lt-ltb}
 use Rattle.std.proofs.lemmas.Option.{slice_get-get_or}
 use Rattle.wb_types.specs.Extents.{rising}
-use Rattle.wb_disk.specs.Device.{Content, History, newest, added, only, written, grown}
+use Rattle.wb_disk.specs.Device.{Content, History, added, only, written, grown}
 use Rattle.wb_contents.specs.Volume.{changed, changed_at}
 use Rattle.wb_contents.specs.Devices.{by_block}
 use Rattle.wb_contents.proofs.Devices.{write_is_act}
@@ -11,17 +11,14 @@ use Rattle.wb_contents.proofs.Positions.{changed_same, changed_other}
 use Rattle.wb_link.specs.Tables.{Script, Job, Reading, Writing, Writing_through, Flushing, Suspending, Want, Read_at, Write_at, End, Got, Gave, Fault, Done, Answer, Io, want, after, steps_after_fault, write_each, read_each, until_failed}
 use Rattle.wb_link.specs.World.{Record, Step, task_after}
 use Rattle.wb_link.specs.Clerk.{Notes, Entry, note, noted_step, histories_after, entered_after, finished_after, floors_after, job_noted, GivesLatest}
-use Rattle.wb_link.specs.Openings.{On, noted, AllRight}
+use Rattle.wb_link.specs.Openings.{On, AllRight}
 use Rattle.wb_refines.specs.Going.{records}
 use Rattle.wb_runs.specs.Clerk.{Position, Entering, enter, enter_each, next_position}
 use Rattle.wb_simulation.specs.Noting.{AreEntries}
+use Rattle.wb_simulation.specs.Noted.{told, AreNewest}
 use Rattle.wb_simulation.specs.Telling.{IsUnnoted, AreUnnoted, AreWrites, reading, writing}
 use Rattle.wb_simulation.specs.Worlds.{zeros}
 use Rattle.wb_simulation.proofs.Counts.{one_entry_more}
-
--- the notes after these records
-abbrev pub told : Notes → List Record → Notes
-told m rs = noted m (map (λ (r : Record). On r) rs)
 
 -- what was there is put there again
 pub changed_nothing : {X : Type 0} (f : ℕ → X) (a : ℕ) (v : X) → f a ≡ v → changed f a v ≡ f
@@ -75,7 +72,7 @@ IsJob m a None = Unit {0}
 IsJob m a (Some script) = m.jobs a ≡ Some script.job
 
 -- whatever comes of a step, the job stays
-after_job : (script : Script) (got : Got) → (after script got).job ≡ script.job
+pub after_job : (script : Script) (got : Got) → (after script got).job ≡ script.job
 after_job script Done = refl
 after_job script Rattle.wb_link.specs.Tables.Lost = refl
 after_job script (Rattle.wb_link.specs.Tables.Flag true) = refl
@@ -108,11 +105,6 @@ untold (got ∷ gots) (Some script) m a j u =
 
 -- ---- reads
 
--- each content is the newest of its sector's history, from this offset on
-abbrev pub AreNewest : (ℕ → ℕ → History) → ℕ → ℕ → List Content → Type 0
-AreNewest histories b o [] = Unit {0}
-AreNewest histories b o (c ∷ contents) = (c ≡ newest (histories b o)) × AreNewest histories b (o + 1) contents
-
 -- what a read is given is right, each sector by itself
 pub reads_newest : (location : Option ℕ) (b : ℕ) (all : List ℕ) (rest : List Want) (answer : Answer) (contents : List Content) (o : ℕ) (m : Notes) (a : ℕ) → m.jobs a ≡ Some (Reading b all) →
     AllRight m (map (λ (r : Record). On r) (records a (Some (reading b all (read_each location b (rising o (length contents)) rest) answer)) (map Gave contents))) → AreNewest m.histories b o contents
@@ -143,11 +135,11 @@ pub record Wrote (size sectors a : ℕ) (m m' : Notes) (e : Entering) : Type 0 w
   pub finished : m'.finished ≡ m.finished
   pub floors : m'.floors ≡ m.floors
 
-until_written : (to : Option ℕ) (b : ℕ) (os : List ℕ) (rest : List Want) → until_failed (write_each to b os rest) ≡ write_each to b os (until_failed rest)
+pub until_written : (to : Option ℕ) (b : ℕ) (os : List ℕ) (rest : List Want) → until_failed (write_each to b os rest) ≡ write_each to b os (until_failed rest)
 until_written to b [] rest = refl
 until_written to b (o ∷ os) rest = ap (λ ws. Write_at to b o ∷ ws) (until_written to b os rest)
 
-length-written : (h : List History) (at : ℕ) (c : Content) → length (written h at c) ≡ length h
+pub length-written : (h : List History) (at : ℕ) (c : Content) → length (written h at c) ≡ length h
 length-written [] at c = refl
 length-written (x ∷ xs) zero c = refl
 length-written (x ∷ xs) (suc at) c = by (slice_get xs at) (length-written xs at c)

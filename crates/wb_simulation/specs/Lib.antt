@@ -4,4 +4,5 @@ pub mod Telling
 pub mod Worlds
 pub mod Sites
 pub mod Noting
+pub mod Noted
 pub mod Laws

@@ -1,5 +1,6 @@
 //! Laws of how a run is followed in the abstract world.
 
+ghost use Rattle.wb_simulation.specs.Noted.{NotesFollowed};
 ghost use Rattle.wb_simulation.specs.Sites.{ImagesFollowed, OpeningsFollowed};
 ghost use Rattle.wb_simulation.specs.Laws.{AnswersFollowed, CanAgree, CellStepsFollowed, ExtentStepsFollowed, FlushStepsFollowed, StartsFollowed};
 
@@ -40,4 +41,11 @@ pub fn openings_are_followed()
 /// What a commit makes of the images there agrees with what the metadata may be read as, where its root leads to its image's state.
 pub fn images_are_followed()
     ensures { ImagesFollowed }
+{}
+
+/// The notes of a run's clerk are those of the abstract world's, by block and offset: what is told of each of these steps keeps them so,
+/// with what a write enters and finishes, what a flush makes durable and what an opening begins with; and what a read is given is the
+/// last entry of each of its sectors' histories, where the abstract world's records are right.
+pub fn notes_are_followed()
+    ensures { NotesFollowed }
 {}

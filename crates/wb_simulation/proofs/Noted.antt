@@ -1,0 +1,383 @@
+-- The two clerks' notes stay alike.
+use Rattle.std.proofs.Common.{◌≡◌, ◌≢◌, ◌≤◌, ◌+◌, ◌*◌, ◌∙◌, inl, inr, ℕ, zero, suc, Bool, true, false, cond, nat_lt, unwrap_or, List, [], ◌∷◌, Option, Some, None, length, map, max, refl, sym, ap, subst, slice_get, slice_set}
+use Rattle.std.proofs.lemmas.List.{length-map}
+use Rattle.std.proofs.lemmas.Bool.{cases_eq}
+use Rattle.wb_types.specs.Extents.{rising}
+use Rattle.wb_types.specs.declared.refusal.Refusal.{Refusal}
+use Rattle.wb_tasks.specs.declared.step.Answer.TheVariants.{Done as Finished, Refused as Refuses}
+use Rattle.wb_disk.specs.Device.{Content, History, only}
+use Rattle.wb_contents.specs.Volume.{changed}
+use Rattle.wb_contents.specs.Devices.{by_block}
+use Rattle.wb_contents.proofs.Positions.{changed_same, changed_other}
+use Rattle.wb_link.specs.Tables.{Script, Job as AbstractJob, Reading, Writing, Writing_through, Flushing, Suspending, Want, Write_at, End, Got, Gave, Fault, Done, Answer as AbstractAnswer, Finished as AnsweredDone, want, after, table, read_each, write_each}
+use Rattle.wb_link.specs.World.{World, Shared, Record, Start, Actor as AbstractActor, resting, after_all, actor_after, task_after, start_actor, reserved, given, effect}
+use Rattle.wb_link.specs.Clerk.{Notes as AbstractNotes, Entry, histories_after, entered_after, finished_after, floors_after, note, noted_step, opened, raised as raised_there}
+use Rattle.wb_link.specs.Openings.{On, AllRight}
+use Rattle.wb_link.proofs.Lists.{get_set_same, get_set_other, replicated}
+use Rattle.wb_link.proofs.Steps.{in_set}
+use Rattle.wb_refines.specs.Going.{records, shared_after, gone}
+use Rattle.wb_refines.proofs.Going.{with_own, set_twice, set_same, step_own}
+use Rattle.wb_runs.specs.declared.job.Job.{Job}
+use Rattle.wb_runs.specs.Clerk.{Notes, Doing, Position, Entering, begins, begun, put, nobody, entering, enter, enter_each, write_note, all_raised, greater_of}
+use Rattle.wb_simulation.specs.Noting.{counts_by_block, AreEntries, DoesAlike, IsNotedSo, NotesAgree}
+use Rattle.wb_simulation.specs.Noted.{told, AreNewest, NotesFollowed}
+use Rattle.wb_simulation.specs.Telling.{AreUnnoted, AreWrites, AnswersSo, reading, writing}
+use Rattle.wb_simulation.specs.Worlds.{zeros}
+use Rattle.wb_simulation.proofs.Counts.{everywhere, all_raised-length, no_entries_alike, greater_counts, greater-length}
+use Rattle.wb_simulation.proofs.Telling.{reads_unnoted}
+use Rattle.wb_simulation.proofs.Told.{until_written, IsJob, after_job, untold, reads_newest, Wrote, writes_told, length-written, changed_nothing}
+
+-- ---- where an actor's own steps lead
+
+own_steps : (gots : List Got) (w : World) (a : ℕ) (y : AbstractActor) (task : Option Script) → slice_get w.actors a ≡ Some y → y.task ≡ task → after_all w (records a task gots) ≡ with_own w a (shared_after w.shared y task gots) (gone y task gots)
+own_steps [] w a y None e t = ap (λ (ys : List AbstractActor). record { shared = w.shared; actors = ys }) (sym (set_same w.actors a y e))
+own_steps [] w a y (Some script) e t = ap (λ (ys : List AbstractActor). record { shared = w.shared; actors = ys }) (sym (set_same w.actors a y e))
+own_steps (got ∷ gots) w a y None e t = ap (λ (ys : List AbstractActor). record { shared = w.shared; actors = ys }) (sym (set_same w.actors a y e))
+own_steps (got ∷ gots) w a y (Some script) e t =
+    let y' = actor_after y script (want script) got in
+    let s' = effect w.shared script.job y.buffer (want script) got in
+    let is = step_own w a y script got e t in
+    let later = own_steps gots (with_own w a s' y') a y' (task_after script (want script) got) (get_set_same w.actors a y y' e) refl in
+    ap (λ (v : World). after_all v (records a (task_after script (want script) got) gots)) is ∙ later
+    ∙ (λ i. record { shared = shared_after s' y' (task_after script (want script) got) gots; actors = set_twice w.actors a y' (gone y' (task_after script (want script) got) gots) i })
+
+-- none of the steps answers
+abbrev IsNoEnd : Want → Type 0
+IsNoEnd (End answer) = ⊥
+IsNoEnd next = Unit {0}
+
+abbrev AreGoing : Option Script → List Got → Type 0
+AreGoing None gots = Unit {0}
+AreGoing (Some script) [] = Unit {0}
+AreGoing (Some script) (got ∷ gots) = IsNoEnd (want script) × AreGoing (task_after script (want script) got) gots
+
+unnoted_goes : (next : Want) → Rattle.wb_simulation.specs.Telling.IsUnnoted next → IsNoEnd next
+unnoted_goes (Write_at location b o) u = absurd u
+unnoted_goes (End answer) u = u
+unnoted_goes next u = tt
+
+unnoted_going : (task : Option Script) (gots : List Got) → AreUnnoted task gots → AreGoing task gots
+unnoted_going None gots u = tt
+unnoted_going (Some script) [] u = tt
+unnoted_going (Some script) (got ∷ gots) u = (unnoted_goes (want script) u.0, unnoted_going (task_after script (want script) got) gots u.1)
+
+task_goes : (script : Script) (next : Want) (got : Got) → IsNoEnd next → task_after script next got ≡ Some (after script got)
+task_goes script (End answer) got u = absurd u
+task_goes script next got u = refl
+
+-- whoever has no task has none, and the job stays
+abbrev SameJob : Option Script → Option Script → Type 0
+SameJob None then_task = then_task ≡ None
+SameJob (Some script) then_task = (later : Script) × (then_task ≡ Some later) × (later.job ≡ script.job)
+
+gone_job : (gots : List Got) (y : AbstractActor) (task : Option Script) → y.task ≡ task → AreGoing task gots → SameJob task (gone y task gots).task
+gone_job [] y None e u = e
+gone_job [] y (Some script) e u = (script, e, refl)
+gone_job (got ∷ gots) y None e u = e
+gone_job (got ∷ gots) y (Some script) e u =
+    let y' = actor_after y script (want script) got in
+    let then_task = (gone y' (task_after script (want script) got) gots).task in
+    let later = subst (λ (t : Option Script). SameJob t then_task) (task_goes script (want script) got u.0) (gone_job gots y' (task_after script (want script) got) refl u.1) in
+    (later.0, later.1, later.2 ∙ after_job script got)
+
+noted_job : (size sectors : ℕ) (task then_task : Option Script) (o : Option (Option Doing)) (a : ℕ) (m : AbstractNotes) → SameJob task then_task → IsNotedSo size sectors task o a m → IsNotedSo size sectors then_task o a m
+noted_job size sectors None then_task o a m same is = subst (λ (t : Option Script). IsNotedSo size sectors t o a m) (sym same) tt
+noted_job size sectors (Some script) then_task (Some (Some doing)) a m same is = subst (λ (t : Option Script). IsNotedSo size sectors t (Some (Some doing)) a m) (sym same.1) (subst (λ (job : AbstractJob). DoesAlike size sectors doing job a m) (sym same.2) is)
+noted_job size sectors (Some script) then_task (Some None) a m same is = absurd is
+noted_job size sectors (Some script) then_task None a m same is = absurd is
+
+is_job : (size sectors : ℕ) (task : Option Script) (o : Option (Option Doing)) (a : ℕ) (m : AbstractNotes) → IsNotedSo size sectors task o a m → IsJob m a task
+is_job size sectors None o a m is = tt
+is_job size sectors (Some script) (Some (Some doing)) a m is = is.job_is
+is_job size sectors (Some script) (Some None) a m is = absurd is
+is_job size sectors (Some script) None a m is = absurd is
+
+-- what is noted of an actor hangs on its own notes alone
+noted_beside : (size sectors : ℕ) (task : Option Script) (o : Option (Option Doing)) (a : ℕ) (m m' : AbstractNotes) → m'.jobs a ≡ m.jobs a → m'.entered a ≡ m.entered a → m'.asked a ≡ m.asked a → IsNotedSo size sectors task o a m → IsNotedSo size sectors task o a m'
+noted_beside size sectors None o a m m' j e k is = tt
+noted_beside size sectors (Some script) (Some (Some doing)) a m m' j e k is = record { job_is = j ∙ is.job_is; entered = subst (λ (es : List Entry). AreEntries size sectors doing.entered es) (sym e) is.entered; asked = k ∙ is.asked }
+noted_beside size sectors (Some script) (Some None) a m m' j e k is = absurd is
+noted_beside size sectors (Some script) None a m m' j e k is = absurd is
+
+-- a refused answer is noted as the end of the task alone
+refused_note : (m : AbstractNotes) (a : ℕ) (job : AbstractJob) (answer : AbstractAnswer) → answer ≢ AnsweredDone → noted_step m a (Some job) (End answer) ≡ record m { jobs = changed m.jobs a None }
+refused_note m a job answer undone = λ i. record {
+  histories = histories_end m.histories job answer i;
+  finished = finished_end job answer (m.entered a) m.finished undone i;
+  floors = λ b o. floors_end job answer (m.asked a) m.floors undone b o i;
+  jobs = changed m.jobs a None;
+  entered = (ap (λ (es : List Entry). changed m.entered a es) (entered_end m.histories job answer (m.entered a)) ∙ changed_nothing m.entered a (m.entered a) refl) i;
+  asked = m.asked;
+}
+  where
+    histories_end : (h : ℕ → ℕ → History) (job : AbstractJob) (answer : AbstractAnswer) → histories_after h job (End answer) ≡ h
+    histories_end h (Writing b os c) answer = refl
+    histories_end h (Writing_through b os c) answer = refl
+    histories_end h job answer = refl
+
+    entered_end : (h : ℕ → ℕ → History) (job : AbstractJob) (answer : AbstractAnswer) (es : List Entry) → entered_after h job (End answer) es ≡ es
+    entered_end h (Writing b os c) answer es = refl
+    entered_end h (Writing_through b os c) answer es = refl
+    entered_end h job answer es = refl
+
+    finished_end : (job : AbstractJob) (answer : AbstractAnswer) (es : List Entry) (f : ℕ → ℕ → ℕ) → answer ≢ AnsweredDone → finished_after job (End answer) es f ≡ f
+    finished_end (Writing b os c) AnsweredDone es f undone = absurd (undone refl)
+    finished_end (Writing_through b os c) AnsweredDone es f undone = absurd (undone refl)
+    finished_end job answer es f undone = refl
+
+    floors_end : (job : AbstractJob) (answer : AbstractAnswer) (asked floors : ℕ → ℕ → ℕ) → answer ≢ AnsweredDone → (b o : ℕ) → floors_after job (End answer) asked floors b o ≡ floors b o
+    floors_end (Flushing order) AnsweredDone asked floors undone b o = absurd (undone refl)
+    floors_end Suspending AnsweredDone asked floors undone b o = absurd (undone refl)
+    floors_end job answer asked floors undone b o = refl
+
+-- a task of this job that has only to answer that it is done
+pub record IsOver (job : AbstractJob) (task : Option Script) : Type 0 where
+  pub script : Script
+  pub at : task ≡ Some script
+  pub none : script.steps ≡ []
+  pub done : script.answer ≡ AnsweredDone
+  pub is : script.job ≡ job
+
+-- Who has done something is another one now, and of others nothing has changed.
+module _ (size a : ℕ) (s : World) (y : AbstractActor) (n : Notes) (m : AbstractNotes) (ey : slice_get s.actors a ≡ Some y) (g : NotesAgree size n s m) where
+  agree_after : (n' : Notes) (m' : AbstractNotes) (t : Shared) (y' : AbstractActor) → m'.histories ≡ by_block size zeros n'.histories → m'.finished ≡ counts_by_block size n'.finished → m'.floors ≡ counts_by_block size n'.floors →
+      length n'.histories ≡ length n.histories → length n'.finished ≡ length n.finished → length n'.floors ≡ length n.floors →
+      ((b : ℕ) → b ≢ a → slice_get n'.doings b ≡ slice_get n.doings b) → ((b : ℕ) → b ≢ a → m'.jobs b ≡ m.jobs b) → ((b : ℕ) → b ≢ a → m'.entered b ≡ m.entered b) → ((b : ℕ) → b ≢ a → m'.asked b ≡ m.asked b) →
+      IsNotedSo size (length n.histories) y'.task (slice_get n'.doings a) a m' → NotesAgree size n' (with_own s a t y') m'
+  agree_after n' m' t y' h f l long finished_long floors_long doings jobs entered asked here = record {
+    histories = h;
+    finished = f;
+    floors = l;
+    as_many = finished_long ∙ g.as_many ∙ sym long;
+    floors_as_many = floors_long ∙ g.floors_as_many ∙ sym long;
+    each = in_set s.actors a y y' ey (λ b z. IsNotedSo size (length n'.histories) z.task (slice_get n'.doings b) b m') (subst (λ (k : ℕ). IsNotedSo size k y'.task (slice_get n'.doings a) a m') (sym long) here)
+        (λ b z ne e. subst (λ (k : ℕ). IsNotedSo size k z.task (slice_get n'.doings b) b m') (sym long) (subst (λ (o : Option (Option Doing)). IsNotedSo size (length n.histories) z.task o b m') (sym (doings b ne))
+        (noted_beside size (length n.histories) z.task (slice_get n.doings b) b m m' (jobs b ne) (entered b ne) (asked b ne) (g.each b z e))));
+  }
+
+  -- by these steps
+  abbrev After : List Got → Notes → Type 0
+  After gots n' = NotesAgree size n' (after_all s (records a y.task gots)) (told m (records a y.task gots))
+
+  to_world : (gots : List Got) (n' : Notes) → NotesAgree size n' (with_own s a (shared_after s.shared y y.task gots) (gone y y.task gots)) (told m (records a y.task gots)) → After gots n'
+  to_world gots n' k = subst (λ (v : World). NotesAgree size n' v (told m (records a y.task gots))) (sym (own_steps gots s a y y.task ey refl)) k
+
+  unnoted_after : (gots : List Got) → AreUnnoted y.task gots → After gots n
+  unnoted_after gots u = to_world gots n (subst (λ (k : AbstractNotes). NotesAgree size n (with_own s a (shared_after s.shared y y.task gots) (gone y y.task gots)) k)
+      (sym (untold gots y.task m a (is_job size (length n.histories) y.task (slice_get n.doings a) a m (g.each a y ey)) u))
+      (agree_after n m (shared_after s.shared y y.task gots) (gone y y.task gots) g.histories g.finished g.floors refl refl refl (λ b e. refl) (λ b e. refl) (λ b e. refl) (λ b e. refl)
+      (noted_job size (length n.histories) y.task (gone y y.task gots).task (slice_get n.doings a) a m (gone_job gots y y.task refl (unnoted_going y.task gots u)) (g.each a y ey))))
+
+  put_others : (o : Option Doing) (b : ℕ) → b ≢ a → slice_get (slice_set n.doings a o) b ≡ slice_get n.doings b
+  put_others o b ne = get_set_other n.doings a b o ne
+
+  set_here : (o was : Option Doing) → slice_get n.doings a ≡ Some was → slice_get (slice_set n.doings a o) a ≡ Some o
+  set_here o was e = get_set_same n.doings a was o e
+
+  -- ---- a write
+
+  writes_go : (location : Option ℕ) (b : ℕ) (all : List ℕ) (content : Content) (rest : List Want) (answer : AbstractAnswer) (count : ℕ) (gots : List Got) (o : ℕ) → AreWrites count gots → AreGoing (Some (writing b all content (write_each location b (rising o count) rest) answer)) gots
+  writes_go location b all content rest answer zero [] o w = tt
+  writes_go location b all content rest answer zero (got ∷ gots) o w = absurd w
+  writes_go location b all content rest answer (suc count) [] o w = tt
+  writes_go location b all content rest answer (suc count) (Done ∷ gots) o w = (tt, writes_go location b all content rest answer count gots (o + 1) w)
+  writes_go location b all content rest answer (suc zero) (Fault choice ∷ []) o w = (tt, tt)
+  writes_go location b all content rest answer (suc zero) (Fault choice ∷ got ∷ gots) o w = absurd w.1
+  writes_go location b all content rest answer (suc (suc count)) (Fault choice ∷ gots) o w =
+      let k = suc count in (
+        tt,
+        subst (λ (ws : List Want). AreGoing (Some (writing b all content ws Rattle.wb_link.specs.Tables.Io)) gots)
+            (sym (ap (λ (t : Bool). Rattle.wb_link.specs.Tables.steps_after_fault (Writing b all content) t (write_each location b (rising (o + 1) k) rest)) w.0 ∙ until_written location b (rising (o + 1) k) rest))
+            (writes_go location b all content (Rattle.wb_link.specs.Tables.until_failed rest) Rattle.wb_link.specs.Tables.Io k gots (o + 1) w.1),
+      )
+  writes_go location b all content rest answer (suc count) (got ∷ gots) o w = absurd w
+
+  entering_length : (content : Content) (sectors : List ℕ) (e : Entering) → length (enter_each content sectors e).histories ≡ length e.histories
+  entering_length content [] e = refl
+  entering_length content (at ∷ sectors) e = entering_length content sectors (enter content at e) ∙ length-written e.histories at content
+
+  write_after : (block offset count : ℕ) (content : Content) (location : Option ℕ) (all : List ℕ) (rest : List Want) (answer : AbstractAnswer) (gots : List Got) (doing : Doing) → AreWrites count gots → y.task ≡ Some (writing block all content (write_each location block (rising offset count) rest) answer) →
+      slice_get n.doings a ≡ Some (Some doing) → offset + count ≤ size → block * size + offset + count ≤ length n.histories → After gots (write_note n a doing (enter_each content (rising (block * size + offset) count) (entering n doing)))
+  write_after block offset count content location all rest answer gots doing are at here l inside =
+      let script = writing block all content (write_each location block (rising offset count) rest) answer in
+      let d : DoesAlike size (length n.histories) doing (Writing block all content) a m = subst (λ (t : Option Script). IsNotedSo size (length n.histories) t (Some (Some doing)) a m) at (subst (λ (o : Option (Option Doing)). IsNotedSo size (length n.histories) y.task o a m) here (g.each a y ey)) in
+      let e = enter_each content (rising (block * size + offset) count) (entering n doing) in
+      let m' = told m (records a y.task gots) in
+      let w : Wrote size (length n.histories) a m m' e = subst (λ (t : Option Script). Wrote size (length n.histories) a m (told m (records a t gots)) e) (sym at)
+      (writes_told size location block all content a count gots rest answer offset m n.histories doing.entered are d.job_is g.histories d.entered l inside) in
+      let doing' : Doing = record doing { entered = e.entered } in
+      to_world gots (write_note n a doing e) (agree_after (write_note n a doing e) m' (shared_after s.shared y y.task gots) (gone y y.task gots) w.histories (w.finished ∙ g.finished) (w.floors ∙ g.floors)
+      (entering_length content (rising (block * size + offset) count) (entering n doing)) refl refl (put_others (Some doing')) (λ b ne. ap (λ (f : ℕ → Option AbstractJob). f b) w.jobs) w.others (λ b ne. ap (λ (f : ℕ → ℕ → ℕ → ℕ). f b) w.asked)
+      (subst (λ (o : Option (Option Doing)). IsNotedSo size (length n.histories) (gone y y.task gots).task o a m') (sym (set_here (Some doing') (Some doing) here))
+      (noted_job size (length n.histories) (Some script) (gone y y.task gots).task (Some (Some doing')) a m'
+      (subst (λ (t : Option Script). SameJob (Some script) (gone y t gots).task) (sym at) (gone_job gots y (Some script) at (writes_go location block all content rest answer count gots offset are)))
+      (record { job_is = ap (λ (f : ℕ → Option AbstractJob). f a) w.jobs ∙ d.job_is; entered = w.entered; asked = ap (λ (f : ℕ → ℕ → ℕ → ℕ). f a) w.asked ∙ d.asked }))))
+
+  -- ---- answers
+
+  abbrev AfterOf : Option Script → List Got → Notes → Type 0
+  AfterOf task gots n' = NotesAgree size n' (with_own s a (shared_after s.shared y task gots) (gone y task gots)) (told m (records a task gots))
+
+  of_task : (task : Option Script) (gots : List Got) (n' : Notes) → y.task ≡ task → AfterOf task gots n' → After gots n'
+  of_task task gots n' e k = to_world gots n' (subst (λ (t : Option Script). AfterOf t gots n') (sym e) k)
+
+  -- who has no task there goes nowhere
+  absent : (gots : List Got) (n' : Notes) → y.task ≡ None → NotesAgree size n' (with_own s a s.shared y) m → After gots n'
+  absent [] n' e k = of_task None [] n' e k
+  absent (got ∷ gots) n' e k = of_task None (got ∷ gots) n' e k
+
+  -- the answer was given, and these are the notes then
+  answered : (n' : Notes) (script : Script) (job : AbstractJob) (answer : AbstractAnswer) → y.task ≡ Some script → script.steps ≡ [] → script.answer ≡ answer → script.job ≡ job →
+      NotesAgree size n' (with_own s a s.shared (record y { task = None })) (noted_step m a (Some job) (End answer)) → After (Done ∷ []) n'
+  answered n' script job answer at none ans is k =
+      let own : m.jobs a ≡ Some script.job = subst (λ (t : Option Script). IsJob m a t) at (is_job size (length n.histories) y.task (slice_get n.doings a) a m (g.each a y ey)) in
+      of_task (Some (record { job = job; steps = []; answer = answer })) (Done ∷ []) n' (at ∙ (λ i. Some (record { job = is i; steps = none i; answer = ans i })))
+      (subst (λ (k : AbstractNotes). NotesAgree size n' (with_own s a s.shared (record y { task = None })) k) (λ i. noted_step m a ((sym (own ∙ ap (λ (j : AbstractJob). Some j) is)) i) (End answer)) k)
+
+  abbrev over : AbstractActor
+  over = record y { task = None }
+
+  read_answers : (block : ℕ) (os : List ℕ) (script : Script) → y.task ≡ Some script → script.steps ≡ [] → script.answer ≡ AnsweredDone → script.job ≡ Reading block os → After (Done ∷ []) (put n a None)
+  read_answers block os script at none ans is = answered (put n a None) script (Reading block os) AnsweredDone at none ans is
+      (agree_after (put n a None) (noted_step m a (Some (Reading block os)) (End AnsweredDone)) s.shared over g.histories g.finished g.floors refl refl refl (put_others None) (λ b ne. changed_other m.jobs a b None ne) (λ b ne. changed_other m.entered a b (m.entered a) ne) (λ b ne. refl) tt)
+
+  does_alike : (job : AbstractJob) (script : Script) (doing : Doing) → y.task ≡ Some script → script.job ≡ job → slice_get n.doings a ≡ Some (Some doing) → DoesAlike size (length n.histories) doing job a m
+  does_alike job script doing at is here = subst (λ (j : AbstractJob). DoesAlike size (length n.histories) doing j a m) is
+      (subst (λ (t : Option Script). IsNotedSo size (length n.histories) t (Some (Some doing)) a m) at (subst (λ (o : Option (Option Doing)). IsNotedSo size (length n.histories) y.task o a m) here (g.each a y ey)))
+
+  write_answers : (block : ℕ) (os : List ℕ) (content : Content) (script : Script) (doing : Doing) → y.task ≡ Some script → script.steps ≡ [] → script.answer ≡ AnsweredDone → script.job ≡ Writing block os content → slice_get n.doings a ≡ Some (Some doing) →
+      After (Done ∷ []) (put (record n { finished = all_raised n.finished doing.entered }) a None)
+  write_answers block os content script doing at none ans is here =
+      let d = does_alike (Writing block os content) script doing at is here in
+      answered (put (record n { finished = all_raised n.finished doing.entered }) a None) script (Writing block os content) AnsweredDone at none ans is
+      (agree_after (put (record n { finished = all_raised n.finished doing.entered }) a None) (noted_step m a (Some (Writing block os content)) (End AnsweredDone)) s.shared over g.histories
+      (ap (raised_there (m.entered a)) g.finished ∙ d.entered n.finished g.as_many) g.floors refl (all_raised-length n.finished doing.entered) refl (put_others None) (λ b ne. changed_other m.jobs a b None ne) (λ b ne. changed_other m.entered a b (m.entered a) ne) (λ b ne. refl) tt)
+
+  flush_answers : (script : Script) (doing : Doing) → y.task ≡ Some script → script.steps ≡ [] → script.answer ≡ AnsweredDone → script.job ≡ Flushing None → slice_get n.doings a ≡ Some (Some doing) → length doing.then_finished ≡ length n.floors →
+      After (Done ∷ []) (put (record n { floors = greater_of n.floors doing.then_finished }) a None)
+  flush_answers script doing at none ans is here long =
+      let d = does_alike (Flushing None) script doing at is here in
+      answered (put (record n { floors = greater_of n.floors doing.then_finished }) a None) script (Flushing None) AnsweredDone at none ans is
+      (agree_after (put (record n { floors = greater_of n.floors doing.then_finished }) a None) (noted_step m a (Some (Flushing None)) (End AnsweredDone)) s.shared over g.histories g.finished
+      ((λ i b o. max (g.floors i b o) (d.asked i b o)) ∙ sym (greater_counts size n.floors doing.then_finished (sym long))) refl refl (greater-length n.floors doing.then_finished (sym long)) (put_others None) (λ b ne. changed_other m.jobs a b None ne) (λ b ne. changed_other m.entered a b (m.entered a) ne) (λ b ne. refl) tt)
+
+  refusal_answers : (script : Script) → y.task ≡ Some script → script.steps ≡ [] → script.answer ≢ AnsweredDone → After (Done ∷ []) (put n a None)
+  refusal_answers script at none undone = answered (put n a None) script script.job script.answer at none refl refl
+      (subst (λ (k : AbstractNotes). NotesAgree size (put n a None) (with_own s a s.shared over) k) (sym (refused_note m a script.job script.answer undone))
+      (agree_after (put n a None) (record m { jobs = changed m.jobs a None }) s.shared over g.histories g.finished g.floors refl refl refl (put_others None) (λ b ne. changed_other m.jobs a b None ne) (λ b ne. refl) (λ b ne. refl) tt))
+
+  absent_answers : y.task ≡ None → After (Done ∷ []) (put n a None)
+  absent_answers e = absent (Done ∷ []) (put n a None) e (agree_after (put n a None) m s.shared y g.histories g.finished g.floors refl refl refl (put_others None) (λ b ne. refl) (λ b ne. refl) (λ b ne. refl) (subst (λ (t : Option Script). IsNotedSo size (length n.histories) t (slice_get (slice_set n.doings a None) a) a m) (sym e) tt))
+
+  -- ---- starts
+
+  start_after : (abstract_job : AbstractJob) (job : Job) (was : Option Doing) → slice_get n.doings a ≡ Some was → NotesAgree size (put n a (Some (begun n job))) (after_all s (Start a abstract_job ∷ [])) (told m (Start a abstract_job ∷ []))
+  start_after abstract_job job was here = subst (λ (v : World). NotesAgree size (put n a (Some (begun n job))) v (note m (Start a abstract_job))) (sym (ap (λ o. start_actor s a o abstract_job) ey))
+      (agree_after (put n a (Some (begun n job))) (note m (Start a abstract_job)) (reserved s.shared abstract_job) (given y abstract_job) g.histories g.finished g.floors refl refl refl (put_others (Some (begun n job)))
+      (λ b ne. changed_other m.jobs a b (Some abstract_job) ne) (λ b ne. changed_other m.entered a b [] ne) (λ b ne. changed_other m.asked a b m.finished ne)
+      (subst (λ (o : Option (Option Doing)). IsNotedSo size (length n.histories) (Some (table abstract_job)) o a (note m (Start a abstract_job))) (sym (set_here (Some (begun n job)) was here)) (record {
+        job_is = changed_same m.jobs a (Some abstract_job);
+        entered = subst (λ (es : List Entry). AreEntries size (length n.histories) [] es) (sym (changed_same m.entered a [])) (no_entries_alike size (length n.histories));
+        asked = changed_same m.asked a m.finished ∙ g.finished;
+      })))
+
+  late_after : (gots : List Got) (job : Job) → y.task ≡ None → After gots (put n a (Some (begun n job)))
+  late_after gots job e = absent gots (put n a (Some (begun n job))) e (agree_after (put n a (Some (begun n job))) m s.shared y g.histories g.finished g.floors refl refl refl (put_others (Some (begun n job))) (λ b ne. refl) (λ b ne. refl) (λ b ne. refl)
+      (subst (λ (t : Option Script). IsNotedSo size (length n.histories) t (slice_get (slice_set n.doings a (Some (begun n job))) a) a m) (sym e) tt))
+
+-- ---- what hangs on no step
+
+redone_so : (size sectors : ℕ) (task : Option Script) (doing doing' : Doing) (a : ℕ) (m : AbstractNotes) → doing'.entered ≡ doing.entered → doing'.then_finished ≡ doing.then_finished → IsNotedSo size sectors task (Some (Some doing)) a m → IsNotedSo size sectors task (Some (Some doing')) a m
+redone_so size sectors None doing doing' a m e f is = tt
+redone_so size sectors (Some script) doing doing' a m e f is = record { job_is = is.job_is; entered = subst (λ (ps : List Position). AreEntries size sectors ps (m.entered a)) (sym e) is.entered; asked = is.asked ∙ ap (counts_by_block size) (sym f) }
+
+none_counted : (at : ℕ) (shown : List Content) → unwrap_or (slice_get (map (λ (c : Content). zero) shown) at) zero ≡ zero
+none_counted at [] = refl
+none_counted zero (c ∷ cs) = refl
+none_counted (suc at) (c ∷ cs) = none_counted at cs
+
+none_counted_in : (t : Bool) (at : ℕ) (shown : List Content) → cond t (unwrap_or (slice_get (map (λ (c : Content). zero) shown) at) zero) zero ≡ zero
+none_counted_in true at shown = none_counted at shown
+none_counted_in false at shown = refl
+
+no_counts : (size : ℕ) (shown : List Content) → (λ (b o : ℕ). zero) ≡ counts_by_block size (map (λ (c : Content). zero) shown)
+no_counts size shown = sym (everywhere (counts_by_block size (map (λ (c : Content). zero) shown)) (λ b o. zero) (λ b o. none_counted_in (nat_lt o size) (b * size + o) shown))
+
+pub notes_followed : NotesFollowed
+notes_followed = record {
+  quiet = λ turn size most a s words committing devices actors f y n m ey g.
+      let t = f.told y ey in
+      subst (λ (rs : List Record). NotesAgree size n (after_all s rs) (told m rs)) (sym t.2) (unnoted_after size a s y n m ey g t.0 t.1);
+  read = λ block offset contents turn size most a s words committing devices actors f y n m ey g.
+      let t = f.told y ey in
+      subst (λ (rs : List Record). NotesAgree size n (after_all s rs) (told m rs)) (sym t.told_is)
+      (unnoted_after size a s y n m ey g (map Gave contents) (subst (λ (k : Option Script). AreUnnoted k (map Gave contents)) (sym t.at) (reads_unnoted t.location block t.all t.rest t.answer contents offset)));
+  write = λ block offset count content turn size most a s words committing devices actors f y n m ey g doing here l inside.
+      let t = f.told y ey in
+      let n' = write_note n a doing (enter_each content (rising (block * size + offset) count) (entering n doing)) in
+      subst (λ (rs : List Record). NotesAgree size n' (after_all s rs) (told m rs)) (sym t.told_is)
+      (write_after size a s y n m ey g block offset count content t.location t.all t.rest t.answer t.results doing t.are t.at here l inside);
+  read_answered = λ block os turn size most a s words committing devices actors f y n m ey g.
+      let t = f.told y ey in let k = script_of (Reading block os) y.task t.0 in
+      subst (λ (rs : List Record). NotesAgree size (put n a None) (after_all s rs) (told m rs)) (sym t.1) (read_answers size a s y n m ey g block os k.script k.at k.none k.done k.is);
+  write_answered = λ block os content turn size most a s words committing devices actors f y n m ey g doing here.
+      let t = f.told y ey in let k = script_of (Writing block os content) y.task t.0 in
+      subst (λ (rs : List Record). NotesAgree size (put (record n { finished = all_raised n.finished doing.entered }) a None) (after_all s rs) (told m rs)) (sym t.1)
+      (write_answers size a s y n m ey g block os content k.script doing k.at k.none k.done k.is here);
+  flush_answered = λ turn size most a s words committing devices actors f y n m ey g doing here long.
+      let t = f.told y ey in let k = script_of (Flushing None) y.task t.0 in
+      subst (λ (rs : List Record). NotesAgree size (put (record n { floors = greater_of n.floors doing.then_finished }) a None) (after_all s rs) (told m rs)) (sym t.1)
+      (flush_answers size a s y n m ey g k.script doing k.at k.none k.done k.is here long);
+  refused = λ job refusal turn size most a s words committing devices actors f y n m ey g.
+      let t = f.told y ey in
+      subst (λ (rs : List Record). NotesAgree size (put n a None) (after_all s rs) (told m rs)) (sym t.1) (by_task size a s y n m ey g job refusal y.task refl t.0);
+  starts = λ abstract_job job turn size most a s words committing devices actors f y n m ey g was here.
+      subst (λ (rs : List Record). NotesAgree size (put n a (Some (begun n job))) (after_all s rs) (told m rs)) (sym (f.told y ey)) (start_after size a s y n m ey g abstract_job job was here);
+  starts_late = λ job turn size most a s words committing devices actors f y n m ey g none.
+      let t = f.told y ey in
+      subst (λ (rs : List Record). NotesAgree size (put n a (Some (begun n job))) (after_all s rs) (told m rs)) (sym t.2) (late_after size a s y n m ey g t.0 job none);
+  redone = λ size n s m a doing doing' g here e f. record {
+    histories = g.histories;
+    finished = g.finished;
+    floors = g.floors;
+    as_many = g.as_many;
+    floors_as_many = g.floors_as_many;
+    each = λ b z ez. elim (cases_eq b a) [
+      | inl same ↦ subst (λ (k : ℕ). IsNotedSo size (length n.histories) z.task (slice_get (slice_set n.doings a (Some doing')) k) k m) (sym same)
+          (subst (λ (o : Option (Option Doing)). IsNotedSo size (length n.histories) z.task o a m) (sym (get_set_same n.doings a (Some doing) (Some doing') here))
+          (redone_so size (length n.histories) z.task doing doing' a m e f (subst (λ (o : Option (Option Doing)). IsNotedSo size (length n.histories) z.task o a m) here (g.each a z (ap (slice_get s.actors) (sym same) ∙ ez)))))
+      | inr ne ↦ subst (λ (o : Option (Option Doing)). IsNotedSo size (length n.histories) z.task o b m) (sym (get_set_other n.doings a b (Some doing') ne)) (g.each b z ez)
+    ];
+  };
+  ended = λ size n s t m g. record {
+    histories = g.histories;
+    finished = g.finished;
+    floors = g.floors;
+    as_many = g.as_many;
+    floors_as_many = g.floors_as_many;
+    each = λ b z e. subst (λ (v : AbstractActor). IsNotedSo size (length n.histories) v.task (slice_get (nobody n.doings) b) b m) (replicated (length s.actors) b resting z e) tt;
+  };
+  anew = λ size many shown view s t same. record {
+    histories = sym same;
+    finished = no_counts size shown;
+    floors = no_counts size shown;
+    as_many = length-map shown (λ (c : Content). 0) ∙ sym (length-map shown only);
+    floors_as_many = length-map shown (λ (c : Content). 0) ∙ sym (length-map shown only);
+    each = λ b z e. subst (λ (v : AbstractActor). IsNotedSo size (length (map only shown)) v.task (slice_get (begins many shown).doings b) b (opened view)) (replicated (length s.actors) b resting z e) tt;
+  };
+  newest_read = λ turn size most a block offset contents s words committing devices actors f y n m ey g right.
+      let t = f.told y ey in
+      let job = subst (λ (k : Option Script). IsJob m a k) t.at (is_job size (length n.histories) y.task (slice_get n.doings a) a m (g.each a y ey)) in
+      subst (λ (h : ℕ → ℕ → History). AreNewest h block offset contents) g.histories
+      (reads_newest t.location block t.all t.rest t.answer contents offset m a job
+      (subst (λ (k : Option Script). AllRight m (map (λ (r : Record). On r) (records a k (map Gave contents)))) t.at (subst (λ (rs : List Record). AllRight m (map (λ (r : Record). On r) rs)) t.told_is right)));
+}
+  where
+    script_of : (job : AbstractJob) (task : Option Script) → AnswersSo job Finished task → IsOver job task
+    script_of job None so = absurd so
+    script_of job (Some script) so = record { script = script; at = refl; none = so.0; done = so.1; is = so.2 }
+
+    by_task : (size a : ℕ) (s : World) (y : AbstractActor) (n : Notes) (m : AbstractNotes) (ey : slice_get s.actors a ≡ Some y) (g : NotesAgree size n s m) (job : AbstractJob) (refusal : Refusal) (task : Option Script) → y.task ≡ task → AnswersSo job (Refuses refusal) y.task →
+        NotesAgree size (put n a None) (after_all s (records a y.task (Done ∷ []))) (told m (records a y.task (Done ∷ [])))
+    by_task size a s y n m ey g job refusal None e so = absent_answers size a s y n m ey g e
+    by_task size a s y n m ey g job refusal (Some script) e so = let so' = subst (λ (t : Option Script). AnswersSo job (Refuses refusal) t) e so in refusal_answers size a s y n m ey g script e so'.0 so'.1

@@ -1,0 +1,59 @@
+-- How the two clerks' notes stay alike by what the abstract one is told, and what it says of reads.
+use Rattle.std.specs.Prelude.{◌≡◌, ◌≤◌, ◌+◌, ◌*◌, ℕ, Bool, List, [], ◌∷◌, Option, Some, None, length, map, slice_get}
+use Rattle.wb_types.specs.Extents.{rising}
+use Rattle.wb_disk.specs.Device.{Content, History, newest, only}
+use Rattle.wb_contents.specs.Devices.{by_block}
+use Rattle.wb_words.specs.SharedWords.{Words}
+use Rattle.wb_tasks.specs.declared.step.Answer.TheVariants.{Done as Finished, Refused as Refuses}
+use Rattle.wb_types.specs.declared.refusal.Refusal.{Refusal}
+use Rattle.wb_devices.specs.declared.devices.Devices.{Devices}
+use Rattle.wb_link.specs.Tables.{Job as AbstractJob, Reading, Writing, Flushing}
+use Rattle.wb_link.specs.World.{World, Shared, Record, Actor as AbstractActor, after_all}
+use Rattle.wb_link.specs.Clerk.{Notes as AbstractNotes, opened}
+use Rattle.wb_link.specs.Openings.{On, noted, AllRight, emptied}
+use Rattle.wb_runs.specs.declared.job.Job.{Job}
+use Rattle.wb_runs.specs.Clerk.{Notes, Doing, begins, begun, put, nobody, entering, enter_each, write_note, all_raised, greater_of}
+use Rattle.wb_runs.specs.States.{Actor}
+use Rattle.wb_simulation.specs.Noting.{NotesAgree}
+use Rattle.wb_simulation.specs.Telling.{Telling, Quietly, Reads, Writes, Answers, Starts}
+use Rattle.wb_simulation.specs.Worlds.{zeros, Turn, FollowsBy}
+
+-- the abstract notes after these records
+abbrev pub told : AbstractNotes → List Record → AbstractNotes
+told m rs = noted m (map (λ (r : Record). On r) rs)
+
+-- each of these contents is the newest of its sector's history, from this offset of a block on
+abbrev pub AreNewest : (ℕ → ℕ → History) → ℕ → ℕ → List Content → Type 0
+AreNewest histories b o [] = Unit {0}
+AreNewest histories b o (c ∷ contents) = (c ≡ newest (histories b o)) × AreNewest histories b (o + 1) contents
+
+-- What a run of the abstract world that follows a happening makes of notes that agree, whose actor is this one there before it.
+abbrev pub Kept : Telling → ((size : ℕ) (n : Notes) (a : ℕ) (y : AbstractActor) → (Notes → Type 0) → Type 0) → Type 0
+Kept telling Premise = (turn : Turn) (size most a : ℕ) (s : World) (words : Words) (committing : Bool) (devices : Devices (List History)) (actors : List Actor) (f : FollowsBy turn telling size most a s words committing devices actors) (y : AbstractActor) (n : Notes) (m : AbstractNotes) →
+    slice_get s.actors a ≡ Some y → NotesAgree size n s m → Premise size n a y (λ (n' : Notes). NotesAgree size n' (after_all s f.records) (told m f.records))
+
+pub record NotesFollowed : Type 0 where
+  -- nothing is noted
+  pub quiet : Kept Quietly (λ size n a y Then. Then n)
+  -- nor of a read's step
+  pub read : (block offset : ℕ) (contents : List Content) → Kept (Reads block offset contents) (λ size n a y Then. Then n)
+  -- a write's histories and entries are those that the run's clerk notes
+  pub write : (block offset count : ℕ) (content : Content) → Kept (Writes block offset count content) (λ size n a y Then. (doing : Doing) → slice_get n.doings a ≡ Some (Some doing) → offset + count ≤ size → block * size + offset + count ≤ length n.histories →
+      Then (write_note n a doing (enter_each content (rising (block * size + offset) count) (entering n doing))))
+  -- what a write entered is finished when it is answered done, and what was finished when a flush began is durable then
+  pub read_answered : (block : ℕ) (os : List ℕ) → Kept (Answers (Reading block os) Finished) (λ size n a y Then. Then (put n a None))
+  pub write_answered : (block : ℕ) (os : List ℕ) (content : Content) → Kept (Answers (Writing block os content) Finished) (λ size n a y Then. (doing : Doing) → slice_get n.doings a ≡ Some (Some doing) → Then (put (record n { finished = all_raised n.finished doing.entered }) a None))
+  pub flush_answered : Kept (Answers (Flushing None) Finished) (λ size n a y Then. (doing : Doing) → slice_get n.doings a ≡ Some (Some doing) → length doing.then_finished ≡ length n.floors → Then (put (record n { floors = greater_of n.floors doing.then_finished }) a None))
+  pub refused : (job : AbstractJob) (refusal : Refusal) → Kept (Answers job (Refuses refusal)) (λ size n a y Then. Then (put n a None))
+  -- who starts, or starts late, is noted to have entered nothing
+  pub starts : (abstract_job : AbstractJob) (job : Job) → Kept (Starts abstract_job) (λ size n a y Then. (was : Option Doing) → slice_get n.doings a ≡ Some was → Then (put n a (Some (begun n job))))
+  pub starts_late : (job : Job) → Kept Quietly (λ size n a y Then. y.task ≡ None → Then (put n a (Some (begun n job))))
+  -- what it has read, and on which devices it failed, is of no account there
+  pub redone : (size : ℕ) (n : Notes) (s : World) (m : AbstractNotes) (a : ℕ) (doing doing' : Doing) → NotesAgree size n s m → slice_get n.doings a ≡ Some (Some doing) → doing'.entered ≡ doing.entered → doing'.then_finished ≡ doing.then_finished → NotesAgree size (put n a (Some doing')) s m
+  -- a crash and an opening's start end what all are at
+  pub ended : (size : ℕ) (n : Notes) (s : World) (t : Shared) (m : AbstractNotes) → NotesAgree size n s m → NotesAgree size (record n { doings = nobody n.doings }) (emptied s t) m
+  -- an opening that is answered done begins notes anew with what it shows
+  pub anew : (size many : ℕ) (shown : List Content) (view : ℕ → ℕ → Content) (s : World) (t : Shared) → by_block size zeros (map only shown) ≡ (λ b o. only (view b o)) → NotesAgree size (begins many shown) (emptied s t) (opened view)
+  -- where the records are right, what a read is given are the last entries of the histories
+  pub newest_read : (turn : Turn) (size most a block offset : ℕ) (contents : List Content) (s : World) (words : Words) (committing : Bool) (devices : Devices (List History)) (actors : List Actor) (f : FollowsBy turn (Reads block offset contents) size most a s words committing devices actors) (y : AbstractActor) (n : Notes) (m : AbstractNotes) →
+      slice_get s.actors a ≡ Some y → NotesAgree size n s m → AllRight m (map (λ (r : Record). On r) f.records) → AreNewest (by_block size zeros n.histories) block offset contents
