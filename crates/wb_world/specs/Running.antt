@@ -1,5 +1,5 @@
 -- What is promised of the trace of events that ran on a new world, one after the other.
-use Rattle.std.specs.Prelude.{◌≡◌, ℕ, List, map}
+use Rattle.std.specs.Prelude.{◌≡◌, List, map}
 use Rattle.wb_runs.specs.declared.event.Event.{Event}
 use Rattle.wb_runs.specs.declared.event.Record.{Record}
 use Rattle.wb_runs.specs.Clerk.{formatted}

@@ -3,7 +3,6 @@
 ghost use Rattle.std.specs.Prelude.{◌≡◌, [], OnOk, OnErr, IfOk, IfErr, slice_get};
 ghost use Rattle.std.specs.declared.alloc.Global.{Global};
 ghost use Rattle.wb_types.specs.declared.refusal.Refusal.TheVariants.{Memory};
-ghost use Rattle.wb_disk.specs.Device.{History};
 ghost use Rattle.wb_runs.specs.Headline.{shown};
 ghost use Rattle.wb_world.specs.declared.world.TheConstants.{ACTORS};
 ghost use Rattle.wb_world.specs.Life.{GoesOn, Happens, IsReached, IsThere, shape_of, state_of};
