@@ -167,12 +167,11 @@ impl Player {
         writeln!(text, "{actor} done").map_err(|_| Refusal::Memory)
     }
 
-    /// Tells the generation of the root that an opening has written, and how many blocks are mapped and dirty. Each mapped block is
-    /// dirty, since no clean image is made yet.
+    /// Tells the generation of the root that an opening has written, and how many blocks are mapped and dirty.
     fn tell_opened(&self, text: &mut String) -> Result<(), Refusal> {
         match self.world.opened() {
-            Some((generation, mapped)) => {
-                writeln!(text, "open {generation} {mapped} {mapped}").map_err(|_| Refusal::Memory)
+            Some((generation, mapped, dirty)) => {
+                writeln!(text, "open {generation} {mapped} {dirty}").map_err(|_| Refusal::Memory)
             }
             None => Ok(()),
         }

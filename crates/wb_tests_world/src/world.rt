@@ -4,12 +4,14 @@ mod flushes;
 mod line;
 mod openings;
 mod requests;
+mod runs;
 mod views;
 
 use self::flushes::FLUSHES;
 use self::line::{Act, FIRST_SECTOR, Line, OPENING, READING, Row, Task, WRITING};
 use self::openings::{CRASHES, FAILURES, OPENINGS, ROOTS};
 use self::requests::{FAILED_REQUESTS, REQUESTS, WRITE_AND_READ, WRITTEN_AND_GIVEN};
+use self::runs::ran;
 use self::views::VIEWS;
 use std::alloc::Global;
 use std::test::Fail;
@@ -20,8 +22,12 @@ use wb_types::{Content, Dev, Extent, Geometry, Mode, Refusal, SECTOR_BYTES};
 use wb_world::World;
 
 /// Ten blocks of 64 sectors, and a cache of four.
+fn small() -> Result<Geometry, Refusal> {
+    Geometry::new(64, 4, 10, 4)
+}
+
 fn small_world(alloc: Global) -> Result<World, Refusal> {
-    World::new(alloc, Geometry::new(64, 4, 10, 4)?)
+    World::new(alloc, small()?)
 }
 
 /// A choice that names no sector.
@@ -30,7 +36,13 @@ fn unnamed(alloc: Global, base: Base) -> CrashChoice {
 }
 
 /// One that names a sector of a device by this number.
-fn named(alloc: Global, device: Dev, sector: u64, position: u64) -> Result<CrashChoice, Refusal> {
+fn named(
+    alloc: Global,
+    base: Base,
+    device: Dev,
+    sector: u64,
+    position: u64,
+) -> Result<CrashChoice, Refusal> {
     let mut names = Vec::new(alloc);
     names
         .push(NamedContent {
@@ -39,7 +51,7 @@ fn named(alloc: Global, device: Dev, sector: u64, position: u64) -> Result<Crash
             position,
         })
         .map_err(|_| Refusal::Memory)?;
-    Ok(CrashChoice::new(Base::Newest, names))
+    Ok(CrashChoice::new(base, names))
 }
 
 /// What is to happen, as an event.
@@ -47,17 +59,23 @@ fn event_of(alloc: Global, act: Act) -> Result<Event, Refusal> {
     match act {
         Act::Open(actor, mode) => Ok(Event::Start(actor, Job::Open(mode))),
         Act::Read(actor, sectors) => Ok(Event::Start(actor, Job::Read(sectors))),
-        Act::Write(actor, sectors) => Ok(Event::Start(actor, write(sectors))),
+        Act::Write(actor, sectors) => Ok(Event::Start(actor, write(sectors, 7))),
+        Act::WriteOf(actor, sectors, byte) => Ok(Event::Start(actor, write(sectors, byte))),
         Act::Flush(actor) => Ok(Event::Start(actor, Job::Flush)),
         Act::Step(actor) => Ok(Event::Step(actor)),
         Act::Fault(actor, base) => Ok(Event::FaultStep(actor, unnamed(alloc, base))),
         Act::FaultOf(actor, device, sector, position) => Ok(Event::FaultStep(
             actor,
-            named(alloc, device, sector, position)?,
+            named(alloc, Base::Newest, device, sector, position)?,
         )),
         Act::Crash => Ok(Event::Stop(unnamed(alloc, Base::Newest))),
         Act::CrashOf(device, sector, position) => {
-            Ok(Event::Stop(named(alloc, device, sector, position)?))
+            let choice = named(alloc, Base::Newest, device, sector, position)?;
+            Ok(Event::Stop(choice))
+        }
+        Act::CrashButOf(device, sector, position) => {
+            let choice = named(alloc, Base::Durable, device, sector, position)?;
+            Ok(Event::Stop(choice))
         }
     }
 }
@@ -109,16 +127,16 @@ fn shows(world: &mut World, at: u64, byte: u8) -> bool {
     }
 }
 
-/// A write of sevens.
-fn write(sectors: Extent) -> Job {
-    Job::Write(sectors, [7; SECTOR_BYTES])
+/// A write of this byte.
+fn write(sectors: Extent, byte: u8) -> Job {
+    Job::Write(sectors, [byte; SECTOR_BYTES])
 }
 
 fn job_of(task: Task) -> Job {
     match task {
         Task::Open => Job::Open(Mode::Writeback),
         Task::Read => Job::Read(FIRST_SECTOR),
-        Task::Write => write(FIRST_SECTOR),
+        Task::Write => write(FIRST_SECTOR, 7),
     }
 }
 
@@ -157,7 +175,9 @@ fn goes(world: &mut World, alloc: Global, line: &Line) -> Result<bool, Refusal> 
         Line::Gives(byte) => Ok(has_read(world, *byte)),
         Line::Shows(at, byte) => Ok(shows(world, *at, *byte)),
         Line::Hides(at) => Ok(world.view(*at).is_none()),
-        Line::Opened(generation, mapped) => Ok(world.opened() == Some((*generation, *mapped))),
+        Line::Opened(generation, mapped, dirty) => {
+            Ok(world.opened() == Some((*generation, *mapped, *dirty)))
+        }
     }
 }
 
@@ -238,4 +258,23 @@ fn flushes_go_as_their_rows_say(rt: HostRuntime) -> Result<(), Fail> {
 #[test]
 fn views_are_as_their_rows_say(rt: HostRuntime) -> Result<(), Fail> {
     compare(rt.alloc(), &VIEWS)
+}
+
+/// A list of events that is run goes to its end, and its trace tells what each of them did and what its reads were given.
+#[test]
+fn a_list_of_events_is_run_to_its_end(rt: HostRuntime) -> Result<(), Fail> {
+    assert!(rt; ran(rt.alloc())?);
+    Ok(())
+}
+
+/// Want of memory: `rt try --test --fail-alloc N` refuses the N-th allocation, and the test passes for each. The run is refused, or a
+/// task in it, and the same events run again as where none is.
+#[test]
+fn a_run_that_wanted_memory_can_be_made_again(rt: HostRuntime) -> Result<(), Fail> {
+    let went = match ran(rt.alloc()) {
+        Err(Refusal::Memory) => ran(rt.alloc())?,
+        answer => answer?,
+    };
+    assert!(rt; went);
+    Ok(())
 }

@@ -1,5 +1,5 @@
 -- What single steps of an actor do is what wb_runs says.
-use Rattle.std.proofs.Common.{◌≡◌, ◌≤◌, ◌==◌, ◌&&◌, ℕ, Bool, true, false, List, [], ◌∷◌, Option, Some, None, refl, sym, ap, subst, ◌∙◌, length, slice_get, is_some}
+use Rattle.std.proofs.Common.{◌≡◌, ◌≤◌, ◌==◌, ◌&&◌, ℕ, Bool, true, false, List, [], Option, Some, None, refl, sym, ap, subst, ◌∙◌, length, slice_get, is_some}
 use Rattle.std.specs.declared.alloc.Global.{Global}
 use Rattle.wb_types.specs.declared.mode.Dev.{Dev}
 use Rattle.wb_types.specs.declared.mode.Dev.TheVariants.{Metadata, Cache, Origin}
@@ -15,20 +15,18 @@ use Rattle.wb_words.specs.SharedWords.{Words, flag}
 use Rattle.wb_words.specs.declared.step.CellStep.{CellStep}
 use Rattle.wb_cells.specs.Crews.{CrewState, crew_after}
 use Rattle.wb_policy.specs.declared.quiet.Quiet.{Quiet}
-use Rattle.wb_tree.specs.Mapping.{Mapping}
 use Rattle.wb_tree.specs.declared.image.Image.{Image}
 use Rattle.wb_meta.specs.declared.commit_steps.CommitSteps.{CommitSteps}
 use Rattle.wb_meta.specs.declared.commit_steps.CommitSteps.TheVariants.{NodesWritten, NodesSynced, RootWritten, Done as Committed}
 use Rattle.wb_desk.specs.Commits.{IsBeginRefused, commit_begun}
 use Rattle.wb_desk.specs.Desks.{DeskState}
-use Rattle.wb_tasks.specs.Plan.{device_of, got_of}
+use Rattle.wb_tasks.specs.Plan.{got_of}
 use Rattle.wb_tasks.specs.declared.step.Answer.{Answer}
 use Rattle.wb_tasks.specs.declared.step.Answer.TheVariants.{Done as Finished, Refused as Refuses}
 use Rattle.wb_tasks.specs.declared.step.DeviceStep.{DeviceStep}
-use Rattle.wb_tasks.specs.declared.step.DeviceStep.TheVariants.{Read as ReadExtent, Write as WriteExtent, Sync, ReadMetadata, WriteNode, WriteRoot}
+use Rattle.wb_tasks.specs.declared.step.DeviceStep.TheVariants.{Read as ReadExtent, Write as WriteExtent, Sync, WriteNode, WriteRoot}
 use Rattle.wb_tasks.specs.declared.step.DeskStep.{DeskStep}
 use Rattle.wb_tasks.specs.declared.step.DeskStep.TheVariants.{BeginCommit, EndCommit}
-use Rattle.wb_tasks.specs.declared.step.Want.{Want}
 use Rattle.wb_tasks.specs.declared.step.Want.TheVariants.{Cell, Device, Desk, End}
 use Rattle.wb_tasks.specs.declared.step.Got.{Got}
 use Rattle.wb_tasks.specs.declared.step.Got.TheVariants.{Done, Fault, Began, Refused as GotRefused}
@@ -41,10 +39,10 @@ use Rattle.wb_stage.specs.Stages.{is_all_done}
 use Rattle.wb_runs.specs.declared.job.Job.{Job}
 use Rattle.wb_runs.specs.declared.job.Job.TheVariants.{Read, Write, Flush, Open}
 use Rattle.wb_runs.specs.States.{Shape, Actor, Stands, Target as RunTarget, with_device}
-use Rattle.wb_runs.specs.Happenings.{Chosen, Plain, Commits, DoesSync, FailsSync, Gives}
+use Rattle.wb_runs.specs.Happenings.{Plain, Commits, DoesSync, FailsSync, Gives}
 use Rattle.wb_runs.specs.Effects.{contents_for, led}
 use Rattle.wb_world.specs.declared.target.Target.{Target}
-use Rattle.wb_world.specs.Serving.{ComesNext, DoesOn, FailsAt, IsDoable, IsPossible, IsPut, Leads, MayBePut, Performs, PutsSector, WasAsked, WasPut, chosen_at, commit_by, over, stood, told}
+use Rattle.wb_world.specs.Serving.{ComesNext, DoesOn, FailsAt, IsDoable, IsPossible, IsPut, MayBePut, Performs, PutsSector, WasAsked, WasPut, chosen_at, commit_by, over, stood, told}
 
 -- ---- devices
 

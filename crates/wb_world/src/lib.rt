@@ -6,6 +6,7 @@
 
 mod asking;
 mod committing;
+mod known_crew;
 mod law;
 mod making;
 mod member;
@@ -30,6 +31,7 @@ mod viewing;
 mod work;
 mod world;
 
+pub use known_crew::KnownCrew;
 pub use law::headline;
 pub use making::Made;
 pub use member::Member;

@@ -8,12 +8,12 @@ ghost use Rattle.wb_world.specs.declared.world.TheConstants.{ACTORS};
 ghost use Rattle.wb_world.specs.Making.{IsMade, read_of};
 ghost use Rattle.wb_world.specs.Members.{free};
 
+use crate::known_crew::KnownCrew;
 use crate::member::Member;
 use crate::sealing::seal_all;
 use crate::target::Target;
 use crate::world::ACTORS;
 use std::alloc::{AllocError, Global};
-use wb_cells::Crew;
 use wb_desk::Desk;
 use wb_format::Root;
 use wb_meta::State;
@@ -48,7 +48,7 @@ pub(crate) fn make(
     let geometry = root.geometry;
     let places = copied(alloc, &used)?;
     let members = resting_members(alloc)?;
-    let mut crew = Crew::new(alloc, geometry.origin_blocks, ACTORS)?;
+    let mut crew = KnownCrew::new(alloc, geometry.origin_blocks, ACTORS)?;
     seal_all(&mut crew, actor, &geometry, root.clean, &tree);
     let state = State {
         root: next,

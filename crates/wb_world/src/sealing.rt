@@ -8,15 +8,15 @@ ghost use Rattle.wb_cells.specs.Crews.{card_of};
 ghost use Rattle.wb_runs.specs.Effects.{sealing_steps};
 ghost use Rattle.wb_world.specs.Making.{AllFree, block_seals, crew_by};
 
+use crate::known_crew::KnownCrew;
 use std::alloc::Global;
-use wb_cells::Crew;
 use wb_tree::Tree;
 use wb_types::{CBlock, Entry, Geometry, OBlock};
 use wb_words::{Access, CellStep};
 
 /// An actor that holds nothing seals each mapped block at its place: dirty as its entry says, and each without the clean flag.
 pub(crate) fn seal_all(
-    crew: &mut Crew,
+    crew: &mut KnownCrew,
     actor: usize,
     geometry: &Geometry,
     clean: bool,
@@ -45,7 +45,7 @@ fn counts_as_dirty(clean: bool, entry: Entry) -> bool
 }
 
 /// An actor that holds nothing takes a block that nobody has, seals it, and gives it back.
-fn seal(crew: &mut Crew, actor: usize, block: OBlock, place: CBlock, dirty: bool)
+fn seal(crew: &mut KnownCrew, actor: usize, block: OBlock, place: CBlock, dirty: bool)
     requires there { actor < length crew.old.cards }
     requires idle { (card_of crew.old actor).hold ≡ Nothing }
     requires block { block.0 < crew.old.blocks }

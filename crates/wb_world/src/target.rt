@@ -1,6 +1,6 @@
 //! A target that stands.
 
-use wb_cells::Crew;
+use crate::known_crew::KnownCrew;
 use wb_desk::Desk;
 use wb_devices::RunningCommit;
 use wb_policy::Quiet;
@@ -9,7 +9,7 @@ use wb_policy::Quiet;
 /// desk whose policy orders nothing, and the commit that runs, if one does that no fault has stopped.
 #[derive(Drop)]
 pub struct Target {
-    pub crew: Crew,
+    pub crew: KnownCrew,
     pub desk: Desk<Quiet>,
     /// Whether a bit of the fail word is set.
     pub failed: bool,

@@ -6,10 +6,13 @@ ghost use Rattle.wb_desk.specs.Desks.{mapped_now};
 ghost use Rattle.wb_runs.specs.Headline.{content_of, place_of, shown};
 ghost use Rattle.wb_world.specs.declared.world.TheConstants.{ACTORS};
 ghost use Rattle.wb_world.specs.Life.{shape_of, state_of};
+ghost use Rattle.wb_world.specs.Showing.{dirty_now};
 ghost use Rattle.wb_world.specs.Standing.{IsSound};
 
+use crate::known_crew::KnownCrew;
 use crate::opener::content_of;
 use crate::phase::Phase;
+use crate::target::Target;
 use wb_desk::Desk;
 use wb_devices::Devices;
 use wb_disk::MemDisk;
@@ -39,13 +42,30 @@ pub(crate) fn view_of(
     content_at(geometry, devices, place, at)
 }
 
-/// The generation of the newest root, and how many cache blocks have an entry.
-pub(crate) fn counts_of(desk: &Desk<Quiet>) -> (u64, u32)
-    ensures generation { result.0 ≡ desk.now.generation }
-    ensures mapped { result.1 ≡ mapped_now desk.now }
+/// The generation of the newest root, how many cache blocks have an entry, and how many of these are dirty.
+pub(crate) fn counts_of(target: &Target) -> (u64, u32, u32)
+    ensures { result ≡ (target.now.desk.generation, mapped_now target.now.desk, dirty_now target.now.crew.words target.now.desk.tree.entries) }
 {
-    let counts = desk.counts();
-    (counts.generation, counts.mapped)
+    let counts = target.desk.counts();
+    let dirty = count_dirty(&target.desk, &target.crew);
+    (counts.generation, counts.mapped, dirty)
+}
+
+/// How many cache blocks have an entry whose block has a dirty seal.
+fn count_dirty(desk: &Desk<Quiet>, crew: &KnownCrew) -> u32
+    ensures { result ≡ dirty_now crew.now.words desk.now.tree.entries }
+{
+    let cache_blocks = desk.geometry().cache_blocks;
+    let _mapped = desk.counts();
+    let mut dirty = 0;
+    for c in 0..cache_blocks {
+        if let Some(entry) = desk.entry(CBlock(c)) {
+            if crew.is_dirty(entry.origin) {
+                dirty += 1;
+            }
+        }
+    }
+    dirty
 }
 
 /// The cache block that has the entry of a block, if one has.

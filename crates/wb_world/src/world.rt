@@ -3,18 +3,15 @@
 ghost use Rattle.std.specs.Prelude.{◌≡◌, [], OnOk, OnErr, IfOk, IfErr, slice_get};
 ghost use Rattle.std.specs.declared.alloc.Global.{Global};
 ghost use Rattle.wb_types.specs.declared.refusal.Refusal.TheVariants.{Memory};
-ghost use Rattle.wb_disk.specs.Device.{History};
-ghost use Rattle.wb_runs.specs.Clerk.{formatted};
-ghost use Rattle.wb_runs.specs.Headline.{AllOpenRightly, AllRefuseByCause, CrashConsistent, noted, shown};
-ghost use Rattle.wb_runs.specs.Latest.{AllReadRightly};
-ghost use Rattle.wb_runs.specs.States.{start};
+ghost use Rattle.wb_runs.specs.Headline.{shown};
 ghost use Rattle.wb_world.specs.declared.world.TheConstants.{ACTORS};
 ghost use Rattle.wb_world.specs.Life.{GoesOn, Happens, IsReached, IsThere, shape_of, state_of};
-ghost use Rattle.wb_world.specs.Running.{IsRightRun, events_of};
+ghost use Rattle.wb_world.specs.Running.{IsRightRun, KeepsPromises, events_of};
 ghost use Rattle.wb_world.specs.Serving.{IsServed};
 ghost use Rattle.wb_world.specs.Showing.{opened_of};
 ghost use Rattle.wb_world.specs.Standing.{IsSound};
 
+use crate::law::headline;
 use crate::outcome::Outcome;
 use crate::phase::Phase;
 use crate::serving::{falter, start, step};
@@ -27,10 +24,7 @@ use wb_devices::Devices;
 use wb_disk::MemDisk;
 use wb_meta::format;
 use wb_policy::Quiet;
-use wb_runs::{
-    Event, Record, every_crash_is_consistent, every_opening_shows_allowed, never_stuck,
-    openings_refuse_by_cause, reads_give_the_latest_write, words_are_used_rightly,
-};
+use wb_runs::{Event, Record, never_stuck, reads_give_the_latest_write, words_are_used_rightly};
 use wb_types::{Content, Geometry, Refusal};
 
 /// How many actors a world has.
@@ -118,31 +112,26 @@ impl World {
         view_of(&self.geometry, &mut self.devices, &self.phase, at)
     }
 
-    /// The generation of the newest root of the target that stands, and how many of its cache blocks have an entry. None where no target
-    /// stands. Straight after an opening's answer the generation is the one that it has written.
-    pub fn opened(&self) -> Option<(u64, u32)>
+    /// The generation of the newest root of the target that stands, how many of its cache blocks have an entry, and how many of these are
+    /// dirty. None where no target stands. Straight after an opening's answer the generation is the one that it has written.
+    pub fn opened(&self) -> Option<(u64, u32, u32)>
         ensures { result ≡ opened_of self.now.state.phase }
     {
         match &self.phase {
-            Phase::Standing(target, _) => Some(counts_of(&target.desk)),
+            Phase::Standing(target, _) => Some(counts_of(target)),
             _ => None,
         }
     }
 
-    /// The trace. It is one of a run from formatted metadata. So whatever a crash leaves of the devices shows of each sector an
-    /// entry of its history at its durable floor or later, so does each opening that was answered done, one was refused only for a
-    /// cause, and reads were given what was written last.
+    /// The trace. It is one of a run from formatted metadata, of which all holds that is promised of every run (`headline`): no event is
+    /// skipped that applies, each answer is right, and whatever a crash leaves of the devices shows of each sector an entry of its
+    /// history at its durable floor or later. Reads were given what was written last, also those that did not end.
     pub fn trace(&self) -> &Trace
         ensures trace { result.now.records ≡ self.now.trace }
         ensures reached { IsReached self.now }
-        ensures consistent { (run : IsReached self.now) → CrashConsistent self.now.shape (noted self.now.shape (start self.now.shape run.metadata) (formatted self.now.shape) run.happenings) self.now.state.devices }
-        ensures openings { (run : IsReached self.now) → AllOpenRightly self.now.shape (start self.now.shape run.metadata) (formatted self.now.shape) run.happenings }
-        ensures causes { (run : IsReached self.now) → AllRefuseByCause self.now.shape (start self.now.shape run.metadata) (formatted self.now.shape) run.happenings }
-        ensures reads { (run : IsReached self.now) → AllReadRightly self.now.shape (start self.now.shape run.metadata) (formatted self.now.shape) run.happenings }
+        ensures promises { (run : IsReached self.now) → KeepsPromises self.now run }
     {
-        every_crash_is_consistent::<Quiet, Global>();
-        every_opening_shows_allowed::<Quiet, Global>();
-        openings_refuse_by_cause::<Quiet, Global>();
+        headline();
         reads_give_the_latest_write::<Quiet, Global>();
         &self.trace
     }
@@ -151,9 +140,7 @@ impl World {
     pub(crate) fn into_trace(self) -> Trace
         ensures { IsRightRun self.shape (events_of self.trace) result.records }
     {
-        every_crash_is_consistent::<Quiet, Global>();
-        every_opening_shows_allowed::<Quiet, Global>();
-        openings_refuse_by_cause::<Quiet, Global>();
+        headline();
         reads_give_the_latest_write::<Quiet, Global>();
         self.trace
     }

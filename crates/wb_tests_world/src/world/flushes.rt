@@ -1,17 +1,13 @@
 //! Flushes over a target that was opened by actor 0.
 
 use super::line::{
-    Act, CACHE, DONE, FIRST_READ, LOOK_FAIL, Line, METADATA, ORIGIN, ROOT, Row, SECOND_READ, Task,
+    Act, BEGIN, CACHE, DONE, END, FIRST_READ, LOOK_FAIL, Line, METADATA, ORIGIN, ROOT, Row,
+    SECOND_READ, Task,
 };
 use wb_disk::Base;
 use wb_runs::What;
-use wb_tasks::{Answer, CellStep, DeskStep, Got, Want};
+use wb_tasks::{Answer, CellStep, Got, Want};
 use wb_types::{Dev, Mode, Refusal};
-
-/// The mapping of a cache of four blocks has one node at most.
-const BEGIN: Want = Want::Desk(DeskStep::BeginCommit(false, 1));
-
-const END: Want = Want::Desk(DeskStep::EndCommit);
 
 const SET_FAILED: Want = Want::Cell(CellStep::SetFailed);
 

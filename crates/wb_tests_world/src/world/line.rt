@@ -2,7 +2,7 @@
 
 use wb_disk::Base;
 use wb_runs::What;
-use wb_tasks::{Answer, CellStep, DeviceStep, Got, Want};
+use wb_tasks::{Answer, CellStep, DeskStep, DeviceStep, Got, Want};
 use wb_types::{Dev, Extent, Mode, OBlock};
 use wb_words::{Access, Kind, Word};
 
@@ -14,6 +14,8 @@ pub enum Act {
     Read(usize, Extent),
     /// Each write is of sevens.
     Write(usize, Extent),
+    /// This one is of another byte.
+    WriteOf(usize, Extent, u8),
     Flush(usize),
     Step(usize),
     /// The actor's next step fails; what it syncs has landed, or not.
@@ -24,6 +26,8 @@ pub enum Act {
     Crash,
     /// All do but this one of a device, which keeps the content at this position.
     CrashOf(Dev, u64, u64),
+    /// Each sector keeps what was durable, but this one of a device the content at this position.
+    CrashButOf(Dev, u64, u64),
 }
 
 /// A task whose steps are listed: an opening over what was formatted in write-back mode, and a read and a write of the first
@@ -49,8 +53,8 @@ pub enum Line {
     Shows(u64, u8),
     /// Nothing shows this sector.
     Hides(u64),
-    /// The target's newest root is of this generation, and so many blocks are mapped.
-    Opened(u64, u32),
+    /// The target's newest root is of this generation, so many blocks are mapped, and so many of these are dirty.
+    Opened(u64, u32, u32),
 }
 
 #[derive(Clone, Copy)]
@@ -60,6 +64,8 @@ pub struct Row {
 }
 
 pub const FIRST_SECTOR: Extent = Extent { first: 0, count: 1 };
+
+pub const SECOND_SECTOR: Extent = Extent { first: 1, count: 1 };
 
 pub const BLOCK: OBlock = OBlock(0);
 
@@ -92,13 +98,22 @@ pub const OWN: Want = Want::Cell(CellStep::Take(Access::Owned, BLOCK, 0));
 
 pub const READ_FIRST: Want = Want::Device(DeviceStep::Read(Dev::Origin, FIRST_SECTOR));
 
+pub const READ_SECOND: Want = Want::Device(DeviceStep::Read(Dev::Origin, SECOND_SECTOR));
+
 pub const WRITE_FIRST: Want = Want::Device(DeviceStep::Write(Dev::Origin, FIRST_SECTOR));
+
+pub const WRITE_SECOND: Want = Want::Device(DeviceStep::Write(Dev::Origin, SECOND_SECTOR));
 
 pub const COUNT_READ: Want = Want::Cell(CellStep::Count(Kind::ReadMiss));
 
 pub const COUNT_WRITE: Want = Want::Cell(CellStep::Count(Kind::WriteMiss));
 
 pub const FINISH: Want = Want::Cell(CellStep::Finish(BLOCK));
+
+/// The mapping of a cache of four blocks has one node at most.
+pub const BEGIN: Want = Want::Desk(DeskStep::BeginCommit(false, 1));
+
+pub const END: Want = Want::Desk(DeskStep::EndCommit);
 
 pub const SHARE_NO_MORE: Want = Want::Cell(CellStep::Release(Access::Shared, BLOCK));
 

@@ -2,17 +2,13 @@
 
 use super::line::{
     Act, BLOCK, COUNT_READ, DONE, FIRST_SECTOR, LOOK_FAIL, LOOK_LOCK, LOOK_NUMBER, Line, OWN,
-    READ_FIRST, Row, SHARE, SHARE_NO_MORE, Task, WRITE_FIRST,
+    READ_FIRST, READ_SECOND, Row, SHARE, SHARE_NO_MORE, Task, WRITE_FIRST,
 };
 use wb_disk::Base;
 use wb_runs::What;
 use wb_tasks::{Answer, CellStep, DeviceStep, Got, Want};
 use wb_types::{Dev, Extent, Mode, Refusal};
 use wb_words::Access;
-
-const SECOND_SECTOR: Extent = Extent { first: 1, count: 1 };
-
-const READ_SECOND: Want = Want::Device(DeviceStep::Read(Dev::Origin, SECOND_SECTOR));
 
 const SHARE_THE_SHARED: Want = Want::Cell(CellStep::Take(Access::Shared, BLOCK, 2));
 

@@ -18,7 +18,7 @@ pub const VIEWS: [Row; 2] = [
         name: "a target shows the origin's sectors, and what was written last",
         lines: &[
             Line::Begins(0, Task::Open, 8),
-            Line::Opened(1, 0),
+            Line::Opened(1, 0, 0),
             Line::Shows(0, 0),
             Line::Begins(1, Task::Write, 10),
             Line::Shows(0, 7),

@@ -1,10 +1,9 @@
-use Rattle.std.proofs.Common.{◌∙◌, ap, arith, length, length-set, refl}
+use Rattle.std.proofs.Common.{◌∙◌, ap, arith, length-set, refl}
 use Rattle.std.proofs.lemmas.Option.{slice_get_past, slice_get_read}
 use Rattle.wb_types.specs.Limits.{node_count}
 use Rattle.wb_runs.specs.declared.event.Event.TheVariants.{FaultStep}
 use Rattle.wb_world.specs.declared.world.TheConstants.{ACTORS}
 use Rattle.wb_world.specs.declared.phase.Phase.TheVariants.{Standing}
-use Rattle.wb_world.specs.declared.target.Target.{Target}
 use Rattle.wb_devices.specs.declared.running.RunningCommit.{RunningCommit}
 use Rattle.wb_world.specs.Life.{contents_of, shape_of, state_of}
 use Rattle.wb_world.proofs.Members.{absent, on_err, put_back, somebody}

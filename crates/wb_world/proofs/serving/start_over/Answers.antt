@@ -1,4 +1,4 @@
-use Rattle.std.proofs.Common.{◌∙◌, arith, inl, length-set, refl, subst}
+use Rattle.std.proofs.Common.{◌∙◌, arith, inl, length-set, refl}
 use Rattle.std.proofs.lemmas.Option.{slice_get_past, slice_get_read}
 use Rattle.wb_types.specs.Limits.{node_count}
 use Rattle.wb_runs.specs.declared.event.Event.TheVariants.{Start}

@@ -1,4 +1,4 @@
-use Rattle.std.proofs.Common.{◌∙◌, ◌≡◌, ℕ, ap, arith, length, length-set, subst, sym}
+use Rattle.std.proofs.Common.{◌∙◌, arith, length-set, subst, sym}
 use Rattle.std.proofs.lemmas.Option.{slice_get_past, slice_get_read}
 use Rattle.wb_types.specs.Limits.{node_count}
 use Rattle.wb_types.specs.declared.geometry.Geometry.{Geometry}
