@@ -7,3 +7,4 @@ pub mod Served
 pub mod Readying
 pub mod Ranging
 pub mod Serves
+pub mod Onward

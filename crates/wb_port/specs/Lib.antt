@@ -1,3 +1,5 @@
 pub mod Hands
 pub mod Requests
 pub mod Ports
+pub mod Straight
+pub mod Kinds

@@ -8,6 +8,8 @@ mod port;
 mod reading;
 mod seat;
 mod serving;
+mod stepping;
+mod straight;
 mod trying;
 mod writing;
 

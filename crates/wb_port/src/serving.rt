@@ -2,11 +2,16 @@
 
 ghost use Rattle.std.specs.Prelude.{◌≡◌, ◌≢◌, ◌≤◌, ◌<◌, ◌+◌, ◌%◌, ◌^◌, OnOk, IfErr, length};
 ghost use Rattle.wb_words.specs.declared.card.Hold.TheVariants.{Nothing};
-ghost use Rattle.wb_port.specs.Requests.{WasRead, WasWritten, ReadRefused, WriteRefused};
+ghost use Rattle.wb_tasks.specs.Ready.{StaysReady};
+ghost use Rattle.wb_tasks.specs.Tables.{OnBlock, Reading, Writing};
+ghost use Rattle.wb_tasks.specs.Plan.{table};
+ghost use Rattle.wb_port.specs.Straight.{ComesTo};
+ghost use Rattle.wb_port.specs.Requests.{part_of, WasRead, WasWritten, ReadRefused, WriteRefused};
 
 use crate::moving::{LONGEST, ReadStage, WriteStage};
+use crate::straight::{Part, Way, request};
 use wb_disk::Disk;
-use wb_tasks::{Answer, ReadTask, WriteTask, drive};
+use wb_tasks::{Answer, ReadTask, Stage, WriteTask, drive};
 use wb_types::{Extent, OBlock, Refusal};
 
 impl<'a, D: Disk> ReadStage<'a, D> {
@@ -34,8 +39,7 @@ impl<'a, D: Disk> ReadStage<'a, D> {
         ensures at { self.new.hand.now.pass.table ≡ self.old.hand.now.pass.table }
         ensures idle { self.new.hand.now.pass.card.hold ≡ Nothing }
     {
-        let mut task = ReadTask::new(block_sectors, block, sectors, LONGEST);
-        answered(drive(&mut task, self))
+        answered(read_all(self, block_sectors, block, sectors))
     }
 }
 
@@ -62,9 +66,48 @@ impl<'a, D: Disk> WriteStage<'a, D> {
         ensures at { self.new.hand.now.pass.table ≡ self.old.hand.now.pass.table }
         ensures idle { self.new.hand.now.pass.card.hold ≡ Nothing }
     {
-        let mut task = WriteTask::new(block_sectors, block, sectors, LONGEST);
-        answered(drive(&mut task, self))
+        answered(write_all(self, block_sectors, block, sectors))
     }
+}
+
+/// Performs a read up to its answer, on a stage that is ready for each of its steps: where one step moves all sectors,
+/// without asking a task for each step.
+fn read_all<S: Stage>(stage: &mut S, block_sectors: u32, block: OBlock, sectors: Extent) -> Answer
+    requires some { 0 < block_sectors }
+    requires range { sectors.first + sectors.count < 2 ^ 64 }
+    requires stays { StaysReady S.ready S.led (table (OnBlock (Reading (part_of block_sectors block sectors)))) stage.old }
+    ensures { ComesTo S.led (table (OnBlock (Reading (part_of block_sectors block sectors)))) stage.old result stage.new }
+{
+    if 1 <= sectors.count && sectors.count <= LONGEST {
+        let part = Part {
+            block_sectors,
+            block,
+            sectors,
+        };
+        return request(stage, Way::Reads, part);
+    }
+    let mut task = ReadTask::new(block_sectors, block, sectors, LONGEST);
+    drive(&mut task, stage)
+}
+
+/// Performs a write up to its answer, on a stage that is ready for each of its steps: where one step moves all sectors,
+/// without asking a task for each step.
+fn write_all<S: Stage>(stage: &mut S, block_sectors: u32, block: OBlock, sectors: Extent) -> Answer
+    requires some { 0 < block_sectors }
+    requires range { sectors.first + sectors.count < 2 ^ 64 }
+    requires stays { StaysReady S.ready S.led (table (OnBlock (Writing (part_of block_sectors block sectors)))) stage.old }
+    ensures { ComesTo S.led (table (OnBlock (Writing (part_of block_sectors block sectors)))) stage.old result stage.new }
+{
+    if 1 <= sectors.count && sectors.count <= LONGEST {
+        let part = Part {
+            block_sectors,
+            block,
+            sectors,
+        };
+        return request(stage, Way::Writes, part);
+    }
+    let mut task = WriteTask::new(block_sectors, block, sectors, LONGEST);
+    drive(&mut task, stage)
 }
 
 /// A task's answer as a result.

@@ -88,12 +88,14 @@ impl<D: Disk> Port<D> {
             return Err(Refusal::Range);
         }
         let size = u64::from(self.geometry.block);
-        if first % size + count > size {
+        // Both by one division.
+        let (block, inside) = (first / size, first % size);
+        if inside + count > size {
             return Err(Refusal::Crosses);
         }
         if self.accesses.len() >= UNSETTLED {
             return Err(Refusal::Defer);
         }
-        Ok(OBlock((first / size) as u32))
+        Ok(OBlock(block as u32))
     }
 }

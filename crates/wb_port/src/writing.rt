@@ -35,6 +35,7 @@ impl<'a, D: Disk> Stage for WriteStage<'a, D> {
 
     ghost led = { WriteLed D.tells D.size D.contents D.faults };
 
+    #[inline(always)]
     fn perform(&mut self, want: &Want) -> Got {
         match want {
             Want::Cell(step) => Got::from(self.cells.step(&mut self.hand.pass, *step)),

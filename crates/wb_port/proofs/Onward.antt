@@ -1,0 +1,111 @@
+-- A run is made of its first step and the run of what is left after it.
+use Rattle.std.proofs.Common.{◌≡◌, ◌≢◌, ◌^◌, ◌-◌, ◌≤◌, ℕ, min, Bool, true, false, List, [], ◌∷◌, Option, Some, refl, sym, ap, subst, arith}
+use Rattle.std.proofs.lemmas.Bool.{ne_eqb}
+use Rattle.wb_types.specs.declared.extent.Extent.{Extent}
+use Rattle.wb_types.specs.Extents.{pieces}
+use Rattle.wb_types.specs.declared.mode.Dev.{Dev}
+use Rattle.wb_types.specs.declared.number.CBlock.{CBlock}
+use Rattle.wb_types.specs.declared.number.OBlock.{OBlock}
+use Rattle.wb_types.specs.declared.refusal.Refusal.TheVariants.{Busy, Failed, Worn, Io}
+use Rattle.wb_words.specs.SharedWords.{can_take}
+use Rattle.wb_words.specs.declared.word.Word.TheVariants.{Cell as LockWord, Number, Fail}
+use Rattle.wb_words.specs.declared.step.CellStep.TheVariants.{Look, Seal, SetFailed}
+use Rattle.wb_tasks.specs.Tables.{OnBlock, Reading, Writing, taking, work, read_step, write_step, read_count}
+use Rattle.wb_tasks.specs.declared.step.DeviceStep.TheVariants.{Read, Write}
+use Rattle.wb_tasks.specs.declared.step.Answer.TheVariants.{Done as Finished, Refused as Refuses}
+use Rattle.wb_tasks.specs.Ready.{StaysReady}
+use Rattle.wb_tasks.specs.Plan.{Plan, table, want, after, Fits, IsStep}
+use Rattle.wb_tasks.specs.Run.{IsRunOf}
+use Rattle.wb_tasks.specs.declared.step.Answer.{Answer}
+use Rattle.wb_tasks.specs.declared.step.Want.{Want}
+use Rattle.wb_tasks.specs.declared.step.Want.TheVariants.{Cell, Device, End}
+use Rattle.wb_tasks.specs.declared.step.Got.{Got}
+use Rattle.wb_tasks.specs.declared.step.Got.TheVariants.{Word, Fault}
+use Rattle.wb_tasks.proofs.Pieces.{first_piece}
+use Rattle.wb_port.specs.declared.moving.TheConstants.{LONGEST}
+use Rattle.wb_port.specs.Requests.{part_of}
+use Rattle.wb_port.specs.Straight.{ComesTo, access_by, giving_back, job_by, left, range_in, written}
+use Rattle.wb_port.specs.declared.straight.Part.{Part}
+use Rattle.wb_port.specs.declared.straight.Way.{Way}
+use Rattle.wb_port.specs.declared.straight.Way.TheVariants.{Reads, Writes}
+
+module _ {S : Type 0} (ready : S → Want → Type 0) (led : S → Want → Got → S → Type 0) where
+  -- who stays ready is ready for the next step
+  pub ready_now : (s : Plan) (old : S) (w : Want) → StaysReady ready led s old → want s ≡ w → IsStep w → ready old w
+  ready_now s old w stays e step = subst (λ (x : Want). ready old x) e (stays [] old tt refl (subst (λ (x : Want). IsStep x) (sym e) step))
+
+  -- and stays so after it
+  pub ready_after : (s : Plan) (old : S) (w : Want) (g : Got) (mid : S) (t : Plan) → StaysReady ready led s old → want s ≡ w → Fits w g → led old w g mid → after s g ≡ t → StaysReady ready led t mid
+  ready_after s old w g mid t stays e fits did is = subst (λ (x : Plan). StaysReady ready led x mid) is (λ steps end first leads step. stays ((w, g) ∷ steps) end (sym e, fits, first) (mid, did, leads) step)
+
+module _ {S : Type 0} (led : S → Want → Got → S → Type 0) where
+  pub goes_on : (s : Plan) (old : S) (w : Want) (g : Got) (mid : S) (t : Plan) (answer : Answer) (new : S) → want s ≡ w → Fits w g → led old w g mid → after s g ≡ t → ComesTo led t mid answer new → ComesTo led s old answer new
+  goes_on s old w g mid t answer new e fits did is rest = ((w, g) ∷ rest.0, (sym e, fits, subst (λ (x : Plan). IsRunOf x rest.0 answer) (sym is) rest.1), (mid, did, rest.2))
+
+  pub ends : (s : Plan) (new : S) (answer : Answer) → want s ≡ End answer → ComesTo led s new answer new
+  ends s new answer e = ([], e, refl)
+
+-- ---- what is left after a step
+
+-- before the first
+pub begins : (way : Way) (part : Part) → table (OnBlock (job_by way part)) ≡ left (job_by way part) (Cell (Look Fail) ∷ Cell (Look (LockWord part.block)) ∷ []) Finished
+begins Reads part = refl
+begins Writes part = refl
+
+-- a lock word that allows such a hold, and one that does not
+pub after_free : (way : Way) (part : Part) (seen : ℕ) → can_take (access_by way) seen ≡ true → after (left (job_by way part) (Cell (Look (LockWord part.block)) ∷ []) Finished) (Word seen) ≡ left (job_by way part) (taking (access_by way) part.block seen) Finished
+after_free Reads part seen e = rw e refl
+after_free Writes part seen e = rw e refl
+
+pub after_taken : (way : Way) (part : Part) (seen : ℕ) → can_take (access_by way) seen ≡ false → after (left (job_by way part) (Cell (Look (LockWord part.block)) ∷ []) Finished) (Word seen) ≡ left (job_by way part) [] (Refuses Busy)
+after_taken Reads part seen e = rw e refl
+after_taken Writes part seen e = rw e refl
+
+-- the fail word, clear or not
+pub after_clear : (way : Way) (part : Part) (found : ℕ) → found ≡ 0 → after (table (OnBlock (job_by way part))) (Word found) ≡ left (job_by way part) (Cell (Look (LockWord part.block)) ∷ []) Finished
+after_clear Reads part found e = rw e refl
+after_clear Writes part found e = rw e refl
+
+pub after_failure : (way : Way) (part : Part) (found : ℕ) → found ≢ 0 → after (table (OnBlock (job_by way part))) (Word found) ≡ left (job_by way part) [] (Refuses Failed)
+after_failure Reads part found ne = rw (ne_eqb found 0 ne) refl
+after_failure Writes part found ne = rw (ne_eqb found 0 ne) refl
+
+-- a number, where the block is to be read
+pub after_number_read : (way : Way) (part : Part) (place place' : Option CBlock) (dirty : Bool) (number : ℕ) → way ≡ Reads → place' ≡ place
+    → after (left (job_by way part) (Cell (Look (Number part.block)) ∷ work (job_by way part) place dirty) Finished) (Word number) ≡ left (Reading (range_in part)) (read_step (range_in part) place' part.sectors ∷ read_count place' ∷ giving_back Reads part) Finished
+after_number_read Reads part place place' dirty number e p = rw p refl
+after_number_read Writes part place place' dirty number e p = absurd (cc)
+
+-- one that has a next one, where it is to be written, and the last
+pub after_number_write : (way : Way) (part : Part) (place place' : Option CBlock) (dirty dirty' : Bool) (number : ℕ) → way ≡ Writes → place' ≡ place → dirty' ≡ dirty → number ≢ 2 ^ 64 - 1
+    → after (left (job_by way part) (Cell (Look (Number part.block)) ∷ work (job_by way part) place dirty) Finished) (Word number) ≡ left (Writing (range_in part)) (work (Writing (range_in part)) place' dirty') Finished
+after_number_write Reads part place place' dirty dirty' number e p d ne = absurd (cc)
+after_number_write Writes part place place' dirty dirty' number e p d ne = rw (p, d, ne_eqb number (2 ^ 64 - 1) ne) refl
+
+pub after_last : (way : Way) (part : Part) (place : Option CBlock) (dirty : Bool) (number : ℕ) → way ≡ Writes → number ≡ 2 ^ 64 - 1
+    → after (left (job_by way part) (Cell (Look (Number part.block)) ∷ work (job_by way part) place dirty) Finished) (Word number) ≡ left (Writing (range_in part)) (giving_back Writes part) (Refuses Worn)
+after_last Reads part place dirty number e l = absurd (cc)
+after_last Writes part place dirty number e l = rw l refl
+
+-- a clean copy in the cache is sealed first
+pub clean_first : (part : Part) (place : Option CBlock) (c : CBlock) (dirty : Bool) → place ≡ Some c → dirty ≡ false
+    → left (Writing (range_in part)) (work (Writing (range_in part)) place dirty) Finished ≡ left (Writing (range_in part)) (Cell (Seal part.block (Some c) true) ∷ write_step (range_in part) (Some c) part.sectors ∷ written part (Some c)) Finished
+clean_first part place c dirty p d = rw (p, d) refl
+
+-- a read that failed, and a write
+pub after_failed_read : (part : Part) (w : Want) (device : Dev) (e : Extent) (ws : List Want) → Device (Read device e) ≡ w → after (left (Reading (range_in part)) (w ∷ ws) Finished) Fault ≡ left (Reading (range_in part)) (giving_back Reads part) (Refuses (Io device))
+after_failed_read part w device e ws is = subst (λ (v : Want). after (left (Reading (range_in part)) (v ∷ ws) Finished) Fault ≡ left (Reading (range_in part)) (giving_back Reads part) (Refuses (Io device))) is refl
+
+pub after_failed_write : (part : Part) (w : Want) (device : Dev) (e : Extent) (ws : List Want) → Device (Write device e) ≡ w → after (left (Writing (range_in part)) (w ∷ ws) Finished) Fault ≡ left (Writing (range_in part)) (Cell SetFailed ∷ []) (Refuses (Io device))
+after_failed_write part w device e ws is = subst (λ (v : Want). after (left (Writing (range_in part)) (v ∷ ws) Finished) Fault ≡ left (Writing (range_in part)) (Cell SetFailed ∷ []) (Refuses (Io device))) is refl
+
+-- ---- sectors that one step moves
+
+pub one_piece : (piece : ℕ) (sectors : Extent) → 1 ≤ piece → 1 ≤ sectors.count → sectors.count ≤ piece → pieces piece sectors ≡ sectors ∷ []
+one_piece piece sectors p s few =
+    let is : min sectors.count piece ≡ sectors.count = omega (arith, few) in
+    let none : sectors.count - sectors.count ≡ 0 = omega arith in
+    rw (first_piece piece sectors.first sectors.count p s, is, none) refl
+
+pub one_part : (block_sectors : ℕ) (block : OBlock) (sectors : Extent) → 1 ≤ sectors.count → sectors.count ≤ LONGEST → part_of block_sectors block sectors ≡ range_in (record { block_sectors = block_sectors; block = block; sectors = sectors })
+one_part block_sectors block sectors s few = ap (λ (es : List Extent). record { block_sectors = block_sectors; block = block; extents = es }) (one_piece LONGEST sectors (omega arith) s few)

@@ -1,0 +1,43 @@
+-- What is left of a read or a write whose sectors one step moves, at each step of its table.
+use Rattle.std.specs.Prelude.{List, [], ◌∷◌, Option}
+use Rattle.wb_types.specs.declared.number.CBlock.{CBlock}
+use Rattle.wb_words.specs.declared.word.Access.{Access}
+use Rattle.wb_words.specs.declared.word.Access.TheVariants.{Shared, Owned}
+use Rattle.wb_words.specs.declared.step.CellStep.TheVariants.{Release, Finish}
+use Rattle.wb_tasks.specs.Tables.{BlockRange, BlockJob, Reading, Writing, OnBlock, write_count}
+use Rattle.wb_tasks.specs.Plan.{Plan}
+use Rattle.wb_tasks.specs.Run.{IsRunOf, Leads}
+use Rattle.wb_tasks.specs.declared.step.Answer.{Answer}
+use Rattle.wb_tasks.specs.declared.step.Want.{Want}
+use Rattle.wb_tasks.specs.declared.step.Want.TheVariants.{Cell}
+use Rattle.wb_tasks.specs.declared.step.Got.{Got}
+use Rattle.wb_port.specs.declared.straight.Part.{Part}
+use Rattle.wb_port.specs.declared.straight.Way.{Way}
+use Rattle.wb_port.specs.declared.straight.Way.TheVariants.{Reads, Writes}
+
+-- its sectors are one extent
+abbrev pub range_in : Part → BlockRange
+range_in part = record { block_sectors = part.block_sectors; block = part.block; extents = part.sectors ∷ [] }
+
+abbrev pub job_by : Way → Part → BlockJob
+job_by Reads part = Reading (range_in part)
+job_by Writes part = Writing (range_in part)
+
+abbrev pub access_by : Way → Access
+access_by Reads = Shared
+access_by Writes = Owned
+
+-- these steps are left of a job, and this answer
+abbrev pub left : BlockJob → List Want → Answer → Plan
+left job steps answer = record { job = OnBlock job; steps = steps; answer = answer }
+
+abbrev pub giving_back : Way → Part → List Want
+giving_back way part = Cell (Release (access_by way) part.block) ∷ []
+
+-- the sectors are written, and the block stands at this place
+abbrev pub written : Part → Option CBlock → List Want
+written part place = Cell (Finish part.block) ∷ write_count place ∷ giving_back Writes part
+
+-- From such a state on, a run of what is left ends with this answer.
+abbrev pub ComesTo : {S : Type 0} → (S → Want → Got → S → Type 0) → Plan → S → Answer → S → Type 0
+ComesTo led s old answer new = (steps : List (Want × Got)) × IsRunOf s steps answer × Leads led old steps new

@@ -1,0 +1,257 @@
+//! A read or a write whose sectors one step moves, step after step as its table has them.
+//!
+//! `drive` asks a task for each next step; here what comes next is where the code stands. So such a request
+//! costs a fraction of the instructions.
+
+ghost use Rattle.std.specs.Prelude.{◌≡◌, ◌<◌, [], ◌∷◌, Some};
+ghost use Rattle.std.specs.Bool.{OnTrue};
+ghost use Rattle.wb_types.specs.declared.refusal.Refusal.TheVariants.{Io};
+ghost use Rattle.wb_words.specs.SharedWords.{place_in as place_of_seal, dirty_in};
+ghost use Rattle.wb_words.specs.declared.word.Word.TheVariants.{Cell as LockWord, Seal as SealWord, Number};
+ghost use Rattle.wb_words.specs.declared.step.CellStep.TheVariants.{Look, Count as Counting, SetFailed, Seal as Sealing};
+ghost use Rattle.wb_tasks.specs.Ready.{StaysReady};
+ghost use Rattle.wb_tasks.specs.Tables.{OnBlock, Reading, Writing, taking, work, read_step, write_step, read_count, write_count};
+ghost use Rattle.wb_tasks.specs.Plan.{table};
+ghost use Rattle.wb_tasks.specs.declared.step.Answer.TheVariants.{Done as Finished, Refused as Refuses};
+ghost use Rattle.wb_tasks.specs.declared.step.Want.TheVariants.{Cell, Device};
+ghost use Rattle.wb_tasks.specs.declared.step.DeviceStep.TheVariants.{Read, Write};
+ghost use Rattle.wb_port.specs.Straight.{ComesTo, access_by, giving_back, job_by, left, range_in, written};
+
+use crate::stepping::{change, look, take, transfer};
+use wb_tasks::{Answer, CellStep, DeviceStep, Stage};
+use wb_types::{CBlock, Dev, Extent, OBlock, Refusal};
+use wb_words::{Access, Kind, Word, can_take, is_dirty, place_in};
+
+/// Sectors of one block, which one step moves.
+#[derive(Clone, Copy)]
+pub(crate) struct Part {
+    pub(crate) block_sectors: u32,
+    pub(crate) block: OBlock,
+    pub(crate) sectors: Extent,
+}
+
+/// Which way they are moved.
+#[derive(Clone, Copy)]
+pub(crate) enum Way {
+    Reads,
+    Writes,
+}
+
+/// Performs a read or a write up to its answer, on a stage that is ready for each of its steps.
+#[inline(always)]
+pub(crate) fn request<S: Stage>(stage: &mut S, way: Way, part: Part) -> Answer
+    requires some { 0 < part.block_sectors }
+    requires stays { StaysReady S.ready S.led (table (OnBlock (job_by way part))) stage.old }
+    ensures { ComesTo S.led (table (OnBlock (job_by way part))) stage.old result stage.new }
+{
+    if look(stage, Word::Fail) != 0 {
+        return Answer::Refused(Refusal::Failed);
+    }
+    lock(stage, way, part)
+}
+
+/// From the look at the lock word on.
+#[inline(always)]
+fn lock<S: Stage>(stage: &mut S, way: Way, part: Part) -> Answer
+    requires some { 0 < part.block_sectors }
+    requires stays { StaysReady S.ready S.led (left (job_by way part) (Cell (Look (LockWord part.block)) ∷ []) Finished) stage.old }
+    ensures { ComesTo S.led (left (job_by way part) (Cell (Look (LockWord part.block)) ∷ []) Finished) stage.old result stage.new }
+{
+    let seen = look(stage, Word::Cell(part.block));
+    if !can_take(access(way), seen) {
+        return Answer::Refused(Refusal::Busy);
+    }
+    exchange(stage, way, part, seen)
+}
+
+/// From the exchange on.
+#[inline(always)]
+fn exchange<S: Stage>(stage: &mut S, way: Way, part: Part, seen: u64) -> Answer
+    requires some { 0 < part.block_sectors }
+    requires stays { StaysReady S.ready S.led (left (job_by way part) (taking (access_by way) part.block seen) Finished) stage.old }
+    ensures { ComesTo S.led (left (job_by way part) (taking (access_by way) part.block seen) Finished) stage.old result stage.new }
+{
+    if !take(stage, access(way), part.block, seen) {
+        return Answer::Refused(Refusal::Busy);
+    }
+    seal(stage, way, part)
+}
+
+/// From the look at the seal on.
+#[inline(always)]
+fn seal<S: Stage>(stage: &mut S, way: Way, part: Part) -> Answer
+    requires some { 0 < part.block_sectors }
+    requires stays { StaysReady S.ready S.led (left (job_by way part) (Cell (Look (SealWord part.block)) ∷ []) Finished) stage.old }
+    ensures { ComesTo S.led (left (job_by way part) (Cell (Look (SealWord part.block)) ∷ []) Finished) stage.old result stage.new }
+{
+    let seal = look(stage, Word::Seal(part.block));
+    number(stage, way, part, seal)
+}
+
+/// From the look at the number on: a block that is to be written needs one more.
+#[inline(always)]
+fn number<S: Stage>(stage: &mut S, way: Way, part: Part, seal: u64) -> Answer
+    requires some { 0 < part.block_sectors }
+    requires stays { StaysReady S.ready S.led (left (job_by way part) (Cell (Look (Number part.block)) ∷ work (job_by way part) (place_of_seal seal) (dirty_in seal)) Finished) stage.old }
+    ensures { ComesTo S.led (left (job_by way part) (Cell (Look (Number part.block)) ∷ work (job_by way part) (place_of_seal seal) (dirty_in seal)) Finished) stage.old result stage.new }
+{
+    let number = look(stage, Word::Number(part.block));
+    let place = place_in(seal);
+    match way {
+        Way::Reads => read(stage, part, place),
+        Way::Writes => {
+            if number == u64::MAX {
+                return give_back(stage, Way::Writes, part, Answer::Refused(Refusal::Worn));
+            }
+            dirty(stage, part, place, is_dirty(seal))
+        }
+    }
+}
+
+/// The reading of a block that is held.
+#[inline(always)]
+fn read<S: Stage>(stage: &mut S, part: Part, place: Option<CBlock>) -> Answer
+    requires some { 0 < part.block_sectors }
+    requires stays { StaysReady S.ready S.led (left (Reading (range_in part)) (read_step (range_in part) place part.sectors ∷ read_count place ∷ giving_back Way.Reads part) Finished) stage.old }
+    ensures { ComesTo S.led (left (Reading (range_in part)) (read_step (range_in part) place part.sectors ∷ read_count place ∷ giving_back Way.Reads part) Finished) stage.old result stage.new }
+{
+    let (device, extent) = route(part, place);
+    if !transfer(stage, DeviceStep::Read(device, extent)) {
+        return give_back(
+            stage,
+            Way::Reads,
+            part,
+            Answer::Refused(Refusal::Io(device)),
+        );
+    }
+    let kind = read_kind(place);
+    count(stage, Way::Reads, part, kind)
+}
+
+/// The writing of a block that is held: a clean copy in the cache is sealed dirty first.
+#[inline(always)]
+fn dirty<S: Stage>(stage: &mut S, part: Part, place: Option<CBlock>, dirty: bool) -> Answer
+    requires some { 0 < part.block_sectors }
+    requires stays { StaysReady S.ready S.led (left (Writing (range_in part)) (work (Writing (range_in part)) place dirty) Finished) stage.old }
+    ensures { ComesTo S.led (left (Writing (range_in part)) (work (Writing (range_in part)) place dirty) Finished) stage.old result stage.new }
+{
+    match place {
+        None => write(stage, part, None),
+        Some(c) => {
+            if dirty {
+                return write(stage, part, Some(c));
+            }
+            change(stage, CellStep::Seal(part.block, Some(c), true));
+            write(stage, part, Some(c))
+        }
+    }
+}
+
+/// From the write on.
+#[inline(always)]
+fn write<S: Stage>(stage: &mut S, part: Part, place: Option<CBlock>) -> Answer
+    requires some { 0 < part.block_sectors }
+    requires stays { StaysReady S.ready S.led (left (Writing (range_in part)) (write_step (range_in part) place part.sectors ∷ written part place) Finished) stage.old }
+    ensures { ComesTo S.led (left (Writing (range_in part)) (write_step (range_in part) place part.sectors ∷ written part place) Finished) stage.old result stage.new }
+{
+    let (device, extent) = route(part, place);
+    if !transfer(stage, DeviceStep::Write(device, extent)) {
+        return fail(stage, part, Answer::Refused(Refusal::Io(device)));
+    }
+    finish(stage, part, place)
+}
+
+/// After a write failed: the failed bit is set, and the block is kept.
+#[inline(always)]
+fn fail<S: Stage>(stage: &mut S, part: Part, answer: Answer) -> Answer
+    requires stays { StaysReady S.ready S.led (left (Writing (range_in part)) (Cell SetFailed ∷ []) answer) stage.old }
+    ensures { ComesTo S.led (left (Writing (range_in part)) (Cell SetFailed ∷ []) answer) stage.old result stage.new }
+{
+    let _part = part;
+    change(stage, CellStep::SetFailed);
+    answer
+}
+
+/// From the end of a write on.
+#[inline(always)]
+fn finish<S: Stage>(stage: &mut S, part: Part, place: Option<CBlock>) -> Answer
+    requires stays { StaysReady S.ready S.led (left (Writing (range_in part)) (written part place) Finished) stage.old }
+    ensures { ComesTo S.led (left (Writing (range_in part)) (written part place) Finished) stage.old result stage.new }
+{
+    change(stage, CellStep::Finish(part.block));
+    let kind = write_kind(place);
+    count(stage, Way::Writes, part, kind)
+}
+
+/// From the count on.
+#[inline(always)]
+fn count<S: Stage>(stage: &mut S, way: Way, part: Part, kind: Kind) -> Answer
+    requires stays { StaysReady S.ready S.led (left (job_by way part) (Cell (Counting kind) ∷ giving_back way part) Finished) stage.old }
+    ensures { ComesTo S.led (left (job_by way part) (Cell (Counting kind) ∷ giving_back way part) Finished) stage.old result stage.new }
+{
+    change(stage, CellStep::Count(kind));
+    give_back(stage, way, part, Answer::Done)
+}
+
+/// Gives the block back, and answers.
+#[inline(always)]
+fn give_back<S: Stage>(stage: &mut S, way: Way, part: Part, answer: Answer) -> Answer
+    requires stays { StaysReady S.ready S.led (left (job_by way part) (giving_back way part) answer) stage.old }
+    ensures { ComesTo S.led (left (job_by way part) (giving_back way part) answer) stage.old result stage.new }
+{
+    change(stage, CellStep::Release(access(way), part.block));
+    answer
+}
+
+/// How a block is held.
+#[inline(always)]
+fn access(way: Way) -> Access
+    ensures { result ≡ access_by way }
+{
+    match way {
+        Way::Reads => Access::Shared,
+        Way::Writes => Access::Owned,
+    }
+}
+
+/// What a read of a block at this place counts as.
+#[inline(always)]
+fn read_kind(place: Option<CBlock>) -> Kind
+    ensures { Cell (Counting result) ≡ read_count place }
+{
+    match place {
+        None => Kind::ReadMiss,
+        Some(_) => Kind::ReadHit,
+    }
+}
+
+/// What a write of a block at this place counts as.
+#[inline(always)]
+fn write_kind(place: Option<CBlock>) -> Kind
+    ensures { Cell (Counting result) ≡ write_count place }
+{
+    match place {
+        None => Kind::WriteMiss,
+        Some(_) => Kind::WriteHit,
+    }
+}
+
+/// The device and the extent of it that hold the sectors of a block at this place.
+#[inline(always)]
+fn route(part: Part, place: Option<CBlock>) -> (Dev, Extent)
+    requires { 0 < part.block_sectors }
+    ensures read { Device (Read result.0 result.1) ≡ read_step (range_in part) place part.sectors }
+    ensures write { Device (Write result.0 result.1) ≡ write_step (range_in part) place part.sectors }
+{
+    match place {
+        None => (Dev::Origin, part.sectors),
+        Some(CBlock(c)) => {
+            let size = u64::from(part.block_sectors);
+            let there = Extent {
+                first: u64::from(c) * size + part.sectors.first % size,
+                count: part.sectors.count,
+            };
+            (Dev::Cache, there)
+        }
+    }
+}
