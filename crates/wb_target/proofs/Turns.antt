@@ -1,5 +1,5 @@
 -- What becomes of an order that is given up, and of a worker's turns.
-use Rattle.std.proofs.Common.{◌≡◌, ◌≢◌, ◌∙◌, ◌<◌, ◌⊎◌, inl, inr, ℕ, Bool, true, List, [], ◌∷◌, Some, Result, sym, ap, subst}
+use Rattle.std.proofs.Common.{◌≡◌, ◌≢◌, ◌∙◌, ◌<◌, ◌⊎◌, inl, inr, ℕ, Bool, true, List, [], ◌∷◌, Some, Result, length, sym, ap, subst}
 use Rattle.std.proofs.lemmas.Result.{IfErr-weaker}
 use Rattle.std.specs.Prelude.{IfErr}
 use Rattle.wb_types.specs.declared.geometry.Geometry.{Geometry}
@@ -17,10 +17,10 @@ use Rattle.wb_tasks.specs.declared.step.Migration.TheVariants.{Promote as Promot
 use Rattle.wb_port.specs.Hands.{saw_fail_word}
 use Rattle.wb_port.specs.declared.port.Port.{Port}
 use Rattle.wb_target.specs.Works.{WorkState}
-use Rattle.wb_target.specs.Carried.{state_of, looked_at_fail, Runs, WasDone, migration_of, flush_of, jobs_of}
+use Rattle.wb_target.specs.Carried.{state_of, looked_at_fail, HasBegun, Runs, WasDone, migration_of, flush_of, jobs_of}
 use Rattle.wb_target.specs.declared.gate.Point.{Point}
 use Rattle.wb_target.specs.declared.gate.Point.TheVariants.{Order as BeforeOrder, Idle}
-use Rattle.wb_target.specs.Workers.{WasRefused, DidNotBegin, GaveUpAmong, HasBuffer, Took, Turn, Works, Idles, StoppedAt}
+use Rattle.wb_target.specs.Workers.{WasRefused, DidNotBegin, GaveUpAmong, FlushRefused, HasBuffer, Took, Turn, Works, Idles, StoppedAt}
 use Rattle.wb_target.proofs.Carried.{Before}
 
 -- ---- a look at the fail word
@@ -30,6 +30,14 @@ looked {D} word p q hand buffer commit =
     let one : state_of q ≡ record { hand = saw_fail_word word p.hand; buffer = q.buffer.items; commit = q.commit } = ap (λ (h : _). record { hand = h; buffer = q.buffer.items; commit = q.commit }) hand in
     let two : record { hand = saw_fail_word word p.hand; buffer = q.buffer.items; commit = q.commit } ≡ record { hand = saw_fail_word word p.hand; buffer = p.buffer.items; commit = q.commit } = ap (λ (b : _). record { hand = saw_fail_word word p.hand; buffer = b.items; commit = q.commit }) buffer in
     one ∙ (two ∙ ap (λ (c : _). record { hand = saw_fail_word word p.hand; buffer = p.buffer.items; commit = c }) commit)
+
+-- a clear one, and then a buffer was taken
+pub begun_by : {D : Type 0} (p q r : Port D) → q.hand ≡ saw_fail_word 0 p.hand → q.buffer ≡ p.buffer → q.commit ≡ p.commit → r.hand ≡ q.hand → r.commit ≡ q.commit → (0 < length q.buffer.items → r.buffer.items ≡ q.buffer.items) → HasBegun (state_of p) (state_of r)
+begun_by p q r hand buffer commit hand' commit' kept = record {
+  clear = hand' ∙ hand;
+  commit = commit' ∙ commit;
+  kept = λ some. kept (subst (λ b. 0 < length b.items) (sym buffer) some) ∙ ap (λ b. b.items) buffer;
+}
 
 -- ---- a job
 
@@ -82,6 +90,9 @@ module _ {D : Type 0} (tells : Type 0) (size : D → ℕ) (contents : D → List
 
   pub gave_up_in : (order : Order) (refusal : Refusal) (old new : WorkState D) → GaveUpAmong (runs_at here) (jobs_of here order) refusal old new → GaveUpAmong (runs_at first) (jobs_of first order) refusal old new
   gave_up_in order refusal old new h = subst (λ (g : Geometry). GaveUpAmong (runs_at g) (jobs_of g order) refusal old new) same h
+
+  pub flush_refused_in : (refusal : Refusal) (old old' new : WorkState D) → old ≡ old' → FlushRefused (runs_at here) here refusal old new → FlushRefused (runs_at first) first refusal old' new
+  flush_refused_in refusal old old' new e h = subst (λ (g : Geometry). FlushRefused (runs_at g) g refusal old' new) same (subst (λ (s : WorkState D). FlushRefused (runs_at here) here refusal s new) e h)
 
   pub stopped_at : (order : Order) (cause : Refusal) (old begun mid new : WorkState D) (word : ℕ) → HasBuffer old begun → GaveUpAmong (runs_at here) (jobs_of here order) cause begun mid → 0 < word → new ≡ looked_at_fail word mid → StoppedAt (runs_at first) first old new
   stopped_at order cause old begun mid new word buffer h set is =

@@ -1,9 +1,9 @@
 -- What a worker does, and how it ends.
-use Rattle.std.specs.Prelude.{◌≡◌, ◌≢◌, ◌<◌, ◌⊎◌, ℕ, List, [], ◌∷◌, Bool, true, false, length}
+use Rattle.std.specs.Prelude.{◌≡◌, ◌≢◌, ◌<◌, ◌⊎◌, ℕ, None, List, [], ◌∷◌, Bool, true, false, length}
 use Rattle.wb_types.specs.declared.geometry.Geometry.{Geometry}
 use Rattle.wb_types.specs.declared.mode.Dev.{Dev}
 use Rattle.wb_types.specs.declared.refusal.Refusal.{Refusal}
-use Rattle.wb_types.specs.declared.refusal.Refusal.TheVariants.{Io, Failed, Busy, Memory}
+use Rattle.wb_types.specs.declared.refusal.Refusal.TheVariants.{Io, Failed, Busy, Memory, Range}
 use Rattle.wb_policy.specs.declared.order.Order.{Order as CacheOrder}
 use Rattle.wb_tasks.specs.Tables.{TaskJob, Flushing}
 use Rattle.wb_tasks.specs.declared.step.Answer.{Answer}
@@ -12,7 +12,7 @@ use Rattle.wb_target.specs.declared.gate.Point.{Point}
 use Rattle.wb_target.specs.declared.gate.Point.TheVariants.{Order, Idle}
 use Rattle.wb_target.specs.Tries.{Tried, EndedAfter}
 use Rattle.wb_target.specs.Works.{WorkState}
-use Rattle.wb_target.specs.Carried.{looked_at_fail, WasDone, WereDone, jobs_of, IsThere}
+use Rattle.wb_target.specs.Carried.{looked_at_fail, HasBegun, WasDone, WereDone, flush_of, jobs_of, IsThere}
 
 -- the gate said no before an order, or where none waited
 abbrev pub IsEndedBy : {G : Type 0} → (G → Point → Bool → Type 0) → G → Type 0
@@ -93,3 +93,26 @@ pub record FailedAfter {D G : Type 0} (runs : TaskJob → WorkState D → Answer
   pub last : WorkState D
   pub took : Tried (Turn runs geometry answers gate) old turns last
   pub saw : SawFailure runs geometry answers gate refusal last new
+
+-- ---- why a client's own calls are refused
+
+-- the fail word was looked at, and set
+abbrev pub FoundFailed : {D : Type 0} → Refusal → WorkState D → WorkState D → Type 0
+FoundFailed refusal old new = (refusal ≡ Failed) × ((word : ℕ) × (0 < word) × (new ≡ looked_at_fail word old))
+
+-- a flush: a run of it was refused, or it had no memory to begin
+abbrev pub FlushRefused : {D : Type 0} → (TaskJob → WorkState D → Answer → WorkState D → Type 0) → Geometry → Refusal → WorkState D → WorkState D → Type 0
+FlushRefused runs geometry refusal old new = WasRefused runs (flush_of geometry None) refusal old new ⊎ DidNotBegin runs (flush_of geometry None) refusal old new
+
+-- a tick: the target had failed, or there was no memory for the list of dirty blocks, or its flush was refused
+abbrev pub TickRefused : {D : Type 0} → (TaskJob → WorkState D → Answer → WorkState D → Type 0) → Geometry → Refusal → WorkState D → WorkState D → Type 0
+TickRefused runs geometry refusal old new = FoundFailed refusal old new ⊎ ((refusal ≡ Memory) × (new ≡ looked_at_fail 0 old)) ⊎ FlushRefused runs geometry refusal (looked_at_fail 0 old) new
+
+-- An order: the target had failed; or there was no buffer, and no memory for one; or one was taken whose blocks are not there, or of which a job
+-- was given up.
+abbrev pub OrderRefused : {D : Type 0} → (TaskJob → WorkState D → Answer → WorkState D → Type 0) → Geometry → Refusal → WorkState D → WorkState D → Type 0
+OrderRefused {D} runs geometry refusal old new =
+    FoundFailed refusal old new
+    ⊎ ((refusal ≡ Memory) × (length old.buffer ≡ 0) × HasBegun old new)
+    ⊎ ((order : CacheOrder) × (refusal ≡ Range) × (¬ IsThere geometry order) × HasBegun old new)
+    ⊎ ((order : CacheOrder) × (begun : WorkState D) × HasBegun old begun × GaveUpAmong runs (jobs_of geometry order) refusal begun new)

@@ -7,7 +7,7 @@ ghost use Rattle.wb_tasks.specs.Plan.{table};
 ghost use Rattle.wb_stage.specs.Jobs.{MayRun};
 ghost use Rattle.wb_target.specs.Works.{WasPerformed};
 ghost use Rattle.wb_target.specs.Carried.{state_of, looked_at_fail, HasBegun, Runs, WasDone, WereDone, migration_of, serving, flush_of, jobs_of, IsThere, AreSynced};
-ghost use Rattle.wb_target.specs.Workers.{WasRefused, DidNotBegin, GaveUpAmong};
+ghost use Rattle.wb_target.specs.Workers.{WasRefused, DidNotBegin, GaveUpAmong, OrderRefused, FlushRefused, TickRefused};
 
 use crate::client::Client;
 use crate::gate::{Gate, OpenGate};
@@ -70,6 +70,7 @@ fn note_failure<R: Wait, D: Disk + Drop, P: Policy>(rt: &R, target: &Target<P>, 
 pub(crate) fn take_buffer<D>(alloc: Global, port: &mut Port<D>) -> Result<(), Refusal>
     ensures kept { 0 < length port.old.buffer.items → port.new.buffer.items ≡ port.old.buffer.items }
     ensures lacked { OnErr result (length port.old.buffer.items ≡ 0) }
+    ensures refused { IfErr result (λ refusal. refusal ≡ Refusal.Memory) }
     ensures hand { port.new.hand ≡ port.old.hand }
     ensures commit { port.new.commit ≡ port.old.commit }
     ensures geometry { port.new.geometry ≡ port.old.geometry }
@@ -218,10 +219,11 @@ impl<'t, D: Disk + Drop, P: Policy> Client<'t, D, P> {
     /// task again while its block is busy.
     ///
     /// `Failed` where the target has failed; `Memory` where there is none; `Io` where a step failed; `GenerationEnd` where a
-    /// replacement's commit has no next generation.
+    /// replacement's commit has no next generation; `Range` for an order of blocks that are not there, of which none is given.
     pub fn work_one<R: Wait>(&mut self, rt: &R) -> Result<Option<Order>, Refusal>
         ensures carried { IfOk result (λ told. IfSome told (λ order. (begun : _) × HasBegun (state_of self.old.port) begun × WereDone (Runs D.tells D.size D.contents D.faults self.old.port.geometry.origin_blocks) (jobs_of self.old.port.geometry order) begun (state_of self.new.port))) }
         ensures idle { IfOk result (λ told. IfNone told (HasBegun (state_of self.old.port) (state_of self.new.port))) }
+        ensures refused { IfErr result (λ refusal. OrderRefused (Runs D.tells D.size D.contents D.faults self.old.port.geometry.origin_blocks) self.old.port.geometry refusal (state_of self.old.port) (state_of self.new.port)) }
         ensures target { self.new.target ≡ self.old.target }
         ensures geometry { self.new.port.geometry ≡ self.old.port.geometry }
     {
@@ -247,6 +249,7 @@ impl<'t, D: Disk + Drop, P: Policy> Client<'t, D, P> {
     pub fn flush<R: Wait>(&mut self, rt: &R) -> Result<Flushed, Refusal>
         ensures flushed { OnOk result (WasDone (Runs D.tells D.size D.contents D.faults self.old.port.geometry.origin_blocks) (flush_of self.old.port.geometry None) (state_of self.old.port) (state_of self.new.port)) }
         ensures synced { OnOk result (D.tells → AreSynced D.contents self.new.port.hand.devices) }
+        ensures refused { IfErr result (λ refusal. FlushRefused (Runs D.tells D.size D.contents D.faults self.old.port.geometry.origin_blocks) self.old.port.geometry refusal (state_of self.old.port) (state_of self.new.port)) }
         ensures target { self.new.target ≡ self.old.target }
         ensures geometry { self.new.port.geometry ≡ self.old.port.geometry }
     {
@@ -263,6 +266,7 @@ impl<'t, D: Disk + Drop, P: Policy> Client<'t, D, P> {
     pub fn tick<R: Wait>(&mut self, rt: &R) -> Result<Flushed, Refusal>
         ensures flushed { OnOk result (WasDone (Runs D.tells D.size D.contents D.faults self.old.port.geometry.origin_blocks) (flush_of self.old.port.geometry None) (looked_at_fail 0 (state_of self.old.port)) (state_of self.new.port)) }
         ensures synced { OnOk result (D.tells → AreSynced D.contents self.new.port.hand.devices) }
+        ensures refused { IfErr result (λ refusal. TickRefused (Runs D.tells D.size D.contents D.faults self.old.port.geometry.origin_blocks) self.old.port.geometry refusal (state_of self.old.port) (state_of self.new.port)) }
         ensures target { self.new.target ≡ self.old.target }
         ensures geometry { self.new.port.geometry ≡ self.old.port.geometry }
     {

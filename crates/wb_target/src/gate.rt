@@ -1,6 +1,6 @@
 //! Gates, which hold a worker or end it.
 
-ghost use Rattle.std.specs.Prelude.{Bool};
+ghost use Rattle.std.specs.Prelude.{◌≡◌, Bool, true};
 ghost use Rattle.wb_target.specs.declared.gate.Point.{Point as WorkPoint};
 
 /// Where a worker asks its gate.
@@ -29,7 +29,7 @@ pub trait Gate {
 pub struct OpenGate;
 
 impl Gate for OpenGate {
-    ghost answers = { λ gate at go. Unit {0} };
+    ghost answers = { λ gate at go. go ≡ true };
 
     fn go_on(&self, _at: Point) -> bool {
         true

@@ -1,6 +1,6 @@
 //! What lies under a target's lock.
 
-ghost use Rattle.std.specs.Prelude.{◌≡◌, ◌<◌, IfOk, IfSome};
+ghost use Rattle.std.specs.Prelude.{◌≡◌, ◌<◌, IfOk, IfErr, IfSome};
 ghost use Rattle.wb_desk.specs.Desks.{holdings};
 ghost use Rattle.wb_desk.proofs.Seen.{AreSeen};
 ghost use Rattle.wb_policy.specs.Law.{IsMappedAt};
@@ -60,7 +60,9 @@ impl<P: Policy> Office<P> {
 
     /// The policy's tick, over the mapped blocks whose seals are dirty now. `Memory` where there is none for the list of them,
     /// and then the policy was told nothing.
-    pub(crate) fn tick(&mut self, alloc: Global) -> Result<(), Refusal> {
+    pub(crate) fn tick(&mut self, alloc: Global) -> Result<(), Refusal>
+        ensures refused { IfErr result (λ refusal. refusal ≡ Refusal.Memory) }
+    {
         let dirty = self.dirty_blocks(alloc)?;
         self.desk.tick(dirty.as_slice());
         Ok(())

@@ -1,6 +1,6 @@
 //! A target: what its clients share.
 
-ghost use Rattle.std.specs.Prelude.{◌≡◌, ◌++◌, OnOk, OnErr, IfErr, string_bytes};
+ghost use Rattle.std.specs.Prelude.{◌≡◌, ◌++◌, ◌⊎◌, [], OnOk, OnErr, IfOk, IfErr, string_bytes};
 ghost use Rattle.wb_table.specs.Status.{status_line};
 ghost use Rattle.wb_table.specs.declared.status.Fields.{Fields as Told};
 
@@ -35,7 +35,12 @@ impl<P: Policy> Target<P> {
         &self,
         rt: &R,
         devices: Devices<D>,
-    ) -> Result<Client<'_, D, P>, (Devices<D>, Refusal)> {
+    ) -> Result<Client<'_, D, P>, (Devices<D>, Refusal)>
+        ensures devices { IfOk result (λ client. client.port.hand.devices ≡ devices) }
+        ensures unsettled { IfOk result (λ client. client.port.accesses.items ≡ []) }
+        ensures back { IfErr result (λ back. back.0 ≡ devices) }
+        ensures refused { IfErr result (λ back. (back.1 ≡ Refusal.Busy) ⊎ (back.1 ≡ Refusal.Failed) ⊎ (back.1 ≡ Refusal.Memory)) }
+    {
         let seat = self.office.lock(rt).seats.pop();
         let Some(seat) = seat else {
             return Err((devices, Refusal::Busy));
@@ -55,7 +60,9 @@ impl<P: Policy> Target<P> {
     }
 
     /// Takes a client back, its accesses settled: its devices.
-    pub fn retire<R: Wait, D: Disk + Drop>(&self, rt: &R, client: Client<'_, D, P>) -> Devices<D> {
+    pub fn retire<R: Wait, D: Disk + Drop>(&self, rt: &R, client: Client<'_, D, P>) -> Devices<D>
+        ensures { result ≡ client.entry.port.hand.devices }
+    {
         let mut client = client;
         client.settle(rt);
         let Client { target, port, .. } = client;
@@ -85,7 +92,9 @@ impl<P: Policy> Target<P> {
     }
 
     /// The policy's tick; whoever waits for an order is woken. `Memory` where there is none, and then no order was given.
-    pub(crate) fn tick<R: Wait>(&self, rt: &R) -> Result<(), Refusal> {
+    pub(crate) fn tick<R: Wait>(&self, rt: &R) -> Result<(), Refusal>
+        ensures refused { IfErr result (λ refusal. refusal ≡ Refusal.Memory) }
+    {
         self.office.lock(rt).tick(self.alloc)?;
         self.bell.notify_all();
         Ok(())
@@ -131,7 +140,9 @@ impl<P: Policy> Target<P> {
     }
 
     /// A port's seat goes back to the office.
-    fn take_back<R: Wait, D: Disk + Drop>(&self, rt: &R, port: Port<D>) -> Devices<D> {
+    fn take_back<R: Wait, D: Disk + Drop>(&self, rt: &R, port: Port<D>) -> Devices<D>
+        ensures { result ≡ port.hand.devices }
+    {
         let (seat, devices) = port.leave();
         self.office.lock(rt).give_back(seat);
         devices

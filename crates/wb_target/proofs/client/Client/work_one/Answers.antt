@@ -1,16 +1,29 @@
-use Rattle.std.proofs.Common.{◌<◌, ◌∙◌, length, sym, ap, subst}
+use Rattle.std.proofs.Common.{◌∙◌, inr}
+use Rattle.wb_meta.proofs.Loaded.{IfErr-handed}
 use Rattle.wb_target.specs.Carried.{state_of}
 use Rattle.wb_target.proofs.Carried.{jobs_in}
+use Rattle.wb_target.proofs.Turns.{begun_by, gave_up_in}
 use Rattle.wb_target.proofs.client.Client.work_one.Goals as goal
 
 pub returns-clause-carried : goal.returns-clause-carried
 returns-clause-carried g c =
-    let begun = c.take_buffer.new.port in (
+    let begun = c.take_buffer.new.port in
+    let looked = c.has_failed.ensures in
+    let taken = c.take_buffer.ensures in (
       state_of begun,
-      record {
-        clear = c.take_buffer.ensures.hand ∙ c.if-has_failed.ensures.clear;
-        commit = c.take_buffer.ensures.commit ∙ c.has_failed.ensures.commit;
-        kept = λ some. c.take_buffer.ensures.kept (subst (λ buffer. 0 < length buffer.items) (sym c.has_failed.ensures.buffer) some) ∙ ap (λ buffer. buffer.items) c.has_failed.ensures.buffer;
-      },
-      jobs_in g.D.Disk.tells g.D.Disk.size g.D.Disk.contents g.D.Disk.faults _ begun.geometry c.args.self.now.port.geometry _ _ (c.take_buffer.ensures.geometry ∙ c.has_failed.ensures.geometry) c.in_ok-carry_out.ensures.carried,
+      begun_by c.args.self.now.port c.has_failed.new.self begun c.if-has_failed.ensures.clear looked.buffer looked.commit taken.hand taken.commit taken.kept,
+      jobs_in g.D.Disk.tells g.D.Disk.size g.D.Disk.contents g.D.Disk.faults _ begun.geometry c.args.self.now.port.geometry _ _ (taken.geometry ∙ looked.geometry) c.in_ok-carry_out.ensures.carried,
     )
+
+pub returns-in_err-carry_out-clause-refused : goal.returns-in_err-carry_out-clause-refused
+returns-in_err-carry_out-clause-refused g c =
+    let begun = c.take_buffer.new.port in
+    let looked = c.has_failed.ensures in
+    let taken = c.take_buffer.ensures in
+    let cause = c.in_err-carry_out.field-0.0 in
+    IfErr-handed c.from_residual-in_err-carry_out.result cause _ c.from_residual-in_err-carry_out.ensures.1 (inr (inr (inr (
+      c.in-Some.order,
+      state_of begun,
+      begun_by c.args.self.now.port c.has_failed.new.self begun c.if-has_failed.ensures.clear looked.buffer looked.commit taken.hand taken.commit taken.kept,
+      gave_up_in g.D.Disk.tells g.D.Disk.size g.D.Disk.contents g.D.Disk.faults c.args.self.now.port.geometry begun.geometry (taken.geometry ∙ looked.geometry) c.in-Some.order cause _ _ c.in_err-carry_out.ensures.given_up,
+    ))))
