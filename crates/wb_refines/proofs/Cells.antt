@@ -124,7 +124,7 @@ undone_answer : (job : AbstractJob) (refusal : Refusal) (answer : Answer) → an
 undone_answer job refusal answer is e = refused_undone job refusal (ap (answer_for job) (sym is) ∙ e)
 
 -- the dirty bit of a seal
-tells_dirty : (place : Option CBlock) (dirty : Bool) → dirty_in (seal_word place dirty) ≡ dirty
+pub tells_dirty : (place : Option CBlock) (dirty : Bool) → dirty_in (seal_word place dirty) ≡ dirty
 tells_dirty place true = ap flag (ap (λ v. (v + 1) % 2) (mul_comm 2 (place_number place)) ∙ mod-mul-add (place_number place) 2 1 (omega arith))
 tells_dirty place false = ap flag (ap (λ v. (v + 0) % 2) (mul_comm 2 (place_number place)) ∙ mod-mul-add (place_number place) 2 0 (omega arith))
 

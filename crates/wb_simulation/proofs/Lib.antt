@@ -15,3 +15,4 @@ mod Opening
 mod Counts
 mod Told
 mod Noted
+mod Opened

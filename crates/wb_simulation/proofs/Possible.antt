@@ -3,8 +3,7 @@ use Rattle.std.proofs.Common.{◌≡◌, ◌+◌, ◌*◌, ◌∙◌, inl, ℕ, 
 use Rattle.std.proofs.lemmas.List.{length-replicate}
 use Rattle.wb_disk.specs.Device.{Content, only}
 use Rattle.wb_contents.specs.Devices.{by_block}
-use Rattle.wb_types.specs.declared.number.OBlock.{OBlock}
-use Rattle.wb_words.specs.SharedWords.{word_at, fresh_words}
+use Rattle.wb_words.specs.SharedWords.{fresh_words}
 use Rattle.wb_link.specs.World.{Actor as AbstractActor, resting as idle}
 use Rattle.wb_link.proofs.Lists.{replicated}
 use Rattle.wb_refines.specs.Models.{SealAgrees}
@@ -12,6 +11,7 @@ use Rattle.wb_refines.proofs.Holding.{holds_nothing}
 use Rattle.wb_runs.specs.States.{Actor, resting}
 use Rattle.wb_simulation.specs.Actors.{StandsFor}
 use Rattle.wb_simulation.specs.Laws.{CanAgree}
+use Rattle.wb_simulation.proofs.Opened.{fresh_at, nowhere}
 use Rattle.wb_simulation.specs.Worlds.{zeros}
 
 -- an empty device is empty wherever it is looked at
@@ -27,24 +27,12 @@ empty_device c size count = λ i b o. here (nat_lt o size) (b * size + o) i
     here true at = sym (empty_at c count at)
     here false at = refl
 
--- no block is sealed
-fresh_at : (blocks : ℕ) (block : OBlock) → word_at (fresh_words blocks).seals block ≡ 0
-fresh_at blocks block = none_at blocks block.0
-  where
-    none_at : (count at : ℕ) → word_at (replicate count 0) (record { 0 = at }) ≡ 0
-    none_at zero at = refl
-    none_at (suc count) zero = refl
-    none_at (suc count) (suc at) = none_at count at
-
-unsealed : SealAgrees 0 (record { location = None; dirty = false })
-unsealed = record { location = refl; dirty = λ c e. let bad : None ≡ Some c = e in absurd (cc) }
-
 rests : (size most blocks : ℕ) → StandsFor size most (fresh_words blocks) resting idle
 rests size most blocks = record { at = (refl, inl (record { task = refl; held = refl; order = refl; leads = refl })); below = holds_nothing idle resting.card refl; among_others = refl }
 
 pub can_agree : CanAgree
 can_agree size most blocks cache origin many = record {
-  words_agree = record { fail = refl; seals = λ block. subst (λ (n : ℕ). SealAgrees n (record { location = None; dirty = false })) (sym (fresh_at blocks block)) unsealed };
+  words_agree = record { fail = refl; seals = λ block. subst (λ (n : ℕ). SealAgrees n (record { location = None; dirty = false })) (sym (fresh_at blocks block)) (nowhere false) };
   origin = empty_device zeros size origin;
   cache = empty_device zeros size cache;
   mode = refl;

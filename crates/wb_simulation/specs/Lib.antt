@@ -3,6 +3,7 @@ pub mod Actors
 pub mod Telling
 pub mod Worlds
 pub mod Sites
+pub mod Opened
 pub mod Noting
 pub mod Noted
 pub mod Laws

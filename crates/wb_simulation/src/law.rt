@@ -1,6 +1,7 @@
 //! Laws of how a run is followed in the abstract world.
 
 ghost use Rattle.wb_simulation.specs.Noted.{NotesFollowed};
+ghost use Rattle.wb_simulation.specs.Opened.{OpenedFollowed};
 ghost use Rattle.wb_simulation.specs.Sites.{ImagesFollowed, OpeningsFollowed};
 ghost use Rattle.wb_simulation.specs.Laws.{AnswersFollowed, CanAgree, CellStepsFollowed, ExtentStepsFollowed, FlushStepsFollowed, StartsFollowed};
 
@@ -48,4 +49,10 @@ pub fn images_are_followed()
 /// last entry of each of its sectors' histories, where the abstract world's records are right.
 pub fn notes_are_followed()
     ensures { NotesFollowed }
+{}
+
+/// Of a tree that an opening has read, each mapped block sealed, the words of the target that it makes tell just what the abstract
+/// opening's have: where each block is, and that it is dirty; so the whole target stands for that one.
+pub fn opened_targets_are_followed()
+    ensures { OpenedFollowed }
 {}
