@@ -1,5 +1,6 @@
 -- What is promised of every run.
-use Rattle.std.specs.Prelude.{◌≡◌, ◌≤◌, ◌+◌, ◌*◌, ◌/◌, ◌%◌, ◌==◌, ℕ, suc, List, [], ◌∷◌, Option, Some, None, All, IsPermutation, Contains, map, length, replicate, slice_get, unwrap_or, if◌then◌else◌}
+use Rattle.std.specs.List.{count_by}
+use Rattle.std.specs.Prelude.{true, is_some, ◌≡◌, ◌≤◌, ◌+◌, ◌*◌, ◌/◌, ◌%◌, ◌==◌, ℕ, suc, List, [], ◌∷◌, Option, Some, None, All, IsPermutation, Contains, map, length, slice_get, unwrap_or, if◌then◌else◌}
 use Rattle.wb_types.specs.declared.entry.Entry.{Entry}
 use Rattle.wb_types.specs.Extents.{sectors_in, rising}
 use Rattle.wb_types.specs.declared.refusal.Refusal.{Refusal}
@@ -124,12 +125,12 @@ abbrev pub CrashConsistent : Shape → Notes → Devices (List History) → Type
 CrashConsistent shape n devices = (metadata cache origin : List Bytes) → MayLeave devices.metadata metadata → MayLeave devices.cache cache → MayLeave devices.origin origin
     → ShowsOpened shape n metadata cache origin
 
--- Metadata represent a root of this geometry, and a tree in which nothing is cached.
-pub record IsEmpty (shape : Shape) (metadata : List Bytes) : Type 0 where
+-- Metadata represent a root of this geometry, and a tree, of which a root that is marked clean says nothing but that it is empty.
+pub record CanBeRead (shape : Shape) (metadata : List Bytes) : Type 0 where
   pub stored : Stored
   pub represents : Represents metadata stored.root stored.found
   pub geometry : stored.root.geometry ≡ shape.geometry
-  pub nothing : stored.found.entries ≡ replicate shape.geometry.cache_blocks None
+  pub clean : stored.root.clean ≡ true → count_by is_some stored.found.entries ≡ 0
 
 -- an actor may do a step, and it is not skipped
 pub record GivesSomething {P A : Type 0} (shape : Shape) (w : State P A) (a : ℕ) : Type 0 where
@@ -183,9 +184,9 @@ abbrev pub InEveryRun : (P A : Type 0) → (Shape → List History → List (Hap
 InEveryRun P A Holds = (shape : Shape) (metadata : List History) (hs : List (Happening P A)) → IsFormatted shape.geometry metadata → length metadata ≡ shape.geometry.meta_sectors
     → IsRun shape (start shape metadata) hs → Holds shape metadata hs
 
--- whatever a crash leaves of the metadata represents a tree
+-- whatever a crash leaves of the metadata represents a root and a tree
 abbrev pub MetadataAreRead : (P A : Type 0) → Type 0
-MetadataAreRead P A = InEveryRun P A (λ shape metadata hs. (sectors : List Bytes) → MayLeave (after_all shape (start shape metadata) hs).devices.metadata sectors → IsEmpty shape sectors)
+MetadataAreRead P A = InEveryRun P A (λ shape metadata hs. (sectors : List Bytes) → MayLeave (after_all shape (start shape metadata) hs).devices.metadata sectors → CanBeRead shape sectors)
 
 -- whatever a crash leaves of the three devices, what an opening then shows is allowed
 abbrev pub AllCrashConsistent : (P A : Type 0) → Type 0
