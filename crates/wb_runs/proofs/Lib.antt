@@ -1,3 +1,9 @@
 mod Images
 mod Underway
 mod Metadata
+mod Spelling
+mod Desks
+mod Stepping
+mod Faltering
+mod Formatted
+mod MetadataRuns

@@ -82,7 +82,7 @@ Standing g images desk (Some commit) device = Leading g images desk commit devic
 -- what holds of a desk of this geometry, whatever its metadata are
 pub record IsDesk {P : Type 0} (g : Geometry) (desk : DeskState P) : Type 0 where
   pub geometry : desk.geometry ≡ g
-  pub desk : DeskInvariant unknowing desk
+  pub kept : DeskInvariant unknowing desk
   pub orders : AreOrders desk.orders
   pub sound : IsSound desk.tree
 
@@ -172,9 +172,9 @@ module _ (P : Type 0) (g : Geometry) (images : Images) (desk : DeskState P) (dev
         kept = record {
           is = record {
             geometry = k.geometry;
-            desk = begun_kept unknowing desk tree image k.desk begun.may
+            kept = begun_kept unknowing desk tree image k.kept begun.may
                 (record { origins = ap (λ (es : List (Option Entry)). Rattle.wb_policy.specs.Law.origins es) begun.image_is.same_entries; used = begun.image_is.used })
-                (subst (λ (es : List (Option Entry)). IsMapping desk.geometry.cache_blocks desk.geometry.origin_blocks es) (sym begun.image_is.same_entries) k.desk.mapping) planned.inside;
+                (subst (λ (es : List (Option Entry)). IsMapping desk.geometry.cache_blocks desk.geometry.origin_blocks es) (sym begun.image_is.same_entries) k.kept.mapping) planned.inside;
             orders = k.orders;
             sound = planned.sound;
           };
@@ -210,7 +210,7 @@ module _ (P : Type 0) (g : Geometry) (images : Images) (desk : DeskState P) (dev
         turn = Ends;
         turned = (l.of.new, ap (λ (i : Images). i.running) l.under.are, refl);
         kept = subst (λ (d : DeskState P). AtDesk g (one_image l.of.new) d None device) (sym is) (record {
-          is = record { geometry = k.is.geometry; desk = ended_kept unknowing desk k.is.desk l.busy; orders = k.is.orders; sound = k.is.sound };
+          is = record { geometry = k.is.geometry; kept = ended_kept unknowing desk k.is.kept l.busy; orders = k.is.orders; sound = k.is.sound };
           stands = inl (record {
             stored = l.of.new;
             are = refl;
@@ -287,7 +287,7 @@ module _ (A : Type 0) (g : Geometry) (images : Images) (device : List History) w
         kept = (record {
           is = record {
             geometry = refl;
-            desk = subst (λ (x : Geometry). DeskInvariant unknowing (opened x (stored.root.generation + 1) stored.tree stored.used.items mode policy threshold (count_by is_some stored.tree.entries))) geometry
+            kept = subst (λ (x : Geometry). DeskInvariant unknowing (opened x (stored.root.generation + 1) stored.tree stored.used.items mode policy threshold (count_by is_some stored.tree.entries))) geometry
                 (opened_kept unknowing (record stored.root { generation = stored.root.generation + 1 }) stored.tree stored.used.items mode policy threshold (count_by is_some stored.tree.entries)
                 (stored.root.geometry.within.meta_from)
                 (record { size = refl; mapping = fits.mapping; sound = fits.sound; inside = subst (λ (n : ℕ). AreInside n stored.tree) (sym fits.size) fits.inside; known_used = fits.known_used; used_are = subst (λ (n : ℕ). Rattle.wb_meta.specs.Reads.AreApartPlaces n stored.used.items) (sym fits.size) fits.used_are; used_few = fits.used_few })

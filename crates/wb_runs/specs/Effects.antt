@@ -1,5 +1,5 @@
 -- Where a happening leads.
-use Rattle.std.specs.Prelude.{◌+◌, ℕ, suc, Bool, true, cond, if◌then◌else◌, List, [], ◌∷◌, Option, Some, None, drop, map, replicate, is_some, slice_get, slice_set, take}
+use Rattle.std.specs.Prelude.{◌+◌, ℕ, suc, Bool, true, false, cond, if◌then◌else◌, List, [], ◌∷◌, Option, Some, None, drop, map, replicate, is_some, slice_get, slice_set, take}
 use Rattle.std.specs.List.{count_by}
 use Rattle.wb_types.specs.declared.entry.Entry.{Entry}
 use Rattle.wb_types.specs.declared.extent.Extent.{Extent}
