@@ -7,3 +7,10 @@ mod Stepping
 mod Faltering
 mod Formatted
 mod MetadataRuns
+mod Lists
+mod Extents
+mod Ruling
+mod Suiting
+mod Sealing
+mod Ordering
+mod Using

@@ -8,4 +8,4 @@ mod law;
 
 pub use event::{Event, Record, What};
 pub use job::Job;
-pub use law::metadata_are_read;
+pub use law::{metadata_are_read, words_are_used_rightly};

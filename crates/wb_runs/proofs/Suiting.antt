@@ -1,0 +1,180 @@
+-- Each result of a step fits it, so its actor has what is needed for what is left; and the rule of the words is kept.
+use Rattle.std.proofs.Common.{◌≡◌, ◌≢◌, inl, inr, ℕ, Bool, true, false, eqb, List, Option, Some, None, refl, sym, subst, if◌then◌else◌}
+use Rattle.wb_types.specs.declared.mode.Dev.{Dev}
+use Rattle.wb_types.specs.declared.mode.Dev.TheVariants.{Metadata, Cache, Origin}
+use Rattle.wb_types.specs.declared.refusal.Refusal.{Refusal}
+use Rattle.wb_types.specs.declared.refusal.Refusal.TheVariants.{Busy, Memory, GenerationEnd, Mismatch, NotFormatted, Damaged, Io}
+use Rattle.wb_disk.specs.Device.{Content as Bytes, History}
+use Rattle.wb_words.specs.declared.step.CellStep.{CellStep}
+use Rattle.wb_words.specs.declared.step.CellStep.TheVariants.{Look, Take, Release, Seal, Finish, Count, SetFailed, SetSuspended}
+use Rattle.wb_words.specs.declared.step.CellResult.TheVariants.{Done as Won, Lost as CellLost}
+use Rattle.wb_words.specs.SharedWords.{Words, word_at}
+use Rattle.wb_words.specs.Effects.{result_of}
+use Rattle.wb_meta.specs.States.{IsOfReading}
+use Rattle.wb_meta.specs.declared.read_steps.ReadSteps.{ReadSteps}
+use Rattle.wb_desk.specs.Desks.{DeskState}
+use Rattle.wb_desk.specs.Commits.{IsBeginRefused}
+use Rattle.wb_tasks.specs.Plan.{Fits, IsStep, MayBeDone, got_of}
+use Rattle.wb_tasks.specs.declared.step.DeviceStep.TheVariants.{Read as ReadExtent, Write as WriteExtent, Sync, ReadMetadata, WriteNode, WriteRoot}
+use Rattle.wb_tasks.specs.declared.step.DeskStep.TheVariants.{Map, Unmap, ReleaseOrder, BeginCommit, EndCommit}
+use Rattle.wb_tasks.specs.declared.step.Want.{Want}
+use Rattle.wb_tasks.specs.declared.step.Want.TheVariants.{Cell, Device, Desk, End}
+use Rattle.wb_tasks.specs.declared.step.Got.{Got}
+use Rattle.wb_tasks.specs.declared.step.Got.TheVariants.{Done, Fault, Refused as GotRefused, Began, More}
+use Rattle.wb_devices.specs.declared.running.RunningCommit.{RunningCommit}
+use Rattle.wb_devices.specs.Opened.{HasCome, got_of_refusal}
+use Rattle.wb_runs.specs.declared.job.Job.{Job}
+use Rattle.wb_runs.specs.declared.job.Job.TheVariants.{Read, Write, Flush, Open, Migrate}
+use Rattle.wb_runs.specs.States.{Shape, State, Phase, Stands, Gone, Opens, OfTarget, OfReading}
+use Rattle.wb_runs.specs.Happenings.{Chosen, Plain, Cut, Orders, Begins, Reaches, Puts, Commits, Asks, Opened, DoesRead, DoesBegin, DoesMap, Gives}
+use Rattle.wb_runs.proofs.Stepping.{metadata_fact, begin_fact, map_fact, no_unmap, sync_fact, node_fact, root_fact}
+
+-- ---- results
+
+-- of a step on the words
+cell_fits : (words : Words) (step : CellStep) → Fits (Cell step) (got_of (result_of words step))
+cell_fits words (Look word) = tt
+cell_fits words (Take access b seen) = by_test (eqb (word_at words.cells b) seen)
+  where
+    by_test : (t : Bool) → Fits (Cell (Take access b seen)) (got_of (if t then Won else CellLost))
+    by_test true = tt
+    by_test false = tt
+cell_fits words (Release access b) = tt
+cell_fits words (Seal b place dirty) = tt
+cell_fits words (Finish b) = tt
+cell_fits words (Count kind) = tt
+cell_fits words SetFailed = tt
+cell_fits words SetSuspended = tt
+
+done_fits : (next : Want) (got : Got) → MayBeDone next → got ≡ Done → Fits next got
+done_fits next got m e = subst (λ (g : Got). Fits next g) (sym e) m
+
+-- of a desk that is asked for a commit
+begin_fits : {P A : Type 0} (clean : Bool) (most : ℕ) (desk : DeskState P) (got : Got) (chosen : Chosen P A) → DoesBegin most desk got chosen → Fits (Desk (BeginCommit clean most)) got
+begin_fits clean most desk (Began nodes) (Commits c tree) d = d.0
+begin_fits {P} {A} clean most desk (GotRefused refusal) Plain d = by_cause refusal d
+  where
+    by_cause : (r : Refusal) → IsBeginRefused desk r → Fits (Desk (BeginCommit clean most)) (GotRefused r)
+    by_cause Busy d = tt
+    by_cause Memory d = tt
+    by_cause GenerationEnd d = tt
+    by_cause r d = absurd d
+begin_fits clean most desk got chosen d = absurd d
+
+-- of a sector that an opening has read
+come_fits : {A : Type 0} (shape : Shape) (left : ℕ) (now : ReadSteps A) (commit commit' : Option RunningCommit) (got : Got) (left' : Option (ReadSteps A)) → got ≢ Fault → HasCome shape.geometry left now commit got left' commit' → Fits (Device (ReadMetadata left)) got
+come_fits shape left now commit commit' More left' n h = h.0
+come_fits shape left now commit commit' Done left' n h = tt
+come_fits shape left now commit commit' (GotRefused refusal) left' n h = elim h.2 [
+  | inl m ↦ subst (λ (r : Refusal). Fits (Device (ReadMetadata left)) (GotRefused r)) (sym m.0) tt
+  | inr g ↦ subst (λ (r : Refusal). Fits (Device (ReadMetadata left)) (GotRefused r)) (sym g.0) tt
+]
+come_fits shape left now commit commit' Fault left' n h = absurd (n refl)
+come_fits shape left now commit commit' got left' n h = absurd h
+
+stop_fits : (left : ℕ) (refusal : Refusal) (got : Got) → got ≢ Fault → IsOfReading refusal → got ≡ got_of_refusal refusal → Fits (Device (ReadMetadata left)) got
+stop_fits left (Io Metadata) got n o e = absurd (n e)
+stop_fits left Memory got n o e = subst (λ (g : Got). Fits (Device (ReadMetadata left)) g) (sym e) tt
+stop_fits left NotFormatted got n o e = subst (λ (g : Got). Fits (Device (ReadMetadata left)) g) (sym e) tt
+stop_fits left Mismatch got n o e = subst (λ (g : Got). Fits (Device (ReadMetadata left)) g) (sym e) tt
+stop_fits left (Damaged place) got n o e = subst (λ (g : Got). Fits (Device (ReadMetadata left)) g) (sym e) tt
+stop_fits left refusal got n o e = absurd o
+
+read_fits : {P A : Type 0} (shape : Shape) (left : ℕ) (was : ReadSteps A) (device : List History) (commit : Option RunningCommit) (got : Got) (chosen : Chosen P A) → DoesRead shape.geometry left was device commit got chosen → Fits (Device (ReadMetadata left)) got
+read_fits shape left was device commit got (Reaches left' commit') d = elim d.1 [
+  | inl k ↦ come_fits shape left k.0 commit commit' got left' d.0 k.3
+  | inr r ↦ stop_fits left r.0 got d.0 r.1 r.3
+]
+read_fits shape left was device commit got Plain d = absurd d
+read_fits shape left was device commit got (Cut es) d = absurd d
+read_fits shape left was device commit got (Orders es c) d = absurd d
+read_fits shape left was device commit got (Asks new) d = absurd d
+read_fits shape left was device commit got (Begins now) d = absurd d
+read_fits shape left was device commit got (Puts new) d = absurd d
+read_fits shape left was device commit got (Commits c tree) d = absurd d
+read_fits shape left was device commit got (Opened policy) d = absurd d
+
+module _ (P A : Type 0) (shape : Shape) (w : State P A) (got : Got) (read : List Bytes) (chosen : Chosen P A) where
+  on_words : (phase : Phase P A) (step : CellStep) → OfTarget phase (λ t. got ≡ got_of (result_of t.words step)) → Fits (Cell step) got
+  on_words (Stands t) step e = subst (λ (g : Got). Fits (Cell step) g) (sym e) (cell_fits t.words step)
+  on_words Gone step e = absurd e
+  on_words (Opens mode reading) step e = absurd e
+
+  on_desk : (phase : Phase P A) (clean : Bool) (most : ℕ) → OfTarget phase (λ t. DoesBegin most t.desk got chosen) → Fits (Desk (BeginCommit clean most)) got
+  on_desk (Stands t) clean most d = begin_fits clean most t.desk got chosen d
+  on_desk Gone clean most d = absurd d
+  on_desk (Opens mode reading) clean most d = absurd d
+
+  on_metadata : (phase : Phase P A) (left : ℕ) → OfReading phase (λ mode was. DoesRead shape.geometry left was w.devices.metadata w.commit got chosen) → Fits (Device (ReadMetadata left)) got
+  on_metadata (Stands t) left d = absurd d
+  on_metadata Gone left d = absurd d
+  on_metadata (Opens mode None) left d = absurd d
+  on_metadata (Opens mode (Some was)) left d = read_fits shape left was w.devices.metadata w.commit got chosen d
+
+  data_sync : (job : Job) (d : Dev) → Gives shape w job (Device (Sync d)) got read chosen → got ≡ Done
+  data_sync job Metadata g = (sync_fact P A shape w got read chosen job g).0
+  data_sync (Read x) Cache g = g.1
+  data_sync (Write x c) Cache g = g.1
+  data_sync Flush Cache g = g.1
+  data_sync (Open mode) Cache g = g.1
+  data_sync (Migrate migration block) Cache g = g.1
+  data_sync (Read x) Origin g = g.1
+  data_sync (Write x c) Origin g = g.1
+  data_sync Flush Origin g = g.1
+  data_sync (Open mode) Origin g = g.1
+  data_sync (Migrate migration block) Origin g = g.1
+
+  word_given : (job : Job) (step : CellStep) → Gives shape w job (Cell step) got read chosen → OfTarget w.phase (λ t. got ≡ got_of (result_of t.words step))
+  word_given (Read x) step g = g.1
+  word_given (Write x c) step g = g.1
+  word_given Flush step g = g.1
+  word_given (Open mode) step g = g.1
+  word_given (Migrate migration block) step g = g.1
+
+  end_given : (job : Job) → Gives shape w job (Desk EndCommit) got read chosen → got ≡ Done
+  end_given (Read x) g = g.1
+  end_given (Write x c) g = g.1
+  end_given Flush g = g.1
+  end_given (Open mode) g = g.1
+  end_given (Migrate migration block) g = g.1
+
+  map_fits : (desk : DeskState P) (b c : _) (got : Got) (ch : Chosen P A) → DoesMap b c desk got ch → Fits (Desk (Map b c)) got
+  map_fits desk b c Done (Asks new) d = tt
+  map_fits desk b c (GotRefused refusal) Plain d = subst (λ (r : Refusal). Fits (Desk (Map b c)) (GotRefused r)) (sym d) tt
+  map_fits desk b c got ch d = absurd d
+
+  map_given : (phase : Phase P A) (b c : _) → OfTarget phase (λ t. DoesMap b c t.desk got chosen) → Fits (Desk (Map b c)) got
+  map_given (Stands t) b c d = map_fits t.desk b c got chosen d
+  map_given Gone b c d = absurd d
+  map_given (Opens mode reading) b c d = absurd d
+
+  released_done : (job : Job) (b : _) → Gives shape w job (Desk (ReleaseOrder b)) got read chosen → got ≡ Done
+  released_done (Read x) b g = absurd g
+  released_done (Write x c) b g = absurd g
+  released_done Flush b g = absurd g
+  released_done (Open mode) b g = absurd g
+  released_done (Migrate migration block) b g = g.1
+
+  -- each result fits the step that gave it
+  pub gives_fits : (job : Job) (next : Want) → IsStep next → Gives shape w job next got read chosen → Fits next got
+  gives_fits job (Cell step) i g = on_words w.phase step (word_given job step g)
+  gives_fits (Read x) (Device (ReadExtent d e)) i g = done_fits (Device (ReadExtent d e)) got tt g.2
+  gives_fits (Write x c) (Device (ReadExtent d e)) i g = absurd g
+  gives_fits Flush (Device (ReadExtent d e)) i g = absurd g
+  gives_fits (Open mode) (Device (ReadExtent d e)) i g = absurd g
+  gives_fits (Migrate migration block) (Device (ReadExtent d e)) i g = done_fits (Device (ReadExtent d e)) got tt g.2
+  gives_fits (Read x) (Device (WriteExtent d e)) i g = absurd g
+  gives_fits (Write x c) (Device (WriteExtent d e)) i g = done_fits (Device (WriteExtent d e)) got tt g.2
+  gives_fits Flush (Device (WriteExtent d e)) i g = absurd g
+  gives_fits (Open mode) (Device (WriteExtent d e)) i g = absurd g
+  gives_fits (Migrate migration block) (Device (WriteExtent d e)) i g = done_fits (Device (WriteExtent d e)) got tt g.2
+  gives_fits job (Device (Sync d)) i g = done_fits (Device (Sync d)) got tt (data_sync job d g)
+  gives_fits job (Device (WriteNode number)) i g = done_fits (Device (WriteNode number)) got tt (node_fact P A shape w got read chosen job number g).0
+  gives_fits job (Device WriteRoot) i g = done_fits (Device WriteRoot) got tt (root_fact P A shape w got read chosen job g).0
+  gives_fits job (Device (ReadMetadata left)) i g = on_metadata w.phase left (metadata_fact P A shape w got read chosen job left g).1
+  gives_fits job (Desk (BeginCommit clean most)) i g = on_desk w.phase clean most (begin_fact P A shape w got read chosen job clean most g)
+  gives_fits job (Desk EndCommit) i g = done_fits (Desk EndCommit) got tt (end_given job g)
+  gives_fits job (Desk (Map b c)) i g = map_given w.phase b c (map_fact P A shape w got read chosen job b c g)
+  gives_fits job (Desk (Unmap b)) i g = absurd (no_unmap P A shape w got read chosen job b g)
+  gives_fits job (Desk (ReleaseOrder b)) i g = done_fits (Desk (ReleaseOrder b)) got tt (released_done job b g)
+  gives_fits job (End answer) i g = absurd i
