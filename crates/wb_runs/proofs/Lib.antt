@@ -14,3 +14,8 @@ mod Suiting
 mod Sealing
 mod Ordering
 mod Using
+mod Plans
+mod Refusing
+mod Covering
+mod SoFar
+mod Claims

@@ -200,6 +200,29 @@ AllOpeningsShowAllowed P A = InEveryRun P A (λ shape metadata hs. AllOpenRightl
 abbrev pub OpeningsRefuseByCause : (P A : Type 0) → Type 0
 OpeningsRefuseByCause P A = InEveryRun P A (λ shape metadata hs. AllRefuseByCause shape (start shape metadata) (formatted shape) hs)
 
+-- A read that is answered done was given each of its sectors exactly once, and a write that is has entered each of its own so.
+abbrev pub IsCovered : Doing → Job → Answer → Type 0
+IsCovered doing (Read extent) Finished = IsPermutation (sectors_in extent) (map (λ (r : Reading). r.sector) doing.readings)
+IsCovered doing (Write extent content) Finished = IsPermutation (sectors_in extent) (map (λ (p : Position). p.sector) doing.entered)
+IsCovered doing job answer = Unit {0}
+
+abbrev pub DoingCovers : Option (Option Doing) → Answer → Type 0
+DoingCovers (Some (Some doing)) answer = IsCovered doing doing.job answer
+DoingCovers doing answer = ⊥
+
+-- only an actor that is at something answers
+abbrev pub AnswerCovers : Notes → Event → What → Type 0
+AnswerCovers n (Step a) (Stepped (End answer) got) = DoingCovers (slice_get n.doings a) answer
+AnswerCovers n event what = Unit {0}
+
+-- so it is of every answer of a run
+abbrev pub AllCover : {P A : Type 0} → Shape → State P A → Notes → List (Happening P A) → Type 0
+AllCover shape w n [] = Unit {0}
+AllCover shape w n (h ∷ hs) = AnswerCovers n h.record_is.event h.record_is.what × AllCover shape (after_happening shape w h) (note_happening shape w n h) hs
+
+abbrev pub AnswersCoverTheirSectors : (P A : Type 0) → Type 0
+AnswersCoverTheirSectors P A = InEveryRun P A (λ shape metadata hs. AllCover shape (start shape metadata) (formatted shape) hs)
+
 -- an event is skipped only where it does not apply
 abbrev pub SkipsRightly : {P A : Type 0} → State P A → Event → What → Type 0
 SkipsRightly w event Skipped = DoesNotApply w event
@@ -209,6 +232,10 @@ SkipsRightly w event what = Unit {0}
 abbrev pub AllSkipRightly : {P A : Type 0} → Shape → State P A → List (Happening P A) → Type 0
 AllSkipRightly shape w [] = Unit {0}
 AllSkipRightly shape w (h ∷ hs) = SkipsRightly w h.record_is.event h.record_is.what × AllSkipRightly shape (after_happening shape w h) hs
+
+-- so it is in every run
+abbrev pub EventsSkipRightly : (P A : Type 0) → Type 0
+EventsSkipRightly P A = InEveryRun P A (λ shape metadata hs. AllSkipRightly shape (start shape metadata) hs)
 
 -- The whole promise of a run: no event is skipped that applies, each answer is right, and whatever a crash leaves after it is
 -- consistent.

@@ -1,0 +1,196 @@
+-- What each request has read or entered so far, and what it has still to move.
+use Rattle.std.proofs.Common.{◌≡◌, ◌∙◌, ◌==◌, ◌+◌, ℕ, suc, Bool, true, false, List, [], ◌∷◌, ◌++◌, None, refl, sym, ap, subst, arith, length, map, if◌then◌else◌}
+use Rattle.std.specs.Prelude.{IsPermutation}
+use Rattle.std.proofs.lemmas.List.{append_assoc, append-nil, map-append}
+use Rattle.wb_types.specs.declared.extent.Extent.{Extent}
+use Rattle.wb_types.specs.Extents.{rising, sectors_in, IsCutInto}
+use Rattle.wb_types.specs.declared.refusal.Refusal.TheVariants.{Failed, Busy, Worn}
+use Rattle.wb_disk.specs.Device.{Content as Bytes, History}
+use Rattle.wb_words.specs.declared.word.Word.TheVariants.{Cell as LockWord, Seal as SealWord, Number, Count as CountWord, Fail}
+use Rattle.wb_words.specs.declared.step.CellStep.{CellStep}
+use Rattle.wb_words.specs.declared.step.CellStep.TheVariants.{Look, Take, Release, Seal, Finish, Count, SetFailed, SetSuspended}
+use Rattle.wb_words.specs.declared.card.Card.{Card}
+use Rattle.wb_words.specs.SharedWords.{Words}
+use Rattle.wb_words.specs.Effects.{result_of}
+use Rattle.wb_tasks.specs.Tables.{BlockJob, BlockRange, TaskJob, OnBlock}
+use Rattle.wb_tasks.specs.Plan.{Plan, want, after, after_look, after_fault, after_refusal, after_more, first_step, may_take, exchange, is_worn, gives_back, onward, refused, got_of}
+use Rattle.wb_tasks.specs.Ready.{Has}
+use Rattle.wb_tasks.specs.declared.step.Answer.{Answer}
+use Rattle.wb_tasks.specs.declared.step.Answer.TheVariants.{Done as Finished}
+use Rattle.wb_tasks.specs.declared.step.DeviceStep.{DeviceStep}
+use Rattle.wb_tasks.specs.declared.step.DeviceStep.TheVariants.{Read as ReadExtent, Write as WriteExtent, Sync, ReadMetadata, WriteNode, WriteRoot}
+use Rattle.wb_tasks.specs.declared.step.DeskStep.TheVariants.{Map, Unmap, ReleaseOrder, BeginCommit, EndCommit}
+use Rattle.wb_tasks.specs.declared.step.Want.{Want}
+use Rattle.wb_tasks.specs.declared.step.Want.TheVariants.{Cell, Device, Desk, End}
+use Rattle.wb_tasks.specs.declared.step.Got.{Got}
+use Rattle.wb_tasks.specs.declared.step.Got.TheVariants.{Begin, Done, Word, Lost, Fault, Refused as GotRefused, Began, More}
+use Rattle.wb_runs.specs.States.{Shape}
+use Rattle.wb_runs.specs.Happenings.{block_range}
+use Rattle.wb_runs.specs.Clerk.{Reading, Position, Entering, enter, enter_each, readings_from}
+use Rattle.wb_runs.specs.Happenings.{extent_refusal}
+use Rattle.wb_runs.proofs.Plans.{plan_of}
+use Rattle.wb_runs.proofs.Covering.{Covers, home, homes, extents_left, cell_covers, read_covers, write_covers, read_moves, write_moves}
+
+-- ---- an answer once refused stays so
+
+look_was : (s : Plan) (v : Want) (x : ℕ) → (after_look s v x).answer ≡ Finished → s.answer ≡ Finished
+look_was s (Cell (Look Fail)) x f = by_test (x == 0) f
+  where
+    by_test : (t : Bool) → (if t then onward s else refused s [] Failed).answer ≡ Finished → s.answer ≡ Finished
+    by_test true f = f
+    by_test false f = absurd (cc)
+look_was s (Cell (Look (LockWord b))) x f = by_test (may_take s.job x) f
+  where
+    by_test : (t : Bool) → (if t then record s { steps = exchange s.job x } else refused s [] Busy).answer ≡ Finished → s.answer ≡ Finished
+    by_test true f = f
+    by_test false f = absurd (cc)
+look_was s (Cell (Look (Number b))) x f = by_test (is_worn s.job x) f
+  where
+    by_test : (t : Bool) → (if t then refused s (gives_back s.job) Worn else onward s).answer ≡ Finished → s.answer ≡ Finished
+    by_test true f = absurd (cc)
+    by_test false f = f
+look_was s (Cell (Look (SealWord b))) x f = f
+look_was s (Cell (Look (CountWord kind))) x f = f
+look_was s (Cell (Take access b seen)) x f = f
+look_was s (Cell (Release access b)) x f = f
+look_was s (Cell (Seal b place dirty)) x f = f
+look_was s (Cell (Finish b)) x f = f
+look_was s (Cell (Count kind)) x f = f
+look_was s (Cell SetFailed) x f = f
+look_was s (Cell SetSuspended) x f = f
+look_was s (Device step) x f = f
+look_was s (Desk step) x f = f
+look_was s (End answer) x f = f
+
+fault_was : (s : Plan) (v : Want) → (after_fault s v).answer ≡ Finished → s.answer ≡ Finished
+fault_was s (Device step) f = absurd (cc)
+fault_was s (Cell step) f = f
+fault_was s (Desk step) f = f
+fault_was s (End answer) f = f
+
+refusal_was : (s : Plan) (v : Want) (r : _) → (after_refusal s v r).answer ≡ Finished → s.answer ≡ Finished
+refusal_was s (Desk (BeginCommit clean most)) r f = absurd (cc)
+refusal_was s (Desk EndCommit) r f = absurd (cc)
+refusal_was s (Desk (Map b c)) r f = absurd (cc)
+refusal_was s (Desk (Unmap b)) r f = absurd (cc)
+refusal_was s (Desk (ReleaseOrder b)) r f = absurd (cc)
+refusal_was s (Device step) r f = absurd (cc)
+refusal_was s (Cell step) r f = absurd (cc)
+refusal_was s (End answer) r f = absurd (cc)
+
+more_was : (s : Plan) (v : Want) → (after_more s v).answer ≡ Finished → s.answer ≡ Finished
+more_was s (Device (ReadExtent d e)) f = f
+more_was s (Device (WriteExtent d e)) f = f
+more_was s (Device (Sync d)) f = f
+more_was s (Device (ReadMetadata k)) f = f
+more_was s (Device (WriteNode k)) f = f
+more_was s (Device WriteRoot) f = f
+more_was s (Cell step) f = f
+more_was s (Desk step) f = f
+more_was s (End answer) f = f
+
+pub answer_was : (s : Plan) (got : Got) → (after s got).answer ≡ Finished → s.answer ≡ Finished
+answer_was s Begin f = f
+answer_was s Done f = f
+answer_was s (Word x) f = look_was s (want s) x f
+answer_was s Lost f = absurd (cc)
+answer_was s Fault f = fault_was s (want s) f
+answer_was s (GotRefused r) f = refusal_was s (want s) r f
+answer_was s (Began nodes) f = f
+answer_was s More f = more_was s (want s) f
+
+-- ---- what is noted
+
+pub readings_sectors : (histories : List History) (at : ℕ) (read : List Bytes) → map (λ (r : Reading). r.sector) (readings_from histories at read) ≡ rising at (length read)
+readings_sectors histories at [] = refl
+readings_sectors histories at (c ∷ cs) = let next : suc at ≡ at + 1 = omega arith in ap (λ ss. at ∷ ss) (readings_sectors histories (suc at) cs ∙ ap (λ k. rising k (length cs)) next)
+
+pub entered_sectors : (content : Bytes) (sectors : List ℕ) (e : Entering) → map (λ (p : Position). p.sector) (enter_each content sectors e).entered ≡ map (λ (p : Position). p.sector) e.entered ++ sectors
+entered_sectors content [] e = sym (append-nil _)
+entered_sectors content (s ∷ ss) e =
+    entered_sectors content ss (enter content s e)
+    ∙ ap (λ xs. xs ++ ss) (map-append (λ (p : Position). p.sector) e.entered _)
+    ∙ append_assoc (map (λ (p : Position). p.sector) e.entered) (s ∷ []) ss
+
+-- ---- the claim of a request
+
+-- the sectors that it has moved, while it may be answered done, and those of the extents that are left are its own, each once
+pub record Moving (shape : Shape) (whole : Extent) (part_of : BlockRange → TaskJob) (plan : Plan) (moved : List ℕ) : Type 0 where
+  pub cut : List Extent
+  pub is_job : plan.job ≡ part_of (block_range shape whole cut)
+  pub cuts : IsCutInto whole cut
+  pub inside : extent_refusal shape whole ≡ None
+  pub covers : plan.answer ≡ Finished → Covers shape whole plan.steps moved
+
+module _ (shape : Shape) (whole : Extent) (part_of : BlockRange → BlockJob) (moves : (cut : List Extent) → IsCutInto whole cut → extent_refusal shape whole ≡ None → (seal : ℕ) → homes shape whole (extents_left (Rattle.wb_tasks.specs.Plan.work_of (OnBlock (part_of (block_range shape whole cut))) seal)) ≡ cut) where
+  abbrev Claims : Plan → List ℕ → Type 0
+  Claims plan moved = Moving shape whole (λ part. OnBlock (part_of part)) plan moved
+
+  -- a step on the words
+  pub words_on : (plan : Plan) (moved : List ℕ) (words : Words) (card : Card) (step : CellStep) → Claims plan moved → Cell step ≡ want plan → (job_was : (after plan (got_of (result_of words step))).job ≡ plan.job) →
+      ((cut : List Extent) → plan.job ≡ OnBlock (part_of (block_range shape whole cut)) → Has (part_of (block_range shape whole cut)) card plan.steps) → Claims (after plan (got_of (result_of words step))) moved
+  words_on plan moved words card step c e same has = record {
+    cut = c.cut;
+    is_job = same ∙ c.is_job;
+    cuts = c.cuts;
+    inside = c.inside;
+    covers = λ f. by_steps plan.steps plan.job refl refl e (has c.cut c.is_job) c.is_job (c.covers (answer_was plan (got_of (result_of words step)) f)) f;
+  }
+    where
+      own_part : BlockRange
+      own_part = block_range shape whole c.cut
+
+      by_steps : (steps : List Want) (job : TaskJob) → plan.steps ≡ steps → plan.job ≡ job → Cell step ≡ first_step steps plan.answer → Has (part_of own_part) card steps → job ≡ OnBlock (part_of own_part) → Covers shape whole steps moved →
+          (after plan (got_of (result_of words step))).answer ≡ Finished → Covers shape whole (after plan (got_of (result_of words step))).steps moved
+      by_steps [] job s j e h i v f = absurd (cc)
+      by_steps (w ∷ ws) job s j e h i v f =
+          let is : plan ≡ plan_of (OnBlock (part_of own_part)) (Cell step ∷ ws) plan.answer = (λ k. record { job = (j ∙ i) k; steps = (s ∙ ap (λ (x : Want). x ∷ ws) (sym e)) k; answer = plan.answer }) in
+          let h' = subst (λ (x : Want). Has (part_of own_part) card (x ∷ ws)) (sym e) h in
+          let v' = subst (λ (x : Want). Covers shape whole (x ∷ ws) moved) (sym e) v in
+          subst (λ (p : Plan). (after p (got_of (result_of words step))).answer ≡ Finished → Covers shape whole (after p (got_of (result_of words step))).steps moved) (sym is)
+          (cell_covers shape whole own_part c.cuts words card moved (part_of own_part) (moves c.cut c.cuts c.inside) step ws plan.answer h' v') f
+
+  -- an extent is read, or written
+  pub extent_on : (plan : Plan) (moved : List ℕ) (card : Card) (step : DeviceStep) (e : Extent) → Claims plan moved → Device step ≡ want plan → (after plan Done).job ≡ plan.job →
+      ((cut : List Extent) → plan.job ≡ OnBlock (part_of (block_range shape whole cut)) → Has (part_of (block_range shape whole cut)) card plan.steps) →
+      ((cut : List Extent) (cuts : IsCutInto whole cut) (ws : List Want) (answer : Answer) → Has (part_of (block_range shape whole cut)) card (Device step ∷ ws) → Covers shape whole (Device step ∷ ws) moved → answer ≡ Finished → Covers shape whole ws (moved ++ sectors_in (home shape whole e))) →
+      Claims (after plan Done) (moved ++ sectors_in (home shape whole e))
+  extent_on plan moved card step e c w same has goes = record {
+    cut = c.cut;
+    is_job = same ∙ c.is_job;
+    cuts = c.cuts;
+    inside = c.inside;
+    covers = λ f. by_steps plan.steps refl w (has c.cut c.is_job) (c.covers f) f;
+  }
+    where
+      by_steps : (steps : List Want) → plan.steps ≡ steps → Device step ≡ first_step steps plan.answer → Has (part_of (block_range shape whole c.cut)) card steps → Covers shape whole steps moved → plan.answer ≡ Finished → Covers shape whole (Rattle.wb_tasks.specs.Plan.later_steps plan.steps) (moved ++ sectors_in (home shape whole e))
+      by_steps [] s w h v f = absurd (cc)
+      by_steps (x ∷ ws) s w h v f =
+          let h' = subst (λ (y : Want). Has (part_of (block_range shape whole c.cut)) card (y ∷ ws)) (sym w) h in
+          let v' = subst (λ (y : Want). Covers shape whole (y ∷ ws) moved) (sym w) v in
+          subst (λ (xs : List Want). Covers shape whole (Rattle.wb_tasks.specs.Plan.later_steps xs) (moved ++ sectors_in (home shape whole e))) (sym s) (goes c.cut c.cuts ws plan.answer h' v' f)
+
+  -- after a fault it is not answered done
+  pub fault_on : (plan : Plan) (moved moved' : List ℕ) (step : DeviceStep) → Claims plan moved → Device step ≡ want plan → (after plan Fault).job ≡ plan.job → Claims (after plan Fault) moved'
+  fault_on plan moved moved' step c w same = record {
+    cut = c.cut;
+    is_job = same ∙ c.is_job;
+    cuts = c.cuts;
+    inside = c.inside;
+    covers = λ f. absurd (never (subst (λ (v : Want). (after_fault plan v).answer ≡ Finished) (sym w) f));
+  }
+    where
+      never : (after_fault plan (Device step)).answer ≡ Finished → ⊥
+      never f = absurd (cc)
+
+  -- and where it is, it has moved each sector once
+  pub answered_on : (plan : Plan) (moved : List ℕ) (card : Card) → Claims plan moved → End Finished ≡ want plan →
+      ((cut : List Extent) → plan.job ≡ OnBlock (part_of (block_range shape whole cut)) → Has (part_of (block_range shape whole cut)) card plan.steps) → IsPermutation (sectors_in whole) moved
+  answered_on plan moved card c w has = by_steps plan.steps plan.answer w (has c.cut c.is_job) c.covers
+    where
+      by_steps : (steps : List Want) (answer : Answer) → End Finished ≡ first_step steps answer → Has (part_of (block_range shape whole c.cut)) card steps → (answer ≡ Finished → Covers shape whole steps moved) → IsPermutation (sectors_in whole) moved
+      by_steps [] answer w h v = let done : answer ≡ Finished = cc in subst (λ (xs : List ℕ). IsPermutation (sectors_in whole) xs) (append-nil moved) (v done)
+      by_steps (End other ∷ ws) answer w h v = absurd h.1.1
+      by_steps (Cell step ∷ ws) answer w h v = absurd (cc)
+      by_steps (Device step ∷ ws) answer w h v = absurd (cc)
+      by_steps (Desk step ∷ ws) answer w h v = absurd (cc)
