@@ -32,6 +32,7 @@ use Rattle.wb_runs.specs.Headline.{MayRefuse}
 use Rattle.wb_runs.proofs.Lists.{set_other, set_there}
 use Rattle.wb_runs.proofs.Extents.{may_start, cut_within}
 use Rattle.wb_runs.proofs.Covering.{home, homes, extents_left, read_covers, write_covers, read_moves, write_moves}
+use Rattle.wb_runs.proofs.Opening.{OpenClaim}
 use Rattle.wb_runs.proofs.SoFar.{Moving, words_on, extent_on, fault_on, answered_on, readings_sectors, entered_sectors}
 
 abbrev pub sectors_read : Doing → List ℕ
@@ -43,7 +44,7 @@ sectors_entered doing = map (λ (p : Position). p.sector) doing.entered
 abbrev pub JobClaim : Shape → Job → Plan → Doing → Type 0
 JobClaim shape (Read extent) plan doing = Moving shape extent (λ part. OnBlock (ReadingPart part)) plan (sectors_read doing)
 JobClaim shape (Write extent content) plan doing = Moving shape extent (λ part. OnBlock (WritingPart part)) plan (sectors_entered doing)
-JobClaim shape (Open mode) plan doing = (refusal : Refusal) → plan.answer ≡ Refuses refusal → MayRefuse doing refusal
+JobClaim shape (Open mode) plan doing = OpenClaim plan doing
 JobClaim shape job plan doing = Unit {0}
 
 -- an actor that has a task is noted to be at its job

@@ -18,4 +18,6 @@ mod Plans
 mod Refusing
 mod Covering
 mod SoFar
+mod Opening
 mod Claims
+mod Linking
