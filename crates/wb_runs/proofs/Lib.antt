@@ -21,3 +21,4 @@ mod SoFar
 mod Opening
 mod Claims
 mod Linking
+mod LinkedRuns

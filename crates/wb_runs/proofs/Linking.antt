@@ -79,7 +79,7 @@ device_others shape n a doing (Read extent) (ReadExtent d e) Done read b o = set
 device_others shape n a doing (Write extent content) (WriteExtent d e) got read b o = set_other n.doings a b _ o
 device_others shape n a doing job step got read b o = refl
 
-others_stay : (shape : Shape) (shown : List Bytes) (n : Notes) (a : ℕ) (doing : Doing) (step : DeviceStep) (got : Got) (read : List Bytes) (b : ℕ) → b ≢ a →
+pub others_stay : (shape : Shape) (shown : List Bytes) (n : Notes) (a : ℕ) (doing : Doing) (step : DeviceStep) (got : Got) (read : List Bytes) (b : ℕ) → b ≢ a →
     slice_get (noted_step shape shown n a (Some (Some doing)) (Device step) got read).doings b ≡ slice_get n.doings b
 others_stay shape shown n a doing step got read b o =
     device_others shape (put n a (Some (failing doing step got))) a (failing doing step got) doing.job step got read b o ∙ set_other n.doings a b _ o

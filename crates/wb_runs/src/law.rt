@@ -1,6 +1,6 @@
 //! The theorems over all runs.
 
-ghost use Rattle.wb_runs.specs.Headline.{MetadataAreRead};
+ghost use Rattle.wb_runs.specs.Headline.{AnswersCoverTheirSectors, EventsSkipRightly, MetadataAreRead, OpeningsRefuseByCause};
 ghost use Rattle.wb_runs.specs.Holding.{WordsAreUsedRightly};
 
 /// In every run, over any policy: whatever a crash leaves of the metadata device, it represents a root of this geometry and a
@@ -13,4 +13,21 @@ pub fn metadata_are_read<P, A>()
 /// has none holds no block; and where a target stands its shared words keep their rule: a lock word counts its sharers and its lone owner.
 pub fn words_are_used_rightly<P, A>()
     ensures { WordsAreUsedRightly P A }
+{}
+
+/// In every run an event is skipped only where it does not apply.
+pub fn events_skip_rightly<P, A>()
+    ensures { EventsSkipRightly P A }
+{}
+
+/// In every run a read that is answered done was given each of its sectors exactly once, and a write that is has entered each of its
+/// sectors exactly once, wherever their block stands.
+pub fn answers_cover_their_sectors<P, A>()
+    ensures { AnswersCoverTheirSectors P A }
+{}
+
+/// In every run an opening is refused only where a step of it has failed, and then by that device, for want of memory, or since no
+/// generation is left; never for what the metadata hold.
+pub fn openings_refuse_by_cause<P, A>()
+    ensures { OpeningsRefuseByCause P A }
 {}

@@ -8,4 +8,7 @@ mod law;
 
 pub use event::{Event, Record, What};
 pub use job::Job;
-pub use law::{metadata_are_read, words_are_used_rightly};
+pub use law::{
+    answers_cover_their_sectors, events_skip_rightly, metadata_are_read, openings_refuse_by_cause,
+    words_are_used_rightly,
+};
