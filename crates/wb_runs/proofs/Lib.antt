@@ -22,3 +22,13 @@ mod Opening
 mod Claims
 mod Linking
 mod LinkedRuns
+mod Bare
+mod Beginning
+mod Readings
+mod Completing
+mod Rooted
+mod Shown
+mod FirstFlush
+mod FirstOpening
+mod FirstLife
+mod Surviving

@@ -225,17 +225,21 @@ orders_then orders (Desk (Map b c)) Done = dropped b orders
 orders_then orders (Desk (ReleaseOrder b)) Done = dropped b orders
 orders_then orders next got = orders
 
--- what was read last
-abbrev pub buffer_then : Devices (List History) → List Bytes → Want → Got → List Bytes
-buffer_then devices buffer (Device (ReadExtent device e)) Done = contents_at (device_in device devices) e
-buffer_then devices buffer next got = buffer
+abbrev pub job_of : Option (Job × Plan) → Job
+job_of None = Flush
+job_of (Some doing) = doing.0
+
+-- what a migration has read last
+abbrev pub buffer_then : Devices (List History) → List Bytes → Want → Got → Job → List Bytes
+buffer_then devices buffer (Device (ReadExtent device e)) Done (Migrate migration block) = contents_at (device_in device devices) e
+buffer_then devices buffer next got job = buffer
 
 abbrev pub actor_then : {P A : Type 0} → Shape → Phase P A → Devices (List History) → Actor → Want → Got → Actor
 actor_then shape phase devices x next got = record {
   task = task_then x.task next got;
   card = card_then shape phase x.card next;
   orders = orders_then x.orders next got;
-  buffer = buffer_then devices x.buffer next got;
+  buffer = buffer_then devices x.buffer next got (job_of x.task);
 }
 
 -- nobody has a task
@@ -243,10 +247,6 @@ abbrev pub all_resting : List Actor → List Actor
 all_resting actors = map (λ (x : Actor). resting) actors
 
 -- ---- what happens
-
-abbrev pub job_of : Option (Job × Plan) → Job
-job_of None = Flush
-job_of (Some doing) = doing.0
 
 -- an actor went on by a step, which changed its device so
 abbrev pub stepped : {P A : Type 0} → Shape → State P A → ℕ → Actor → Want → Got → Chosen P A → (DeviceStep → List History → List History) → State P A

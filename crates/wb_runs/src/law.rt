@@ -1,6 +1,7 @@
 //! The theorems over all runs.
 
 ghost use Rattle.wb_runs.specs.Headline.{AnswersCoverTheirSectors, EventsSkipRightly, MetadataAreRead, OpeningsRefuseByCause};
+ghost use Rattle.wb_runs.specs.Possible.{CanFlush, CanOpen, CanSurvive};
 ghost use Rattle.wb_runs.specs.Holding.{WordsAreUsedRightly};
 
 /// In every run, over any policy: whatever a crash leaves of the metadata device, it represents a root of this geometry and a
@@ -30,4 +31,20 @@ pub fn answers_cover_their_sectors<P, A>()
 /// generation is left; never for what the metadata hold.
 pub fn openings_refuse_by_cause<P, A>()
     ensures { OpeningsRefuseByCause P A }
+{}
+
+/// From any formatted metadata there is a run, over any policy, in which an opening is answered done and its target stands.
+pub fn a_target_can_be_opened<P, A>()
+    ensures { CanOpen P A }
+{}
+
+/// And one in which a flush over that target comes to its answer, which is done, its root written.
+pub fn a_flush_can_be_done<P, A>()
+    ensures { CanFlush P A }
+{}
+
+/// And over the smallest origin one that passes through a write that is answered done, a read that is given it, a flush that makes it
+/// durable, a write of something else that fails, a crash, and a second opening that is answered done and shows the first write.
+pub fn a_write_can_survive<P, A>()
+    ensures { CanSurvive P A }
 {}
