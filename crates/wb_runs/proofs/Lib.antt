@@ -1,27 +1,27 @@
-mod Images
-mod Underway
-mod Metadata
+pub mod Images
+pub mod Underway
+pub mod Metadata
 mod Spelling
-mod Desks
-mod Stepping
-mod Faltering
-mod Formatted
-mod MetadataRuns
-mod Lists
-mod Extents
+pub mod Desks
+pub mod Stepping
+pub mod Faltering
+pub mod Formatted
+pub mod MetadataRuns
+pub mod Lists
+pub mod Extents
 mod Ruling
 mod Suiting
 mod Sealing
-mod Ordering
-mod Using
+pub mod Ordering
+pub mod Using
 mod Plans
 mod Refusing
-mod Covering
+pub mod Covering
 mod SoFar
-mod Opening
-mod Claims
-mod Linking
-mod LinkedRuns
+pub mod Opening
+pub mod Claims
+pub mod Linking
+pub mod LinkedRuns
 mod Bare
 mod Beginning
 mod Readings
@@ -32,3 +32,4 @@ mod FirstFlush
 mod FirstOpening
 mod FirstLife
 mod Surviving
+mod FirstPromotion

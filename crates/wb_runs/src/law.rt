@@ -1,7 +1,7 @@
 //! The theorems over all runs.
 
 ghost use Rattle.wb_runs.specs.Headline.{AnswersCoverTheirSectors, EventsSkipRightly, MetadataAreRead, OpeningsRefuseByCause};
-ghost use Rattle.wb_runs.specs.Possible.{CanFlush, CanOpen, CanSurvive};
+ghost use Rattle.wb_runs.specs.Possible.{CanFlush, CanOpen, CanPromote, CanSurvive};
 ghost use Rattle.wb_runs.specs.Holding.{WordsAreUsedRightly};
 
 /// In every run, over any policy: whatever a crash leaves of the metadata device, it represents a root of this geometry and a
@@ -47,4 +47,10 @@ pub fn a_flush_can_be_done<P, A>()
 /// durable, a write of something else that fails, a crash, and a second opening that is answered done and shows the first write.
 pub fn a_write_can_survive<P, A>()
     ensures { CanSurvive P A }
+{}
+
+/// And over the smallest origin one in which, after an opening, a promotion copies its block, maps it and is about to be answered done: the
+/// block stands in the cache, and its order is over.
+pub fn a_block_can_be_promoted<P, A>()
+    ensures { CanPromote P A }
 {}
