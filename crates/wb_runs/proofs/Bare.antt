@@ -1,13 +1,9 @@
 -- A tree in which nothing is cached has no node, so none of its images has one.
-use Rattle.std.proofs.Common.{◌≡◌, ◌∙◌, ◌*◌, ◌^◌, ℕ, zero, suc, false, List, [], ◌∷◌, Option, None, refl, sym, subst, map, replicate, take, drop, is_some}
+use Rattle.std.proofs.Common.{◌≡◌, ◌*◌, ◌^◌, ℕ, zero, suc, false, List, [], Option, None, refl, sym, subst, replicate, take, drop, is_some}
 use Rattle.std.specs.List.{list_any}
 use Rattle.wb_types.specs.declared.entry.Entry.{Entry}
 use Rattle.wb_types.specs.declared.geometry.Geometry.{Geometry}
-use Rattle.wb_types.specs.declared.number.Place.{Place}
-use Rattle.wb_format.specs.declared.node.Node.{Node}
-use Rattle.wb_tree.specs.declared.image.Image.{Image}
 use Rattle.wb_tree.specs.Mapping.{Mapping, exists, changed}
-use Rattle.wb_tree.specs.Images.{ImagePlan, IsImage, levels_of, name_of}
 use Rattle.wb_tree.proofs.Images.PlanSteps.{shut_below}
 use Rattle.wb_disk.specs.Device.{History}
 use Rattle.wb_desk.specs.Desks.{DeskState}

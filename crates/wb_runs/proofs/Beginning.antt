@@ -1,6 +1,6 @@
 -- Where a desk may begin a commit there is an image to begin it with: the tree has no node, and the image none to write.
-use Rattle.std.proofs.Common.{Global, ◌≡◌, ◌∙◌, ◌≤◌, ◌+◌, inl, inr, ℕ, zero, suc, false, List, [], ◌∷◌, Option, Some, None, refl, sym, ap, subst, arith, length, map, slice_index_or, slice_get, replicate}
-use Rattle.std.proofs.lemmas.List.{length-map, length-replicate}
+use Rattle.std.proofs.Common.{Global, ◌≡◌, ◌∙◌, ◌≤◌, ◌+◌, inl, ℕ, zero, suc, false, List, [], ◌∷◌, Option, Some, None, refl, sym, ap, subst, arith, length, map, slice_index_or, slice_get, replicate}
+use Rattle.std.proofs.lemmas.List.{length-map}
 use Rattle.std.proofs.lemmas.List.Elements.{All-nil}
 use Rattle.wb_types.specs.declared.entry.Entry.{Entry}
 use Rattle.wb_types.specs.declared.geometry.Geometry.{Geometry}
@@ -11,22 +11,17 @@ use Rattle.wb_format.specs.declared.root.Root.{Root}
 use Rattle.wb_format.specs.declared.version.Version.TheVariants.{One}
 use Rattle.wb_format.specs.Sizes.{IsTop}
 use Rattle.wb_meta.specs.Placing.{HavePlaces}
-use Rattle.wb_space.specs.Places.{noted, unused, place_count}
 use Rattle.wb_tree.specs.declared.image.Image.{Image}
 use Rattle.wb_tree.specs.declared.placed.PlacedNode.{PlacedNode}
 use Rattle.wb_tree.specs.Mapping.{Mapping, IsMapping, IsSound, place_in, place_of, used_places}
 use Rattle.wb_tree.specs.Images.{AreUsed, ImagePlan, IsImage, levels_of}
 use Rattle.wb_meta.specs.declared.commit_steps.CommitSteps.TheVariants.{NodesWritten}
-use Rattle.wb_types.specs.Limits.{node_count}
-use Rattle.wb_desk.specs.InUse.{AreFlagged}
 use Rattle.wb_desk.specs.Desks.{DeskState}
-use Rattle.wb_desk.specs.Commits.{MayBegin, IsOnUnused, next_plan}
-use Rattle.wb_desk.proofs.FreePlaces.{unused_places}
+use Rattle.wb_desk.specs.Commits.{MayBegin, next_plan}
 use Rattle.wb_devices.specs.declared.running.RunningCommit.{RunningCommit}
 use Rattle.wb_tasks.specs.declared.step.Got.TheVariants.{Began}
 use denote.RawPtr.{null_ptr}
 use Rattle.wb_runs.specs.Happenings.{Commits, DoesBegin}
-use Rattle.wb_runs.specs.Progress.{CanBegin}
 use Rattle.wb_desk.proofs.Committing.{on_unused}
 use Rattle.wb_runs.proofs.Bare.{BareDesk, no_entries, nothing_exists, nothing_changed}
 use Rattle.wb_runs.proofs.Metadata.{unknowing}

@@ -1,12 +1,11 @@
 -- What is claimed of each actor that is at something, and of what is noted of it: a request has moved some of its sectors, and the
 -- others are left to it; and where an opening is to be refused there is a cause.
-use Rattle.std.proofs.Common.{◌≡◌, ◌≢◌, ◌∙◌, ℕ, List, [], ◌∷◌, ◌++◌, Option, Some, None, inl, inr, refl, sym, ap, subst, length, map, slice_get, slice_set}
+use Rattle.std.proofs.Common.{◌≡◌, ◌≢◌, ◌∙◌, ℕ, List, ◌++◌, Option, Some, None, inl, inr, refl, sym, ap, subst, length, map, slice_get, slice_set}
 use Rattle.std.specs.Prelude.{IsPermutation}
 use Rattle.std.proofs.lemmas.Bool.{cases_eq}
 use Rattle.std.proofs.lemmas.List.{map-append}
 use Rattle.wb_types.specs.declared.extent.Extent.{Extent}
 use Rattle.wb_types.specs.Extents.{rising, sectors_in, IsCutInto}
-use Rattle.wb_types.specs.declared.refusal.Refusal.{Refusal}
 use Rattle.wb_types.specs.declared.mode.Dev.{Dev}
 use Rattle.wb_disk.specs.Device.{Content as Bytes, History}
 use Rattle.wb_words.specs.SharedWords.{Words}
@@ -16,19 +15,16 @@ use Rattle.wb_tasks.specs.Tables.{BlockJob, Reading as ReadingPart, Writing as W
 use Rattle.wb_tasks.specs.Plan.{Plan, want, after, got_of, work_of}
 use Rattle.wb_tasks.specs.Ready.{Has, Suits, SuitsJob}
 use Rattle.wb_tasks.proofs.Readiness.{job_stays}
-use Rattle.wb_tasks.specs.declared.step.Answer.{Answer}
-use Rattle.wb_tasks.specs.declared.step.Answer.TheVariants.{Done as Finished, Refused as Refuses}
+use Rattle.wb_tasks.specs.declared.step.Answer.TheVariants.{Done as Finished}
 use Rattle.wb_tasks.specs.declared.step.DeviceStep.{DeviceStep}
 use Rattle.wb_tasks.specs.declared.step.DeviceStep.TheVariants.{Read as ReadExtent, Write as WriteExtent}
-use Rattle.wb_tasks.specs.declared.step.Want.{Want}
 use Rattle.wb_tasks.specs.declared.step.Want.TheVariants.{Cell, Device, End}
 use Rattle.wb_tasks.specs.declared.step.Got.TheVariants.{Done, Fault}
 use Rattle.wb_runs.specs.declared.job.Job.{Job}
-use Rattle.wb_runs.specs.declared.job.Job.TheVariants.{Read, Write, Flush, Open, Migrate}
+use Rattle.wb_runs.specs.declared.job.Job.TheVariants.{Read, Write, Open}
 use Rattle.wb_runs.specs.States.{Shape, Actor}
 use Rattle.wb_runs.specs.Happenings.{block_range, extent_refusal}
-use Rattle.wb_runs.specs.Clerk.{Notes, Doing, Reading, Position, Entering, enter_each, entering, readings_from, sector_for}
-use Rattle.wb_runs.specs.Headline.{MayRefuse}
+use Rattle.wb_runs.specs.Clerk.{Doing, Reading, Position, Entering, enter_each, readings_from, sector_for}
 use Rattle.wb_runs.proofs.Lists.{set_other, set_there}
 use Rattle.wb_runs.proofs.Extents.{may_start, cut_within}
 use Rattle.wb_runs.proofs.Covering.{home, homes, extents_left, read_covers, write_covers, read_moves, write_moves}

@@ -1,19 +1,16 @@
 -- A reading of metadata whose root names no tree, as that of formatted ones does, can be completed: nothing is cached.
-use Rattle.std.proofs.Common.{Global, ◌≡◌, ◌∙◌, ◌<◌, ◌+◌, ◌^◌, ℕ, List, [], Option, Some, None, Ok, refl, sym, ap, subst, arith, length, map, inl, replicate}
+use Rattle.std.proofs.Common.{Global, ◌≡◌, ◌∙◌, ℕ, List, [], Option, Some, None, Ok, refl, sym, ap, subst, arith, length, map, inl}
 use Rattle.std.specs.List.{IsDistinct}
 use Rattle.std.proofs.lemmas.List.{length-replicate}
 use Rattle.wb_types.specs.declared.geometry.Geometry.{Geometry}
 use Rattle.wb_types.specs.declared.number.Place.{Place}
-use Rattle.wb_disk.specs.Device.{Content as Bytes, History, newest, synced}
-use Rattle.wb_disk.specs.Crashes.{AfterEveryCrash}
-use Rattle.wb_disk.proofs.Leaving.{read-left, left-synced}
+use Rattle.wb_disk.specs.Device.{Content as Bytes, History, newest}
+use Rattle.wb_disk.proofs.Leaving.{read-left}
 use Rattle.wb_format.specs.declared.root.Root.{Root}
 use Rattle.wb_tree.specs.Mapping.{IsSound, empty_mapping}
 use Rattle.wb_tree.specs.Reading.{Nodes, IsNewestRoot, nothing_found, tree_read, top_read}
 use Rattle.wb_tree.specs.Loaded.{IsLoaded}
-use Rattle.wb_meta.specs.Formats.{IsFormatted}
 use Rattle.wb_meta.specs.Openings.{reopened}
-use Rattle.wb_meta.specs.Representing.{Represents}
 use Rattle.wb_meta.specs.Slots.{IsInSlot}
 use Rattle.wb_meta.specs.States.{RepresentsState}
 use Rattle.wb_meta.specs.Reads.{FitsDevice, ReadingGoesOn}

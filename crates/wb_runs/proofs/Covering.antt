@@ -187,4 +187,3 @@ module _ (shape : Shape) (whole : Extent) (part : BlockRange) (cut : IsCutInto w
   pub write_covers : (job : BlockJob) (d : _) (e : Extent) (ws : List Want) (answer : Answer) → Has job card (Device (WriteExtent d e) ∷ ws) → Covers shape whole (Device (WriteExtent d e) ∷ ws) moved → answer ≡ Finished → Covers shape whole ws (moved ++ sectors_in (home shape whole e))
   write_covers job d e ws answer h c f = begun_covers shape whole ws (moved ++ sectors_in (home shape whole e)) (rest_begun job h.1.0 ws h.1.1.1)
       (subst (λ (xs : List ℕ). IsPermutation (sectors_in whole) xs) (sym (append_assoc moved (sectors_in (home shape whole e)) (sectors_of (homes shape whole (extents_left ws))))) c)
-

@@ -1,6 +1,6 @@
 -- What is known of a desk and its metadata stays known when an order is given, given up, or ends since its block was mapped.
-use Rattle.std.proofs.Common.{◌≡◌, ◌∙◌, ◌⊎◌, inl, inr, ℕ, zero, suc, true, false, List, [], ◌∷◌, Option, Some, None, refl, sym, ap, subst, slice_get, slice_set, get_or, length}
-use Rattle.std.specs.Prelude.{◌+◌, ◌≤◌}
+use Rattle.std.proofs.Common.{◌≡◌, ◌∙◌, inl, inr, ℕ, zero, suc, false, List, [], ◌∷◌, Option, Some, None, refl, sym, ap, subst, slice_set}
+use Rattle.std.specs.Prelude.{◌+◌}
 use Rattle.std.proofs.lemmas.Bool.{cases_eq, cases_Bool}
 use Rattle.wb_runs.proofs.Spelling.{Decided}
 use Rattle.wb_types.specs.declared.geometry.Geometry.{Geometry}
@@ -14,9 +14,9 @@ use Rattle.wb_meta.proofs.Round.{stored_edited}
 use Rattle.wb_policy.specs.declared.order.Order.{Order}
 use Rattle.wb_policy.specs.declared.order.Order.TheVariants.{Promote, Replace, Demote, Clean}
 use Rattle.wb_orders.specs.declared.live_order.LiveOrder.{LiveOrder}
-use Rattle.wb_orders.specs.Orders.{Orders, AreOrders, order_at, without_order, with_order, unmarked}
+use Rattle.wb_orders.specs.Orders.{Orders, AreOrders, order_at, without_order, unmarked}
 use Rattle.wb_orders.proofs.Calls.{given_kept, over_kept}
-use Rattle.wb_desk.specs.Desks.{DeskState, DeskInvariant, MayReserve, IsLive, sectors_asked}
+use Rattle.wb_desk.specs.Desks.{DeskState, MayReserve, IsLive, sectors_asked}
 use Rattle.wb_desk.specs.Calls.{reserved, released}
 use Rattle.wb_desk.specs.Entries.{MayMap, entry_of, mapped}
 use Rattle.wb_desk.proofs.Kept.{reserved_kept, released_kept}
@@ -24,7 +24,7 @@ use Rattle.wb_desk.proofs.Entering.{mapped_kept}
 use Rattle.wb_stage.specs.Asking.{IsGivenUp}
 use Rattle.wb_devices.specs.declared.running.RunningCommit.{RunningCommit}
 use Rattle.wb_runs.proofs.Images.{Images}
-use Rattle.wb_runs.proofs.Metadata.{unknowing, Quiet, Leading, Broken, Standing, IsDesk, AtDesk}
+use Rattle.wb_runs.proofs.Metadata.{unknowing, Standing, AtDesk}
 
 -- the order of a cache block is over
 orders_over : (orders : Orders) (c : CBlock) (o : LiveOrder) → AreOrders orders → order_at orders.slots c.0 ≡ Some o → o.waits ≡ false → AreOrders (without_order orders c)
@@ -48,8 +48,8 @@ one_order (Replace v b c) (Replace w x k) = elim (cases_eq v.0 w.0) [
   ]
   | inr n ↦ inr (λ h. n (cc))
 ]
-one_order (Demote b) (Demote x) = elim (cases_eq b.0 x.0) [ | inl e ↦ inl (ap (λ (i : ℕ). Demote (record { 0 = i })) e) | inr n ↦ inr (λ h. n (cc)) ]
-one_order (Clean b) (Clean x) = elim (cases_eq b.0 x.0) [ | inl e ↦ inl (ap (λ (i : ℕ). Clean (record { 0 = i })) e) | inr n ↦ inr (λ h. n (cc)) ]
+one_order (Demote b) (Demote x) = elim (cases_eq b.0 x.0) [ inl e ↦ inl (ap (λ (i : ℕ). Demote (record { 0 = i })) e) | inr n ↦ inr (λ h. n (cc)) ]
+one_order (Clean b) (Clean x) = elim (cases_eq b.0 x.0) [ inl e ↦ inl (ap (λ (i : ℕ). Clean (record { 0 = i })) e) | inr n ↦ inr (λ h. n (cc)) ]
 one_order (Promote b c) (Replace w x k) = inr (λ h. absurd (cc))
 one_order (Promote b c) (Demote x) = inr (λ h. absurd (cc))
 one_order (Promote b c) (Clean x) = inr (λ h. absurd (cc))
@@ -70,7 +70,7 @@ pub record IsThe (order : Order) (o : LiveOrder) : Type 0 where
 
 is_the : (order : Order) (o : LiveOrder) → Decided (IsThe order o)
 is_the order o = elim (one_order o.order order) [
-  | inl s ↦ elim (cases_Bool o.waits) [ | inl w ↦ inr (λ i. absurd (let e = i.taken in cc)) | inr t ↦ inl (record { same = s; taken = t }) ]
+  | inl s ↦ elim (cases_Bool o.waits) [ inl w ↦ inr (λ i. absurd (let e = i.taken in cc)) | inr t ↦ inl (record { same = s; taken = t }) ]
   | inr n ↦ inr (λ i. n i.same)
 ]
 

@@ -1,18 +1,16 @@
 -- A run in which a promotion is answered done, its block in the cache.
-use Rattle.std.proofs.Common.{Global, ◌≡◌, ◌≢◌, ◌∙◌, ◌≤◌, ◌+◌, ◌*◌, ◌^◌, inl, inr, ℕ, zero, suc, Bool, true, false, List, [], ◌∷◌, ◌++◌, Option, Some, None, refl, sym, ap, subst, arith, length, slice_get, slice_set, get_or, map, replicate, is_some}
-use Rattle.std.specs.Option.{option_map}
+use Rattle.std.proofs.Common.{Global, ◌≡◌, ◌≢◌, ◌∙◌, ◌≤◌, ◌*◌, inl, inr, ℕ, zero, suc, false, List, [], ◌∷◌, ◌++◌, Option, Some, None, refl, sym, ap, subst, arith, length, slice_get, slice_set, get_or, map, replicate, is_some}
 use Rattle.std.proofs.lemmas.List.{length-map, length-replicate}
 use Rattle.std.proofs.lemmas.List.Elements.{All-cons, All-nil}
 use Rattle.std.proofs.lemmas.List.Sorted.{IsPermutation-refl}
 use Rattle.wb_types.specs.Limits.{IsWithinLimits}
 use Rattle.wb_types.specs.declared.entry.Entry.{Entry}
 use Rattle.wb_types.specs.declared.extent.Extent.{Extent}
-use Rattle.wb_types.specs.declared.geometry.Geometry.{Geometry}
 use Rattle.wb_types.specs.Extents.{IsCutInto, sectors_of}
 use Rattle.wb_types.specs.declared.mode.Dev.TheVariants.{Cache, Origin}
 use Rattle.wb_disk.specs.Device.{Content as Bytes, History, synced}
 use Rattle.wb_disk.specs.Memory.{blank}
-use Rattle.wb_words.specs.SharedWords.{Words, fresh_words}
+use Rattle.wb_words.specs.SharedWords.{fresh_words}
 use Rattle.wb_words.specs.Cards.{blank_card}
 use Rattle.wb_words.specs.declared.word.Access.TheVariants.{Owned}
 use Rattle.wb_words.specs.declared.word.Word.TheVariants.{Cell as LockWord, Seal as SealWord, Number, Fail}
@@ -27,21 +25,17 @@ use Rattle.wb_meta.specs.declared.read_steps.ReadSteps.{ReadSteps}
 use Rattle.wb_meta.specs.declared.read_steps.ReadSteps.TheVariants.{Begun, FirstSlotRead, RootFound, Done as AllRead}
 use Rattle.wb_policy.specs.declared.order.Order.{Order}
 use Rattle.wb_policy.specs.declared.order.Order.TheVariants.{Promote as PromoteOrder}
-use Rattle.wb_space.specs.declared.block.Block.{Block}
 use Rattle.wb_space.specs.declared.block.Block.TheVariants.{Free, Reserved}
 use Rattle.wb_orders.specs.declared.live_order.LiveOrder.{LiveOrder}
 use Rattle.wb_orders.specs.Orders.{order_at, cost_of}
 use Rattle.wb_desk.specs.Desks.{DeskState, MayReserve}
 use Rattle.wb_desk.specs.Calls.{reserved}
 use Rattle.wb_desk.specs.Entries.{MayMap, entry_of, mapped}
-use Rattle.wb_tasks.specs.Tables.{whole_block}
-use Rattle.wb_tasks.specs.Plan.{want}
 use Rattle.wb_tasks.specs.declared.step.Migration.TheVariants.{Promote}
-use Rattle.wb_tasks.specs.declared.step.Answer.TheVariants.{Done as Finished}
 use Rattle.wb_tasks.specs.declared.step.DeviceStep.TheVariants.{Read as ReadExtent, Write as WriteExtent}
 use Rattle.wb_tasks.specs.declared.step.DeskStep.TheVariants.{Map}
 use Rattle.wb_tasks.specs.declared.step.Want.{Want}
-use Rattle.wb_tasks.specs.declared.step.Want.TheVariants.{Cell, Device, Desk, End}
+use Rattle.wb_tasks.specs.declared.step.Want.TheVariants.{Cell, Device, Desk}
 use Rattle.wb_tasks.specs.declared.step.Got.{Got}
 use Rattle.wb_tasks.specs.declared.step.Got.TheVariants.{Done, Word}
 use Rattle.wb_runs.specs.declared.job.Job.{Job}
@@ -51,7 +45,7 @@ use Rattle.wb_runs.specs.declared.event.What.TheVariants.{Started, Stepped}
 use Rattle.wb_runs.specs.States.{Shape, State, Actor, Stands, resting, OfTarget, cache_sector_count, start}
 use Rattle.wb_runs.specs.Happenings.{Chosen, Plain, Orders, Asks, Happening}
 use Rattle.wb_runs.specs.Effects.{after_all, all_resting, IsRun}
-use Rattle.wb_runs.specs.Headline.{place_of, cached_from}
+use Rattle.wb_runs.specs.Headline.{place_of}
 use Rattle.wb_runs.specs.Possible.{one_block, first_block, first_cache_block, AboutToAnswer, Promotes, CanPromote}
 use Rattle.wb_runs.proofs.Lists.{set_there}
 use Rattle.wb_runs.proofs.Formatted.{HasNoTree, formatted_none}

@@ -1,5 +1,5 @@
 -- Metadata whose root names no tree, as that of formatted ones does.
-use Rattle.std.proofs.Common.{◌≡◌, ◌<◌, ◌+◌, ◌^◌, ℕ, zero, suc, true, List, Option, None, refl, sym, ap, subst, arith, length, map, replicate, is_some}
+use Rattle.std.proofs.Common.{◌≡◌, ◌<◌, ◌+◌, ◌^◌, ℕ, zero, suc, List, Option, None, refl, sym, subst, arith, length, map, replicate, is_some}
 use Rattle.std.specs.List.{count_by}
 use Rattle.wb_types.specs.declared.entry.Entry.{Entry}
 use Rattle.wb_types.specs.declared.geometry.Geometry.{Geometry}

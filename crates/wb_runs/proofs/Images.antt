@@ -1,5 +1,5 @@
 -- Which states the metadata of a run are read as, and what becomes of them.
-use Rattle.std.proofs.Common.{◌≡◌, Bool, true, false, if◌then◌else◌, List, Option, Some, None, is_some, refl}
+use Rattle.std.proofs.Common.{◌≡◌, Bool, true, false, if◌then◌else◌, Option, Some, None, is_some, refl}
 use Rattle.std.specs.List.{count_by}
 use Rattle.wb_meta.specs.Representing.{Stored}
 

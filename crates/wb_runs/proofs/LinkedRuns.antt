@@ -1,5 +1,5 @@
 -- Every run is linked: so whoever answers done has moved each of its sectors once, and an opening that is refused has a cause.
-use Rattle.std.proofs.Common.{◌≡◌, ◌≢◌, ◌∙◌, inl, inr, ℕ, zero, suc, List, [], ◌∷◌, Option, Some, None, refl, sym, ap, subst, arith, length, slice_get, slice_set, map, replicate}
+use Rattle.std.proofs.Common.{◌≡◌, ◌≢◌, ◌∙◌, inl, inr, ℕ, zero, suc, List, [], ◌∷◌, Option, Some, None, refl, sym, ap, subst, arith, length, slice_get, slice_set, replicate}
 use Rattle.std.proofs.lemmas.Bool.{cases_eq}
 use Rattle.std.proofs.lemmas.Option.{slice_get_within}
 use Rattle.wb_types.specs.declared.mode.Mode.{Mode}
@@ -10,7 +10,7 @@ use Rattle.wb_disk.specs.Failing.{lands}
 use Rattle.wb_meta.specs.Formats.{IsFormatted}
 use Rattle.wb_meta.specs.declared.read_steps.ReadSteps.{ReadSteps}
 use Rattle.wb_meta.specs.declared.read_steps.ReadSteps.TheVariants.{Begun, FirstSlotRead, RootFound, Done as AllRead}
-use Rattle.wb_tasks.specs.Plan.{Plan, want, after, table, device_of}
+use Rattle.wb_tasks.specs.Plan.{Plan, want, table, device_of}
 use Rattle.wb_tasks.specs.Ready.{Suits}
 use Rattle.wb_tasks.specs.declared.step.Migration.TheVariants.{Promote, Demote, Clean}
 use Rattle.wb_tasks.specs.declared.step.Answer.{Answer}
@@ -28,12 +28,12 @@ use Rattle.wb_runs.specs.declared.event.What.{What}
 use Rattle.wb_runs.specs.declared.event.What.TheVariants.{Skipped, Refused, Started, Stepped, Stopped}
 use Rattle.wb_runs.specs.States.{Shape, State, Actor, Phase, Stands, Gone, Opens, OfTarget, resting, start}
 use Rattle.wb_runs.specs.Happenings.{Chosen, Plain, Cut, Orders, Begins, Reaches, Puts, Commits, Asks, Opened, Happening, OfSome, Gives, MayFailAt, Falters, DoesNotApply, DoesOpen, StartGives, MayBe, IsOutOfPlace, task_job}
-use Rattle.wb_runs.specs.Effects.{phase_then, phase_opened, phase_given, task_then, actor_then, stepped, with_actor, cleared, given, started, job_of, cut_of, device_done, device_failed, all_resting, after_what, after_happening, after_all, IsRun}
-use Rattle.wb_runs.specs.Clerk.{Notes, Doing, noted_step, noted_what, finished_note, begins, begun, nobody, put, formatted}
+use Rattle.wb_runs.specs.Effects.{phase_then, phase_opened, phase_given, task_then, actor_then, stepped, with_actor, cleared, given, job_of, cut_of, device_done, device_failed, all_resting, after_what, after_happening, after_all, IsRun}
+use Rattle.wb_runs.specs.Clerk.{Notes, Doing, noted_step, noted_what, finished_note, begun, nobody, put, formatted}
 use Rattle.wb_runs.specs.Headline.{RefusedBy, RefusedRightly, RefusesByCause, AllRefuseByCause, IsCovered, DoingCovers, AnswerCovers, AllCover, SkipsRightly, AllSkipRightly, note_happening, noted}
 use Rattle.wb_runs.specs.Holding.{TaskSuits}
 use Rattle.wb_runs.proofs.Lists.{set_other, set_there, replicated, replicated_there, rests, there_rests, free}
-use Rattle.wb_runs.proofs.MetadataRuns.{Known, IsKnown, known_after, known_at_start}
+use Rattle.wb_runs.proofs.MetadataRuns.{IsKnown, known_after, known_at_start}
 use Rattle.wb_runs.proofs.Opening.{open_refuses}
 use Rattle.wb_runs.proofs.Claims.{JobClaim, NotedClaim, TaskClaim, AllClaim, Noted, claim_set, noted_of, read_ends, write_ends}
 use Rattle.wb_runs.proofs.Ruling.{each_set}

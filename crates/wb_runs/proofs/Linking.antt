@@ -1,28 +1,21 @@
 -- Every run keeps what is claimed of each actor and of what is noted of it, whoever takes a step.
-use Rattle.std.proofs.Common.{◌≡◌, ◌≢◌, ◌∙◌, inl, inr, ℕ, zero, suc, List, [], ◌∷◌, Option, Some, None, refl, sym, ap, subst, arith, length, slice_get, slice_set, map, replicate}
-use Rattle.std.proofs.lemmas.Bool.{cases_eq}
-use Rattle.std.proofs.lemmas.Option.{slice_get_within}
+use Rattle.std.proofs.Common.{◌≡◌, ◌≢◌, ◌∙◌, ℕ, List, Option, Some, None, refl, sym, subst, length, slice_get, slice_set}
 use Rattle.wb_types.specs.declared.extent.Extent.{Extent}
 use Rattle.wb_types.specs.declared.mode.Mode.{Mode}
 use Rattle.wb_types.specs.declared.mode.Dev.{Dev}
 use Rattle.wb_types.specs.declared.mode.Dev.TheVariants.{Metadata, Cache, Origin}
 use Rattle.wb_types.specs.declared.refusal.Refusal.{Refusal}
-use Rattle.wb_disk.specs.Device.{Content as Bytes, History}
+use Rattle.wb_disk.specs.Device.{Content as Bytes}
 use Rattle.wb_words.specs.SharedWords.{Words}
 use Rattle.wb_words.specs.declared.step.CellStep.{CellStep}
 use Rattle.wb_words.specs.Effects.{result_of}
-use Rattle.wb_meta.specs.declared.read_steps.ReadSteps.{ReadSteps}
-use Rattle.wb_meta.specs.declared.read_steps.ReadSteps.TheVariants.{Begun, FirstSlotRead, RootFound, Done as AllRead}
 use Rattle.wb_tasks.specs.Tables.{BlockJob, Reading as ReadingPart, Writing as WritingPart, OnBlock, TaskJob}
 use Rattle.wb_tasks.specs.Plan.{Plan, want, after, got_of}
-use Rattle.wb_tasks.specs.Ready.{Suits, HoldsBlocks, IsOwnStep}
+use Rattle.wb_tasks.specs.Ready.{Suits, IsOwnStep}
 use Rattle.wb_tasks.proofs.Readiness.{is_own_step}
-use Rattle.wb_tasks.specs.declared.step.Answer.{Answer}
-use Rattle.wb_tasks.specs.declared.step.Answer.TheVariants.{Done as Finished, Refused as Refuses}
 use Rattle.wb_tasks.specs.declared.step.DeviceStep.{DeviceStep}
 use Rattle.wb_tasks.specs.declared.step.DeviceStep.TheVariants.{Read as ReadExtent, Write as WriteExtent, Sync, ReadMetadata, WriteNode, WriteRoot}
 use Rattle.wb_tasks.specs.declared.step.DeskStep.{DeskStep}
-use Rattle.wb_tasks.specs.declared.step.DeskStep.TheVariants.{Map, Unmap, ReleaseOrder, BeginCommit, EndCommit}
 use Rattle.wb_tasks.specs.declared.step.Want.{Want}
 use Rattle.wb_tasks.specs.declared.step.Want.TheVariants.{Cell, Device, Desk, End}
 use Rattle.wb_tasks.specs.declared.step.Got.{Got}
@@ -30,14 +23,14 @@ use Rattle.wb_tasks.specs.declared.step.Got.TheVariants.{Done, Fault}
 use Rattle.wb_runs.specs.declared.job.Job.{Job}
 use Rattle.wb_runs.specs.declared.job.Job.TheVariants.{Read, Write, Flush, Open, Migrate}
 use Rattle.wb_runs.specs.States.{Shape, State, Actor, Phase, Stands, Gone, Opens, OfTarget}
-use Rattle.wb_runs.specs.Happenings.{Chosen, Plain, Opened, Gives, Falters, DoesOpen, IsMade, block_range}
-use Rattle.wb_runs.specs.Effects.{phase_then, phase_opened, task_then, actor_then}
-use Rattle.wb_runs.specs.Clerk.{Notes, Doing, put, begins, failing, device_note, finished_note, noted_step, enter_each, entering, sector_for}
-use Rattle.wb_runs.proofs.Lists.{set_other, set_there, replicated_there}
+use Rattle.wb_runs.specs.Happenings.{Chosen, Gives, IsMade, block_range}
+use Rattle.wb_runs.specs.Effects.{task_then}
+use Rattle.wb_runs.specs.Clerk.{Notes, Doing, put, failing, device_note, noted_step, enter_each, entering, sector_for}
+use Rattle.wb_runs.proofs.Lists.{set_other, set_there}
 use Rattle.wb_runs.proofs.Images.{Images}
 use Rattle.wb_runs.proofs.Metadata.{MetadataKept}
-use Rattle.wb_runs.proofs.Opening.{OpenClaim, Comes, Causes, IsOpenNext, open_next, open_on, failing_same, still_refuses, fault_why, reading_comes, reading_why}
-use Rattle.wb_runs.proofs.Claims.{JobClaim, NotedClaim, TaskClaim, AllClaim, claim_set, read_words, write_words, read_extent, write_extent, read_fails, write_fails}
+use Rattle.wb_runs.proofs.Opening.{Comes, Causes, IsOpenNext, open_next, open_on, failing_same, still_refuses, fault_why, reading_comes, reading_why}
+use Rattle.wb_runs.proofs.Claims.{JobClaim, NotedClaim, TaskClaim, AllClaim, read_words, write_words, read_extent, write_extent, read_fails, write_fails}
 
 abbrev pub IsOpeningJob : Job → Type 0
 IsOpeningJob (Open mode) = Unit {0}

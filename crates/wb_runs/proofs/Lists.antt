@@ -1,7 +1,7 @@
 -- Lists of one thing, and lists of which one element changed.
-use Rattle.std.proofs.Common.{◌≡◌, ◌≢◌, ◌<◌, inl, inr, ℕ, zero, suc, List, [], ◌∷◌, ◌++◌, Some, None, Option, refl, sym, ap, subst, arith, slice_get, slice_set, replicate, map, Contains}
+use Rattle.std.proofs.Common.{◌≡◌, ◌≢◌, ◌<◌, inl, inr, ℕ, zero, suc, List, [], ◌∷◌, Some, None, Option, refl, sym, ap, arith, slice_get, slice_set, replicate, map, Contains}
 use Rattle.std.proofs.lemmas.List.Elements.{Contains-append_cases}
-use Rattle.wb_types.proofs.Lists.{Contains-one, Contains-first, Contains-behind}
+use Rattle.wb_types.proofs.Lists.{Contains-one}
 use Rattle.wb_tasks.specs.Plan.{Plan}
 use Rattle.wb_runs.specs.declared.job.Job.{Job}
 use Rattle.wb_runs.specs.declared.event.Event.TheVariants.{Start}
@@ -33,7 +33,7 @@ replicated_there (suc k) (suc i) x l = replicated_there k i x (omega (arith, l))
 
 -- what a list has is its first element, or another one
 pub first_or : {X : Type 0} (x y : X) (xs : List X) (Is : Type 0) → Contains (x ∷ xs) y → (y ≡ x → Is) → (Contains xs y → Is) → Is
-first_or x y xs Is c first later = elim (Contains-append_cases (x ∷ []) xs y c) [ | inl s ↦ first (Contains-one x y s) | inr r ↦ later r ]
+first_or x y xs Is c first later = elim (Contains-append_cases (x ∷ []) xs y c) [ inl s ↦ first (Contains-one x y s) | inr r ↦ later r ]
 
 -- an actor of a list in which all rest
 pub rests : (actors : List Actor) (b : ℕ) (z : Actor) → slice_get (map (λ (x : Actor). resting) actors) b ≡ Some z → (z.task ≡ None) × ((x : Actor) × (slice_get actors b ≡ Some x))

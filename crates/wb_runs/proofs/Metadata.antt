@@ -8,10 +8,9 @@ use Rattle.wb_types.specs.declared.number.Place.{Place}
 use Rattle.wb_disk.specs.Device.{History, newest}
 use Rattle.std.specs.List.{count_by}
 use Rattle.std.specs.Prelude.{is_some}
-use Rattle.wb_types.specs.declared.number.CBlock.{CBlock}
 use Rattle.wb_tree.specs.Mapping.{Mapping, IsMapping, IsSound, AreInside, used_places}
 use Rattle.wb_tree.specs.Edits.{IsEdited}
-use Rattle.wb_tree.proofs.Stored.Edited.{edited-none, edited-more}
+use Rattle.wb_tree.proofs.Stored.Edited.{edited-none}
 use Rattle.wb_space.specs.Places.{noted, unused, place_count}
 use Rattle.wb_format.specs.declared.root.Root.{Root}
 use Rattle.wb_meta.specs.declared.read_steps.ReadSteps.{ReadSteps}
@@ -284,30 +283,33 @@ module _ (A : Type 0) (g : Geometry) (images : Images) (device : List History) w
         now = one_image k.of.new;
         turn = Ends;
         turned = (k.of.new, ap (λ (i : Images). i.running) k.under.are, refl);
-        kept = (record {
-          is = record {
-            geometry = refl;
-            kept = subst (λ (x : Geometry). DeskInvariant unknowing (opened x (stored.root.generation + 1) stored.tree stored.used.items mode policy threshold (count_by is_some stored.tree.entries))) geometry
-                (opened_kept unknowing (record stored.root { generation = stored.root.generation + 1 }) stored.tree stored.used.items mode policy threshold (count_by is_some stored.tree.entries)
-                (stored.root.geometry.within.meta_from)
-                (record { size = refl; mapping = fits.mapping; sound = fits.sound; inside = subst (λ (n : ℕ). AreInside n stored.tree) (sym fits.size) fits.inside; known_used = fits.known_used; used_are = subst (λ (n : ℕ). Rattle.wb_meta.specs.Reads.AreApartPlaces n stored.used.items) (sym fits.size) fits.used_are; used_few = fits.used_few })
-                tt refl);
-            orders = none_kept g.cache_blocks g.origin_blocks;
-            sound = fits.sound;
-          };
-          stands = inl (record {
-            stored = k.of.new;
-            are = refl;
-            used = stored.used.items;
-            stores = subst (λ (s : Stored_there A). DeviceStores s.tree device k.of.new s.used.items) same
-                (subst (λ (us : List Place). DeviceStores k.stored.tree device k.of.new us) k.used (subst (λ (t : Mapping). DeviceStores t device k.of.new k.of.used) k.tree stores));
-            places = refl;
-            generation = ap (λ (s : Stored_there A). s.root.generation + 1) (sym same) ∙ sym k.generation;
-            same = new_root;
-            fit = k.under.fit_new;
-            idle = refl;
-          });
-        }, k.entries ∙ ap (λ (s : Stored_there A). s.tree.entries) same);
+        kept = (
+          record {
+            is = record {
+              geometry = refl;
+              kept = subst (λ (x : Geometry). DeskInvariant unknowing (opened x (stored.root.generation + 1) stored.tree stored.used.items mode policy threshold (count_by is_some stored.tree.entries))) geometry
+                  (opened_kept unknowing (record stored.root { generation = stored.root.generation + 1 }) stored.tree stored.used.items mode policy threshold (count_by is_some stored.tree.entries)
+                  (stored.root.geometry.within.meta_from)
+                  (record { size = refl; mapping = fits.mapping; sound = fits.sound; inside = subst (λ (n : ℕ). AreInside n stored.tree) (sym fits.size) fits.inside; known_used = fits.known_used; used_are = subst (λ (n : ℕ). Rattle.wb_meta.specs.Reads.AreApartPlaces n stored.used.items) (sym fits.size) fits.used_are; used_few = fits.used_few })
+                  tt refl);
+              orders = none_kept g.cache_blocks g.origin_blocks;
+              sound = fits.sound;
+            };
+            stands = inl (record {
+              stored = k.of.new;
+              are = refl;
+              used = stored.used.items;
+              stores = subst (λ (s : Stored_there A). DeviceStores s.tree device k.of.new s.used.items) same
+                  (subst (λ (us : List Place). DeviceStores k.stored.tree device k.of.new us) k.used (subst (λ (t : Mapping). DeviceStores t device k.of.new k.of.used) k.tree stores));
+              places = refl;
+              generation = ap (λ (s : Stored_there A). s.root.generation + 1) (sym same) ∙ sym k.generation;
+              same = new_root;
+              fit = k.under.fit_new;
+              idle = refl;
+            });
+          },
+          k.entries ∙ ap (λ (s : Stored_there A). s.tree.entries) same,
+        );
       }
     where
       stored_in : ReadSteps A → Stored_there A

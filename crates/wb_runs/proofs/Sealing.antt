@@ -12,7 +12,7 @@ use Rattle.wb_words.specs.declared.card.Card.{Card}
 use Rattle.wb_words.specs.declared.card.Hold.TheVariants.{Nothing, Held}
 use Rattle.wb_words.specs.declared.step.CellStep.{CellStep}
 use Rattle.wb_words.specs.declared.step.CellStep.TheVariants.{Take, Seal, Release}
-use Rattle.wb_words.specs.SharedWords.{Words, word_at, with_cell, put, taken, seal_word}
+use Rattle.wb_words.specs.SharedWords.{Words, with_cell, put, seal_word}
 use Rattle.wb_words.specs.Cards.{holding, losing, sealing}
 use Rattle.wb_words.specs.Rule.{LockRule}
 use Rattle.wb_words.specs.Effects.{words_after, card_after}

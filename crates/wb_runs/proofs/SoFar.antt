@@ -29,7 +29,7 @@ use Rattle.wb_runs.specs.Happenings.{block_range}
 use Rattle.wb_runs.specs.Clerk.{Reading, Position, Entering, enter, enter_each, readings_from}
 use Rattle.wb_runs.specs.Happenings.{extent_refusal}
 use Rattle.wb_runs.proofs.Plans.{plan_of}
-use Rattle.wb_runs.proofs.Covering.{Covers, home, homes, extents_left, cell_covers, read_covers, write_covers, read_moves, write_moves}
+use Rattle.wb_runs.proofs.Covering.{Covers, home, homes, extents_left, cell_covers}
 
 -- ---- an answer once refused stays so
 

@@ -1,5 +1,5 @@
 -- A commit on its way: which states the metadata are read as while it goes on, and once it failed or ended.
-use Rattle.std.proofs.Common.{◌≡◌, ◌∙◌, ◌⊎◌, ◌&&◌, ◌==◌, inl, inr, ℕ, Bool, true, false, if◌then◌else◌, List, Option, Some, None, refl, sym, ap, subst, slice_get, replicate, length, is_some, is_none}
+use Rattle.std.proofs.Common.{◌≡◌, ◌⊎◌, ◌&&◌, ◌==◌, inl, inr, ℕ, Bool, true, false, if◌then◌else◌, List, Option, Some, None, refl, sym, ap, subst, slice_get, length, is_some, is_none}
 use Rattle.wb_types.specs.declared.geometry.Geometry.{Geometry}
 use Rattle.wb_types.specs.declared.number.Place.{Place}
 use Rattle.wb_types.specs.declared.mode.Dev.TheVariants.{Metadata}
@@ -23,7 +23,6 @@ use Rattle.wb_roots.specs.Roots.{MayBeReadAs, IsSettled, Commit, CanBeMade}
 use Rattle.wb_roots.specs.Laws.{IsDecided}
 use Rattle.wb_roots.proofs.Leading.{during, early, after_failure, after_failed_node, when_done}
 use Rattle.wb_roots.proofs.Deciding.{crash_decides, sync_decides, failed_sync_leaves}
-
 use Rattle.wb_runs.proofs.Images.{Images, later_of, one_image, Turn, Stays, Puts, Settles, Turned, IsFit, IsFitToo, Turns}
 
 -- A device of this geometry is read as these images. A root that is marked clean has no entry.

@@ -9,6 +9,7 @@ mod law;
 pub use event::{Event, Record, What};
 pub use job::Job;
 pub use law::{
-    a_block_can_be_promoted, a_flush_can_be_done, a_target_can_be_opened, a_write_can_survive, answers_cover_their_sectors, events_skip_rightly, metadata_are_read, openings_refuse_by_cause,
+    a_block_can_be_promoted, a_flush_can_be_done, a_target_can_be_opened, a_write_can_survive,
+    answers_cover_their_sectors, events_skip_rightly, metadata_are_read, openings_refuse_by_cause,
     words_are_used_rightly,
 };
