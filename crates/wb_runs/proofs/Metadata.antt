@@ -154,9 +154,9 @@ module _ (g : Geometry) (images : Images) (device : List History) where
 -- ---- a commit begins and ends
 
 module _ (P : Type 0) (g : Geometry) (images : Images) (desk : DeskState P) (device : List History) where
-  -- one begins over a device that stores the desk's tree
+  -- One begins over a device that stores the desk's tree, and leads to a state of its entries.
   pub begins_over : (commit : RunningCommit) (tree : Mapping) → IsDesk g desk → Quiet g images desk device → commit.steps ≡ NodesWritten 0
-      → HasBegun desk commit.image (commit_begun desk tree) → Turns (λ now. AtDesk g now (commit_begun desk tree) (Some commit) device) images
+      → HasBegun desk commit.image (commit_begun desk tree) → Turns (λ now. AtDesk g now (commit_begun desk tree) (Some commit) device × ((state : Stored) × (now.running ≡ Some state) × (state.found.entries ≡ desk.tree.entries))) images
   begins_over commit tree k q steps begun =
       let image = commit.image in
       let places = subst (λ (x : Geometry). desk.space.places.committed ≡ noted q.used (unused (place_count x.cache_blocks))) (sym k.geometry) q.places in
@@ -168,7 +168,7 @@ module _ (P : Type 0) (g : Geometry) (images : Images) (desk : DeskState P) (dev
         now = record { committed = of.old; running = Some of.new; written = false };
         turn = Begins of.new;
         turned = ap (λ (i : Images). record { committed = i.committed; running = Some of.new; written = false }) (sym q.are);
-        kept = record {
+        kept = (record {
           is = record {
             geometry = k.geometry;
             kept = begun_kept unknowing desk tree image k.kept begun.may
@@ -194,7 +194,7 @@ module _ (P : Type 0) (g : Geometry) (images : Images) (desk : DeskState P) (dev
             generation = begun.image_is.root_generation;
             busy = refl;
           };
-        };
+        }, (of.new, refl, begun.image_is.same_entries));
       }
 
   -- one that was done ends

@@ -198,7 +198,7 @@ module _ (P A : Type 0) (shape : Shape) where
       by_commit : (commit : Option RunningCommit) → AtDesk shape.geometry i t.desk commit m → Turns (λ j. AtDesk shape.geometry j (Rattle.wb_desk.specs.Commits.commit_begun t.desk tree) (Some c) m) i
       by_commit (Some d) k = absurd (let a = k.stands.busy in let b = s.3.may.idle in cc)
       by_commit None k = elim k.stands [
-        | inl q ↦ begins_over P shape.geometry i t.desk m c tree k.is q s.2 s.3
+        | inl q ↦ let b = begins_over P shape.geometry i t.desk m c tree k.is q s.2 s.3 in record { now = b.now; turn = b.turn; turned = b.turned; kept = b.kept.0 }
         | inr b ↦ absurd (let a = b.busy in let e = s.3.may.idle in cc)
       ]
   begin_commit i (Stands t) commit m clean most (GotRefused refusal) Plain k s = same i (Stands t) commit m k
