@@ -33,3 +33,4 @@ mod FirstOpening
 mod FirstLife
 mod Surviving
 mod FirstPromotion
+mod Bounds
