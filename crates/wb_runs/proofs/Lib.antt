@@ -34,3 +34,4 @@ mod FirstLife
 mod Surviving
 mod FirstPromotion
 mod Bounds
+mod InsideRuns

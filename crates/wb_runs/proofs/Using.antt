@@ -349,7 +349,7 @@ module _ (P A : Type 0) (shape : Shape) where
   block_inside Clean block i = i
 
   -- the order of a migration that starts, which its actor kept or is given
-  order_inside : (i : _) (phase : Phase P A) (commit : _) (m : List History) (actor : Option Actor) (migration : Migration) (block : OBlock) (chosen : Chosen P A) → Rattle.wb_runs.proofs.Metadata.MetadataKept shape.geometry i phase commit m →
+  pub order_inside : (i : _) (phase : Phase P A) (commit : _) (m : List History) (actor : Option Actor) (migration : Migration) (block : OBlock) (chosen : Chosen P A) → Rattle.wb_runs.proofs.Metadata.MetadataKept shape.geometry i phase commit m →
       OrdersInside shape.geometry (Rattle.wb_runs.specs.Happenings.orders_in actor) → StartGives shape phase actor (Migrate migration block) Started chosen → OrderInside shape.geometry (order_for migration block)
   order_inside i phase commit m actor migration block (Cut cut) k o g = o (order_for migration block) g.1
   order_inside i (Stands t) commit m actor migration block (Orders cut cache) k o g = order_given P shape.geometry t.desk cache migration block k.is g.1

@@ -2,6 +2,7 @@
 
 ghost use Rattle.wb_runs.specs.Headline.{AnswersCoverTheirSectors, EventsSkipRightly, MetadataAreRead, OpeningsRefuseByCause};
 ghost use Rattle.wb_runs.specs.Possible.{CanFlush, CanOpen, CanPromote, CanSurvive};
+ghost use Rattle.wb_runs.specs.Inside.{StepsStayInside};
 ghost use Rattle.wb_runs.specs.Holding.{WordsAreUsedRightly};
 
 /// In every run, over any policy: whatever a crash leaves of the metadata device, it represents a root of this geometry and a
@@ -53,4 +54,10 @@ pub fn a_write_can_survive<P, A>()
 /// block stands in the cache, and its order is over.
 pub fn a_block_can_be_promoted<P, A>()
     ensures { CanPromote P A }
+{}
+
+/// After every run the cache and the origin have their sizes, and whoever has a task wants next a step on sectors that are there, or a
+/// seal by a cache block that is, wherever blocks are cached.
+pub fn steps_stay_inside<P, A>()
+    ensures { StepsStayInside P A }
 {}
