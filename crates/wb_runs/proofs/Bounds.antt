@@ -100,7 +100,7 @@ sealed_inside shape clean c (Some entry ∷ entries) words l all =
     let s = Seal b (Some (record { 0 = c })) (Rattle.std.specs.Prelude.cond clean entry.dirty true) in
     let w2 = words_after w1 s in
     sealed_inside shape clean (suc c) entries (words_after w2 (Release Owned b)) (omega (arith, l))
-        (seals_after shape w2 (Release Owned b) tt (seals_after shape w1 s (omega (arith, l)) (seals_after shape words (Take Owned b 0) tt all)))
+    (seals_after shape w2 (Release Owned b) tt (seals_after shape w1 s (omega (arith, l)) (seals_after shape words (Take Owned b 0) tt all)))
 
 -- ---- the steps of a table
 

@@ -168,33 +168,36 @@ module _ (P : Type 0) (g : Geometry) (images : Images) (desk : DeskState P) (dev
         now = record { committed = of.old; running = Some of.new; written = false };
         turn = Begins of.new;
         turned = ap (λ (i : Images). record { committed = i.committed; running = Some of.new; written = false }) (sym q.are);
-        kept = (record {
-          is = record {
-            geometry = k.geometry;
-            kept = begun_kept unknowing desk tree image k.kept begun.may
-                (record { origins = ap (λ (es : List (Option Entry)). Rattle.wb_policy.specs.Law.origins es) begun.image_is.same_entries; used = begun.image_is.used })
-                (subst (λ (es : List (Option Entry)). IsMapping desk.geometry.cache_blocks desk.geometry.origin_blocks es) (sym begun.image_is.same_entries) k.kept.mapping) planned.inside;
-            orders = k.orders;
-            sound = planned.sound;
-          };
-          stands = record {
-            of = of;
-            under = record {
-              are = ap (λ (s : CommitSteps). Rattle.wb_runs.proofs.Underway.images_of of (Rattle.wb_runs.proofs.Underway.is_written s)) (sym steps);
-              can = both.0;
-              image = refl;
-              come = subst (λ (s : CommitSteps). HasCome image device s device) (sym steps) both.1;
-              same = q.same;
-              fit = q.fit;
-              fit_new = λ c. absurd (let unclean = begun.image_is.root_clean in cc);
+        kept = (
+          record {
+            is = record {
+              geometry = k.geometry;
+              kept = begun_kept unknowing desk tree image k.kept begun.may
+                  (record { origins = ap (λ (es : List (Option Entry)). Rattle.wb_policy.specs.Law.origins es) begun.image_is.same_entries; used = begun.image_is.used })
+                  (subst (λ (es : List (Option Entry)). IsMapping desk.geometry.cache_blocks desk.geometry.origin_blocks es) (sym begun.image_is.same_entries) k.kept.mapping) planned.inside;
+              orders = k.orders;
+              sound = planned.sound;
             };
-            edited = edited-none tree;
-            entries = refl;
-            places = ap (λ (x : Geometry). noted (used_places tree) (unused (place_count x.cache_blocks))) k.geometry;
-            generation = begun.image_is.root_generation;
-            busy = refl;
-          };
-        }, (of.new, refl, begun.image_is.same_entries));
+            stands = record {
+              of = of;
+              under = record {
+                are = ap (λ (s : CommitSteps). Rattle.wb_runs.proofs.Underway.images_of of (Rattle.wb_runs.proofs.Underway.is_written s)) (sym steps);
+                can = both.0;
+                image = refl;
+                come = subst (λ (s : CommitSteps). HasCome image device s device) (sym steps) both.1;
+                same = q.same;
+                fit = q.fit;
+                fit_new = λ c. absurd (let unclean = begun.image_is.root_clean in cc);
+              };
+              edited = edited-none tree;
+              entries = refl;
+              places = ap (λ (x : Geometry). noted (used_places tree) (unused (place_count x.cache_blocks))) k.geometry;
+              generation = begun.image_is.root_generation;
+              busy = refl;
+            };
+          },
+          (of.new, refl, begun.image_is.same_entries),
+        );
       }
 
   -- one that was done ends
