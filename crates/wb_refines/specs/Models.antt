@@ -130,9 +130,10 @@ pub record Follows (size : ℕ) (content : Content) (actors : List Actor) (a : �
   pub same : SameElse s (shared_after s y y.task results)
   pub at : IsAt size content plan card (gone y y.task results) ⊎ HasStopped words plan card (gone y y.task results)
 
--- each abstract actor has a card, which counts what it has
-abbrev pub AllBelow : List Actor → List Card → Type 0
-AllBelow actors cards = (a : ℕ) (y : Actor) → slice_get actors a ≡ Some y → (card : Card) × (slice_get cards a ≡ Some card) × IsBelow y card
+-- Whoever holds a block there beside the actor at one place has a card beside this one, which counts what it holds. An abstract actor need
+-- not stand where its card does: one card may be that of several, of which one at most holds a block.
+abbrev pub BelowBeside : List Actor → List Card → (there a : ℕ) → Type 0
+BelowBeside actors cards there a = (c : ℕ) (y : Actor) → c ≢ there → slice_get actors c ≡ Some y → y.held ≢ Nothing → (b : ℕ) × (card : Card) × (b ≢ a) × (slice_get cards b ≡ Some card) × IsBelow y card
 
 -- a seal that is stored tells the place that it was made of
 abbrev pub TellsPlace : CellStep → Type 0

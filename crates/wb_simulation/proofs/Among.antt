@@ -15,7 +15,7 @@ use Rattle.wb_link.specs.Tables.{Got}
 use Rattle.wb_link.specs.World.{World, Shared, Actor as AbstractActor}
 use Rattle.wb_link.proofs.Lists.{get_set_same, get_set_other}
 use Rattle.wb_refines.specs.Going.{records, shared_after, gone, MayGo}
-use Rattle.wb_refines.specs.Models.{WordsAgree, AllBelow}
+use Rattle.wb_refines.specs.Models.{WordsAgree, BelowBeside}
 use Rattle.wb_refines.proofs.Cells.{failed_flag}
 use Rattle.wb_refines.proofs.Going.{goes, with_own}
 use Rattle.wb_runs.specs.States.{Actor}
@@ -54,11 +54,11 @@ failed_stays words SetSuspended f z e t = ap (λ v. flag (bit_or v 2)) e ∙ by_
     by_bits false true = refl
     by_bits false false = refl
 
--- no abstract actor has more than the cards count
-pub all_below : (size most : ℕ) (words : Words) (committing : Bool) (devices : Devices (List History)) (actors : List Actor) (s : World) → Agrees size most words committing devices actors s → AllBelow s.actors (cards_of actors)
-all_below size most words committing devices actors s g a y e =
-    let x = element_beside s.actors actors a y (sym g.many) e in
-    (x.0.card, card_there actors a x.0 x.1, (g.each a x.0 y x.1 e).below)
+-- no abstract actor has more than its card counts
+pub below_beside : (size most : ℕ) (words : Words) (committing : Bool) (devices : Devices (List History)) (actors : List Actor) (s : World) (a : ℕ) → Agrees size most words committing devices actors s → BelowBeside s.actors (cards_of actors) a a
+below_beside size most words committing devices actors s a g c y n e held =
+    let x = element_beside s.actors actors c y (sym g.many) e in
+    (c, x.0.card, n, card_there actors c x.0 x.1, (g.each c x.0 y x.1 e).below)
 
 module _ (size most : ℕ) (words words' : Words) (up : flag words.fail ≡ true → flag words'.fail ≡ true) (committing : Bool) (devices : Devices (List History)) (actors : List Actor) (a : ℕ) (x x' : Actor) (s : World) (y : AbstractActor)
     (g : Agrees size most words committing devices actors s) (ex : slice_get actors a ≡ Some x) (ey : slice_get s.actors a ≡ Some y) where

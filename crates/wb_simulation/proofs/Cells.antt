@@ -20,7 +20,7 @@ use Rattle.wb_link.specs.Tables.{Script, Got}
 use Rattle.wb_link.specs.World.{Shared, Actor, job_alone, is_alone}
 use Rattle.wb_refines.specs.Going.{shared_after, gone, MayGo, AreQuiet}
 use Rattle.wb_refines.specs.Translation.{job_for}
-use Rattle.wb_refines.specs.Models.{IsRequest, plan_of, WordsAgree, SameElse, IsAt, HasStopped, IsBelow, AllBelow, TellsPlace}
+use Rattle.wb_refines.specs.Models.{IsRequest, plan_of, WordsAgree, SameElse, IsAt, HasStopped, IsBelow, BelowBeside, TellsPlace}
 use Rattle.wb_refines.proofs.Cells.{same_images, flag_of}
 use Rattle.wb_refines.proofs.Followed.{cell_steps_followed}
 use Rattle.wb_refines.proofs.Locks.{has_no_more}
@@ -108,11 +108,11 @@ module _ (size : ℕ) (content : Content) (job_on : BlockRange → BlockJob) (re
     Goal step ws = Acted size content actors a s y (words_after words step) job_on (after (plan_of (job_on part) (Cell step ∷ ws) answer) (got_of (result_of words step))) (card_after words step card)
 
     -- it is at the same there
-    at_it : (cards : List Card) (step : CellStep) (ws : List Want) → LockRule blocks words cards → slice_get cards a ≡ Some card → AllBelow actors cards → Of (Cell step ∷ ws) → Suits blocks (plan_of (job_on part) (Cell step ∷ ws) answer) card →
+    at_it : (cards : List Card) (step : CellStep) (ws : List Want) → LockRule blocks words cards → slice_get cards a ≡ Some card → BelowBeside actors cards a a → Of (Cell step ∷ ws) → Suits blocks (plan_of (job_on part) (Cell step ∷ ws) answer) card →
         IsAt size content (plan_of (job_on part) (Cell step ∷ ws) answer) card y → Goal step ws
     at_it cards step ws rule here below o suits is =
         let t = tells size part.block.0 step ws o in
-        let f = cell_steps_followed size blocks content words cards actors a card s y (job_on part) step ws answer (request part) is_part.some (is_part.sized ∙ ap (λ (p : BlockRange). p.block_sectors) (sym (range part))) rule here below w t.0 suits is in
+        let f = cell_steps_followed size blocks content words cards actors a a card s y (job_on part) step ws answer (request part) is_part.some (is_part.sized ∙ ap (λ (p : BlockRange). p.block_sectors) (sym (range part))) rule here below w t.0 suits is in
         let plan' = after (plan_of (job_on part) (Cell step ∷ ws) answer) (got_of (result_of words step)) in
         let same_job : plan'.job ≡ OnBlock (job_on part) = job_stays words step ws in
         record {
@@ -204,7 +204,7 @@ module _ (size : ℕ) (content : Content) (job_on : BlockRange → BlockJob) (re
     ]
 
     -- whichever it is
-    pub acts_on_words : (cards : List Card) (step : CellStep) (ws : List Want) → LockRule blocks words cards → slice_get cards a ≡ Some card → AllBelow actors cards → IsBelow y card → is_alone y.task ≡ false → Of (Cell step ∷ ws) → Suits blocks (plan_of (job_on part) (Cell step ∷ ws) answer) card →
+    pub acts_on_words : (cards : List Card) (step : CellStep) (ws : List Want) → LockRule blocks words cards → slice_get cards a ≡ Some card → BelowBeside actors cards a a → IsBelow y card → is_alone y.task ≡ false → Of (Cell step ∷ ws) → Suits blocks (plan_of (job_on part) (Cell step ∷ ws) answer) card →
         IsAt size content (plan_of (job_on part) (Cell step ∷ ws) answer) card y ⊎ HasStopped words (plan_of (job_on part) (Cell step ∷ ws) answer) card y ⊎ IsLate words (plan_of (job_on part) (Cell step ∷ ws) answer) y → Goal step ws
     acts_on_words cards step ws rule here all below alone o suits at = elim at [
       | inl i ↦ at_it cards step ws rule here all o suits i

@@ -28,7 +28,7 @@ use Rattle.wb_simulation.specs.Laws.{CellStepsFollowed, went}
 use Rattle.wb_simulation.proofs.Telling.{quiet_are_unnoted}
 use Rattle.wb_simulation.proofs.Steps.{read_of_block, write_of_block}
 use Rattle.wb_simulation.proofs.Cells.{Acted, acts_on_words}
-use Rattle.wb_simulation.proofs.Among.{card_there, all_below, failed_stays, goes_on}
+use Rattle.wb_simulation.proofs.Among.{card_there, below_beside, failed_stays, goes_on}
 
 -- who does a read or write is at it
 pub doing_of : (size most : ℕ) (words : Words) (x : Actor) (y : AbstractActor) (job : Job) (plan : Plan) → StandsFor size most words x y → x.task ≡ Some (job, plan) → IsDoing size most words job plan x.card y
@@ -52,7 +52,7 @@ module _ (size most blocks : ℕ) (words : Words) (committing : Bool) (devices :
           let is : plan ≡ plan_of (job_on r.part) (Cell step ∷ ws) plan.answer = (λ i. record { job = r.job i; steps = (e ∙ ap (λ (u : Want). u ∷ ws) first) i; answer = plan.answer }) in
           let r' = subst (λ (p : Plan). IsRequestAt size content words job_on p x.card y) is r in
           subst Of_plan (sym is) (acts_on_words size content job_on request range works among r.part r.is_part blocks words s.actors a x.card s.shared y plan.answer g.words_agree (cards_of actors) step ws rule (card_there actors a x ex)
-          (all_below size most words committing devices actors s g) st.below st.among_others (subst (λ (ws' : List Want). AreOfBlock size r.part.block.0 ws') (e ∙ ap (λ (u : Want). u ∷ ws) first) r.of_block)
+          (below_beside size most words committing devices actors s a g) st.below st.among_others (subst (λ (ws' : List Want). AreOfBlock size r.part.block.0 ws') (e ∙ ap (λ (u : Want). u ∷ ws) first) r.of_block)
           (subst (λ (p : Plan). Suits blocks p x.card) is suits) (subst (λ (p : Plan). At p) is r.at))
         where
           At : Plan → Type 0
