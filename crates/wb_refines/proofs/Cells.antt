@@ -42,7 +42,7 @@ pub same_images : (s : Shared) → SameImages s s
 same_images s = record { mapping = refl; blocks = refl; live = refl; mode = refl; committing = refl; began = refl; ended = refl; broken = refl; committed = refl; running = refl; root_written = refl; committed_clean = refl; running_clean = refl }
 
 -- nothing is changed
-same : (s : Shared) → SameElse s s
+pub same : (s : Shared) → SameElse s s
 same s = record { origin = refl; cache = refl; images = same_images s }
 
 -- the actor that is at this
@@ -56,7 +56,7 @@ flag_of (suc n) false e = refl
 flag_of (suc n) true e = let bad : suc n ≡ zero = eqb-true (suc n) 0 e in absurd (cc)
 
 -- who holds a block knows its seal once it was looked at
-own_seal : (access : Access) (block : OBlock) (seal : ℕ) (card : Card) → card.hold ≡ HoldsBlock access block → (looked (SealWord block) seal card).seal ≡ Some seal
+pub own_seal : (access : Access) (block : OBlock) (seal : ℕ) (card : Card) → card.hold ≡ HoldsBlock access block → (looked (SealWord block) seal card).seal ≡ Some seal
 own_seal access block seal card h = ap (λ v. cond (is_own_seal v (SealWord block)) (Some seal) card.seal) h ∙ ap (λ t. cond t (Some seal) card.seal) (eq-eqb block.0 block.0 refl)
 
 -- the next of these steps is no look at a seal or a number, nor does it set the failed bit
@@ -128,11 +128,26 @@ pub tells_dirty : (place : Option CBlock) (dirty : Bool) → dirty_in (seal_word
 tells_dirty place true = ap flag (ap (λ v. (v + 1) % 2) (mul_comm 2 (place_number place)) ∙ mod-mul-add (place_number place) 2 1 (omega arith))
 tells_dirty place false = ap flag (ap (λ v. (v + 0) % 2) (mul_comm 2 (place_number place)) ∙ mod-mul-add (place_number place) 2 0 (omega arith))
 
-counted_agree : (words : Words) (kind : Kind) (s : Shared) → WordsAgree words s → WordsAgree (counted words kind) s
+pub counted_agree : (words : Words) (kind : Kind) (s : Shared) → WordsAgree words s → WordsAgree (counted words kind) s
 counted_agree words ReadHit s w = record { fail = w.fail; seals = w.seals }
 counted_agree words ReadMiss s w = record { fail = w.fail; seals = w.seals }
 counted_agree words WriteHit s w = record { fail = w.fail; seals = w.seals }
 counted_agree words WriteMiss s w = record { fail = w.fail; seals = w.seals }
+
+-- words and world agree after a block is sealed
+pub sealed_agree : (words : Words) (s : Shared) (block : OBlock) (place : Option CBlock) (dirty : Bool) → block.0 < length words.seals → place_in (seal_word place dirty) ≡ place → WordsAgree words s →
+    WordsAgree (words_after words (Seal block place dirty)) (record s { seals = changed s.seals block.0 (record { location = number_of place; dirty = dirty }) })
+sealed_agree words s block place dirty inside tells w = record { fail = w.fail; seals = λ other. elim (cases_eq other.0 block.0) [ inl e ↦ here other e | inr n ↦ there other n ] }
+  where
+    here : (other : OBlock) → other.0 ≡ block.0 → SealAgrees (word_at (set words.seals block.0 (seal_word place dirty)) other) (changed s.seals block.0 (record { location = number_of place; dirty = dirty }) other.0)
+    here other e = subst (λ (v : OBlock). SealAgrees (word_at (set words.seals block.0 (seal_word place dirty)) v) (changed s.seals block.0 (record { location = number_of place; dirty = dirty }) v.0)) (λ i. record { 0 = sym e i })
+        (subst (λ (v : ℕ). SealAgrees v (changed s.seals block.0 (record { location = number_of place; dirty = dirty }) block.0)) (sym (word_at_set words.seals block (seal_word place dirty) inside))
+        (subst (λ (v : SealThere). SealAgrees (seal_word place dirty) v) (sym (changed_same s.seals block.0 (record { location = number_of place; dirty = dirty })))
+        (record { location = ap number_of (sym tells); dirty = λ c k. sym (tells_dirty place dirty) })))
+
+    there : (other : OBlock) → other.0 ≢ block.0 → SealAgrees (word_at (set words.seals block.0 (seal_word place dirty)) other) (changed s.seals block.0 (record { location = number_of place; dirty = dirty }) other.0)
+    there other n = subst (λ (v : ℕ). SealAgrees v (changed s.seals block.0 (record { location = number_of place; dirty = dirty }) other.0)) (sym (word_at_else words.seals other block (seal_word place dirty) n))
+        (subst (λ (v : SealThere). SealAgrees (word_at words.seals other) v) (sym (changed_other s.seals block.0 other.0 (record { location = number_of place; dirty = dirty }) n)) (w.seals other))
 
 module _ (size : ℕ) (content : Content) (actors : List Actor) (a : ℕ) (s : Shared) (buffer : Content) where
   abbrev Then : Plan → Card → Words → Plan → Card → Type 0
@@ -316,7 +331,7 @@ module _ (size : ℕ) (content : Content) (actors : List Actor) (a : ℕ) (s : S
     results = Done ∷ [];
     may = (tt, tt, tt);
     quiet = (tt, tt);
-    words_agree = record { fail = w.fail; seals = λ other. elim (cases_eq other.0 block.0) [ inl e ↦ here other e | inr n ↦ there other n ] };
+    words_agree = sealed_agree words s block place dirty inside tells w;
     same = record { origin = refl; cache = refl; images = record { mapping = refl; blocks = refl; live = refl; mode = refl; committing = refl; began = refl; ended = refl; broken = refl; committed = refl; running = refl; root_written = refl; committed_clean = refl; running_clean = refl } };
     at = inl (record {
       buffer = buffer;
@@ -324,13 +339,3 @@ module _ (size : ℕ) (content : Content) (actors : List Actor) (a : ℕ) (s : S
       saw = saw_plain (plan_of job ws answer) ws _ p;
     });
   }
-    where
-      here : (other : OBlock) → other.0 ≡ block.0 → SealAgrees (word_at (set words.seals block.0 (seal_word place dirty)) other) (changed s.seals block.0 (record { location = number_of place; dirty = dirty }) other.0)
-      here other e = subst (λ (v : OBlock). SealAgrees (word_at (set words.seals block.0 (seal_word place dirty)) v) (changed s.seals block.0 (record { location = number_of place; dirty = dirty }) v.0)) (λ i. record { 0 = sym e i })
-          (subst (λ (v : ℕ). SealAgrees v (changed s.seals block.0 (record { location = number_of place; dirty = dirty }) block.0)) (sym (word_at_set words.seals block (seal_word place dirty) inside))
-          (subst (λ (v : SealThere). SealAgrees (seal_word place dirty) v) (sym (changed_same s.seals block.0 (record { location = number_of place; dirty = dirty })))
-          (record { location = ap number_of (sym tells); dirty = λ c k. sym (tells_dirty place dirty) })))
-
-      there : (other : OBlock) → other.0 ≢ block.0 → SealAgrees (word_at (set words.seals block.0 (seal_word place dirty)) other) (changed s.seals block.0 (record { location = number_of place; dirty = dirty }) other.0)
-      there other n = subst (λ (v : ℕ). SealAgrees v (changed s.seals block.0 (record { location = number_of place; dirty = dirty }) other.0)) (sym (word_at_else words.seals other block (seal_word place dirty) n))
-          (subst (λ (v : SealThere). SealAgrees (word_at words.seals other) v) (sym (changed_other s.seals block.0 other.0 (record { location = number_of place; dirty = dirty }) n)) (w.seals other))

@@ -12,3 +12,4 @@ pub mod Openings
 pub mod Migrating
 pub mod Copying
 pub mod Carrying
+pub mod Carried

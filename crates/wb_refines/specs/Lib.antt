@@ -9,3 +9,4 @@ pub mod Openings
 pub mod Migrations
 pub mod Copies
 pub mod Carrying
+pub mod Carried

@@ -4,6 +4,7 @@
 ghost use Rattle.wb_refines.specs.Laws.{TablesAgree, CellStepsFollowed, HasNoMore, ExtentStepsFollowed};
 ghost use Rattle.wb_refines.specs.Migrations.{MigrationTablesAgree};
 ghost use Rattle.wb_refines.specs.Carrying.{MigrationsBegin, CarryingFollowed};
+ghost use Rattle.wb_refines.specs.Carried.{MigrationCellsFollowed};
 ghost use Rattle.wb_refines.specs.Copies.{CopiesFollowed};
 ghost use Rattle.wb_refines.specs.Flushes.{FlushStepsFollowed};
 ghost use Rattle.wb_refines.specs.Openings.{OpeningStepsFollowed};
@@ -64,4 +65,10 @@ pub fn copies_are_followed()
 pub fn migrations_are_followed()
     ensures begins { MigrationsBegin }
     ensures steps { CarryingFollowed }
+{}
+
+/// And each of its steps on the shared words, which keep their rule, is followed so that the words and the cards agree with that world
+/// after it, whoever's card it is there.
+pub fn migration_cells_are_followed()
+    ensures { MigrationCellsFollowed }
 {}
