@@ -1,6 +1,6 @@
 #!/bin/sh
 # Times clients of a target on cached blocks, promotions and openings, counts the device steps of flushes, and compares hit ratios with
-# those of plain programs, in turn with these and by medians of five. It needs cc, python3, strace and GNU time, and builds
+# those of plain programs, in turn with these and by medians of five. It needs cc, python3 and strace, and builds
 # the programs where they are missing or older than their sources. Files are made in WORK (/dev/shm). See bench/README.md.
 #
 #     sh bench/target.sh [WBCACHE WB_BENCH [TRACES]]
@@ -77,7 +77,7 @@ for changed in 1 100 10000; do
 done
 
 # An opening of a full mapping.
-printf '\n%-22s %12s %12s\n' 'opening of' seconds 'peak MiB'
+printf '\n%-22s %12s %12s %12s\n' 'opening of' seconds 'with its end' 'peak MiB'
 blocks=1048575
 files $blocks 1048576
 truncate -s $((2 * 512 * 40000)) "$work/m.img"
@@ -85,10 +85,9 @@ truncate -s $((2 * 512 * 40000)) "$work/m.img"
 cp --sparse=always "$work/m.img" "$work/full"
 for turn in 1 2 3 4 5; do
   cp --sparse=always "$work/full" "$work/m.img"
-  /usr/bin/time -f '%e %M' -o "$work/took" "$cache" run "$table" </dev/null
-  cat "$work/took" >>"$work/opened"
+  python3 "$top/bench/opened.py" "$cache" "$table" >>"$work/opened"
 done
-sort -n "$work/opened" | sed -n 3p | awk -v n=$blocks '{ printf "%-22s %12s %12.0f\n", n " blocks", $1, $2 / 1024 }'
+sort -n "$work/opened" | sed -n 3p | awk -v n=$blocks '{ printf "%-22s %12s %12s %12.0f\n", n " blocks", $1, $2, $3 / 1024 }'
 
 # Hit ratios of traces, of reads that are each followed by its order.
 test -n "$traces" || exit 0
