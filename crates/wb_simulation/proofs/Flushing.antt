@@ -50,11 +50,11 @@ use Rattle.wb_simulation.proofs.Leading.{nodes_on_metadata, commits_on, has_want
 module _ (size most : ℕ) (words : Words) (committing : Bool) (devices : Devices (List History)) (actors : List Actor) (a : ℕ) (x : Actor) (plan : Plan) (s : World) (y : AbstractActor) (ex : slice_get actors a ≡ Some x) (ey : slice_get s.actors a ≡ Some y) (g : Agrees size most words committing devices actors s) where
   -- a step on a device, done, with this left
   abbrev OnBy : Turn → Devices (List History) → Plan → Type 0
-  OnBy turn devices' plan' = FollowsBy turn Quietly size most a s words committing devices' (slice_set actors a (record { task = Some (Flush, plan'); card = x.card }))
+  OnBy turn devices' plan' = FollowsBy turn Quietly size most a s words committing devices' (slice_set actors a (record x { task = Some (Flush, plan') }))
 
   -- and the images stay
   abbrev On : Devices (List History) → Plan → Type 0
-  On devices' plan' = Follows Quietly size most a s words committing devices' (slice_set actors a (record { task = Some (Flush, plan'); card = x.card }))
+  On devices' plan' = Follows Quietly size most a s words committing devices' (slice_set actors a (record x { task = Some (Flush, plan') }))
 
   -- the same on whatever it leads to there
   goes : (turn : Turn) (devices' : Devices (List History)) (next : Want) (later : List Want) (answer : Answer) (plan' : Plan) (t : Shared) → IsFlushing size [] (flushing most (next ∷ later) answer) true y → wants_of size (FlushingFor None) (next ∷ later) ≢ [] → Leads size [] s.actors a s.shared y t plan' true →
@@ -141,9 +141,9 @@ module _ (size most : ℕ) (words : Words) (committing : Bool) (devices : Device
 
   -- the flush leads no commit before it and after it
   follows_alone : (devices' : Devices (List History)) (plan' : Plan) (card' : Card) → plan'.job ≡ Flushing [] most → IsOfFlush most plan'.steps → LeadsAt false plan'.steps → Leads size [] s.actors a s.shared y s.shared plan' false →
-      devices' ≡ devices → Follows Quietly size most a s words committing devices' (slice_set actors a (record { task = Some (Flush, plan'); card = card' }))
-  follows_alone devices' plan' card' j o at l d = subst (λ (ds : Devices (List History)). Follows Quietly size most a s words committing ds (slice_set actors a (record { task = Some (Flush, plan'); card = card' }))) (sym d)
-      (goes_on size most words words (λ f. f) committing devices actors a x (record { task = Some (Flush, plan'); card = card' }) s y g ex ey Quietly devices l.results s.shared (l.results, quiet_are_unnoted y.task l.results l.quiet, refl) l.may l.shared
+      devices' ≡ devices → Follows Quietly size most a s words committing devices' (slice_set actors a (record x { task = Some (Flush, plan'); card = card' }))
+  follows_alone devices' plan' card' j o at l d = subst (λ (ds : Devices (List History)). Follows Quietly size most a s words committing ds (slice_set actors a (record x { task = Some (Flush, plan'); card = card' }))) (sym d)
+      (goes_on size most words words (λ f. f) committing devices actors a x (record x { task = Some (Flush, plan'); card = card' }) s y g ex ey Quietly devices l.results s.shared (l.results, quiet_are_unnoted y.task l.results l.quiet, refl) l.may l.shared
       (stands size most words committing devices actors a x s y ex ey g words plan' card' false (gone y y.task l.results) j o at (λ e n. absurd (cc)) l.at)
       (λ k. let bad : true ≡ false = sym k ∙ ap (λ (v : AbstractActor). v.leads) l.at.is in absurd (cc)) g.words_agree g.origin g.cache refl refl refl (refl, refl, refl))
 
@@ -165,12 +165,12 @@ module _ (size most : ℕ) (words : Words) (committing : Bool) (devices : Device
 
   -- a commit begins, which nobody has led
   pub begins : (nodes : ℕ) (answer : Answer) → committing ≡ false → IsFlushing size [] (flushing most (Desk (BeginCommit false most) ∷ []) answer) false y →
-      FollowsBy Begins Quietly size most a s words true devices (slice_set actors a (record { task = Some (Flush, after (flushing most (Desk (BeginCommit false most) ∷ []) answer) (Began nodes)); card = x.card }))
+      FollowsBy Begins Quietly size most a s words true devices (slice_set actors a (record x { task = Some (Flush, after (flushing most (Desk (BeginCommit false most) ∷ []) answer) (Began nodes)) }))
   begins nodes answer quiet is =
       let plan' = after (flushing most (Desk (BeginCommit false most) ∷ []) answer) (Began nodes) in
       let none : s.shared.committing ≡ false = g.commits ∙ quiet in
       let l = followed_alone.begins size most nodes [] s.actors a s.shared y [] answer none (by_broken s.shared.broken refl) is in
-      goes_leading size most words words (λ f. f) committing devices actors a x (record { task = Some (Flush, plan'); card = x.card }) s y g ex ey Begins Quietly true devices l.results (effect s.shared (FlushingFor None) [] (Begin None) DoneThere) (l.results, quiet_are_unnoted y.task l.results l.quiet, refl) l.may l.shared
+      goes_leading size most words words (λ f. f) committing devices actors a x (record x { task = Some (Flush, plan') }) s y g ex ey Begins Quietly true devices l.results (effect s.shared (FlushingFor None) [] (Begin None) DoneThere) (l.results, quiet_are_unnoted y.task l.results l.quiet, refl) l.may l.shared
       (stands size most words committing devices actors a x s y ex ey g words plan' x.card true (gone y y.task l.results) refl (nodes_on_metadata nodes 0) refl (λ e n. absurd (cc)) l.at)
       (record { fail = g.words_agree.fail; seals = g.words_agree.seals }) g.origin g.cache refl refl (λ e. refl) (λ b v ev k. refl) (λ b v ev k u. by_broken s.shared.broken refl)
       (λ b c v u ev eu k m. only b v (gone y y.task l.results) ev k ∙ sym (only c u (gone y y.task l.results) eu m)) (refl, refl, refl)
@@ -186,14 +186,14 @@ module _ (size most : ℕ) (words : Words) (committing : Bool) (devices : Device
       only b v y' ev k = elim (cases_eq b a) [ inl e ↦ e | inr n ↦ absurd (runs (g.led b v (sym (get_set_other s.actors a b y' n) ∙ ev) k)) ]
 
   -- the commit ends, and nobody leads one
-  pub ends : (answer : Answer) → IsFlushing size [] (flushing most (Desk EndCommit ∷ []) answer) true y → FollowsBy Ends Quietly size most a s words false devices (slice_set actors a (record { task = Some (Flush, after (flushing most (Desk EndCommit ∷ []) answer) Done); card = x.card }))
+  pub ends : (answer : Answer) → IsFlushing size [] (flushing most (Desk EndCommit ∷ []) answer) true y → FollowsBy Ends Quietly size most a s words false devices (slice_set actors a (record x { task = Some (Flush, after (flushing most (Desk EndCommit ∷ []) answer) Done) }))
   ends answer is =
       let plan' = after (flushing most (Desk EndCommit ∷ []) answer) Done in
       let l = followed_alone.ends size most [] s.actors a s.shared y answer is in
       let lead : y.leads ≡ true = ap (λ (v : AbstractActor). v.leads) is.is in
       let some : wants_of size (FlushingFor None) (Desk EndCommit ∷ []) ≢ [] = (λ e. absurd (cc)) in
       let whole : s.shared.broken ≡ false = g.whole a y ey lead (subst (λ (v : AbstractActor). IsUnfinished v.task) (sym is.is) some) in
-      goes_leading size most words words (λ f. f) committing devices actors a x (record { task = Some (Flush, plan'); card = x.card }) s y g ex ey Ends Quietly false devices l.results (effect s.shared (FlushingFor None) [] End_running DoneThere) (l.results, quiet_are_unnoted y.task l.results l.quiet, refl) l.may l.shared
+      goes_leading size most words words (λ f. f) committing devices actors a x (record x { task = Some (Flush, plan') }) s y g ex ey Ends Quietly false devices l.results (effect s.shared (FlushingFor None) [] End_running DoneThere) (l.results, quiet_are_unnoted y.task l.results l.quiet, refl) l.may l.shared
       (stands size most words committing devices actors a x s y ex ey g words plan' x.card false (gone y y.task l.results) refl tt tt (λ e n. absurd (cc)) l.at)
       (record { fail = g.words_agree.fail; seals = g.words_agree.seals }) g.origin g.cache refl refl (λ e. let bad : true ≡ false = sym e ∙ whole in absurd (cc))
       (λ b v ev k. absurd (nobody l b v ev k)) (λ b v ev k u. whole) (λ b c v u ev eu k m. absurd (nobody l b v ev k)) (refl, refl)
@@ -205,7 +205,7 @@ module _ (size most : ℕ) (words : Words) (committing : Bool) (devices : Device
 
   -- the failed bit is set, and the commit is broken
   pub fails : (failures suspensions : ℕ) (answer : Answer) → words.fail ≡ fail_word failures suspensions → IsFlushing size [] (flushing most (Cell SetFailed ∷ []) answer) true y →
-      Follows Quietly size most a s (words_after words SetFailed) committing devices (slice_set actors a (record { task = Some (Flush, after (flushing most (Cell SetFailed ∷ []) answer) Done); card = card_after words SetFailed x.card }))
+      Follows Quietly size most a s (words_after words SetFailed) committing devices (slice_set actors a (record x { task = Some (Flush, after (flushing most (Cell SetFailed ∷ []) answer) Done); card = card_after words SetFailed x.card }))
   fails f z answer e is =
       let plan' = after (flushing most (Cell SetFailed ∷ []) answer) Done in
       let failed : flag (words_after words SetFailed).fail ≡ true = failed_flag words.fail f z e in
@@ -213,7 +213,7 @@ module _ (size most : ℕ) (words : Words) (committing : Bool) (devices : Device
       let lead : y.leads ≡ true = ap (λ (v : AbstractActor). v.leads) is.is in
       let y' = gone y y.task l.results in
       let runs = g.led a y ey lead in
-      goes_leading size most words (words_after words SetFailed) (λ k. failed) committing devices actors a x (record { task = Some (Flush, plan'); card = card_after words SetFailed x.card }) s y g ex ey Stays Quietly committing devices l.results (record s.shared { fail = true; broken = true }) (l.results, quiet_are_unnoted y.task l.results l.quiet, refl) l.may l.shared
+      goes_leading size most words (words_after words SetFailed) (λ k. failed) committing devices actors a x (record x { task = Some (Flush, plan'); card = card_after words SetFailed x.card }) s y g ex ey Stays Quietly committing devices l.results (record s.shared { fail = true; broken = true }) (l.results, quiet_are_unnoted y.task l.results l.quiet, refl) l.may l.shared
       (stands size most words committing devices actors a x s y ex ey g (words_after words SetFailed) plan' (card_after words SetFailed x.card) true y' refl tt tt (λ k n. failed) l.at)
       (record { fail = sym failed; seals = g.words_agree.seals }) g.origin g.cache refl g.commits (λ k. runs) (λ b v ev k. runs)
       (λ b v ev k u. absurd (subst (λ (w : AbstractActor). IsUnfinished w.task) (is_here size most words committing devices actors a x s y ex ey g lead y' b v ev k ∙ l.at.is) u refl))
@@ -272,9 +272,9 @@ module _ (size most : ℕ) (words : Words) (committing : Bool) (devices : Device
       by_test true f k = absurd (let bad : true ≡ false = sym l.failed ∙ f in cc)
       by_test false f k =
           let plan_is : after (flushing most (Cell (Look Fail) ∷ Desk (BeginCommit false most) ∷ []) Finished) (Word words.fail) ≡ flushing most [] (Refuses Failed) = ap (λ (t : Bool). if t then onward (flushing most (Cell (Look Fail) ∷ Desk (BeginCommit false most) ∷ []) Finished) else refused (flushing most (Cell (Look Fail) ∷ Desk (BeginCommit false most) ∷ []) Finished) [] Failed) k in
-          subst (λ (p : Plan). Follows Quietly size most a s words committing devices (slice_set actors a (record { task = Some (Flush, p); card = card_after words (Look Fail) x.card }))) (sym plan_is)
-          (goes_on size most words words (λ q. q) committing devices actors a x (record { task = Some (Flush, flushing most [] (Refuses Failed)); card = card_after words (Look Fail) x.card }) s y g ex ey Quietly devices [] s.shared ([], unnoted_none y.task, refl) tt (shared_stays s.shared y y.task)
-          (subst (λ (z : AbstractActor). StandsFor size most words (record { task = Some (Flush, flushing most [] (Refuses Failed)); card = card_after words (Look Fail) x.card }) z) (sym (gone_nowhere y y.task))
+          subst (λ (p : Plan). Follows Quietly size most a s words committing devices (slice_set actors a (record x { task = Some (Flush, p); card = card_after words (Look Fail) x.card }))) (sym plan_is)
+          (goes_on size most words words (λ q. q) committing devices actors a x (record x { task = Some (Flush, flushing most [] (Refuses Failed)); card = card_after words (Look Fail) x.card }) s y g ex ey Quietly devices [] s.shared ([], unnoted_none y.task, refl) tt (shared_stays s.shared y y.task)
+          (subst (λ (z : AbstractActor). StandsFor size most words (record x { task = Some (Flush, flushing most [] (Refuses Failed)); card = card_after words (Look Fail) x.card }) z) (sym (gone_nowhere y y.task))
           (record { at = record { job = refl; steps = tt; at = inr (record { failed = l.failed; nothing = l.nothing; at = inr (refl, λ e. absurd (cc)) }) }; below = record { owned = st.below.owned; shared = st.below.shared }; among_others = st.among_others }))
           (λ q. gone_nowhere y y.task) g.words_agree g.origin g.cache refl refl refl (refl, refl, refl))
 

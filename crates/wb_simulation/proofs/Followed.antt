@@ -17,7 +17,7 @@ use Rattle.wb_refines.specs.Going.{shared_after, gone}
 use Rattle.wb_refines.specs.Translation.{job_for}
 use Rattle.wb_refines.specs.Models.{IsRequest, plan_of}
 use Rattle.wb_runs.specs.declared.job.Job.{Job}
-use Rattle.wb_runs.specs.declared.job.Job.TheVariants.{Read, Write, Flush, Open}
+use Rattle.wb_runs.specs.declared.job.Job.TheVariants.{Read, Write, Flush, Open, Migrate}
 use Rattle.wb_runs.specs.States.{Actor}
 use Rattle.wb_runs.specs.Holding.{cards_of}
 use Rattle.wb_simulation.specs.Steps.{IsPart, AreOfBlock}
@@ -77,6 +77,7 @@ module _ (size most blocks : ℕ) (words : Words) (committing : Bool) (devices :
       among_all (Write extent content) content Writing acted acted.request
   followed Flush q e = absurd q
   followed (Open mode) q e = absurd q
+  followed (Migrate migration block) q e = absurd q
 
 pub cell_steps_followed : CellStepsFollowed
 cell_steps_followed size most blocks words committing devices actors a x job plan step s q rule ex task suits next g =

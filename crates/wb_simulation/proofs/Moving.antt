@@ -66,16 +66,16 @@ module _ (size most : ℕ) (words : Words) (committing : Bool) (devices : Device
   -- an actor of a request has moved an extent, and its device is this list now
   moved : (telling : Telling) (job : Job) (content : Content) (job_on : BlockRange → BlockJob) (plan : Plan) (device : Dev) (e : Extent) (results : List AbstractGot) (list : List History) → IsTold telling a y.task (records a y.task results) → HoldsBlocks device →
       Moves size zeros content s.actors a s.shared y (location_at size device e) results list plan x.card → is_alone (gone y y.task results).task ≡ false → IsDoing size most words job plan x.card (gone y y.task results) →
-      Follows telling size most a s words committing (with_device device devices list) (slice_set actors a (record { task = Some (job, plan); card = x.card }))
+      Follows telling size most a s words committing (with_device device devices list) (slice_set actors a (record x { task = Some (job, plan) }))
   moved telling job content job_on plan Metadata e results list told h m alone doing = absurd h
   moved telling job content job_on plan Cache e results list told h m alone doing =
       let t = shared_after s.shared y y.task results in let k = m.beside.images in
-      goes_on size most words words (λ f. f) committing devices actors a x (record { task = Some (job, plan); card = x.card }) s y g ex ey telling (with_device Cache devices list) results t told m.may refl
+      goes_on size most words words (λ f. f) committing devices actors a x (record x { task = Some (job, plan) }) s y g ex ey telling (with_device Cache devices list) results t told m.may refl
       (record { at = doing; below = has_no_more size content plan x.card (gone y y.task results) m.at; among_others = alone }) (λ l. let bad : true ≡ false = sym l ∙ ap (λ (v : AbstractActor). v.leads) m.at.is in absurd (cc)) (words_beside words (location_at size Cache e) s.shared t m.beside g.words_agree)
       (m.beside.other ∙ g.origin) m.side_is k.mode k.committing k.broken (k.committed, k.running, k.root_written)
   moved telling job content job_on plan Origin e results list told h m alone doing =
       let t = shared_after s.shared y y.task results in let k = m.beside.images in
-      goes_on size most words words (λ f. f) committing devices actors a x (record { task = Some (job, plan); card = x.card }) s y g ex ey telling (with_device Origin devices list) results t told m.may refl
+      goes_on size most words words (λ f. f) committing devices actors a x (record x { task = Some (job, plan) }) s y g ex ey telling (with_device Origin devices list) results t told m.may refl
       (record { at = doing; below = has_no_more size content plan x.card (gone y y.task results) m.at; among_others = alone }) (λ l. let bad : true ≡ false = sym l ∙ ap (λ (v : AbstractActor). v.leads) m.at.is in absurd (cc)) (words_beside words (location_at size Origin e) s.shared t m.beside g.words_agree)
       m.side_is (m.beside.other ∙ g.cache) k.mode k.committing k.broken (k.committed, k.running, k.root_written)
 

@@ -45,7 +45,7 @@ IsRequestJob job = ⊥
 
 -- an actor that has done this step of its task on the words
 abbrev pub went : Words → Job → Plan → CellStep → Actor → Actor
-went words job plan step x = record { task = Some (job, after plan (got_of (result_of words step))); card = card_after words step x.card }
+went words job plan step x = record x { task = Some (job, after plan (got_of (result_of words step))); card = card_after words step x.card }
 
 -- A step of a read or a write on the shared words, which keep their rule, among all others who have tasks.
 abbrev pub CellStepsFollowed : Type 0
@@ -55,7 +55,7 @@ CellStepsFollowed = (size most blocks : ℕ) (words : Words) (committing : Bool)
 
 -- an actor that has gone on with its task, and knows what it knew
 abbrev pub after_step : Job → Plan → Got → Actor → Actor
-after_step job plan got x = record { task = Some (job, after plan got); card = x.card }
+after_step job plan got x = record x { task = Some (job, after plan got) }
 
 -- A step of a read or a write on an extent of a device, done or failing; of a write that fails each sector has landed or not.
 pub record ExtentStepsFollowed : Type 0 where
