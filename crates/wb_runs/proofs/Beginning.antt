@@ -112,4 +112,5 @@ module _ (heap : Global) where
         image_is = planned;
         unused = on_unused unknowing desk (λ (b : ℕ). 0) None false desk.tree (bare_image (bare_root g (desk.generation + 1))) bare.known.is.kept may.idle planned bare.known.is.kept.mapping bare.known.is.sound bare.known.is.kept.places.inside;
       },
+      All-nil _,
     )

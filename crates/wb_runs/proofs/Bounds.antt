@@ -4,8 +4,6 @@ use Rattle.std.specs.Prelude.{unwrap_or}
 use Rattle.wb_types.proofs.Lists.{Contains-first, Contains-behind}
 use Rattle.wb_types.specs.declared.entry.Entry.{Entry}
 use Rattle.wb_types.specs.declared.extent.Extent.{Extent}
-use Rattle.wb_types.specs.declared.mode.Dev.{Dev}
-use Rattle.wb_types.specs.declared.mode.Dev.TheVariants.{Metadata, Cache, Origin}
 use Rattle.wb_types.specs.declared.number.OBlock.{OBlock}
 use Rattle.wb_types.specs.declared.number.CBlock.{CBlock}
 use Rattle.wb_types.specs.declared.refusal.Refusal.{Refusal}
@@ -19,7 +17,7 @@ use Rattle.wb_words.specs.SharedWords.{Words, word_at, place_in, dirty_in, seal_
 use Rattle.wb_words.specs.Effects.{words_after}
 use Rattle.wb_tasks.specs.declared.step.Migration.{Migration}
 use Rattle.wb_tasks.specs.declared.step.Migration.TheVariants.{Promote, Demote, Clean}
-use Rattle.wb_tasks.specs.Tables.{BlockRange, BlockJob, Reading, Writing, Migrating, TaskJob, OnBlock, Flushing, Opening, cache_extent, read_step, write_step, read_count, write_count, dirtying, copies, copying, ending, work}
+use Rattle.wb_tasks.specs.Tables.{BlockRange, BlockJob, Reading, Writing, Migrating, TaskJob, OnBlock, Flushing, Opening, cache_extent, read_step, write_step, read_count, write_count, copies, ending, work}
 use Rattle.wb_tasks.specs.Plan.{Plan, want, after, after_look, after_fault, after_refusal, after_more, later_steps, node_writes, root_steps, commit_steps, release_orders, lets_go, gives_up, release, may_take, exchange, is_worn, gives_back, work_of}
 use Rattle.wb_tasks.specs.declared.step.Answer.{Answer}
 use Rattle.wb_tasks.specs.declared.step.DeviceStep.{DeviceStep}
@@ -31,7 +29,7 @@ use Rattle.wb_tasks.specs.declared.step.Got.{Got}
 use Rattle.wb_tasks.specs.declared.step.Got.TheVariants.{Begin, Done, Word, Lost, Fault, Refused as GotRefused, Began, More}
 use Rattle.wb_runs.specs.States.{Shape, block_size, sector_count, cache_sector_count}
 use Rattle.wb_runs.specs.Effects.{sealing_steps, words_by}
-use Rattle.wb_runs.specs.Inside.{size_on, StepInside}
+use Rattle.wb_runs.specs.Inside.{StepInside}
 use Rattle.wb_runs.proofs.Plans.{plan_of}
 
 -- ---- seals

@@ -30,7 +30,8 @@ use Rattle.wb_runs.proofs.Metadata.{unknowing, Standing, AtDesk}
 orders_over : (orders : Orders) (c : CBlock) (o : LiveOrder) → AreOrders orders → order_at orders.slots c.0 ≡ Some o → o.waits ≡ false → AreOrders (without_order orders c)
 orders_over orders c o a there taken = subst (λ (s : Option LiveOrder). AreOrders (record orders { slots = slice_set orders.slots c.0 None; busy = unmarked s orders.busy })) (sym there) (over_kept orders c o a there taken)
 
-one_order : (o p : Order) → Decided (o ≡ p)
+-- whether two orders are the same is decided
+pub one_order : (o p : Order) → Decided (o ≡ p)
 one_order (Promote b c) (Promote x k) = elim (cases_eq b.0 x.0) [
   | inl e ↦ elim (cases_eq c.0 k.0) [
     | inl f ↦ inl (ap (λ (i : ℕ). Promote (record { 0 = i }) c) e ∙ ap (λ (i : ℕ). Promote x (record { 0 = i })) f)

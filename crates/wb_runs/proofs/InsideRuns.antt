@@ -1,22 +1,21 @@
 -- In every run each task's next step is on sectors that are there, and cache and origin keep their sizes.
-use Rattle.std.proofs.Common.{◌≡◌, ◌≢◌, ◌∙◌, ◌≤◌, ◌<◌, ◌+◌, ◌-◌, ◌*◌, ◌/◌, ◌%◌, inl, inr, ℕ, zero, suc, Bool, true, false, if◌then◌else◌, List, [], ◌∷◌, Option, Some, None, Contains, refl, sym, ap, subst, arith, length, slice_get, slice_set, map, replicate, mul_comm}
-use Rattle.std.proofs.lemmas.List.{length-map, length-replicate, length-set}
+use Rattle.std.proofs.Common.{◌≡◌, ◌∙◌, ◌≤◌, ◌<◌, ◌+◌, ◌-◌, ◌*◌, ◌/◌, ◌%◌, ℕ, zero, suc, Bool, true, false, if◌then◌else◌, List, [], ◌∷◌, Option, Some, None, Contains, refl, sym, ap, subst, arith, length, slice_get, slice_set, mul_comm}
+use Rattle.std.proofs.lemmas.List.{length-map, length-replicate}
 use Rattle.std.proofs.lemmas.Nat.{div-mul-add}
 use Rattle.std.proofs.Math.Nat.{div-add-mod, mod-lt}
 use Rattle.wb_types.specs.Extents.{IsCutInto}
 use Rattle.wb_types.specs.declared.extent.Extent.{Extent}
-use Rattle.wb_types.specs.declared.geometry.Geometry.{Geometry}
 use Rattle.wb_types.specs.declared.mode.Mode.{Mode}
 use Rattle.wb_types.specs.declared.mode.Dev.{Dev}
 use Rattle.wb_types.specs.declared.mode.Dev.TheVariants.{Metadata, Cache, Origin}
 use Rattle.wb_types.specs.declared.number.OBlock.{OBlock}
 use Rattle.wb_disk.specs.Device.{Content as Bytes, History, newest, only, written}
 use Rattle.wb_disk.specs.Extents.{written_where}
-use Rattle.wb_disk.specs.Failing.{lands, synced_where}
-use Rattle.wb_disk.specs.Crash.{Choice, crashed}
+use Rattle.wb_disk.specs.Failing.{lands}
+use Rattle.wb_disk.specs.Crash.{Choice}
 use Rattle.wb_disk.proofs.FailedSyncs.{length-synced_from}
 use Rattle.wb_disk.proofs.Crashes.{Crashed-crashed_from}
-use Rattle.wb_words.specs.SharedWords.{Words, fresh_words, word_at}
+use Rattle.wb_words.specs.SharedWords.{fresh_words, word_at}
 use Rattle.wb_words.specs.declared.word.Word.TheVariants.{Seal as SealWord}
 use Rattle.wb_words.specs.declared.step.CellStep.{CellStep}
 use Rattle.wb_words.specs.declared.step.CellStep.TheVariants.{Look}
@@ -24,14 +23,12 @@ use Rattle.wb_words.specs.Effects.{result_of}
 use Rattle.wb_meta.specs.Formats.{IsFormatted}
 use Rattle.wb_meta.specs.declared.read_steps.ReadSteps.{ReadSteps}
 use Rattle.wb_meta.specs.declared.read_steps.ReadSteps.TheVariants.{Begun, FirstSlotRead, RootFound, Done as AllRead}
-use Rattle.wb_tasks.specs.Tables.{BlockRange, TaskJob, whole_block}
+use Rattle.wb_tasks.specs.Tables.{TaskJob, whole_block}
 use Rattle.wb_tasks.specs.Plan.{Plan, want, after, table, got_of, device_of}
 use Rattle.wb_tasks.specs.Ready.{HoldsBlocks}
 use Rattle.wb_tasks.proofs.Readiness.{job_stays}
 use Rattle.wb_tasks.specs.declared.step.Migration.{Migration}
 use Rattle.wb_tasks.specs.declared.step.Migration.TheVariants.{Promote, Demote, Clean}
-use Rattle.wb_tasks.specs.declared.step.Answer.{Answer}
-use Rattle.wb_tasks.specs.declared.step.Answer.TheVariants.{Done as Finished, Refused as Refuses}
 use Rattle.wb_tasks.specs.declared.step.DeviceStep.{DeviceStep}
 use Rattle.wb_tasks.specs.declared.step.DeviceStep.TheVariants.{Read as ReadExtent, Write as WriteExtent, Sync, ReadMetadata, WriteNode, WriteRoot}
 use Rattle.wb_tasks.specs.declared.step.Want.{Want}
@@ -47,22 +44,22 @@ use Rattle.wb_runs.specs.declared.event.Event.{Event}
 use Rattle.wb_runs.specs.declared.event.Event.TheVariants.{Start, Step, FaultStep, Stop}
 use Rattle.wb_runs.specs.declared.event.What.{What}
 use Rattle.wb_runs.specs.declared.event.What.TheVariants.{Skipped, Refused, Started, Stepped, Stopped}
-use Rattle.wb_runs.specs.States.{Shape, State, Actor, Target, Phase, Stands, Gone, Opens, OfTarget, resting, with_device, block_size, sector_count, cache_sector_count, start}
+use Rattle.wb_runs.specs.States.{Shape, State, Actor, Phase, Stands, Gone, Opens, OfTarget, resting, with_device, block_size, sector_count, cache_sector_count, start}
 use Rattle.wb_runs.specs.Happenings.{Chosen, Plain, Cut, Orders, Opened, Happening, OfSome, Gives, Falters, MayFailAt, StartGives, MayBe, orders_in, order_for, task_job, extent_refusal}
-use Rattle.wb_runs.specs.Effects.{put_by, contents_for, device_done, device_failed, devices_then, commit_then, phase_then, phase_opened, phase_given, words_then, task_then, actor_then, seals_of, target_over, cut_of, stepped, with_actor, cleared, given, started, job_of, all_resting, after_what, after_happening, after_all, IsRun}
+use Rattle.wb_runs.specs.Effects.{put_by, contents_for, device_done, device_failed, devices_then, commit_then, phase_then, phase_opened, phase_given, task_then, actor_then, cut_of, stepped, with_actor, cleared, given, started, job_of, all_resting, after_what, after_happening, after_all, IsRun}
 use Rattle.wb_runs.specs.Clerk.{Notes, formatted}
 use Rattle.wb_runs.specs.Headline.{note_happening}
 use Rattle.wb_runs.specs.Inside.{StepInside, TaskInside, StaysInside}
 use Rattle.wb_runs.proofs.Lists.{replicated, first_or}
 use Rattle.wb_runs.proofs.Rooted.{length-grown}
 use Rattle.wb_runs.proofs.Extents.{MayStart, Within, AllWithin, may_start, cut_within, cut_inside, cut_of_block}
-use Rattle.wb_runs.proofs.Images.{Images, Turns}
+use Rattle.wb_runs.proofs.Images.{Images}
 use Rattle.wb_runs.proofs.Metadata.{MetadataKept}
 use Rattle.wb_runs.proofs.Stepping.{done_kept}
 use Rattle.wb_runs.proofs.Ordering.{OrderInside, OrdersInside}
 use Rattle.wb_runs.proofs.Ruling.{each_set, all_rest}
 use Rattle.wb_runs.proofs.Using.{order_inside}
-use Rattle.wb_runs.proofs.Bounds.{SealInside, SealsInside, seals_after, fresh_inside, sealed_inside, AllInside, ExtentInside, PartInside, JobInside, MigrationInside, inside_after}
+use Rattle.wb_runs.proofs.Bounds.{SealInside, SealsInside, seals_after, fresh_inside, sealed_inside, AllInside, PartInside, JobInside, MigrationInside, inside_after}
 use Rattle.wb_runs.proofs.LinkedRuns.{Base, base_after, base_start}
 
 -- ---- sizes

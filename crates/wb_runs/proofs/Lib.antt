@@ -23,6 +23,7 @@ pub mod Opening
 pub mod Claims
 pub mod Linking
 pub mod LinkedRuns
+mod Spelled
 mod Bare
 mod Beginning
 mod Readings
@@ -36,3 +37,10 @@ mod Surviving
 mod FirstPromotion
 mod Bounds
 mod InsideRuns
+mod Points
+mod Going
+mod Progressing
+mod Giving
+mod Applying
+mod Making
+mod Free

@@ -1,5 +1,5 @@
 -- What an event may do in a state.
-use Rattle.std.specs.Prelude.{◌≡◌, ◌≢◌, ◌≤◌, ◌<◌, ◌+◌, ◌-◌, ◌/◌, ◌^◌, ◌&&◌, ◌==◌, ◌⊎◌, ℕ, Bool, true, false, List, [], Option, Some, None, Contains, length, slice_get, if◌then◌else◌, nat_le}
+use Rattle.std.specs.Prelude.{◌≡◌, ◌≢◌, ◌≤◌, ◌<◌, ◌+◌, ◌-◌, ◌/◌, ◌^◌, ◌&&◌, ◌==◌, ◌⊎◌, ℕ, Bool, true, false, List, [], Option, Some, None, All, Contains, length, slice_get, if◌then◌else◌, nat_le}
 use Rattle.wb_types.specs.Limits.{node_count}
 use Rattle.wb_types.specs.declared.extent.Extent.{Extent}
 use Rattle.wb_types.specs.declared.geometry.Geometry.{Geometry}
@@ -10,11 +10,14 @@ use Rattle.wb_types.specs.declared.refusal.Refusal.{Refusal}
 use Rattle.wb_types.specs.declared.refusal.Refusal.TheVariants.{Range, Crosses, Busy, Memory}
 use Rattle.wb_types.specs.declared.number.OBlock.{OBlock}
 use Rattle.wb_types.specs.declared.number.CBlock.{CBlock}
+use Rattle.wb_types.specs.declared.number.Place.{Place}
 use Rattle.wb_disk.specs.Device.{Content as Bytes, History}
+use Rattle.wb_format.specs.declared.node.Node.{Node}
 use Rattle.wb_disk.specs.Extents.{GivesEach}
 use Rattle.wb_disk.specs.Failing.{MayFail, lands}
 use Rattle.wb_disk.specs.Crash.{Choice, Applies}
 use Rattle.wb_tree.specs.Mapping.{Mapping}
+use Rattle.wb_tree.specs.declared.image.Image.{Image}
 use Rattle.wb_meta.specs.Steps.{DoesStep, coming_step}
 use Rattle.wb_meta.specs.Reads.{ReadingGoesOn, StopsBy, AreStepsOn, IsDone, sectors_read}
 use Rattle.wb_meta.specs.States.{IsOfReading}
@@ -220,10 +223,14 @@ DoesRead {P} {A} geometry left was device commit got (Reaches after commit') = (
     ⊎ ((refusal : Refusal) × IsOfReading refusal × StopsBy was device refusal × (got ≡ got_of_refusal refusal) × (after ≡ None) × (commit' ≡ commit)))
 DoesRead geometry left was device commit got chosen = ⊥
 
+-- each node of an image has all its words
+abbrev pub AreWhole : Image → Type 0
+AreWhole image = All (λ (node : Place × Node). length node.1.words ≡ 32) image.nodes.items
+
 -- A commit begins, of an image of the desk's tree, with at most so many nodes; or the desk refuses it.
 abbrev pub DoesBegin : {P A : Type 0} → ℕ → DeskState P → Got → Chosen P A → Type 0
 DoesBegin most desk (Began nodes) (Commits commit tree) = (nodes ≤ most) × (nodes ≡ length commit.image.nodes.items) × (commit.steps ≡ NodesWritten 0)
-    × HasBegun desk commit.image (commit_begun desk tree)
+    × HasBegun desk commit.image (commit_begun desk tree) × AreWhole commit.image
 DoesBegin most desk (GotRefused refusal) Plain = IsBeginRefused desk refusal
 DoesBegin most desk got chosen = ⊥
 

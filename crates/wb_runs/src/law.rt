@@ -2,6 +2,7 @@
 
 ghost use Rattle.wb_runs.specs.Headline.{AnswersCoverTheirSectors, EventsSkipRightly, MetadataAreRead, OpeningsRefuseByCause};
 ghost use Rattle.wb_runs.specs.Possible.{CanFlush, CanOpen, CanPromote, CanSurvive};
+ghost use Rattle.wb_runs.specs.Progress.{NeverStuck};
 ghost use Rattle.wb_runs.specs.Inside.{StepsStayInside};
 ghost use Rattle.wb_runs.specs.Holding.{WordsAreUsedRightly};
 
@@ -26,6 +27,12 @@ pub fn events_skip_rightly<P, A>()
 /// sectors exactly once, wherever their block stands.
 pub fn answers_cover_their_sectors<P, A>()
     ensures { AnswersCoverTheirSectors P A }
+{}
+
+/// No run is ever stuck, given some policy to open with and a reading that has read nothing: after every run each event has a
+/// happening, which skips it only where it does not apply, and whoever has a task may do its next step.
+pub fn never_stuck<P, A>()
+    ensures { NeverStuck P A }
 {}
 
 /// In every run an opening is refused only where a step of it has failed, and then by that device, for want of memory, or since no

@@ -1,0 +1,157 @@
+-- Where a flush or an opening stands in its table, and how far the commit and the reading have come there.
+use Rattle.std.proofs.Common.{◌≡◌, ◌≤◌, ◌+◌, ◌++◌, ℕ, false, List, [], ◌∷◌, Option, Some, None, length, slice_get}
+use Rattle.wb_types.specs.declared.mode.Dev.TheVariants.{Metadata, Cache, Origin}
+use Rattle.wb_types.specs.declared.refusal.Refusal.{Refusal}
+use Rattle.wb_words.specs.declared.step.CellStep.TheVariants.{SetFailed}
+use Rattle.wb_meta.specs.Reads.{sectors_read}
+use Rattle.wb_meta.specs.declared.read_steps.ReadSteps.{ReadSteps}
+use Rattle.wb_meta.specs.declared.commit_steps.CommitSteps.{CommitSteps}
+use Rattle.wb_meta.specs.declared.commit_steps.CommitSteps.TheVariants.{NodesWritten, NodesSynced, RootWritten, Done as Committed}
+use Rattle.wb_tasks.specs.Tables.{BlockRange, Migrating, OnBlock, Flushing, Opening}
+use Rattle.wb_tasks.specs.Plan.{Plan, node_writes, commit_steps, root_steps, first_steps}
+use Rattle.wb_tasks.specs.declared.step.Migration.{Migration}
+use Rattle.wb_tasks.specs.declared.step.Answer.{Answer}
+use Rattle.wb_tasks.specs.declared.step.Answer.TheVariants.{Done as Finished, Refused as Refuses}
+use Rattle.wb_tasks.specs.declared.step.DeviceStep.TheVariants.{Sync, ReadMetadata, WriteRoot}
+use Rattle.wb_tasks.specs.declared.step.DeskStep.TheVariants.{BeginCommit, EndCommit}
+use Rattle.wb_tasks.specs.declared.step.Want.{Want}
+use Rattle.wb_tasks.specs.declared.step.Want.TheVariants.{Cell, Device, Desk}
+use Rattle.wb_devices.specs.declared.running.RunningCommit.{RunningCommit}
+use Rattle.wb_runs.specs.declared.job.Job.{Job}
+use Rattle.wb_runs.specs.declared.job.Job.TheVariants.{Flush, Open, Migrate}
+use Rattle.wb_runs.specs.States.{Actor, Phase, Stands, Gone, Opens}
+use Rattle.wb_runs.specs.Happenings.{OfSome}
+use Rattle.wb_runs.proofs.Plans.{plan_of}
+use Rattle.wb_runs.proofs.Spelled.{IsSmall}
+
+-- a commit runs whose image has so many nodes and can be spelled, and has come so far
+abbrev pub Runs : ℕ → CommitSteps → Option RunningCommit → Type 0
+Runs nodes steps None = ⊥
+Runs nodes steps (Some c) = (length c.image.nodes.items ≡ nodes) × IsSmall c.image × (c.steps ≡ steps)
+
+-- ---- flushes
+
+-- with each point of a commit go the nodes of its image; where they are written, those that are left and which one comes next
+pub data FlushPoint : Type 0 where
+  ToLook : FlushPoint
+  ToBegin : FlushPoint
+  ToSyncCache : (nodes : ℕ) → FlushPoint
+  ToSyncOrigin : (nodes : ℕ) → FlushPoint
+  ToWriteNodes : (left from : ℕ) → FlushPoint
+  ToWriteRoot : (nodes : ℕ) → FlushPoint
+  ToSyncRoot : (nodes : ℕ) → FlushPoint
+  ToEnd : (nodes : ℕ) → FlushPoint
+  ToSetFailed : FlushPoint
+  ToAnswer : FlushPoint
+
+abbrev pub flush_left : ℕ → FlushPoint → List Want
+flush_left most ToLook = first_steps (Flushing [] most)
+flush_left most ToBegin = Desk (BeginCommit false most) ∷ []
+flush_left most (ToSyncCache nodes) = commit_steps nodes
+flush_left most (ToSyncOrigin nodes) = Device (Sync Origin) ∷ (node_writes nodes 0 ++ root_steps)
+flush_left most (ToWriteNodes left from) = node_writes left from ++ root_steps
+flush_left most (ToWriteRoot nodes) = Device WriteRoot ∷ Device (Sync Metadata) ∷ Desk EndCommit ∷ []
+flush_left most (ToSyncRoot nodes) = Device (Sync Metadata) ∷ Desk EndCommit ∷ []
+flush_left most (ToEnd nodes) = Desk EndCommit ∷ []
+flush_left most ToSetFailed = Cell SetFailed ∷ []
+flush_left most ToAnswer = []
+
+abbrev pub AtFlush : FlushPoint → Option RunningCommit → Type 0
+AtFlush (ToSyncCache nodes) commit = Runs nodes (NodesWritten 0) commit
+AtFlush (ToSyncOrigin nodes) commit = Runs nodes (NodesWritten 0) commit
+AtFlush (ToWriteNodes left from) commit = Runs (from + left) (NodesWritten from) commit
+AtFlush (ToWriteRoot nodes) commit = Runs nodes NodesSynced commit
+AtFlush (ToSyncRoot nodes) commit = Runs nodes RootWritten commit
+AtFlush (ToEnd nodes) commit = Runs nodes Committed commit
+AtFlush point commit = Unit {0}
+
+-- the flush leads the commit
+abbrev pub IsLeading : FlushPoint → Type 0
+IsLeading (ToSyncCache nodes) = Unit {0}
+IsLeading (ToSyncOrigin nodes) = Unit {0}
+IsLeading (ToWriteNodes left from) = Unit {0}
+IsLeading (ToWriteRoot nodes) = Unit {0}
+IsLeading (ToSyncRoot nodes) = Unit {0}
+IsLeading (ToEnd nodes) = Unit {0}
+IsLeading point = ⊥
+
+-- A flush that leads is the leader's.
+pub record FlushAt (commit : Option RunningCommit) (IsLeader : Type 0) (plan : Plan) : Type 0 where
+  pub most : ℕ
+  pub answer : Answer
+  pub point : FlushPoint
+  pub is : plan ≡ plan_of (Flushing [] most) (flush_left most point) answer
+  pub at : AtFlush point commit
+  pub leads : IsLeading point → IsLeader
+
+-- a task migrates so
+abbrev pub Migrates : Migration → Plan → Type 0
+Migrates migration plan = (part : BlockRange) × (plan.job ≡ OnBlock (Migrating migration part))
+
+abbrev pub FlushJob : Option RunningCommit → Type 0 → Job → Plan → Type 0
+FlushJob commit IsLeader Flush plan = FlushAt commit IsLeader plan
+FlushJob commit IsLeader (Migrate migration block) plan = Migrates migration plan
+FlushJob commit IsLeader job plan = Unit {0}
+
+abbrev pub FlushTask : Option RunningCommit → Type 0 → Option (Job × Plan) → Type 0
+FlushTask commit IsLeader None = Unit {0}
+FlushTask commit IsLeader (Some task) = FlushJob commit IsLeader task.0 task.1
+
+-- ---- openings
+
+pub data OpenPoint : Type 0 where
+  AtFirst : OpenPoint
+  AtCache : OpenPoint
+  AtOrigin : OpenPoint
+  AtRead : ℕ → OpenPoint
+  AtRoot : OpenPoint
+  AtRootSync : OpenPoint
+  AtEnd : OpenPoint
+  AtRefusal : Refusal → OpenPoint
+
+abbrev pub open_left : ℕ → OpenPoint → List Want
+open_left n AtFirst = first_steps (Opening n)
+open_left n AtCache = Device (Sync Cache) ∷ Device (Sync Origin) ∷ Device (ReadMetadata n) ∷ Device WriteRoot ∷ Device (Sync Metadata) ∷ []
+open_left n AtOrigin = Device (Sync Origin) ∷ Device (ReadMetadata n) ∷ Device WriteRoot ∷ Device (Sync Metadata) ∷ []
+open_left n (AtRead left) = Device (ReadMetadata left) ∷ Device WriteRoot ∷ Device (Sync Metadata) ∷ []
+open_left n AtRoot = Device WriteRoot ∷ Device (Sync Metadata) ∷ []
+open_left n AtRootSync = Device (Sync Metadata) ∷ []
+open_left n AtEnd = []
+open_left n (AtRefusal refusal) = []
+
+abbrev pub open_answer : OpenPoint → Answer
+open_answer (AtRefusal refusal) = Refuses refusal
+open_answer point = Finished
+
+-- No commit runs until all was read; a reading that has read nothing may read a sector more.
+abbrev pub AtOpen : {A : Type 0} → ℕ → OpenPoint → Option (ReadSteps A) → Option RunningCommit → Type 0
+AtOpen n AtFirst reading commit = (commit ≡ None) × (1 ≤ n)
+AtOpen n AtCache reading commit = (commit ≡ None) × OfSome reading (λ was. 1 ≤ n)
+AtOpen n AtOrigin reading commit = (commit ≡ None) × OfSome reading (λ was. 1 ≤ n)
+AtOpen n (AtRead left) reading commit = (commit ≡ None) × OfSome reading (λ was. sectors_read was ≡ 0 → 1 ≤ left)
+AtOpen n AtRoot reading commit = Runs 0 NodesSynced commit
+AtOpen n AtRootSync reading commit = Runs 0 RootWritten commit
+AtOpen n AtEnd reading commit = Runs 0 Committed commit
+AtOpen n (AtRefusal refusal) reading commit = Unit {0}
+
+pub record OpenAt {A : Type 0} (reading : Option (ReadSteps A)) (commit : Option RunningCommit) (plan : Plan) : Type 0 where
+  pub sectors : ℕ
+  pub point : OpenPoint
+  pub is : plan ≡ plan_of (Opening sectors) (open_left sectors point) (open_answer point)
+  pub at : AtOpen sectors point reading commit
+
+abbrev pub OpenJob : {A : Type 0} → Option (ReadSteps A) → Option RunningCommit → Job → Plan → Type 0
+OpenJob reading commit (Open mode) plan = OpenAt reading commit plan
+OpenJob reading commit job plan = Unit {0}
+
+abbrev pub OpenTask : {A : Type 0} → Option (ReadSteps A) → Option RunningCommit → Option (Job × Plan) → Type 0
+OpenTask reading commit None = Unit {0}
+OpenTask reading commit (Some task) = OpenJob reading commit task.0 task.1
+
+-- ---- all of them
+
+-- where every flush and opening stands, and that each migration's task migrates; one flush alone leads the commit
+abbrev pub Going : {P A : Type 0} → Phase P A → Option RunningCommit → List Actor → Type 0
+Going (Stands t) commit actors = (leader : ℕ) × ((b : ℕ) (x : Actor) → slice_get actors b ≡ Some x → FlushTask commit (b ≡ leader) x.task)
+Going Gone commit actors = Unit {0}
+Going (Opens mode reading) commit actors = (b : ℕ) (x : Actor) → slice_get actors b ≡ Some x → OpenTask reading commit x.task
