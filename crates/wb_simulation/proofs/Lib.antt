@@ -3,16 +3,16 @@ mod Kept
 mod Telling
 mod Cells
 mod Among
-mod Followed
-mod Moving
-mod Starting
-mod Ending
+pub mod Followed
+pub mod Moving
+pub mod Starting
+pub mod Ending
 mod Leading
 mod Flushing
-mod Flushes
-mod Possible
-mod Opening
+pub mod Flushes
+pub mod Possible
+pub mod Opening
 mod Counts
 mod Told
-mod Noted
-mod Opened
+pub mod Noted
+pub mod Opened

@@ -135,7 +135,7 @@ sealed_there clean (Some entry ∷ entries) c seals block k once l e =
 
 -- ---- what a mapping says of its entries
 
-found_at : (entries : List (Option Entry)) (block c k : ℕ) → cached_from block c entries ≡ Some k → (i : ℕ) × (entry : Entry) × (k ≡ c + i) × (i < length entries) × (slice_index_or entries i None ≡ Some entry) × (entry.origin.0 ≡ block)
+pub found_at : (entries : List (Option Entry)) (block c k : ℕ) → cached_from block c entries ≡ Some k → (i : ℕ) × (entry : Entry) × (k ≡ c + i) × (i < length entries) × (slice_index_or entries i None ≡ Some entry) × (entry.origin.0 ≡ block)
 found_at [] block c k e = absurd (cc)
 found_at (None ∷ entries) block c k e = let f = found_at entries block (suc c) k e in (suc f.0, f.1, (let is = f.2 in omega (arith, is)), (let l = f.3 in omega (arith, l)), f.4, f.5)
 found_at (Some entry ∷ entries) block c k e = by (entry.origin.0 == block) refl e (found_at entries block (suc c) k)

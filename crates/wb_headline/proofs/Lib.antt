@@ -1,0 +1,5 @@
+mod Events
+mod Allowed
+mod Unclean
+mod Following
+mod Quiet
