@@ -10,6 +10,7 @@ use Rattle.wb_words.specs.Effects.{words_after}
 use Rattle.wb_words.specs.declared.word.Kind.TheVariants.{ReadHit, ReadMiss, WriteHit, WriteMiss}
 use Rattle.wb_words.specs.declared.step.CellStep.{CellStep}
 use Rattle.wb_words.specs.declared.step.CellStep.TheVariants.{Look, Take, Release, Seal, Finish, Count, SetFailed, SetSuspended}
+use Rattle.wb_policy.specs.declared.order.Order.{Order}
 use Rattle.wb_devices.specs.declared.devices.Devices.{Devices}
 use Rattle.wb_link.specs.Tables.{Got}
 use Rattle.wb_link.specs.World.{World, Shared, Actor as AbstractActor}
@@ -55,13 +56,13 @@ failed_stays words SetSuspended f z e t = ap (λ v. flag (bit_or v 2)) e ∙ by_
     by_bits false false = refl
 
 -- no abstract actor has more than its card counts
-pub below_beside : (size most : ℕ) (words : Words) (committing : Bool) (devices : Devices (List History)) (actors : List Actor) (s : World) (a : ℕ) → Agrees size most words committing devices actors s → BelowBeside s.actors (cards_of actors) a a
-below_beside size most words committing devices actors s a g c y n e held =
+pub below_beside : (size most : ℕ) (words : Words) (committing : Bool) (orders : List (Option Order)) (devices : Devices (List History)) (actors : List Actor) (s : World) (a : ℕ) → Agrees size most words committing orders devices actors s → BelowBeside s.actors (cards_of actors) a a
+below_beside size most words committing orders devices actors s a g c y n e held =
     let x = element_beside s.actors actors c y (sym g.many) e in
     (c, x.0.card, n, card_there actors c x.0 x.1, (g.each c x.0 y x.1 e).below)
 
-module _ (size most : ℕ) (words words' : Words) (up : flag words.fail ≡ true → flag words'.fail ≡ true) (committing : Bool) (devices : Devices (List History)) (actors : List Actor) (a : ℕ) (x x' : Actor) (s : World) (y : AbstractActor)
-    (g : Agrees size most words committing devices actors s) (ex : slice_get actors a ≡ Some x) (ey : slice_get s.actors a ≡ Some y) where
+module _ (size most : ℕ) (words words' : Words) (up : flag words.fail ≡ true → flag words'.fail ≡ true) (committing : Bool) (orders : List (Option Order)) (devices : Devices (List History)) (actors : List Actor) (a : ℕ) (x x' : Actor) (s : World) (y : AbstractActor)
+    (g : Agrees size most words committing orders devices actors s) (ex : slice_get actors a ≡ Some x) (ey : slice_get s.actors a ≡ Some y) where
   pub each_on : (y' : AbstractActor) → StandsFor size most words' x' y' → (b : ℕ) (z : Actor) (v : AbstractActor) → slice_get (slice_set actors a x') b ≡ Some z → slice_get (slice_set s.actors a y') b ≡ Some v → StandsFor size most words' z v
   each_on y' st b z v ez ev = elim (cases_eq b a) [
     | inl e ↦
@@ -89,14 +90,14 @@ module _ (size most : ℕ) (words words' : Words) (up : flag words.fail ≡ true
       ((b : ℕ) (v : AbstractActor) → slice_get (slice_set s.actors a (gone y y.task results)) b ≡ Some v → v.leads ≡ true → t.committing ≡ true) →
       ((b : ℕ) (v : AbstractActor) → slice_get (slice_set s.actors a (gone y y.task results)) b ≡ Some v → v.leads ≡ true → IsUnfinished v.task → t.broken ≡ false) →
       ((b c : ℕ) (v u : AbstractActor) → slice_get (slice_set s.actors a (gone y y.task results)) b ≡ Some v → slice_get (slice_set s.actors a (gone y y.task results)) c ≡ Some u → v.leads ≡ true → u.leads ≡ true → b ≡ c) → TurnedTo turn s.shared t →
-      FollowsBy turn telling size most a s words' committing' devices' (slice_set actors a x')
+      FollowsBy turn telling size most a s words' committing' orders devices' (slice_set actors a x')
   goes_leading turn telling committing' devices' results t told may is st w o c m k b led whole one turned =
       let went = goes size results s a y y.task ey refl may in
       record {
         records = records a y.task results;
         run = went.run;
-        agrees = subst (λ (v : World). Agrees size most words' committing' devices' (slice_set actors a x') v) (sym went.is)
-            (subst (λ (v : Shared). Agrees size most words' committing' devices' (slice_set actors a x') (with_own s a v (gone y y.task results))) (sym is) (record {
+        agrees = subst (λ (v : World). Agrees size most words' committing' orders devices' (slice_set actors a x') v) (sym went.is)
+            (subst (λ (v : Shared). Agrees size most words' committing' orders devices' (slice_set actors a x') (with_own s a v (gone y y.task results))) (sym is) (record {
               words_agree = w;
               origin = o;
               cache = c;
@@ -126,6 +127,6 @@ module _ (size most : ℕ) (words words' : Words) (up : flag words.fail ≡ true
   -- no commit begins, ends or is broken by it
   pub goes_on : (telling : Telling) (devices' : Devices (List History)) (results : List Got) (t : Shared) → IsTold telling a y.task (records a y.task results) → MayGo s.actors a s.shared y y.task results → shared_after s.shared y y.task results ≡ t → StandsFor size most words' x' (gone y y.task results) → ((gone y y.task results).leads ≡ true → gone y y.task results ≡ y) → WordsAgree words' t →
       t.origin ≡ by_block size zeros devices'.origin → t.cache ≡ by_block size zeros devices'.cache → t.mode ≡ s.shared.mode → t.committing ≡ s.shared.committing → t.broken ≡ s.shared.broken → TurnedTo Stays s.shared t →
-      Follows telling size most a s words' committing devices' (slice_set actors a x')
-  goes_on telling devices' results t told may is st keeps w o c m k b turned = goes_leading Stays telling committing devices' results t told may is st w o c m (k ∙ g.commits) (λ e. k ∙ g.broken (sym b ∙ e))
+      Follows telling size most a s words' committing orders devices' (slice_set actors a x')
+  goes_on telling devices' results t told may is st keeps w o c m k b turned = goes_leading Stays telling committing orders devices' results t told may is st w o c m (k ∙ g.commits) (λ e. k ∙ g.broken (sym b ∙ e))
       (led_on (gone y y.task results) keeps t k) (whole_on (gone y y.task results) keeps t b) (one_on (gone y y.task results) keeps) turned

@@ -3,6 +3,7 @@ use Rattle.std.proofs.Common.{◌≡◌, ◌∙◌, ◌⊎◌, inl, inr, ℕ, Bo
 use Rattle.wb_disk.specs.Device.{Content, History}
 use Rattle.wb_words.specs.SharedWords.{Words, flag}
 use Rattle.wb_words.specs.declared.card.Hold.TheVariants.{Nothing as HoldsNothing}
+use Rattle.wb_policy.specs.declared.order.Order.{Order}
 use Rattle.wb_tasks.specs.Tables.{BlockRange, BlockJob, Reading, Writing, OnBlock}
 use Rattle.wb_tasks.specs.Plan.{Plan, want, first_step}
 use Rattle.wb_tasks.specs.Ready.{Suits}
@@ -39,18 +40,18 @@ nothing_left plan answer e never = by_steps plan.steps refl
     by_steps [] k = k
     by_steps (v ∷ ws) k = absurd (never v ws k (sym (ap (λ (us : List Want). first_step us plan.answer) k) ∙ e))
 
-module _ (size most blocks : ℕ) (words : Words) (committing : Bool) (devices : Devices (List History)) (actors : List Actor) (a : ℕ) (x : Actor) (s : World) (y : AbstractActor) (ex : slice_get actors a ≡ Some x) (ey : slice_get s.actors a ≡ Some y) (g : Agrees size most words committing devices actors s) (st : StandsFor size most words x y) where
+module _ (size most blocks : ℕ) (words : Words) (committing : Bool) (orders : List (Option Order)) (devices : Devices (List History)) (actors : List Actor) (a : ℕ) (x : Actor) (s : World) (y : AbstractActor) (ex : slice_get actors a ≡ Some x) (ey : slice_get s.actors a ≡ Some y) (g : Agrees size most words committing orders devices actors s) (st : StandsFor size most words x y) where
   abbrev Goal : AbstractJob → Answer → Type 0
-  Goal abstract answer = Follows (Answers abstract answer) size most a s words committing devices (slice_set actors a (record x { task = None }))
+  Goal abstract answer = Follows (Answers abstract answer) size most a s words committing orders devices (slice_set actors a (record x { task = None }))
 
   -- it answers there, too
   answers : (abstract : AbstractJob) (answer : Answer) → AnswersSo abstract answer y.task → IsAnswered s.actors a s.shared y → IsBelow (gone y y.task (DoneThere ∷ [])) x.card → (gone y y.task (DoneThere ∷ [])).leads ≡ false → (IsIdle (gone y y.task (DoneThere ∷ [])) ⊎ (flag words.fail ≡ true)) → Goal abstract answer
-  answers abstract answer so w below leads rest = goes_on size most words words (λ f. f) committing devices actors a x (record x { task = None }) s y g ex ey (Answers abstract answer) devices (DoneThere ∷ []) s.shared (so, refl) w.may w.shared
+  answers abstract answer so w below leads rest = goes_on size most words words (λ f. f) committing orders devices actors a x (record x { task = None }) s y g ex ey (Answers abstract answer) devices (DoneThere ∷ []) s.shared (so, refl) w.may w.shared
       (record { at = (w.over, rest); below = below; among_others = ap is_alone w.over }) (λ l. let bad : true ≡ false = sym l ∙ leads in absurd (cc)) g.words_agree g.origin g.cache refl refl refl (refl, refl, refl)
 
   -- it has no task there
   answers_late : (abstract : AbstractJob) (answer : Answer) → AnswersSo abstract answer y.task → y.task ≡ None → flag words.fail ≡ true → Goal abstract answer
-  answers_late abstract answer so none failed = goes_on size most words words (λ f. f) committing devices actors a x (record x { task = None }) s y g ex ey (Answers abstract answer) devices [] s.shared (so, nothing_told a y.task (DoneThere ∷ []) none) tt (shared_stays s.shared y y.task)
+  answers_late abstract answer so none failed = goes_on size most words words (λ f. f) committing orders devices actors a x (record x { task = None }) s y g ex ey (Answers abstract answer) devices [] s.shared (so, nothing_told a y.task (DoneThere ∷ []) none) tt (shared_stays s.shared y y.task)
       (subst (λ (z : AbstractActor). StandsFor size most words (record x { task = None }) z) (sym (gone_nowhere y y.task)) (record { at = (none, inr failed); below = st.below; among_others = st.among_others }))
       (λ l. gone_nowhere y y.task) g.words_agree g.origin g.cache refl refl refl (refl, refl, refl)
 
@@ -80,6 +81,6 @@ module _ (size most blocks : ℕ) (words : Words) (committing : Bool) (devices :
   followed (Migrate migration block) plan answer q e next suits = absurd q
 
 pub answers_followed : AnswersFollowed
-answers_followed size most blocks words committing devices actors a x job plan answer s q ex task suits next g =
+answers_followed size most blocks words committing orders devices actors a x job plan answer s q ex task suits next g =
     let y = element_beside actors s.actors a x g.many ex in
-    followed size most blocks words committing devices actors a x s y.0 ex y.1 g (g.each a x y.0 ex y.1) job plan answer q task next suits
+    followed size most blocks words committing orders devices actors a x s y.0 ex y.1 g (g.each a x y.0 ex y.1) job plan answer q task next suits

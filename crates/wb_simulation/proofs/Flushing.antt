@@ -13,6 +13,7 @@ use Rattle.wb_words.specs.Effects.{words_after, card_after}
 use Rattle.wb_words.specs.declared.card.Card.{Card}
 use Rattle.wb_words.specs.declared.step.CellStep.TheVariants.{Look, SetFailed}
 use Rattle.wb_words.specs.declared.word.Word.TheVariants.{Fail}
+use Rattle.wb_policy.specs.declared.order.Order.{Order}
 use Rattle.wb_tasks.specs.Tables.{Flushing}
 use Rattle.wb_tasks.specs.Plan.{Plan, want, after, device_of, first_step, onward, refused, table}
 use Rattle.wb_tasks.specs.declared.step.Answer.{Answer}
@@ -47,20 +48,20 @@ use Rattle.wb_simulation.proofs.Telling.{answers_at, late_answers_so, unnoted_no
 use Rattle.wb_simulation.proofs.Among.{goes_on, goes_leading}
 use Rattle.wb_simulation.proofs.Leading.{nodes_on_metadata, commits_on, has_wants, stands, one_here, is_here, leads_on}
 
-module _ (size most : ℕ) (words : Words) (committing : Bool) (devices : Devices (List History)) (actors : List Actor) (a : ℕ) (x : Actor) (plan : Plan) (s : World) (y : AbstractActor) (ex : slice_get actors a ≡ Some x) (ey : slice_get s.actors a ≡ Some y) (g : Agrees size most words committing devices actors s) where
+module _ (size most : ℕ) (words : Words) (committing : Bool) (orders : List (Option Order)) (devices : Devices (List History)) (actors : List Actor) (a : ℕ) (x : Actor) (plan : Plan) (s : World) (y : AbstractActor) (ex : slice_get actors a ≡ Some x) (ey : slice_get s.actors a ≡ Some y) (g : Agrees size most words committing orders devices actors s) where
   -- a step on a device, done, with this left
   abbrev OnBy : Turn → Devices (List History) → Plan → Type 0
-  OnBy turn devices' plan' = FollowsBy turn Quietly size most a s words committing devices' (slice_set actors a (record x { task = Some (Flush, plan') }))
+  OnBy turn devices' plan' = FollowsBy turn Quietly size most a s words committing orders devices' (slice_set actors a (record x { task = Some (Flush, plan') }))
 
   -- and the images stay
   abbrev On : Devices (List History) → Plan → Type 0
-  On devices' plan' = Follows Quietly size most a s words committing devices' (slice_set actors a (record x { task = Some (Flush, plan') }))
+  On devices' plan' = Follows Quietly size most a s words committing orders devices' (slice_set actors a (record x { task = Some (Flush, plan') }))
 
   -- the same on whatever it leads to there
   goes : (turn : Turn) (devices' : Devices (List History)) (next : Want) (later : List Want) (answer : Answer) (plan' : Plan) (t : Shared) → IsFlushing size [] (flushing most (next ∷ later) answer) true y → wants_of size (FlushingFor None) (next ∷ later) ≢ [] → Leads size [] s.actors a s.shared y t plan' true →
       plan'.job ≡ Flushing [] most → IsOfFlush most plan'.steps → LeadsAt true plan'.steps → (plan'.steps ≢ []) → WordsAgree words t → t.origin ≡ by_block size zeros devices'.origin → t.cache ≡ by_block size zeros devices'.cache → t.mode ≡ s.shared.mode → t.committing ≡ s.shared.committing → t.broken ≡ s.shared.broken → TurnedTo turn s.shared t → OnBy turn devices' plan'
   goes turn devices' next later answer plan' t is some l j o at unfinished w og ca mo co br turned =
-      leads_on size most words committing devices actors a x s y ex ey g turn words (λ f. f) devices' (flushing most (next ∷ later) answer) plan' x.card t next later answer is some l j o at (λ e n. absurd (unfinished n)) w og ca mo co br turned
+      leads_on size most words committing orders devices actors a x s y ex ey g turn words (λ f. f) devices' (flushing most (next ∷ later) answer) plan' x.card t next later answer is some l j o at (λ e n. absurd (unfinished n)) w og ca mo co br turned
 
   -- who leads, where that is known of the step
   pub leading : (next : Want) (later : List Want) (answer : Answer) (leads : Bool) → leads ≡ true → IsFlushing size [] (flushing most (next ∷ later) answer) leads y → IsFlushing size [] (flushing most (next ∷ later) answer) true y
@@ -141,10 +142,10 @@ module _ (size most : ℕ) (words : Words) (committing : Bool) (devices : Device
 
   -- the flush leads no commit before it and after it
   follows_alone : (devices' : Devices (List History)) (plan' : Plan) (card' : Card) → plan'.job ≡ Flushing [] most → IsOfFlush most plan'.steps → LeadsAt false plan'.steps → Leads size [] s.actors a s.shared y s.shared plan' false →
-      devices' ≡ devices → Follows Quietly size most a s words committing devices' (slice_set actors a (record x { task = Some (Flush, plan'); card = card' }))
-  follows_alone devices' plan' card' j o at l d = subst (λ (ds : Devices (List History)). Follows Quietly size most a s words committing ds (slice_set actors a (record x { task = Some (Flush, plan'); card = card' }))) (sym d)
-      (goes_on size most words words (λ f. f) committing devices actors a x (record x { task = Some (Flush, plan'); card = card' }) s y g ex ey Quietly devices l.results s.shared (l.results, quiet_are_unnoted y.task l.results l.quiet, refl) l.may l.shared
-      (stands size most words committing devices actors a x s y ex ey g words plan' card' false (gone y y.task l.results) j o at (λ e n. absurd (cc)) l.at)
+      devices' ≡ devices → Follows Quietly size most a s words committing orders devices' (slice_set actors a (record x { task = Some (Flush, plan'); card = card' }))
+  follows_alone devices' plan' card' j o at l d = subst (λ (ds : Devices (List History)). Follows Quietly size most a s words committing orders ds (slice_set actors a (record x { task = Some (Flush, plan'); card = card' }))) (sym d)
+      (goes_on size most words words (λ f. f) committing orders devices actors a x (record x { task = Some (Flush, plan'); card = card' }) s y g ex ey Quietly devices l.results s.shared (l.results, quiet_are_unnoted y.task l.results l.quiet, refl) l.may l.shared
+      (stands size most words committing orders devices actors a x s y ex ey g words plan' card' false (gone y y.task l.results) j o at (λ e n. absurd (cc)) l.at)
       (λ k. let bad : true ≡ false = sym k ∙ ap (λ (v : AbstractActor). v.leads) l.at.is in absurd (cc)) g.words_agree g.origin g.cache refl refl refl (refl, refl, refl))
 
   refused_plan : (refusal : Refusal) (later : List Want) (answer : Answer) (clean : Bool) (nodes : ℕ) → IsNoBegin refusal → (after (flushing most (Desk (BeginCommit clean nodes) ∷ later) answer) (Refused refusal)).steps ≡ []
@@ -165,13 +166,13 @@ module _ (size most : ℕ) (words : Words) (committing : Bool) (devices : Device
 
   -- a commit begins, which nobody has led
   pub begins : (nodes : ℕ) (answer : Answer) → committing ≡ false → IsFlushing size [] (flushing most (Desk (BeginCommit false most) ∷ []) answer) false y →
-      FollowsBy Begins Quietly size most a s words true devices (slice_set actors a (record x { task = Some (Flush, after (flushing most (Desk (BeginCommit false most) ∷ []) answer) (Began nodes)) }))
+      FollowsBy Begins Quietly size most a s words true orders devices (slice_set actors a (record x { task = Some (Flush, after (flushing most (Desk (BeginCommit false most) ∷ []) answer) (Began nodes)) }))
   begins nodes answer quiet is =
       let plan' = after (flushing most (Desk (BeginCommit false most) ∷ []) answer) (Began nodes) in
       let none : s.shared.committing ≡ false = g.commits ∙ quiet in
       let l = followed_alone.begins size most nodes [] s.actors a s.shared y [] answer none (by_broken s.shared.broken refl) is in
-      goes_leading size most words words (λ f. f) committing devices actors a x (record x { task = Some (Flush, plan') }) s y g ex ey Begins Quietly true devices l.results (effect s.shared (FlushingFor None) [] (Begin None) DoneThere) (l.results, quiet_are_unnoted y.task l.results l.quiet, refl) l.may l.shared
-      (stands size most words committing devices actors a x s y ex ey g words plan' x.card true (gone y y.task l.results) refl (nodes_on_metadata nodes 0) refl (λ e n. absurd (cc)) l.at)
+      goes_leading size most words words (λ f. f) committing orders devices actors a x (record x { task = Some (Flush, plan') }) s y g ex ey Begins Quietly true devices l.results (effect s.shared (FlushingFor None) [] (Begin None) DoneThere) (l.results, quiet_are_unnoted y.task l.results l.quiet, refl) l.may l.shared
+      (stands size most words committing orders devices actors a x s y ex ey g words plan' x.card true (gone y y.task l.results) refl (nodes_on_metadata nodes 0) refl (λ e n. absurd (cc)) l.at)
       (record { fail = g.words_agree.fail; seals = g.words_agree.seals }) g.origin g.cache refl refl (λ e. refl) (λ b v ev k. refl) (λ b v ev k u. by_broken s.shared.broken refl)
       (λ b c v u ev eu k m. only b v (gone y y.task l.results) ev k ∙ sym (only c u (gone y y.task l.results) eu m)) (refl, refl, refl)
     where
@@ -186,26 +187,26 @@ module _ (size most : ℕ) (words : Words) (committing : Bool) (devices : Device
       only b v y' ev k = elim (cases_eq b a) [ inl e ↦ e | inr n ↦ absurd (runs (g.led b v (sym (get_set_other s.actors a b y' n) ∙ ev) k)) ]
 
   -- the commit ends, and nobody leads one
-  pub ends : (answer : Answer) → IsFlushing size [] (flushing most (Desk EndCommit ∷ []) answer) true y → FollowsBy Ends Quietly size most a s words false devices (slice_set actors a (record x { task = Some (Flush, after (flushing most (Desk EndCommit ∷ []) answer) Done) }))
+  pub ends : (answer : Answer) → IsFlushing size [] (flushing most (Desk EndCommit ∷ []) answer) true y → FollowsBy Ends Quietly size most a s words false orders devices (slice_set actors a (record x { task = Some (Flush, after (flushing most (Desk EndCommit ∷ []) answer) Done) }))
   ends answer is =
       let plan' = after (flushing most (Desk EndCommit ∷ []) answer) Done in
       let l = followed_alone.ends size most [] s.actors a s.shared y answer is in
       let lead : y.leads ≡ true = ap (λ (v : AbstractActor). v.leads) is.is in
       let some : wants_of size (FlushingFor None) (Desk EndCommit ∷ []) ≢ [] = (λ e. absurd (cc)) in
       let whole : s.shared.broken ≡ false = g.whole a y ey lead (subst (λ (v : AbstractActor). IsUnfinished v.task) (sym is.is) some) in
-      goes_leading size most words words (λ f. f) committing devices actors a x (record x { task = Some (Flush, plan') }) s y g ex ey Ends Quietly false devices l.results (effect s.shared (FlushingFor None) [] End_running DoneThere) (l.results, quiet_are_unnoted y.task l.results l.quiet, refl) l.may l.shared
-      (stands size most words committing devices actors a x s y ex ey g words plan' x.card false (gone y y.task l.results) refl tt tt (λ e n. absurd (cc)) l.at)
+      goes_leading size most words words (λ f. f) committing orders devices actors a x (record x { task = Some (Flush, plan') }) s y g ex ey Ends Quietly false devices l.results (effect s.shared (FlushingFor None) [] End_running DoneThere) (l.results, quiet_are_unnoted y.task l.results l.quiet, refl) l.may l.shared
+      (stands size most words committing orders devices actors a x s y ex ey g words plan' x.card false (gone y y.task l.results) refl tt tt (λ e n. absurd (cc)) l.at)
       (record { fail = g.words_agree.fail; seals = g.words_agree.seals }) g.origin g.cache refl refl (λ e. let bad : true ≡ false = sym e ∙ whole in absurd (cc))
       (λ b v ev k. absurd (nobody l b v ev k)) (λ b v ev k u. whole) (λ b c v u ev eu k m. absurd (nobody l b v ev k)) (refl, refl)
     where
       nobody : (l : Leads size [] s.actors a s.shared y (effect s.shared (FlushingFor None) [] End_running DoneThere) (after (flushing most (Desk EndCommit ∷ []) answer) Done) false) (b : ℕ) (v : AbstractActor) → slice_get (slice_set s.actors a (gone y y.task l.results)) b ≡ Some v → v.leads ≡ true → ⊥
       nobody l b v ev k =
-          let here = is_here size most words committing devices actors a x s y ex ey g (ap (λ (z : AbstractActor). z.leads) is.is) (gone y y.task l.results) b v ev k in
+          let here = is_here size most words committing orders devices actors a x s y ex ey g (ap (λ (z : AbstractActor). z.leads) is.is) (gone y y.task l.results) b v ev k in
           let bad : true ≡ false = sym k ∙ ap (λ (z : AbstractActor). z.leads) (here ∙ l.at.is) in absurd (cc)
 
   -- the failed bit is set, and the commit is broken
   pub fails : (failures suspensions : ℕ) (answer : Answer) → words.fail ≡ fail_word failures suspensions → IsFlushing size [] (flushing most (Cell SetFailed ∷ []) answer) true y →
-      Follows Quietly size most a s (words_after words SetFailed) committing devices (slice_set actors a (record x { task = Some (Flush, after (flushing most (Cell SetFailed ∷ []) answer) Done); card = card_after words SetFailed x.card }))
+      Follows Quietly size most a s (words_after words SetFailed) committing orders devices (slice_set actors a (record x { task = Some (Flush, after (flushing most (Cell SetFailed ∷ []) answer) Done); card = card_after words SetFailed x.card }))
   fails f z answer e is =
       let plan' = after (flushing most (Cell SetFailed ∷ []) answer) Done in
       let failed : flag (words_after words SetFailed).fail ≡ true = failed_flag words.fail f z e in
@@ -213,20 +214,20 @@ module _ (size most : ℕ) (words : Words) (committing : Bool) (devices : Device
       let lead : y.leads ≡ true = ap (λ (v : AbstractActor). v.leads) is.is in
       let y' = gone y y.task l.results in
       let runs = g.led a y ey lead in
-      goes_leading size most words (words_after words SetFailed) (λ k. failed) committing devices actors a x (record x { task = Some (Flush, plan'); card = card_after words SetFailed x.card }) s y g ex ey Stays Quietly committing devices l.results (record s.shared { fail = true; broken = true }) (l.results, quiet_are_unnoted y.task l.results l.quiet, refl) l.may l.shared
-      (stands size most words committing devices actors a x s y ex ey g (words_after words SetFailed) plan' (card_after words SetFailed x.card) true y' refl tt tt (λ k n. failed) l.at)
+      goes_leading size most words (words_after words SetFailed) (λ k. failed) committing orders devices actors a x (record x { task = Some (Flush, plan'); card = card_after words SetFailed x.card }) s y g ex ey Stays Quietly committing orders devices l.results (record s.shared { fail = true; broken = true }) (l.results, quiet_are_unnoted y.task l.results l.quiet, refl) l.may l.shared
+      (stands size most words committing orders devices actors a x s y ex ey g (words_after words SetFailed) plan' (card_after words SetFailed x.card) true y' refl tt tt (λ k n. failed) l.at)
       (record { fail = sym failed; seals = g.words_agree.seals }) g.origin g.cache refl g.commits (λ k. runs) (λ b v ev k. runs)
-      (λ b v ev k u. absurd (subst (λ (w : AbstractActor). IsUnfinished w.task) (is_here size most words committing devices actors a x s y ex ey g lead y' b v ev k ∙ l.at.is) u refl))
-      (one_here size most words committing devices actors a x s y ex ey g lead y') (refl, refl, refl)
+      (λ b v ev k u. absurd (subst (λ (w : AbstractActor). IsUnfinished w.task) (is_here size most words committing orders devices actors a x s y ex ey g lead y' b v ev k ∙ l.at.is) u refl))
+      (one_here size most words committing orders devices actors a x s y ex ey g lead y') (refl, refl, refl)
 
   -- ---- its look at the fail word, and its answer
 
   pub looks : (later : List Want) (answer : Answer) → later ≡ Desk (BeginCommit false most) ∷ [] → IsFlushing size [] (flushing most (Cell (Look Fail) ∷ later) answer) false y →
-      Follows Quietly size most a s words committing devices (slice_set actors a (went words Flush (flushing most (Cell (Look Fail) ∷ later) answer) (Look Fail) x))
+      Follows Quietly size most a s words committing orders devices (slice_set actors a (went words Flush (flushing most (Cell (Look Fail) ∷ later) answer) (Look Fail) x))
   looks later answer n is = subst (λ (ws : List Want). Goal ws) (sym n) (by_test (words.fail == 0) refl)
     where
       Goal : List Want → Type 0
-      Goal ws = Follows Quietly size most a s words committing devices (slice_set actors a (went words Flush (flushing most (Cell (Look Fail) ∷ ws) answer) (Look Fail) x))
+      Goal ws = Follows Quietly size most a s words committing orders devices (slice_set actors a (went words Flush (flushing most (Cell (Look Fail) ∷ ws) answer) (Look Fail) x))
 
       is' : IsFlushing size [] (flushing most (Cell (Look Fail) ∷ Desk (BeginCommit false most) ∷ []) answer) false y
       is' = subst (λ (ws : List Want). IsFlushing size [] (flushing most (Cell (Look Fail) ∷ ws) answer) false y) n is
@@ -242,11 +243,11 @@ module _ (size most : ℕ) (words : Words) (committing : Bool) (devices : Device
           (subst (λ (p : Plan). IsOfFlush most p.steps) (sym plan_is) tt) (subst (λ (p : Plan). LeadsAt false p.steps) (sym plan_is) tt) (followed_alone.looks size most words.fail [] s.actors a s.shared y answer g.words_agree.fail is') refl
 
   -- it answers; one that leads a commit still has failed
-  pub answers : (answer : Answer) (leads : Bool) → (leads ≡ true → flag words.fail ≡ true) → IsFlushing size [] (flushing most [] answer) leads y → Follows (Answers (FlushingFor None) answer) size most a s words committing devices (slice_set actors a (record x { task = None }))
+  pub answers : (answer : Answer) (leads : Bool) → (leads ≡ true → flag words.fail ≡ true) → IsFlushing size [] (flushing most [] answer) leads y → Follows (Answers (FlushingFor None) answer) size most a s words committing orders devices (slice_set actors a (record x { task = None }))
   answers answer false f is =
       let d = tasks_end.flush size most [] s.actors a s.shared y answer false is in
       let idle = d.2 refl in
-      goes_on size most words words (λ k. k) committing devices actors a x (record x { task = None }) s y g ex ey (Answers (FlushingFor None) answer) devices (DoneThere ∷ []) s.shared (answers_at size [] (Flushing [] most) answer y (ap (λ (v : AbstractActor). v.task) is.is), refl) d.0.may d.0.shared
+      goes_on size most words words (λ k. k) committing orders devices actors a x (record x { task = None }) s y g ex ey (Answers (FlushingFor None) answer) devices (DoneThere ∷ []) s.shared (answers_at size [] (Flushing [] most) answer y (ap (λ (v : AbstractActor). v.task) is.is), refl) d.0.may d.0.shared
       (record { at = (d.0.over, inl idle); below = holds_nothing _ x.card idle.held; among_others = ap is_alone d.0.over }) (λ k. let bad : true ≡ false = sym k ∙ idle.leads in absurd (cc)) g.words_agree g.origin g.cache refl refl refl (refl, refl, refl)
   answers answer true f is =
       let d = tasks_end.flush size most [] s.actors a s.shared y answer true is in
@@ -254,31 +255,31 @@ module _ (size most : ℕ) (words : Words) (committing : Bool) (devices : Device
       let y' = gone y y.task (DoneThere ∷ []) in
       let held : y'.held ≡ Nothing = subst (λ (v : AbstractActor). (gone v v.task (DoneThere ∷ [])).held ≡ Nothing) (sym is.is) refl in
       let runs = g.led a y ey lead in
-      goes_leading size most words words (λ k. k) committing devices actors a x (record x { task = None }) s y g ex ey Stays (Answers (FlushingFor None) answer) committing devices (DoneThere ∷ []) s.shared (answers_at size [] (Flushing [] most) answer y (ap (λ (v : AbstractActor). v.task) is.is), refl) d.0.may d.0.shared
+      goes_leading size most words words (λ k. k) committing orders devices actors a x (record x { task = None }) s y g ex ey Stays (Answers (FlushingFor None) answer) committing orders devices (DoneThere ∷ []) s.shared (answers_at size [] (Flushing [] most) answer y (ap (λ (v : AbstractActor). v.task) is.is), refl) d.0.may d.0.shared
       (record { at = (d.0.over, inr (f refl)); below = holds_nothing y' x.card held; among_others = ap is_alone d.0.over }) g.words_agree g.origin g.cache refl g.commits g.broken (λ b v ev k. runs)
-      (λ b v ev k u. absurd (subst (λ t. IsUnfinished t) (ap (λ (v : AbstractActor). v.task) (is_here size most words committing devices actors a x s y ex ey g lead y' b v ev k) ∙ d.0.over) u))
-      (one_here size most words committing devices actors a x s y ex ey g lead y') (refl, refl, refl)
+      (λ b v ev k u. absurd (subst (λ t. IsUnfinished t) (ap (λ (v : AbstractActor). v.task) (is_here size most words committing orders devices actors a x s y ex ey g lead y' b v ev k) ∙ d.0.over) u))
+      (one_here size most words committing orders devices actors a x s y ex ey g lead y') (refl, refl, refl)
 
   -- one that is late has no task there
-  pub late_looks : IsLate words plan y → StandsFor size most words x y → plan.job ≡ Flushing [] most → want plan ≡ Cell (Look Fail) → Follows Quietly size most a s words committing devices (slice_set actors a (went words Flush plan (Look Fail) x))
+  pub late_looks : IsLate words plan y → StandsFor size most words x y → plan.job ≡ Flushing [] most → want plan ≡ Cell (Look Fail) → Follows Quietly size most a s words committing orders devices (slice_set actors a (went words Flush plan (Look Fail) x))
   late_looks l st j e = elim l.at [
     | inl t ↦
         let is : plan ≡ flushing most (Cell (Look Fail) ∷ Desk (BeginCommit false most) ∷ []) Finished = t ∙ ap (λ k. table k) j in
-        subst (λ (p : Plan). Follows Quietly size most a s words committing devices (slice_set actors a (went words Flush p (Look Fail) x))) (sym is) (by_test (words.fail == 0) (flag_of words.fail (words.fail == 0) refl) refl)
+        subst (λ (p : Plan). Follows Quietly size most a s words committing orders devices (slice_set actors a (went words Flush p (Look Fail) x))) (sym is) (by_test (words.fail == 0) (flag_of words.fail (words.fail == 0) refl) refl)
     | inr n ↦ absurd (let end : want plan ≡ End plan.answer = ap (λ (ws : List Want). first_step ws plan.answer) n.0 in let bad : Cell (Look Fail) ≡ End plan.answer = sym e ∙ end in cc)
   ]
     where
-      by_test : (t : Bool) → flag words.fail ≡ cond t false true → (words.fail == 0) ≡ t → Follows Quietly size most a s words committing devices (slice_set actors a (went words Flush (flushing most (Cell (Look Fail) ∷ Desk (BeginCommit false most) ∷ []) Finished) (Look Fail) x))
+      by_test : (t : Bool) → flag words.fail ≡ cond t false true → (words.fail == 0) ≡ t → Follows Quietly size most a s words committing orders devices (slice_set actors a (went words Flush (flushing most (Cell (Look Fail) ∷ Desk (BeginCommit false most) ∷ []) Finished) (Look Fail) x))
       by_test true f k = absurd (let bad : true ≡ false = sym l.failed ∙ f in cc)
       by_test false f k =
           let plan_is : after (flushing most (Cell (Look Fail) ∷ Desk (BeginCommit false most) ∷ []) Finished) (Word words.fail) ≡ flushing most [] (Refuses Failed) = ap (λ (t : Bool). if t then onward (flushing most (Cell (Look Fail) ∷ Desk (BeginCommit false most) ∷ []) Finished) else refused (flushing most (Cell (Look Fail) ∷ Desk (BeginCommit false most) ∷ []) Finished) [] Failed) k in
-          subst (λ (p : Plan). Follows Quietly size most a s words committing devices (slice_set actors a (record x { task = Some (Flush, p); card = card_after words (Look Fail) x.card }))) (sym plan_is)
-          (goes_on size most words words (λ q. q) committing devices actors a x (record x { task = Some (Flush, flushing most [] (Refuses Failed)); card = card_after words (Look Fail) x.card }) s y g ex ey Quietly devices [] s.shared ([], unnoted_none y.task, refl) tt (shared_stays s.shared y y.task)
+          subst (λ (p : Plan). Follows Quietly size most a s words committing orders devices (slice_set actors a (record x { task = Some (Flush, p); card = card_after words (Look Fail) x.card }))) (sym plan_is)
+          (goes_on size most words words (λ q. q) committing orders devices actors a x (record x { task = Some (Flush, flushing most [] (Refuses Failed)); card = card_after words (Look Fail) x.card }) s y g ex ey Quietly devices [] s.shared ([], unnoted_none y.task, refl) tt (shared_stays s.shared y y.task)
           (subst (λ (z : AbstractActor). StandsFor size most words (record x { task = Some (Flush, flushing most [] (Refuses Failed)); card = card_after words (Look Fail) x.card }) z) (sym (gone_nowhere y y.task))
           (record { at = record { job = refl; steps = tt; at = inr (record { failed = l.failed; nothing = l.nothing; at = inr (refl, λ e. absurd (cc)) }) }; below = record { owned = st.below.owned; shared = st.below.shared }; among_others = st.among_others }))
           (λ q. gone_nowhere y y.task) g.words_agree g.origin g.cache refl refl refl (refl, refl, refl))
 
-  pub late_answers : IsLate words plan y → plan.job ≡ Flushing [] most → plan.steps ≡ [] → StandsFor size most words x y → Follows (Answers (FlushingFor None) plan.answer) size most a s words committing devices (slice_set actors a (record x { task = None }))
-  late_answers l j none st = goes_on size most words words (λ q. q) committing devices actors a x (record x { task = None }) s y g ex ey (Answers (FlushingFor None) plan.answer) devices [] s.shared (late_answers_so (FlushingFor None) words plan plan.answer y refl (λ t. let bad : [] ≡ Cell (Look Fail) ∷ Desk (BeginCommit false most) ∷ [] = sym none ∙ ap (λ (p : Plan). p.steps) t ∙ ap (λ k. (table k).steps) j in absurd (cc)) l, nothing_told a y.task (DoneThere ∷ []) l.nothing) tt (shared_stays s.shared y y.task)
+  pub late_answers : IsLate words plan y → plan.job ≡ Flushing [] most → plan.steps ≡ [] → StandsFor size most words x y → Follows (Answers (FlushingFor None) plan.answer) size most a s words committing orders devices (slice_set actors a (record x { task = None }))
+  late_answers l j none st = goes_on size most words words (λ q. q) committing orders devices actors a x (record x { task = None }) s y g ex ey (Answers (FlushingFor None) plan.answer) devices [] s.shared (late_answers_so (FlushingFor None) words plan plan.answer y refl (λ t. let bad : [] ≡ Cell (Look Fail) ∷ Desk (BeginCommit false most) ∷ [] = sym none ∙ ap (λ (p : Plan). p.steps) t ∙ ap (λ k. (table k).steps) j in absurd (cc)) l, nothing_told a y.task (DoneThere ∷ []) l.nothing) tt (shared_stays s.shared y y.task)
       (subst (λ (z : AbstractActor). StandsFor size most words (record x { task = None }) z) (sym (gone_nowhere y y.task)) (record { at = (l.nothing, inr l.failed); below = st.below; among_others = st.among_others }))
       (λ q. gone_nowhere y y.task) g.words_agree g.origin g.cache refl refl refl (refl, refl, refl)

@@ -5,6 +5,7 @@ use Rattle.wb_words.specs.SharedWords.{Words}
 use Rattle.wb_words.specs.Rule.{LockRule}
 use Rattle.wb_words.specs.Effects.{result_of, words_after, card_after}
 use Rattle.wb_words.specs.declared.step.CellStep.{CellStep}
+use Rattle.wb_policy.specs.declared.order.Order.{Order}
 use Rattle.wb_tasks.specs.Tables.{BlockRange, BlockJob, Reading, Writing, OnBlock, range_of}
 use Rattle.wb_tasks.specs.Plan.{Plan, want, after, got_of, first_step, work_of}
 use Rattle.wb_tasks.specs.Ready.{Suits}
@@ -34,8 +35,8 @@ use Rattle.wb_simulation.proofs.Among.{card_there, below_beside, failed_stays, g
 pub doing_of : (size most : ℕ) (words : Words) (x : Actor) (y : AbstractActor) (job : Job) (plan : Plan) → StandsFor size most words x y → x.task ≡ Some (job, plan) → IsDoing size most words job plan x.card y
 doing_of size most words x y job plan st e = subst (λ (t : Option (Job × Plan)). IsBusyAt size most words t x.card y) e st.at
 
-module _ (size most blocks : ℕ) (words : Words) (committing : Bool) (devices : Devices (List History)) (actors : List Actor) (a : ℕ) (x : Actor) (plan : Plan) (step : CellStep) (s : World) (y : AbstractActor)
-    (rule : LockRule blocks words (cards_of actors)) (ex : slice_get actors a ≡ Some x) (ey : slice_get s.actors a ≡ Some y) (suits : Suits blocks plan x.card) (next : want plan ≡ Cell step) (g : Agrees size most words committing devices actors s) (st : StandsFor size most words x y) where
+module _ (size most blocks : ℕ) (words : Words) (committing : Bool) (orders : List (Option Order)) (devices : Devices (List History)) (actors : List Actor) (a : ℕ) (x : Actor) (plan : Plan) (step : CellStep) (s : World) (y : AbstractActor)
+    (rule : LockRule blocks words (cards_of actors)) (ex : slice_get actors a ≡ Some x) (ey : slice_get s.actors a ≡ Some y) (suits : Suits blocks plan x.card) (next : want plan ≡ Cell step) (g : Agrees size most words committing orders devices actors s) (st : StandsFor size most words x y) where
   -- a request's, by its actor alone
   request_acts : (content : Content) (job_on : BlockRange → BlockJob) → ((part : BlockRange) → IsRequest (job_on part)) → ((part : BlockRange) → range_of (job_on part) ≡ part) →
       ((part : BlockRange) → IsPart size part → (seal : ℕ) → AreOfBlock size part.block.0 (work_of (OnBlock (job_on part)) seal)) → ((part : BlockRange) → job_alone (job_for size content (OnBlock (job_on part))) ≡ false) →
@@ -52,7 +53,7 @@ module _ (size most blocks : ℕ) (words : Words) (committing : Bool) (devices :
           let is : plan ≡ plan_of (job_on r.part) (Cell step ∷ ws) plan.answer = (λ i. record { job = r.job i; steps = (e ∙ ap (λ (u : Want). u ∷ ws) first) i; answer = plan.answer }) in
           let r' = subst (λ (p : Plan). IsRequestAt size content words job_on p x.card y) is r in
           subst Of_plan (sym is) (acts_on_words size content job_on request range works among r.part r.is_part blocks words s.actors a x.card s.shared y plan.answer g.words_agree (cards_of actors) step ws rule (card_there actors a x ex)
-          (below_beside size most words committing devices actors s a g) st.below st.among_others (subst (λ (ws' : List Want). AreOfBlock size r.part.block.0 ws') (e ∙ ap (λ (u : Want). u ∷ ws) first) r.of_block)
+          (below_beside size most words committing orders devices actors s a g) st.below st.among_others (subst (λ (ws' : List Want). AreOfBlock size r.part.block.0 ws') (e ∙ ap (λ (u : Want). u ∷ ws) first) r.of_block)
           (subst (λ (p : Plan). Suits blocks p x.card) is suits) (subst (λ (p : Plan). At p) is r.at))
         where
           At : Plan → Type 0
@@ -61,14 +62,14 @@ module _ (size most blocks : ℕ) (words : Words) (committing : Bool) (devices :
   -- among all others
   among_all : (job : Job) (content : Content) (job_on : BlockRange → BlockJob) → (acted : Acted size content s.actors a s.shared y (words_after words step) job_on (after plan (got_of (result_of words step))) (card_after words step x.card)) →
       IsDoing size most (words_after words step) job (after plan (got_of (result_of words step))) (card_after words step x.card) (gone y y.task acted.results) →
-      Follows Quietly size most a s (words_after words step) committing devices (slice_set actors a (went words job plan step x))
+      Follows Quietly size most a s (words_after words step) committing orders devices (slice_set actors a (went words job plan step x))
   among_all job content job_on acted doing =
       let t = shared_after s.shared y y.task acted.results in
       let k = acted.same.images in
-      goes_on size most words (words_after words step) (failed_stays words step _ _ rule.logs.fail) committing devices actors a x (went words job plan step x) s y g ex ey Quietly devices acted.results t (acted.results, quiet_are_unnoted y.task acted.results acted.quiet, refl) acted.may refl
+      goes_on size most words (words_after words step) (failed_stays words step _ _ rule.logs.fail) committing orders devices actors a x (went words job plan step x) s y g ex ey Quietly devices acted.results t (acted.results, quiet_are_unnoted y.task acted.results acted.quiet, refl) acted.may refl
       (record { at = doing; below = acted.below; among_others = acted.among_others }) acted.leads acted.words_agree (acted.same.origin ∙ g.origin) (acted.same.cache ∙ g.cache) k.mode k.committing k.broken (k.committed, k.running, k.root_written)
 
-  followed : (job : Job) → Rattle.wb_simulation.specs.Laws.IsRequestJob job → x.task ≡ Some (job, plan) → Follows Quietly size most a s (words_after words step) committing devices (slice_set actors a (went words job plan step x))
+  followed : (job : Job) → Rattle.wb_simulation.specs.Laws.IsRequestJob job → x.task ≡ Some (job, plan) → Follows Quietly size most a s (words_after words step) committing orders devices (slice_set actors a (went words job plan step x))
   followed (Read extent) q e =
       let acted = request_acts [] Reading (λ part. tt) (λ part. refl) (read_of_block size) (λ part. refl) (doing_of size most words x y (Read extent) plan st e) in
       among_all (Read extent) [] Reading acted acted.request
@@ -80,6 +81,6 @@ module _ (size most blocks : ℕ) (words : Words) (committing : Bool) (devices :
   followed (Migrate migration block) q e = absurd q
 
 pub cell_steps_followed : CellStepsFollowed
-cell_steps_followed size most blocks words committing devices actors a x job plan step s q rule ex task suits next g =
+cell_steps_followed size most blocks words committing orders devices actors a x job plan step s q rule ex task suits next g =
     let y = element_beside actors s.actors a x g.many ex in
-    followed size most blocks words committing devices actors a x plan step s y.0 rule ex y.1 suits next g (g.each a x y.0 ex y.1) job q task
+    followed size most blocks words committing orders devices actors a x plan step s y.0 rule ex y.1 suits next g (g.each a x y.0 ex y.1) job q task

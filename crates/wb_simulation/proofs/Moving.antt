@@ -7,6 +7,7 @@ use Rattle.wb_disk.specs.Device.{Content, History}
 use Rattle.wb_disk.specs.Extents.{GivesEach, written_each, written_where}
 use Rattle.wb_words.specs.SharedWords.{Words, word_at}
 use Rattle.wb_words.specs.declared.card.Card.{Card}
+use Rattle.wb_policy.specs.declared.order.Order.{Order}
 use Rattle.wb_tasks.specs.Tables.{BlockRange, BlockJob, Reading, Writing, TaskJob, OnBlock, range_of}
 use Rattle.wb_tasks.specs.Plan.{Plan, want, after, first_step}
 use Rattle.wb_tasks.specs.Ready.{Suits, HoldsBlocks}
@@ -56,7 +57,7 @@ at_device size content words job_on part step ws answer card y (inr (inr l)) = e
 words_beside : (words : Words) (to : Option ℕ) (s t : Shared) → SameBeside to s t → WordsAgree words s → WordsAgree words t
 words_beside words to s t b w = record { fail = b.fail ∙ w.fail; seals = λ block. subst (λ (f : ℕ → Seal). SealAgrees (word_at words.seals block) (f block.0)) (sym b.seals) (w.seals block) }
 
-module _ (size most : ℕ) (words : Words) (committing : Bool) (devices : Devices (List History)) (actors : List Actor) (a : ℕ) (x : Actor) (s : World) (y : AbstractActor) (ex : slice_get actors a ≡ Some x) (ey : slice_get s.actors a ≡ Some y) (g : Agrees size most words committing devices actors s) where
+module _ (size most : ℕ) (words : Words) (committing : Bool) (orders : List (Option Order)) (devices : Devices (List History)) (actors : List Actor) (a : ℕ) (x : Actor) (s : World) (y : AbstractActor) (ex : slice_get actors a ≡ Some x) (ey : slice_get s.actors a ≡ Some y) (g : Agrees size most words committing orders devices actors s) where
   -- the device of a location is its list
   side_of : (device : Dev) (e : Extent) → HoldsBlocks device → IsSide size zeros (location_at size device e) (device_in device devices) s.shared
   side_of Cache e h = g.cache
@@ -66,16 +67,16 @@ module _ (size most : ℕ) (words : Words) (committing : Bool) (devices : Device
   -- an actor of a request has moved an extent, and its device is this list now
   moved : (telling : Telling) (job : Job) (content : Content) (job_on : BlockRange → BlockJob) (plan : Plan) (device : Dev) (e : Extent) (results : List AbstractGot) (list : List History) → IsTold telling a y.task (records a y.task results) → HoldsBlocks device →
       Moves size zeros content s.actors a s.shared y (location_at size device e) results list plan x.card → is_alone (gone y y.task results).task ≡ false → IsDoing size most words job plan x.card (gone y y.task results) →
-      Follows telling size most a s words committing (with_device device devices list) (slice_set actors a (record x { task = Some (job, plan) }))
+      Follows telling size most a s words committing orders (with_device device devices list) (slice_set actors a (record x { task = Some (job, plan) }))
   moved telling job content job_on plan Metadata e results list told h m alone doing = absurd h
   moved telling job content job_on plan Cache e results list told h m alone doing =
       let t = shared_after s.shared y y.task results in let k = m.beside.images in
-      goes_on size most words words (λ f. f) committing devices actors a x (record x { task = Some (job, plan) }) s y g ex ey telling (with_device Cache devices list) results t told m.may refl
+      goes_on size most words words (λ f. f) committing orders devices actors a x (record x { task = Some (job, plan) }) s y g ex ey telling (with_device Cache devices list) results t told m.may refl
       (record { at = doing; below = has_no_more size content plan x.card (gone y y.task results) m.at; among_others = alone }) (λ l. let bad : true ≡ false = sym l ∙ ap (λ (v : AbstractActor). v.leads) m.at.is in absurd (cc)) (words_beside words (location_at size Cache e) s.shared t m.beside g.words_agree)
       (m.beside.other ∙ g.origin) m.side_is k.mode k.committing k.broken (k.committed, k.running, k.root_written)
   moved telling job content job_on plan Origin e results list told h m alone doing =
       let t = shared_after s.shared y y.task results in let k = m.beside.images in
-      goes_on size most words words (λ f. f) committing devices actors a x (record x { task = Some (job, plan) }) s y g ex ey telling (with_device Origin devices list) results t told m.may refl
+      goes_on size most words words (λ f. f) committing orders devices actors a x (record x { task = Some (job, plan) }) s y g ex ey telling (with_device Origin devices list) results t told m.may refl
       (record { at = doing; below = has_no_more size content plan x.card (gone y y.task results) m.at; among_others = alone }) (λ l. let bad : true ≡ false = sym l ∙ ap (λ (v : AbstractActor). v.leads) m.at.is in absurd (cc)) (words_beside words (location_at size Origin e) s.shared t m.beside g.words_agree)
       m.side_is (m.beside.other ∙ g.cache) k.mode k.committing k.broken (k.committed, k.running, k.root_written)
 
@@ -92,7 +93,7 @@ begins_by plan next e n = by_steps plan.steps refl
     by_steps [] k = absurd (n plan.answer (sym (sym (ap (λ (us : List Want). first_step us plan.answer) k) ∙ e)))
     by_steps (v ∷ ws) k = (ws, k ∙ ap (λ (u : Want). u ∷ ws) (sym (ap (λ (us : List Want). first_step us plan.answer) k) ∙ e))
 
-module _ (size most blocks : ℕ) (words : Words) (committing : Bool) (devices : Devices (List History)) (actors : List Actor) (a : ℕ) (x : Actor) (s : World) (y : AbstractActor) (ex : slice_get actors a ≡ Some x) (ey : slice_get s.actors a ≡ Some y) (g : Agrees size most words committing devices actors s)
+module _ (size most blocks : ℕ) (words : Words) (committing : Bool) (orders : List (Option Order)) (devices : Devices (List History)) (actors : List Actor) (a : ℕ) (x : Actor) (s : World) (y : AbstractActor) (ex : slice_get actors a ≡ Some x) (ey : slice_get s.actors a ≡ Some y) (g : Agrees size most words committing orders devices actors s)
     (part : BlockRange) (is_part : IsPart size part) (device : Dev) (e : Extent) (ws : List Want) (answer : Answer) (h : HoldsBlocks device) where
   abbrev reading : Plan
   reading = plan_of (Reading part) (Device (ReadExtent device e) ∷ ws) answer
@@ -101,7 +102,7 @@ module _ (size most blocks : ℕ) (words : Words) (committing : Bool) (devices :
   writing = plan_of (Writing part) (Device (WriteExtent device e) ∷ ws) answer
 
   abbrev Then : Telling → Devices (List History) → Job → Plan → Got → Type 0
-  Then telling devices' job plan got = Follows telling size most a s words committing devices' (slice_set actors a (after_step job plan got x))
+  Then telling devices' job plan got = Follows telling size most a s words committing orders devices' (slice_set actors a (after_step job plan got x))
 
   abbrev list : List History
   list = device_in device devices
@@ -138,30 +139,30 @@ module _ (size most blocks : ℕ) (words : Words) (committing : Bool) (devices :
 
   read_done : (extent : Extent) (contents : List Content) → AreOfBlock size part.block.0 (Device (ReadExtent device e) ∷ ws) → Suits blocks reading x.card → length contents ≡ e.count → GivesEach list e.first contents → IsAt size [] reading x.card y → Then (Reads part.block.0 (e.first % size) contents) devices (Read extent) reading Done
   read_done extent contents o suits n given is =
-      let m = followed_alone.read_done size zeros [] s.actors a x.card s.shared y part device e ws answer list contents o.0 (suits.1.1.0, suits.1.1.1.1) (side_of size most words committing devices actors a x s y ex ey g device e h) n given is in
+      let m = followed_alone.read_done size zeros [] s.actors a x.card s.shared y part device e ws answer list contents o.0 (suits.1.1.0, suits.1.1.1.1) (side_of size most words committing orders devices actors a x s y ex ey g device e h) n given is in
       subst (λ (ds : Devices (List History)). Then (Reads part.block.0 (e.first % size) contents) ds (Read extent) reading Done) (same_device device devices h)
-      (moved size most words committing devices actors a x s y ex ey g (Reads part.block.0 (e.first % size) contents) (Read extent) [] Reading (after reading Done) device e (map Gave contents) list (read_told contents n is) h m (ap (λ (v : AbstractActor). is_alone v.task) m.at.is)
+      (moved size most words committing orders devices actors a x s y ex ey g (Reads part.block.0 (e.first % size) contents) (Read extent) [] Reading (after reading Done) device e (map Gave contents) list (read_told contents n is) h m (ap (λ (v : AbstractActor). is_alone v.task) m.at.is)
       (record { part = part; job = refl; is_part = is_part; of_block = o.1; at = inl m.at }))
 
   read_fails : (extent : Extent) → AreOfBlock size part.block.0 (Device (ReadExtent device e) ∷ ws) → IsAt size [] reading x.card y → Then Quietly devices (Read extent) reading Fault
   read_fails extent o is =
-      let m = followed_alone.read_fails size zeros [] s.actors a x.card s.shared y part device e ws answer list o.0 (side_of size most words committing devices actors a x s y ex ey g device e h) is in
+      let m = followed_alone.read_fails size zeros [] s.actors a x.card s.shared y part device e ws answer list o.0 (side_of size most words committing orders devices actors a x s y ex ey g device e h) is in
       subst (λ (ds : Devices (List History)). Then Quietly ds (Read extent) reading Fault) (same_device device devices h)
-      (moved size most words committing devices actors a x s y ex ey g Quietly (Read extent) [] Reading (after reading Fault) device e read_fault list (fails_told o is) h m (ap (λ (v : AbstractActor). is_alone v.task) m.at.is)
+      (moved size most words committing orders devices actors a x s y ex ey g Quietly (Read extent) [] Reading (after reading Fault) device e read_fault list (fails_told o is) h m (ap (λ (v : AbstractActor). is_alone v.task) m.at.is)
       (record { part = part; job = refl; is_part = is_part; of_block = tt; at = inl m.at }))
 
   write_done : (extent : Extent) (content : Content) → AreOfBlock size part.block.0 (Device (WriteExtent device e) ∷ ws) → Suits blocks writing x.card → e.first + e.count ≤ length list → IsAt size content writing x.card y →
       Then (Writes part.block.0 (e.first % size) e.count content) (with_device device devices (written_each list e.first (replicate e.count content))) (Write extent content) writing Done
   write_done extent content o suits room is =
-      let m = followed_alone.write_done size zeros content s.actors a x.card s.shared y part device e ws answer list o.0 (suits.1.1.0, suits.1.1.1.1) (side_of size most words committing devices actors a x s y ex ey g device e h) room is in
-      moved size most words committing devices actors a x s y ex ey g (Writes part.block.0 (e.first % size) e.count content) (Write extent content) content Writing (after writing Done) device e (replicate e.count DoneThere) (written_each list e.first (replicate e.count content)) (write_told content (replicate e.count DoneThere) (done_are_writes e.count) is) h m (ap (λ (v : AbstractActor). is_alone v.task) m.at.is)
+      let m = followed_alone.write_done size zeros content s.actors a x.card s.shared y part device e ws answer list o.0 (suits.1.1.0, suits.1.1.1.1) (side_of size most words committing orders devices actors a x s y ex ey g device e h) room is in
+      moved size most words committing orders devices actors a x s y ex ey g (Writes part.block.0 (e.first % size) e.count content) (Write extent content) content Writing (after writing Done) device e (replicate e.count DoneThere) (written_each list e.first (replicate e.count content)) (write_told content (replicate e.count DoneThere) (done_are_writes e.count) is) h m (ap (λ (v : AbstractActor). is_alone v.task) m.at.is)
       (record { part = part; job = refl; is_part = is_part; of_block = o.1; at = inl m.at })
 
   write_fails : (extent : Extent) (content : Content) (lands : ℕ → Bool) → AreOfBlock size part.block.0 (Device (WriteExtent device e) ∷ ws) → e.first + e.count ≤ length list → IsAt size content writing x.card y →
       Then (Writes part.block.0 (e.first % size) e.count content) (with_device device devices (written_where lands list e.first (replicate e.count content))) (Write extent content) writing Fault
   write_fails extent content lands o room is =
-      let m = followed_alone.write_fails size zeros content s.actors a x.card s.shared y part device e ws answer list lands o.0 (side_of size most words committing devices actors a x s y ex ey g device e h) room is in
-      moved size most words committing devices actors a x s y ex ey g (Writes part.block.0 (e.first % size) e.count content) (Write extent content) content Writing (after writing Fault) device e (faults lands e.first e.count) (written_where lands list e.first (replicate e.count content)) (write_told content (faults lands e.first e.count) (faults_are_writes lands e.first e.count) is) h m (ap (λ (v : AbstractActor). is_alone v.task) m.at.is)
+      let m = followed_alone.write_fails size zeros content s.actors a x.card s.shared y part device e ws answer list lands o.0 (side_of size most words committing orders devices actors a x s y ex ey g device e h) room is in
+      moved size most words committing orders devices actors a x s y ex ey g (Writes part.block.0 (e.first % size) e.count content) (Write extent content) content Writing (after writing Fault) device e (faults lands e.first e.count) (written_where lands list e.first (replicate e.count content)) (write_told content (faults lands e.first e.count) (faults_are_writes lands e.first e.count) is) h m (ap (λ (v : AbstractActor). is_alone v.task) m.at.is)
       (record { part = part; job = refl; is_part = is_part; of_block = tt; at = inl m.at })
 
 -- a request of this part whose next step is on a device, as it is there
@@ -200,24 +201,24 @@ has_step size content words job_on range part step plan card y next of_part r = 
 
 pub extent_steps_followed : ExtentStepsFollowed
 extent_steps_followed = record {
-  read_done = λ size most blocks words committing devices actors a x extent part plan device e contents s ex task of_part suits next h n given g.
+  read_done = λ size most blocks words committing orders devices actors a x extent part plan device e contents s ex task of_part suits next h n given g.
       let y = element_beside actors s.actors a x g.many ex in
       let k = has_step size [] words Reading (λ p. refl) part (ReadExtent device e) plan x.card y.0 next of_part (doing_of size most words x y.0 (Read extent) plan (g.each a x y.0 ex y.1) task) in
-      subst (λ (p : Plan). Follows (Reads part.block.0 (e.first % size) contents) size most a s words committing devices (slice_set actors a (after_step (Read extent) p Done x))) (sym k.is)
-      (read_done size most blocks words committing devices actors a x s y.0 ex y.1 g part k.is_part device e k.later plan.answer h extent contents k.of_block (subst (λ (p : Plan). Suits blocks p x.card) k.is suits) n given k.at);
-  read_fails = λ size most blocks words committing devices actors a x extent part plan device e s ex task of_part suits next h g.
+      subst (λ (p : Plan). Follows (Reads part.block.0 (e.first % size) contents) size most a s words committing orders devices (slice_set actors a (after_step (Read extent) p Done x))) (sym k.is)
+      (read_done size most blocks words committing orders devices actors a x s y.0 ex y.1 g part k.is_part device e k.later plan.answer h extent contents k.of_block (subst (λ (p : Plan). Suits blocks p x.card) k.is suits) n given k.at);
+  read_fails = λ size most blocks words committing orders devices actors a x extent part plan device e s ex task of_part suits next h g.
       let y = element_beside actors s.actors a x g.many ex in
       let k = has_step size [] words Reading (λ p. refl) part (ReadExtent device e) plan x.card y.0 next of_part (doing_of size most words x y.0 (Read extent) plan (g.each a x y.0 ex y.1) task) in
-      subst (λ (p : Plan). Follows Quietly size most a s words committing devices (slice_set actors a (after_step (Read extent) p Fault x))) (sym k.is)
-      (read_fails size most blocks words committing devices actors a x s y.0 ex y.1 g part k.is_part device e k.later plan.answer h extent k.of_block k.at);
-  write_done = λ size most blocks words committing devices actors a x extent content part plan device e s ex task of_part suits next h room g.
+      subst (λ (p : Plan). Follows Quietly size most a s words committing orders devices (slice_set actors a (after_step (Read extent) p Fault x))) (sym k.is)
+      (read_fails size most blocks words committing orders devices actors a x s y.0 ex y.1 g part k.is_part device e k.later plan.answer h extent k.of_block k.at);
+  write_done = λ size most blocks words committing orders devices actors a x extent content part plan device e s ex task of_part suits next h room g.
       let y = element_beside actors s.actors a x g.many ex in
       let k = has_step size content words Writing (λ p. refl) part (WriteExtent device e) plan x.card y.0 next of_part (doing_of size most words x y.0 (Write extent content) plan (g.each a x y.0 ex y.1) task) in
-      subst (λ (p : Plan). Follows (Writes part.block.0 (e.first % size) e.count content) size most a s words committing (with_device device devices (written_each (device_in device devices) e.first (replicate e.count content))) (slice_set actors a (after_step (Write extent content) p Done x))) (sym k.is)
-      (write_done size most blocks words committing devices actors a x s y.0 ex y.1 g part k.is_part device e k.later plan.answer h extent content k.of_block (subst (λ (p : Plan). Suits blocks p x.card) k.is suits) room k.at);
-  write_fails = λ size most blocks words committing devices actors a x extent content part plan device e lands s ex task of_part suits next h room g.
+      subst (λ (p : Plan). Follows (Writes part.block.0 (e.first % size) e.count content) size most a s words committing orders (with_device device devices (written_each (device_in device devices) e.first (replicate e.count content))) (slice_set actors a (after_step (Write extent content) p Done x))) (sym k.is)
+      (write_done size most blocks words committing orders devices actors a x s y.0 ex y.1 g part k.is_part device e k.later plan.answer h extent content k.of_block (subst (λ (p : Plan). Suits blocks p x.card) k.is suits) room k.at);
+  write_fails = λ size most blocks words committing orders devices actors a x extent content part plan device e lands s ex task of_part suits next h room g.
       let y = element_beside actors s.actors a x g.many ex in
       let k = has_step size content words Writing (λ p. refl) part (WriteExtent device e) plan x.card y.0 next of_part (doing_of size most words x y.0 (Write extent content) plan (g.each a x y.0 ex y.1) task) in
-      subst (λ (p : Plan). Follows (Writes part.block.0 (e.first % size) e.count content) size most a s words committing (with_device device devices (written_where lands (device_in device devices) e.first (replicate e.count content))) (slice_set actors a (after_step (Write extent content) p Fault x))) (sym k.is)
-      (write_fails size most blocks words committing devices actors a x s y.0 ex y.1 g part k.is_part device e k.later plan.answer h extent content lands k.of_block room k.at);
+      subst (λ (p : Plan). Follows (Writes part.block.0 (e.first % size) e.count content) size most a s words committing orders (with_device device devices (written_where lands (device_in device devices) e.first (replicate e.count content))) (slice_set actors a (after_step (Write extent content) p Fault x))) (sym k.is)
+      (write_fails size most blocks words committing orders devices actors a x s y.0 ex y.1 g part k.is_part device e k.later plan.answer h extent content lands k.of_block room k.at);
 }

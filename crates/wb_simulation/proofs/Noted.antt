@@ -305,35 +305,35 @@ no_counts size shown = sym (everywhere (counts_by_block size (map (λ (c : Conte
 
 pub notes_followed : NotesFollowed
 notes_followed = record {
-  quiet = λ turn size most a s words committing devices actors f y n m ey g.
+  quiet = λ turn size most a s words committing orders devices actors f y n m ey g.
       let t = f.told y ey in
       subst (λ (rs : List Record). NotesAgree size n (after_all s rs) (told m rs)) (sym t.2) (unnoted_after size a s y n m ey g t.0 t.1);
-  read = λ block offset contents turn size most a s words committing devices actors f y n m ey g.
+  read = λ block offset contents turn size most a s words committing orders devices actors f y n m ey g.
       let t = f.told y ey in
       subst (λ (rs : List Record). NotesAgree size n (after_all s rs) (told m rs)) (sym t.told_is)
       (unnoted_after size a s y n m ey g (map Gave contents) (subst (λ (k : Option Script). AreUnnoted k (map Gave contents)) (sym t.at) (reads_unnoted t.location block t.all t.rest t.answer contents offset)));
-  write = λ block offset count content turn size most a s words committing devices actors f y n m ey g doing here l inside.
+  write = λ block offset count content turn size most a s words committing orders devices actors f y n m ey g doing here l inside.
       let t = f.told y ey in
       let n' = write_note n a doing (enter_each content (rising (block * size + offset) count) (entering n doing)) in
       subst (λ (rs : List Record). NotesAgree size n' (after_all s rs) (told m rs)) (sym t.told_is)
       (write_after size a s y n m ey g block offset count content t.location t.all t.rest t.answer t.results doing t.are t.at here l inside);
-  read_answered = λ block os turn size most a s words committing devices actors f y n m ey g.
+  read_answered = λ block os turn size most a s words committing orders devices actors f y n m ey g.
       let t = f.told y ey in let k = script_of (Reading block os) y.task t.0 in
       subst (λ (rs : List Record). NotesAgree size (put n a None) (after_all s rs) (told m rs)) (sym t.1) (read_answers size a s y n m ey g block os k.script k.at k.none k.done k.is);
-  write_answered = λ block os content turn size most a s words committing devices actors f y n m ey g doing here.
+  write_answered = λ block os content turn size most a s words committing orders devices actors f y n m ey g doing here.
       let t = f.told y ey in let k = script_of (Writing block os content) y.task t.0 in
       subst (λ (rs : List Record). NotesAgree size (put (record n { finished = all_raised n.finished doing.entered }) a None) (after_all s rs) (told m rs)) (sym t.1)
       (write_answers size a s y n m ey g block os content k.script doing k.at k.none k.done k.is here);
-  flush_answered = λ turn size most a s words committing devices actors f y n m ey g doing here long.
+  flush_answered = λ turn size most a s words committing orders devices actors f y n m ey g doing here long.
       let t = f.told y ey in let k = script_of (Flushing None) y.task t.0 in
       subst (λ (rs : List Record). NotesAgree size (put (record n { floors = greater_of n.floors doing.then_finished }) a None) (after_all s rs) (told m rs)) (sym t.1)
       (flush_answers size a s y n m ey g k.script doing k.at k.none k.done k.is here long);
-  refused = λ job refusal turn size most a s words committing devices actors f y n m ey g.
+  refused = λ job refusal turn size most a s words committing orders devices actors f y n m ey g.
       let t = f.told y ey in
       subst (λ (rs : List Record). NotesAgree size (put n a None) (after_all s rs) (told m rs)) (sym t.1) (by_task size a s y n m ey g job refusal y.task refl t.0);
-  starts = λ abstract_job job turn size most a s words committing devices actors f y n m ey g was here.
+  starts = λ abstract_job job turn size most a s words committing orders devices actors f y n m ey g was here.
       subst (λ (rs : List Record). NotesAgree size (put n a (Some (begun n job))) (after_all s rs) (told m rs)) (sym (f.told y ey)) (start_after size a s y n m ey g abstract_job job was here);
-  starts_late = λ job turn size most a s words committing devices actors f y n m ey g none.
+  starts_late = λ job turn size most a s words committing orders devices actors f y n m ey g none.
       let t = f.told y ey in
       subst (λ (rs : List Record). NotesAgree size (put n a (Some (begun n job))) (after_all s rs) (told m rs)) (sym t.2) (late_after size a s y n m ey g t.0 job none);
   redone = λ size n s m a doing doing' g here e f. record {
@@ -365,7 +365,7 @@ notes_followed = record {
     floors_as_many = length-map shown (λ (c : Content). 0) ∙ sym (length-map shown only);
     each = λ b z e. subst (λ (v : AbstractActor). IsNotedSo size (length (map only shown)) v.task (slice_get (begins many shown).doings b) b (opened view)) (replicated (length s.actors) b resting z e) tt;
   };
-  newest_read = λ turn size most a block offset contents s words committing devices actors f y n m ey g right.
+  newest_read = λ turn size most a block offset contents s words committing orders devices actors f y n m ey g right.
       let t = f.told y ey in
       let job = subst (λ (k : Option Script). IsJob m a k) t.at (is_job size (length n.histories) y.task (slice_get n.doings a) a m (g.each a y ey)) in
       subst (λ (h : ℕ → ℕ → History). AreNewest h block offset contents) g.histories

@@ -2,7 +2,8 @@
 use Rattle.std.specs.Prelude.{◌≡◌, ◌≤◌, ◌<◌, ◌+◌, ◌/◌, ◌%◌, ℕ, List, [], ◌∷◌, Contains}
 use Rattle.wb_types.specs.declared.extent.Extent.{Extent}
 use Rattle.wb_words.specs.SharedWords.{place_in, seal_word}
-use Rattle.wb_words.specs.declared.step.CellStep.TheVariants.{Seal}
+use Rattle.wb_words.specs.declared.step.CellStep.TheVariants.{Look, Seal}
+use Rattle.wb_words.specs.declared.word.Word.TheVariants.{Fail}
 use Rattle.wb_tasks.specs.Tables.{BlockRange}
 use Rattle.wb_tasks.specs.declared.step.DeviceStep.TheVariants.{Read, Write}
 use Rattle.wb_tasks.specs.declared.step.Want.{Want}
@@ -28,3 +29,20 @@ AreOfBlock size block (Device (Read device e) ∷ later) = IsInBlock size block 
 AreOfBlock size block (Device (Write device e) ∷ later) = IsInBlock size block device e × AreOfBlock size block later
 AreOfBlock size block (Cell (Seal b place dirty) ∷ later) = (place_in (seal_word place dirty) ≡ place) × AreOfBlock size block later
 AreOfBlock size block (next ∷ later) = AreOfBlock size block later
+
+-- it is written next, to as many sectors and at the same offset
+abbrev pub IsWrittenNext : ℕ → Extent → List Want → Type 0
+IsWrittenNext size r (Device (Write device e) ∷ later) = (e.count ≡ r.count) × (e.first % size ≡ r.first % size)
+IsWrittenNext size r steps = ⊥
+
+-- a migration writes each extent that it has read, before it reads the next one
+abbrev pub ArePaired : ℕ → List Want → Type 0
+ArePaired size [] = Unit {0}
+ArePaired size (Device (Read device e) ∷ later) = IsWrittenNext size e later × ArePaired size later
+ArePaired size (next ∷ later) = ArePaired size later
+
+-- Who takes these steps has still to look at the fail word, or has only to answer.
+abbrev pub IsOutside : List Want → Type 0
+IsOutside [] = Unit {0}
+IsOutside (Cell (Look Fail) ∷ later) = Unit {0}
+IsOutside steps = ⊥
