@@ -1,6 +1,6 @@
 -- What an opening would show is allowed, where each content that a crash may leave is an entry of its sector's history at its floor or later.
-use Rattle.std.proofs.Common.{◌≡◌, ◌∙◌, ◌<◌, ◌≤◌, ◌+◌, ◌*◌, ◌/◌, ◌%◌, ℕ, zero, suc, List, [], ◌∷◌, Option, Some, None, refl, sym, ap, subst, arith, length, map, slice_get, unwrap_or, Contains, mul_comm}
-use Rattle.std.proofs.Math.Nat.{div-add-mod, mod-lt}
+use Rattle.std.proofs.Common.{◌≡◌, ◌∙◌, ◌<◌, ◌≤◌, ◌+◌, ◌*◌, ◌/◌, ◌%◌, ℕ, zero, suc, List, [], ◌∷◌, Option, Some, None, refl, sym, ap, subst, arith, length, map, slice_get, unwrap_or, Contains, mul_comm, zero-mul}
+use Rattle.std.proofs.Math.Nat.{div-add-mod', mod-lt, mul-le-mul_right}
 use Rattle.std.proofs.lemmas.Bool.{lt-ltb}
 use Rattle.std.proofs.lemmas.List.{length-map}
 use Rattle.std.proofs.lemmas.Nat.{div_below}
@@ -46,7 +46,7 @@ module _ (shape : Shape) (n : Notes) (m : AbstractNotes) (histories : m.historie
       let h = there n.histories at (subst (λ (k : ℕ). at < k) (sym many) l) in
       let some : 0 < block_size shape = (let pos : block_size shape ≡ 0 → 0 < block_size shape = (λ z. absurd (none z)) in by_size (block_size shape) refl) in
       let o_less = mod-lt at some in
-      let where_at : at / block_size shape * block_size shape + at % block_size shape ≡ at = div-add-mod at (block_size shape) in
+      let where_at : at / block_size shape * block_size shape + at % block_size shape ≡ at = div-add-mod' at (block_size shape) in
       let found : slice_get n.histories (at / block_size shape * block_size shape + at % block_size shape) ≡ Some h.0 = ap (λ k. slice_get n.histories k) where_at ∙ h.1 in
       let history : m.histories (at / block_size shape) (at % block_size shape) ≡ h.0 = ap (λ f. f (at / block_size shape) (at % block_size shape)) histories ∙ is_there (block_size shape) zeros n.histories (at / block_size shape) (at % block_size shape) h.0 o_less found in
       let floor : m.floors (at / block_size shape) (at % block_size shape) ≡ unwrap_or (slice_get n.floors at) 0 = ap (λ f. f (at / block_size shape) (at % block_size shape)) floors
@@ -55,7 +55,7 @@ module _ (shape : Shape) (n : Notes) (m : AbstractNotes) (histories : m.historie
       (subst (λ (g : History). IsEntryFrom (unwrap_or (slice_get n.floors at) 0) g c) history (subst (λ (k : ℕ). IsEntryFrom k (m.histories (at / block_size shape) (at % block_size shape)) c) floor e))
     where
       none : block_size shape ≡ 0 → ⊥
-      none z = let k : sector_count shape ≡ 0 = ap (λ v. v * shape.geometry.origin_blocks) z in omega (arith, l, k)
+      none z = let k : sector_count shape ≡ 0 = ap (λ v. v * shape.geometry.origin_blocks) z ∙ zero-mul shape.geometry.origin_blocks in omega (arith, l, k)
 
       by_size : (b : ℕ) → block_size shape ≡ b → 0 < block_size shape
       by_size zero e = absurd (none e)
@@ -78,7 +78,7 @@ module _ (shape : Shape) (n : Notes) (m : AbstractNotes) (histories : m.historie
     sector_allowed at l = by_place (place_of tree (at / block_size shape)) refl
       where
         none : block_size shape ≡ 0 → ⊥
-        none z = let k : sector_count shape ≡ 0 = ap (λ v. v * shape.geometry.origin_blocks) z in omega (arith, l, k)
+        none z = let k : sector_count shape ≡ 0 = ap (λ v. v * shape.geometry.origin_blocks) z ∙ zero-mul shape.geometry.origin_blocks in omega (arith, l, k)
 
         by_size : (b : ℕ) → block_size shape ≡ b → 0 < block_size shape
         by_size zero e = absurd (none e)
@@ -91,7 +91,7 @@ module _ (shape : Shape) (n : Notes) (m : AbstractNotes) (histories : m.historie
         o_less = mod-lt at some
 
         where_at : at / block_size shape * block_size shape + at % block_size shape ≡ at
-        where_at = div-add-mod at (block_size shape)
+        where_at = div-add-mod' at (block_size shape)
 
         in_place : (p : Option ℕ) → place_of tree (at / block_size shape) ≡ p → Contains (entries (at_location (by_block (block_size shape) zeros devices.origin) (by_block (block_size shape) zeros devices.cache) p (at / block_size shape) (at % block_size shape))) (unwrap_or (content_of shape p cache origin at) []) →
             IsAllowedAt n at (unwrap_or (content_of shape p cache origin at) [])
@@ -110,7 +110,7 @@ module _ (shape : Shape) (n : Notes) (m : AbstractNotes) (histories : m.historie
           where
             in_blocks : (k blocks : ℕ) → k < blocks → k * block_size shape + at % block_size shape < block_size shape * blocks
             in_blocks k blocks less =
-                let m1 : (k + 1) * block_size shape ≤ blocks * block_size shape = Rattle.std.proofs.Common.mul_le_mono_l (omega (arith, less)) in
+                let m1 : (k + 1) * block_size shape ≤ blocks * block_size shape = mul-le-mul_right (block_size shape) (omega (arith, less)) in
                 omega (arith, m1, o_less, mul_comm (block_size shape) blocks)
 
     pub shows_allowed : ShowsAllowed n (shown_by shape tree cache origin)

@@ -1,5 +1,5 @@
 -- A state of a run, with its clerk's notes, and the site of the abstract world that follows it.
-use Rattle.std.proofs.Common.{◌≡◌, ◌≢◌, ◌+◌, ◌⊎◌, ℕ, Bool, false, List, [], ◌∷◌, Option, Some, None, length, slice_get}
+use Rattle.std.proofs.Common.{◌≡◌, ◌≢◌, ◌+◌, ◌⊎◌, ℕ, true, false, List, [], ◌∷◌, Option, Some, None, length, slice_get}
 use Rattle.wb_types.specs.Limits.{node_count}
 use Rattle.wb_types.specs.declared.mode.Mode.{Mode}
 use Rattle.wb_types.specs.declared.mode.Mode.TheVariants.{Writeback}
@@ -22,6 +22,7 @@ use Rattle.wb_runs.specs.States.{Shape, State, Actor, Target, Phase, Stands, Gon
 use Rattle.wb_runs.specs.Clerk.{Notes}
 use Rattle.wb_runs.proofs.Images.{Images, later_of, IsFitToo}
 use Rattle.wb_runs.proofs.Metadata.{MetadataKept}
+use Rattle.wb_link.specs.World.{Actor as AbstractActor}
 use Rattle.wb_link.specs.Clerk.{Notes as AbstractNotes}
 use Rattle.wb_link.specs.Openings.{Site, Phase as PhaseThere, Stands as StandsThere, Gone as GoneThere, Opens as OpensThere, Learnt, Stage, Settling, Caching, Basing, Looking, Rooting, Renewing, Answering}
 use Rattle.wb_simulation.specs.Opened.{located}
@@ -44,8 +45,8 @@ steps_at left (Rooting i) = Device WriteRoot ∷ Device (Sync Metadata) ∷ []
 steps_at left (Renewing i) = Device (Sync Metadata) ∷ []
 steps_at left (Answering i) = []
 
-abbrev pub opening_at : ℕ → Stage → Plan
-opening_at left stage = record { job = Opening left; steps = steps_at left stage; answer = Finished }
+abbrev pub opening_at : (total left : ℕ) → Stage → Plan
+opening_at total left stage = record { job = Opening total; steps = steps_at left stage; answer = Finished }
 
 -- it has read this, and its root is on its way
 pub record HasLearnt {A : Type 0} (reading : Option (ReadSteps A)) (commit : Option RunningCommit) (learnt : Learnt) : Type 0 where
@@ -55,23 +56,28 @@ pub record HasLearnt {A : Type 0} (reading : Option (ReadSteps A)) (commit : Opt
   pub commit_is : commit ≡ Some running
   pub same : learnt.locations ≡ located stored.tree.entries
   pub unclean : (block : ℕ) → learnt.clean block ≡ false
-  pub bare : stored.root.clean ≡ Rattle.std.proofs.Common.true → (block : ℕ) → located stored.tree.entries block ≡ None
+  pub bare : stored.root.clean ≡ true → (block : ℕ) → located stored.tree.entries block ≡ None
+
+-- the root that it has written leads to what it has read
+abbrev pub HasRoot : Learnt → Option Stored → Type 0
+HasRoot learnt later = (new : Stored) × (later ≡ Some new) × (learnt.locations ≡ locations new)
 
 -- what it has read at a stage, and as what the metadata may be read beside the committed state
-abbrev pub HasReadAt : {A : Type 0} → Stage → Option (ReadSteps A) → Option RunningCommit → Images → Option Stored → Type 0
-HasReadAt {A} Settling reading commit images later = (reading ≡ None) × (commit ≡ None)
-HasReadAt {A} (Rooting i) reading commit images later = HasLearnt reading commit i × (later ≡ None)
-HasReadAt {A} (Renewing i) reading commit images later = HasLearnt reading commit i × (later ≡ images.running)
-HasReadAt {A} (Answering i) reading commit images later = HasLearnt reading commit i × (later ≡ images.running)
-HasReadAt {A} stage reading commit images later = ((now : ReadSteps A) × (reading ≡ Some now)) × (commit ≡ None) × (later ≡ None)
+abbrev pub HasReadAt : {A : Type 0} → Stage → Option (ReadSteps A) → Option RunningCommit → Option Stored → Type 0
+HasReadAt {A} Settling reading commit later = (reading ≡ None) × (commit ≡ None)
+HasReadAt {A} (Rooting i) reading commit later = HasLearnt reading commit i × (later ≡ None)
+HasReadAt {A} (Renewing i) reading commit later = HasLearnt reading commit i × HasRoot i later
+HasReadAt {A} (Answering i) reading commit later = HasLearnt reading commit i × HasRoot i later
+HasReadAt {A} stage reading commit later = ((now : ReadSteps A) × (reading ≡ Some now)) × (commit ≡ None) × (later ≡ None)
 
 -- The abstract opening is at what is left of it.
-pub record AtStage {A : Type 0} (reading : Option (ReadSteps A)) (commit : Option RunningCommit) (images : Images) (later : Option Stored) (plan : Plan) (phase : PhaseThere) : Type 0 where
+pub record AtStage {A : Type 0} (reading : Option (ReadSteps A)) (commit : Option RunningCommit) (later : Option Stored) (plan : Plan) (phase : PhaseThere) : Type 0 where
+  pub total : ℕ
   pub left : ℕ
   pub stage : Stage
-  pub is : plan ≡ opening_at left stage
+  pub is : plan ≡ opening_at total left stage
   pub phase_is : phase ≡ OpensThere Writeback stage
-  pub read : HasReadAt stage reading commit images later
+  pub read : HasReadAt stage reading commit later
 
 -- Refused, it has only to answer, and the abstract one is over.
 pub record IsOver (plan : Plan) (phase : PhaseThere) : Type 0 where
@@ -97,6 +103,7 @@ module _ (P A : Type 0) (shape : Shape) where
     pub fit : IsFitToo later
     pub agree : DevicesAgree shape.geometry size images.committed later devices v.world.shared
     pub down : v.phase ≢ StandsThere
+    pub idle : (a : ℕ) (y : AbstractActor) → slice_get v.world.actors a ≡ Some y → y.task ≡ None
 
   pub record TargetFollows (images : Images) (t : Target P) (devices : Devices (List History)) (actors : List Actor) (v : Site) : Type 0 where
     pub phase_is : v.phase ≡ StandsThere
@@ -114,12 +121,18 @@ module _ (P A : Type 0) (shape : Shape) where
     pub later : Option Stored
     pub devices_follow : DevicesFollow images later devices v
     pub writeback : mode ≡ Writeback
-    pub each : (a : ℕ) (x : Actor) (job : Job) (plan : Plan) → slice_get actors a ≡ Some x → x.task ≡ Some (job, plan) → AtStage reading commit images later plan v.phase ⊎ IsOver plan v.phase
+    pub each : (a : ℕ) (x : Actor) (job : Job) (plan : Plan) → slice_get actors a ≡ Some x → x.task ≡ Some (job, plan) → AtStage reading commit later plan v.phase ⊎ IsOver plan v.phase
 
   abbrev pub PhaseFollows : Images → Phase P A → Option RunningCommit → Devices (List History) → List Actor → Site → Type 0
   PhaseFollows images (Stands t) commit devices actors v = TargetFollows images t devices actors v
   PhaseFollows images Gone commit devices actors v = GoneFollows images devices v
   PhaseFollows images (Opens mode reading) commit devices actors v = OpeningFollows images mode reading commit devices actors v
+
+  -- as many actors, and notes of as many and of each sector
+  pub record Sized (actors : List Actor) (n : Notes) : Type 0 where
+    pub actors_many : length actors ≡ shape.actors
+    pub doings_many : length n.doings ≡ shape.actors
+    pub sectors : length n.histories ≡ sector_count shape
 
   -- The abstract world has come to a site that agrees, and its clerk's notes do.
   pub record Followed (images : Images) (w : State P A) (n : Notes) : Type 0 where
@@ -129,6 +142,7 @@ module _ (P A : Type 0) (shape : Shape) where
     pub clean : NeverClean site.world
     pub as_many : length site.world.actors ≡ many
     pub notes_agree : NotesAgree size n site.world notes
+    pub sized : Sized w.actors n
     pub phase : PhaseFollows images w.phase w.commit w.devices w.actors site
 
   -- what becomes of a state: its metadata are read as these images, and it is followed

@@ -3,3 +3,9 @@ mod Allowed
 mod Unclean
 mod Following
 mod Quiet
+mod Arriving
+mod Crashing
+mod Rooted
+mod Opening
+mod Answering
+mod Desking

@@ -5,7 +5,7 @@ use Rattle.wb_disk.specs.Device.{Content}
 use Rattle.wb_types.specs.declared.mode.Mode.{Mode}
 use Rattle.wb_link.specs.Tables.{Job, Reading, Writing, Writing_through, Flushing, Suspending, Promoting, Demoting, Cleaning, Invalidating, Order, Script, Seal, Want, Begin, Begin_clean, End_running, Read_at, Write_at, Sync_cache_device, Sync_origin_device, End, Got, Done, Lost, Flag, Seen, Gave, Ticket, Served, Broken, Short, Fault, Choice, read_each, write_each, copy_each, write_through_each, dirtying, copy_dirty, unmapping, dropping, mapping_on, work, acquire, table, want, first_of_steps, later_steps, until_failed, breaking, steps_after_fault, after_fault, after_flag, let_go, letting, release, after}
 use Rattle.wb_link.specs.World.{World, Shared, Actor, Record, Start, Again, Step, effect, if_landed, put_sector, task_after, actor_after, step_task, step_actor, start_actor, again_actor, reserved, after_record, after_all, job_alone, given}
-use Rattle.wb_link.specs.Openings.{Site, Phase, Stands, Gone, Opens, Stage, Settling, Caching, Basing, Looking, Rooting, Renewing, Answering, Outcome, Settled, Fine, Learns, Refused, Broke, Shown, Event, On, Stopped, Begins, Advances, after_event, advance, advanced, found_clean, emptied}
+use Rattle.wb_link.specs.Openings.{Site, Phase, Stands, Gone, Opens, Stage, Settling, Caching, Basing, Looking, Rooting, Renewing, Answering, Outcome, Settled, Fine, Learns, Refused, Broke, Shown, Event, On, Stopped, Begins, Advances, after_event, advance, advanced, found_clean, emptied, stopped}
 use Rattle.wb_link.proofs.Lists.{replicated}
 use Rattle.wb_refines.specs.Going.{records}
 
@@ -51,12 +51,12 @@ write_plain location b (o ∷ os) rest p = (tt, write_plain location b os rest p
 
 copy_plain : (from to : Option ℕ) (b : ℕ) (os : List ℕ) (rest : List Want) → ArePlain rest → ArePlain (copy_each from to b os rest)
 copy_plain from to b [] rest p = p
-copy_plain from to b (o ∷ os) rest p = (tt, tt, copy_plain from to b os rest p)
+copy_plain from to b (o ∷ os) rest p = (tt, (tt, copy_plain from to b os rest p))
 
 through_plain : (location : Option ℕ) (b : ℕ) (os : List ℕ) (rest : List Want) → ArePlain rest → ArePlain (write_through_each location b os rest)
 through_plain None b os rest p = write_plain None b os rest p
 through_plain (Some k) b [] rest p = p
-through_plain (Some k) b (o ∷ os) rest p = (tt, tt, through_plain (Some k) b os rest p)
+through_plain (Some k) b (o ∷ os) rest p = (tt, (tt, through_plain (Some k) b os rest p))
 
 dirtying_plain : (b : ℕ) (location : Option ℕ) (dirty : Bool) (rest : List Want) → ArePlain rest → ArePlain (dirtying b location dirty rest)
 dirtying_plain b None dirty rest p = p
@@ -69,7 +69,7 @@ dirty_plain false order os rest p = p
 
 dropping_plain : (b : ℕ) (location : Option ℕ) → ArePlain (dropping b location)
 dropping_plain b None = (tt, tt)
-dropping_plain b (Some k) = (tt, tt, tt, tt)
+dropping_plain b (Some k) = (tt, (tt, (tt, tt)))
 
 work_plain : (job : Job) (seal : Seal) → ArePlain (work job seal)
 work_plain (Reading b os) seal = read_plain seal.location b os _ (tt, tt)
@@ -78,20 +78,20 @@ work_plain (Writing_through b os c) seal = through_plain seal.location b os _ (t
 work_plain (Invalidating b) seal = dropping_plain b seal.location
 work_plain (Flushing order) seal = tt
 work_plain Suspending seal = tt
-work_plain (Promoting order os) seal = copy_plain None (Some order.cache) order.block os _ (tt, tt, tt, tt, tt)
-work_plain (Cleaning order os) seal = dirty_plain seal.dirty order os _ (tt, tt, tt, tt)
-work_plain (Demoting order os) seal = dirty_plain seal.dirty order os _ (tt, tt, tt, tt)
+work_plain (Promoting order os) seal = copy_plain None (Some order.cache) order.block os _ (tt, (tt, (tt, (tt, tt))))
+work_plain (Cleaning order os) seal = dirty_plain seal.dirty order os _ (tt, (tt, (tt, tt)))
+work_plain (Demoting order os) seal = dirty_plain seal.dirty order os _ (tt, (tt, (tt, tt)))
 
 table_plain : (job : Job) → job_alone job ≡ false → IsPlainTask (Some (table job))
-table_plain (Reading b os) j = (j, tt, tt, tt, tt)
-table_plain (Writing b os c) j = (j, tt, tt, tt, tt)
-table_plain (Writing_through b os c) j = (j, tt, tt, tt, tt)
-table_plain (Invalidating b) j = (j, tt, tt, tt, tt)
-table_plain (Flushing order) j = (j, tt, tt, tt, tt, tt, tt, tt, tt)
+table_plain (Reading b os) j = (j, (tt, (tt, (tt, tt))))
+table_plain (Writing b os c) j = (j, (tt, (tt, (tt, tt))))
+table_plain (Writing_through b os c) j = (j, (tt, (tt, (tt, tt))))
+table_plain (Invalidating b) j = (j, (tt, (tt, (tt, tt))))
+table_plain (Flushing order) j = (j, (tt, (tt, (tt, (tt, (tt, (tt, (tt, tt))))))))
 table_plain Suspending j = absurd (cc)
-table_plain (Promoting order os) j = (j, tt, tt, tt, tt)
-table_plain (Cleaning order os) j = (j, tt, tt, tt, tt)
-table_plain (Demoting order os) j = (j, tt, tt, tt, tt)
+table_plain (Promoting order os) j = (j, (tt, (tt, (tt, tt))))
+table_plain (Cleaning order os) j = (j, (tt, (tt, (tt, tt))))
+table_plain (Demoting order os) j = (j, (tt, (tt, (tt, tt))))
 
 later_plain : (ws : List Want) → ArePlain ws → ArePlain (later_steps ws)
 later_plain [] p = tt
@@ -104,8 +104,8 @@ until_plain (Write_at location b o ∷ ws) = (tt, until_plain ws)
 until_plain (w ∷ ws) = (tt, tt)
 
 breaking_plain : (job : Job) → ArePlain (breaking job)
-breaking_plain (Flushing order) = (tt, tt, tt)
-breaking_plain Suspending = (tt, tt, tt)
+breaking_plain (Flushing order) = (tt, (tt, tt))
+breaking_plain Suspending = (tt, (tt, tt))
 breaking_plain job = (tt, tt)
 
 fault_plain : (job : Job) (more : Bool) (ws : List Want) → ArePlain (steps_after_fault job more ws)
@@ -120,21 +120,21 @@ fault_plain (Demoting order os) false ws = (tt, tt)
 fault_plain (Reading b os) more ws = (tt, tt)
 fault_plain (Writing_through b os c) more ws = (tt, tt)
 fault_plain (Invalidating b) more ws = (tt, tt)
-fault_plain (Flushing order) more ws = (tt, tt, tt)
-fault_plain Suspending more ws = (tt, tt, tt)
+fault_plain (Flushing order) more ws = (tt, (tt, tt))
+fault_plain Suspending more ws = (tt, (tt, tt))
 
 release_plain : (job : Job) → ArePlain (release job)
 release_plain (Flushing order) = tt
 release_plain Suspending = tt
-release_plain (Promoting order os) = (tt, tt, tt)
-release_plain (Cleaning order os) = (tt, tt, tt)
-release_plain (Demoting order os) = (tt, tt, tt)
+release_plain (Promoting order os) = (tt, (tt, tt))
+release_plain (Cleaning order os) = (tt, (tt, tt))
+release_plain (Demoting order os) = (tt, (tt, tt))
 release_plain job = (tt, tt)
 
 letting_plain : (job : Job) → ArePlain (letting job)
 letting_plain (Flushing None) = tt
 letting_plain (Flushing (Some order)) = (tt, tt)
-letting_plain (Promoting order os) = (tt, tt, tt)
+letting_plain (Promoting order os) = (tt, (tt, tt))
 letting_plain job = tt
 
 after_plain : (script : Script) (got : Got) → IsPlainTask (Some script) → IsPlainTask (Some (after script got))
@@ -144,7 +144,7 @@ after_plain s (Flag true) p = (p.0, tt)
 after_plain s (Flag false) p = (p.0, later_plain s.steps p.1)
 after_plain s (Seen seal) p = (p.0, work_plain s.job seal)
 after_plain s (Gave c) p = (p.0, later_plain s.steps p.1)
-after_plain s (Ticket k) p = (p.0, tt, later_plain s.steps p.1)
+after_plain s (Ticket k) p = (p.0, (tt, later_plain s.steps p.1))
 after_plain s Served p = (p.0, tt)
 after_plain s Broken p = (p.0, tt)
 after_plain s Short p = (p.0, letting_plain s.job)
@@ -273,11 +273,11 @@ IsNoRecord e = Unit {0}
 
 pub event_on : (v : Site) (e : Event) → IsNoRecord e → NeverClean v.world → NeverClean (after_event v e).world
 event_on v (On r) i n = absurd i
-event_on v (Stopped r) i n = record { tasks = emptied_plain v.world _; images = (found_unclean v.world.shared r.new_root n.images, found_unclean v.world.shared r.new_root n.images) }
-event_on v (Begins mode) i n = record { tasks = emptied_plain v.world _; images = n.images }
+event_on v (Stopped r) i n = record { tasks = emptied_plain v.world (stopped v.world.shared r); images = (found_unclean v.world.shared r.new_root n.images, found_unclean v.world.shared r.new_root n.images) }
+event_on v (Begins mode) i n = record { tasks = emptied_plain v.world v.world.shared; images = n.images }
 event_on v (Advances outcome) i n = by_phase v.phase
   where
     by_phase : (phase : Phase) → NeverClean (advance v.world phase outcome).world
-    by_phase (Opens mode stage) = record { tasks = emptied_plain v.world _; images = advanced_unclean v.world.shared mode stage outcome n.images }
+    by_phase (Opens mode stage) = record { tasks = emptied_plain v.world (advanced v.world.shared mode stage outcome); images = advanced_unclean v.world.shared mode stage outcome n.images }
     by_phase Stands = n
     by_phase Gone = n
