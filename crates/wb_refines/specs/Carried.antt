@@ -19,7 +19,7 @@ use Rattle.wb_link.specs.Tables.{Order, Script, Got, Answer as AbstractAnswer, F
 use Rattle.wb_link.specs.World.{Shared, Actor}
 use Rattle.wb_refines.specs.Translation.{offsets}
 use Rattle.wb_refines.specs.Going.{AreQuiet, shared_after, gone, MayGo}
-use Rattle.wb_refines.specs.Models.{BelowBeside, IsBelow, SameElse, SawSeal, TellsPlace, WordsAgree, held_for, plan_of}
+use Rattle.wb_refines.specs.Models.{TakesBeside, IsBelow, SameElse, SawSeal, TellsPlace, WordsAgree, held_for, plan_of}
 use Rattle.wb_refines.specs.Migrations.{job_under, migration_wants, order_on, Fills, IsWhere}
 
 -- both are done, or neither is
@@ -70,6 +70,6 @@ pub record FollowsMigration (actors : List Actor) (there : ℕ) (s : Shared) (y 
 -- A step of a migration on the shared words, which keep their rule. A demotion or write-back finds its block where its order says.
 abbrev pub MigrationCellsFollowed : Type 0
 MigrationCellsFollowed = (blocks : ℕ) (words : Words) (cards : List Card) (actors : List Actor) (there a : ℕ) (card : Card) (s : Shared) (y : Actor) (part : BlockRange) (c : CBlock) (next : Option ℕ) (migration : Migration) (kept : Option Order) (step : CellStep) (later : List Want) (answer : Answer) →
-    0 < part.block_sectors → LockRule blocks words cards → slice_get cards a ≡ Some card → BelowBeside actors cards there a → WordsAgree words s → TellsPlace step → Fills migration c → ((seal : ℕ) → card.seal ≡ Some seal → IsWhere migration c (place_in seal)) →
+    0 < part.block_sectors → LockRule blocks words cards → slice_get cards a ≡ Some card → TakesBeside step actors cards there a → WordsAgree words s → TellsPlace step → Fills migration c → ((seal : ℕ) → card.seal ≡ Some seal → IsWhere migration c (place_in seal)) →
     Suits blocks (plan_of (Migrating migration part) (Cell step ∷ later) answer) card → IsMigrationAt part c next migration kept (plan_of (Migrating migration part) (Cell step ∷ later) answer) card y →
     FollowsMigration actors there s y (words_after words step) part c next migration kept (after (plan_of (Migrating migration part) (Cell step ∷ later) answer) (got_of (result_of words step))) (card_after words step card)

@@ -20,6 +20,8 @@ use Rattle.wb_refines.proofs.Holding.{holds_nothing}
 use Rattle.wb_runs.specs.Effects.{sealing_steps, words_by}
 use Rattle.wb_runs.specs.Headline.{cached_from, place_of}
 use Rattle.wb_simulation.specs.Actors.{StandsFor, IsBusyAt}
+use Rattle.wb_runs.specs.declared.job.Job.TheVariants.{Migrate}
+use Rattle.wb_simulation.specs.Behind.{IsUnused, live_there}
 use Rattle.wb_simulation.specs.Opened.{OpenedFollowed}
 
 -- ---- the seals once each entry was sealed
@@ -223,16 +225,21 @@ opened_followed size most origin_blocks cache_blocks clean entries learnt blocks
   led = λ a y e l. absurd (nobody a y e l);
   whole = λ a y e l u. absurd (nobody a y e l);
   one_leads = λ a b y z e f l m. absurd (nobody a y e l);
-  many = length-replicate (length actors) idle;
-  each = λ a x y e f. subst (λ (v : AbstractActor). StandsFor size most words x v) (replicated (length actors) a idle y f) (record {
+  many = length-replicate (length actors + cache_blocks) idle ∙ ap (λ (n : ℕ). length actors + n) (sym (length-replicate cache_blocks None));
+  each = λ a x y e f. subst (λ (v : AbstractActor). StandsFor size most words x v) (replicated (length actors + cache_blocks) a idle y f) (record {
     at = subst (λ t. IsBusyAt size most words t x.card idle) (sym (rest a x e)) (refl, inl (record { task = refl; held = refl; order = refl; leads = refl }));
     below = holds_nothing idle x.card refl;
+    order = refl;
     among_others = refl;
   });
+  who = λ c. None;
+  behind = λ c order y e f. subst (λ (v : AbstractActor). IsUnused words actors c order v) (replicated (length actors + cache_blocks) (length actors + c) idle y f) (record { task = refl; order_is = ap (live_there c) (replicated cache_blocks c None order e); leads = refl; holds = inl refl });
+  one_each = λ c d a e f. absurd (cc);
+  carried = λ a x migration block plan e t. absurd (let bad : None ≡ Some (Migrate migration block, plan) = sym (rest a x e) ∙ t in cc);
 }
   where
     words : Words
     words = words_by (fresh_words origin_blocks) (sealing_steps clean 0 entries)
 
-    nobody : (a : ℕ) (y : AbstractActor) → slice_get (replicate (length actors) idle) a ≡ Some y → y.leads ≡ true → ⊥
-    nobody a y e l = let same = replicated (length actors) a idle y e in let bad : true ≡ false = sym l ∙ ap (λ (v : AbstractActor). v.leads) (sym same) in absurd (cc)
+    nobody : (a : ℕ) (y : AbstractActor) → slice_get (replicate (length actors + cache_blocks) idle) a ≡ Some y → y.leads ≡ true → ⊥
+    nobody a y e l = let same = replicated (length actors + cache_blocks) a idle y e in let bad : true ≡ false = sym l ∙ ap (λ (v : AbstractActor). v.leads) (sym same) in absurd (cc)
