@@ -255,7 +255,7 @@ module _ (actors : List Actor) (there : ℕ) (s : Shared) (part : BlockRange) (c
     quiet = (tt, tt);
     words_agree = record { fail = sym (failed_flag words.fail f z e); seals = w.seals };
     same = failed_same;
-    at = inr (record { over = refl; refused = λ k. let bad : Refuses refusal ≡ Finished = sym is ∙ k in absurd (cc); script = _; task = refl; nothing = refl; undone = subst (λ (r : Answer). AnswersAlike r told) is alike; job = refl; order = refl; leads = refl; below = keeps_owned _ card refl });
+    at = inr (failed_flag words.fail f z e, record { over = refl; refused = λ k. let bad : Refuses refusal ≡ Finished = sym is ∙ k in absurd (cc); script = _; task = refl; nothing = refl; undone = subst (λ (r : Answer). AnswersAlike r told) is alike; job = refl; order = refl; leads = refl; below = keeps_owned _ card refl });
   }
   fails Demote answer told buffer words card f z e refusal is w alike = record {
     results = Done ∷ [];
@@ -263,7 +263,7 @@ module _ (actors : List Actor) (there : ℕ) (s : Shared) (part : BlockRange) (c
     quiet = (tt, tt);
     words_agree = record { fail = sym (failed_flag words.fail f z e); seals = w.seals };
     same = failed_same;
-    at = inr (record { over = refl; refused = λ k. let bad : Refuses refusal ≡ Finished = sym is ∙ k in absurd (cc); script = _; task = refl; nothing = refl; undone = subst (λ (r : Answer). AnswersAlike r told) is alike; job = refl; order = refl; leads = refl; below = keeps_owned _ card refl });
+    at = inr (failed_flag words.fail f z e, record { over = refl; refused = λ k. let bad : Refuses refusal ≡ Finished = sym is ∙ k in absurd (cc); script = _; task = refl; nothing = refl; undone = subst (λ (r : Answer). AnswersAlike r told) is alike; job = refl; order = refl; leads = refl; below = keeps_owned _ card refl });
   }
   fails Clean answer told buffer words card f z e refusal is w alike = record {
     results = Done ∷ [];
@@ -271,7 +271,7 @@ module _ (actors : List Actor) (there : ℕ) (s : Shared) (part : BlockRange) (c
     quiet = (tt, tt);
     words_agree = record { fail = sym (failed_flag words.fail f z e); seals = w.seals };
     same = failed_same;
-    at = inr (record { over = refl; refused = λ k. let bad : Refuses refusal ≡ Finished = sym is ∙ k in absurd (cc); script = _; task = refl; nothing = refl; undone = subst (λ (r : Answer). AnswersAlike r told) is alike; job = refl; order = refl; leads = refl; below = keeps_owned _ card refl });
+    at = inr (failed_flag words.fail f z e, record { over = refl; refused = λ k. let bad : Refuses refusal ≡ Finished = sym is ∙ k in absurd (cc); script = _; task = refl; nothing = refl; undone = subst (λ (r : Answer). AnswersAlike r told) is alike; job = refl; order = refl; leads = refl; below = keeps_owned _ card refl });
   }
 
   module _ (blocks : ℕ) (words : Words) (cards : List Card) (a : ℕ) (card : Card) (migration : Migration) (answer : Answer) (told : AbstractAnswer) (buffer : Content) (some : 0 < part.block_sectors) (rule : LockRule blocks words cards) (here : slice_get cards a ≡ Some card) (w : WordsAgree words s)

@@ -1,8 +1,8 @@
 -- How each step of a migration on the shared words is followed, so that words and cards agree with the abstract world after it.
-use Rattle.std.specs.Prelude.{false, ◌⊎◌, ◌≡◌, ◌≢◌, ◌<◌, ℕ, List, [], ◌∷◌, Option, Some, slice_get}
+use Rattle.std.specs.Prelude.{true, false, ◌⊎◌, ◌≡◌, ◌≢◌, ◌<◌, ℕ, List, [], ◌∷◌, Option, Some, slice_get}
 use Rattle.wb_types.specs.declared.number.CBlock.{CBlock}
 use Rattle.wb_disk.specs.Device.{Content}
-use Rattle.wb_words.specs.SharedWords.{Words, place_in}
+use Rattle.wb_words.specs.SharedWords.{Words, flag, place_in}
 use Rattle.wb_words.specs.Rule.{LockRule}
 use Rattle.wb_words.specs.Effects.{result_of, words_after, card_after}
 use Rattle.wb_words.specs.declared.card.Card.{Card}
@@ -58,14 +58,15 @@ pub record HasKept (part : BlockRange) (c : CBlock) (next : Option ℕ) (migrati
   pub leads : y.leads ≡ false
   pub below : IsBelow y card
 
--- What an actor did on the words, which are these now, the abstract actor can do too, and both are at the same then.
+-- What an actor did on the words, which are these now, the abstract actor can do too, and both are at the same then; what is kept is kept by
+-- a target that has failed.
 pub record FollowsMigration (actors : List Actor) (there : ℕ) (s : Shared) (y : Actor) (words : Words) (part : BlockRange) (c : CBlock) (next : Option ℕ) (migration : Migration) (kept : Option Order) (plan : Plan) (card : Card) : Type 0 where
   pub results : List Got
   pub may : MayGo actors there s y y.task results
   pub quiet : AreQuiet y.task results
   pub words_agree : WordsAgree words (shared_after s y y.task results)
   pub same : SameElse s (shared_after s y y.task results)
-  pub at : IsMigrationAt part c next migration kept plan card (gone y y.task results) ⊎ HasKept part c next migration kept plan card (gone y y.task results)
+  pub at : IsMigrationAt part c next migration kept plan card (gone y y.task results) ⊎ ((flag words.fail ≡ true) × HasKept part c next migration kept plan card (gone y y.task results))
 
 -- A step of a migration on the shared words, which keep their rule. A demotion or write-back finds its block where its order says.
 abbrev pub MigrationCellsFollowed : Type 0

@@ -1,5 +1,5 @@
 -- Each step of a flush is followed, wherever it stands.
-use Rattle.std.proofs.Common.{◌≡◌, ◌∙◌, inl, inr, ℕ, Bool, true, false, List, [], ◌∷◌, Some, None, refl, sym, ap, subst, slice_get, slice_set}
+use Rattle.std.proofs.Common.{◌≡◌, ◌∙◌, inl, inr, ℕ, Bool, true, false, List, [], ◌∷◌, Some, None, refl, sym, ap, subst, slice_get, slice_set, Option}
 use Rattle.wb_types.specs.declared.mode.Dev.{Dev}
 use Rattle.wb_types.specs.declared.mode.Dev.TheVariants.{Metadata, Cache, Origin}
 use Rattle.wb_disk.specs.Device.{History, synced}
@@ -120,7 +120,7 @@ flush_of size most words committing orders devices actors a x plan s ex g t =
 pub flush_steps_followed : FlushStepsFollowed
 flush_steps_followed = record {
   looks = λ size most words committing orders devices actors a x plan s ex t e g. let y = flush_of size most words committing orders devices actors a x plan s ex g t in look size most words committing orders devices actors a x plan s y.0 ex y.1 g y.2 y.3 t e;
-  begins = λ size most nodes allowed clean words devices actors a x plan s ex t e g.
+  begins = λ size most nodes allowed clean words orders devices actors a x plan s ex t e g.
       let y = flush_of size most words false orders devices actors a x plan s ex g t in
       let k = asks size most allowed clean words plan y.0 (at_flush size most words plan (Desk (BeginCommit clean allowed)) y.0 e (λ answer q. absurd (cc)) (λ q. absurd (cc)) y.3) in
       subst (λ (p : Plan). FollowsBy Begins Quietly size most a s words true orders devices (slice_set actors a (after_step Flush p (Began nodes) x))) (sym k.0) (begins size most words false orders devices actors a x plan s y.0 ex y.1 g (none_of x Flush plan tt t) (past x Flush plan (Desk (BeginCommit false most)) [] t (ap (λ (p : Plan). p.steps) k.0) (λ o. o)) nodes plan.answer refl k.1);

@@ -1,5 +1,5 @@
 -- Each step of a flush is followed.
-use Rattle.std.proofs.Common.{◌≡◌, ◌≢◌, ◌+◌, ◌*◌, ◌==◌, ◌∙◌, inl, inr, cond, if◌then◌else◌, ℕ, Bool, true, false, List, [], ◌∷◌, Some, None, map, refl, sym, ap, subst, slice_get, slice_set}
+use Rattle.std.proofs.Common.{◌≡◌, ◌≢◌, ◌+◌, ◌*◌, ◌==◌, ◌∙◌, inl, inr, cond, if◌then◌else◌, ℕ, Bool, true, false, List, [], ◌∷◌, Some, None, map, refl, sym, ap, subst, slice_get, slice_set, Option}
 use Rattle.wb_types.specs.declared.mode.Dev.TheVariants.{Metadata, Cache, Origin}
 use Rattle.wb_types.specs.declared.refusal.Refusal.{Refusal}
 use Rattle.wb_types.specs.declared.refusal.Refusal.TheVariants.{Failed, Busy, Memory, GenerationEnd}
@@ -30,7 +30,7 @@ use Rattle.wb_devices.specs.declared.devices.Devices.{Devices}
 use Rattle.std.proofs.lemmas.Bool.{cases_eq}
 use Rattle.wb_link.proofs.Lists.{get_set_other}
 use Rattle.wb_link.specs.Tables.{Begin, End_running, Done as DoneThere, Flushing as FlushingFor}
-use Rattle.wb_link.specs.World.{World, Shared, Mapped, Nothing, Actor as AbstractActor, begun, ended, effect, is_alone}
+use Rattle.wb_link.specs.World.{World, Shared, Mapped, Nothing, Actor as AbstractActor, begun, ended, effect, is_alone, Block}
 use Rattle.wb_refines.specs.Going.{gone}
 use Rattle.wb_refines.specs.Translation.{wants_of}
 use Rattle.wb_refines.specs.Models.{WordsAgree}
@@ -175,7 +175,7 @@ module _ (size most : ℕ) (words : Words) (committing : Bool) (orders : List (O
       let steps = refused_plan refusal [] answer false most n in
       follows_alone devices (after (flushing most (Desk (BeginCommit false most) ∷ []) answer) (Refused refusal)) x.card refl
       (subst (λ (ws : List Want). IsOfFlush most ws) (sym steps) tt) (subst (λ (ws : List Want). LeadsAt false ws) (sym steps) tt)
-      (followed_alone.is_refused size most refusal [] s.actors a s.shared y [] answer n is) refl (stays_past words x _ past)
+      (followed_alone.is_refused size most refusal [] s.actors a s.shared y [] answer n is) refl (stays_past words x (record x { task = Some (Flush, after (flushing most (Desk (BeginCommit false most) ∷ []) answer) (Refused refusal)) }) past)
 
   -- a commit begins, which nobody has led
   pub begins : ¬ AreOutside x.task → (nodes : ℕ) (answer : Answer) → committing ≡ false → IsFlushing size [] (flushing most (Desk (BeginCommit false most) ∷ []) answer) false y →
@@ -187,7 +187,7 @@ module _ (size most : ℕ) (words : Words) (committing : Bool) (orders : List (O
       goes_leading size most words words (λ f. f) committing orders devices actors a x (record x { task = Some (Flush, plan') }) s y g ex ey Begins Quietly true devices l.results (effect s.shared (FlushingFor None) [] (Begin None) DoneThere) (l.results, quiet_are_unnoted y.task l.results l.quiet, refl) l.may l.shared
       (stands size most words committing orders devices actors a x s y ex ey g words plan' x.card true (gone y y.task l.results) refl (nodes_on_metadata nodes 0) refl (λ e n. absurd (cc)) l.at)
       (record { fail = g.words_agree.fail; seals = g.words_agree.seals }) g.origin g.cache refl refl (λ e. refl) (λ b v ev k. refl) (λ b v ev k u. by_broken s.shared.broken refl)
-      (λ b c v u ev eu k m. only b v (gone y y.task l.results) ev k ∙ sym (only c u (gone y y.task l.results) eu m)) (refl, refl, refl) (refl, refl) (others plan' x.card devices (λ c. begun (s.shared.blocks c)) (stays_past words x _ past) refl refl (λ c m. ap begun m))
+      (λ b c v u ev eu k m. only b v (gone y y.task l.results) ev k ∙ sym (only c u (gone y y.task l.results) eu m)) (refl, refl, refl) (refl, refl) (others plan' x.card devices (λ c. begun (s.shared.blocks c)) (stays_past words x (record x { task = Some (Flush, plan') }) past) refl refl (λ c m. ap begun m))
     where
       runs : s.shared.committing ≡ true → ⊥
       runs e = let bad : true ≡ false = sym e ∙ g.commits ∙ quiet in absurd (cc)
@@ -210,7 +210,7 @@ module _ (size most : ℕ) (words : Words) (committing : Bool) (orders : List (O
       goes_leading size most words words (λ f. f) committing orders devices actors a x (record x { task = Some (Flush, plan') }) s y g ex ey Ends Quietly false devices l.results (effect s.shared (FlushingFor None) [] End_running DoneThere) (l.results, quiet_are_unnoted y.task l.results l.quiet, refl) l.may l.shared
       (stands size most words committing orders devices actors a x s y ex ey g words plan' x.card false (gone y y.task l.results) refl tt tt (λ e n. absurd (cc)) l.at)
       (record { fail = g.words_agree.fail; seals = g.words_agree.seals }) g.origin g.cache refl refl (λ e. let bad : true ≡ false = sym e ∙ whole in absurd (cc))
-      (λ b v ev k. absurd (nobody l b v ev k)) (λ b v ev k u. whole) (λ b c v u ev eu k m. absurd (nobody l b v ev k)) (refl, refl) (refl, refl) (others plan' x.card devices (λ c. ended (s.shared.blocks c)) (stays_past words x _ past) refl refl (λ c m. ap ended m))
+      (λ b v ev k. absurd (nobody l b v ev k)) (λ b v ev k u. whole) (λ b c v u ev eu k m. absurd (nobody l b v ev k)) (refl, refl) (refl, refl) (others plan' x.card devices (λ c. ended (s.shared.blocks c)) (stays_past words x (record x { task = Some (Flush, plan') }) past) refl refl (λ c m. ap ended m))
     where
       nobody : (l : Leads size [] s.actors a s.shared y (effect s.shared (FlushingFor None) [] End_running DoneThere) (after (flushing most (Desk EndCommit ∷ []) answer) Done) false) (b : ℕ) (v : AbstractActor) → slice_get (slice_set s.actors a (gone y y.task l.results)) b ≡ Some v → v.leads ≡ true → ⊥
       nobody l b v ev k =
@@ -231,7 +231,7 @@ module _ (size most : ℕ) (words : Words) (committing : Bool) (orders : List (O
       (stands size most words committing orders devices actors a x s y ex ey g (words_after words SetFailed) plan' (card_after words SetFailed x.card) true y' refl tt tt (λ k n. failed) l.at)
       (record { fail = sym failed; seals = g.words_agree.seals }) g.origin g.cache refl g.commits (λ k. runs) (λ b v ev k. runs)
       (λ b v ev k u. absurd (subst (λ (w : AbstractActor). IsUnfinished w.task) (is_here size most words committing orders devices actors a x s y ex ey g lead y' b v ev k ∙ l.at.is) u refl))
-      (one_here size most words committing orders devices actors a x s y ex ey g lead y') (refl, refl, refl) (refl, refl) (others plan' (card_after words SetFailed x.card) devices s.shared.blocks (stays_past words x _ past) refl refl (λ c m. m))
+      (one_here size most words committing orders devices actors a x s y ex ey g lead y') (refl, refl, refl) (refl, refl) (others plan' (card_after words SetFailed x.card) devices s.shared.blocks (stays_past words x (record x { task = Some (Flush, plan'); card = card_after words SetFailed x.card }) past) refl refl (λ c m. m))
 
   -- ---- its look at the fail word, and its answer
 

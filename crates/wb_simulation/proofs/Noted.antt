@@ -140,7 +140,7 @@ pub record IsOver (job : AbstractJob) (task : Option Script) : Type 0 where
   pub is : script.job ≡ job
 
 -- Who has done something is another one now, and of others nothing has changed.
-module _ (size a : ℕ) (s : World) (y : AbstractActor) (n : Notes) (m : AbstractNotes) (ey : slice_get s.actors a ≡ Some y) (inside : a < length n.doings) (g : NotesAgree size n s m) where
+module _ (size a : ℕ) (s : World) (y : AbstractActor) (n : Notes) (m : AbstractNotes) (ey : slice_get s.actors a ≡ Some y) (among : a < length n.doings) (g : NotesAgree size n s m) where
   agree_after : (n' : Notes) (m' : AbstractNotes) (t : Shared) (y' : AbstractActor) → m'.histories ≡ by_block size zeros n'.histories → m'.finished ≡ counts_by_block size n'.finished → m'.floors ≡ counts_by_block size n'.floors →
       length n'.histories ≡ length n.histories → length n'.finished ≡ length n.finished → length n'.floors ≡ length n.floors →
       ((b : ℕ) → b ≢ a → slice_get n'.doings b ≡ slice_get n.doings b) → length n'.doings ≡ length n.doings → ((b : ℕ) → b ≢ a → m'.jobs b ≡ m.jobs b) → ((b : ℕ) → b ≢ a → m'.entered b ≡ m.entered b) → ((b : ℕ) → b ≢ a → m'.asked b ≡ m.asked b) →
@@ -154,7 +154,7 @@ module _ (size a : ℕ) (s : World) (y : AbstractActor) (n : Notes) (m : Abstrac
     each = λ b z l e. in_set s.actors a y y' ey (λ b z. b < length n'.doings → IsNotedSo size (length n'.histories) z.task (slice_get n'.doings b) b m') (λ k. subst (λ (k : ℕ). IsNotedSo size k y'.task (slice_get n'.doings a) a m') (sym long) here)
         (λ b z ne e k. subst (λ (k : ℕ). IsNotedSo size k z.task (slice_get n'.doings b) b m') (sym long) (subst (λ (o : Option (Option Doing)). IsNotedSo size (length n.histories) z.task o b m') (sym (doings b ne))
         (noted_beside size (length n.histories) z.task (slice_get n.doings b) b m m' (jobs b ne) (entered b ne) (asked b ne) (g.each b z (omega (arith, k, many)) e)))) b z e l;
-    behind = λ b l. subst (λ (j : Option AbstractJob). IsOfNoAccount j) (sym (jobs b (λ e. absurd (omega (arith, inside, l, many, e))))) (g.behind b (omega (arith, l, many)));
+    behind = λ b l. subst (λ (j : Option AbstractJob). IsOfNoAccount j) (sym (jobs b (λ e. absurd (omega (arith, among, l, many, e))))) (g.behind b (omega (arith, l, many)));
   }
 
   -- by these steps
@@ -166,9 +166,9 @@ module _ (size a : ℕ) (s : World) (y : AbstractActor) (n : Notes) (m : Abstrac
 
   unnoted_after : (gots : List Got) → AreUnnoted y.task gots → After gots n
   unnoted_after gots u = to_world gots n (subst (λ (k : AbstractNotes). NotesAgree size n (with_own s a (shared_after s.shared y y.task gots) (gone y y.task gots)) k)
-      (sym (untold gots y.task m a (is_job size (length n.histories) y.task (slice_get n.doings a) a m (g.each a y inside ey)) u))
+      (sym (untold gots y.task m a (is_job size (length n.histories) y.task (slice_get n.doings a) a m (g.each a y among ey)) u))
       (agree_after n m (shared_after s.shared y y.task gots) (gone y y.task gots) g.histories g.finished g.floors refl refl refl (λ b e. refl) refl (λ b e. refl) (λ b e. refl) (λ b e. refl)
-      (noted_job size (length n.histories) y.task (gone y y.task gots).task (slice_get n.doings a) a m (gone_job gots y y.task refl (unnoted_going y.task gots u)) (g.each a y inside ey))))
+      (noted_job size (length n.histories) y.task (gone y y.task gots).task (slice_get n.doings a) a m (gone_job gots y y.task refl (unnoted_going y.task gots u)) (g.each a y among ey))))
 
   put_others : (o : Option Doing) (b : ℕ) → b ≢ a → slice_get (slice_set n.doings a o) b ≡ slice_get n.doings b
   put_others o b ne = get_set_other n.doings a b o ne
@@ -202,7 +202,7 @@ module _ (size a : ℕ) (s : World) (y : AbstractActor) (n : Notes) (m : Abstrac
       slice_get n.doings a ≡ Some (Some doing) → offset + count ≤ size → block * size + offset + count ≤ length n.histories → After gots (write_note n a doing (enter_each content (rising (block * size + offset) count) (entering n doing)))
   write_after block offset count content location all rest answer gots doing are at here l inside =
       let script = writing block all content (write_each location block (rising offset count) rest) answer in
-      let d : DoesAlike size (length n.histories) doing (Writing block all content) a m = subst (λ (t : Option Script). IsNotedSo size (length n.histories) t (Some (Some doing)) a m) at (subst (λ (o : Option (Option Doing)). IsNotedSo size (length n.histories) y.task o a m) here (g.each a y inside ey)) in
+      let d : DoesAlike size (length n.histories) doing (Writing block all content) a m = subst (λ (t : Option Script). IsNotedSo size (length n.histories) t (Some (Some doing)) a m) at (subst (λ (o : Option (Option Doing)). IsNotedSo size (length n.histories) y.task o a m) here (g.each a y among ey)) in
       let e = enter_each content (rising (block * size + offset) count) (entering n doing) in
       let m' = told m (records a y.task gots) in
       let w : Wrote size (length n.histories) a m m' e = subst (λ (t : Option Script). Wrote size (length n.histories) a m (told m (records a t gots)) e) (sym at)
@@ -232,7 +232,7 @@ module _ (size a : ℕ) (s : World) (y : AbstractActor) (n : Notes) (m : Abstrac
   answered : (n' : Notes) (script : Script) (job : AbstractJob) (answer : AbstractAnswer) → y.task ≡ Some script → script.steps ≡ [] → script.answer ≡ answer → script.job ≡ job →
       NotesAgree size n' (with_own s a s.shared (record y { task = None })) (noted_step m a (Some job) (End answer)) → After (Done ∷ []) n'
   answered n' script job answer at none ans is k =
-      let own : m.jobs a ≡ Some script.job = subst (λ (t : Option Script). IsJob m a t) at (is_job size (length n.histories) y.task (slice_get n.doings a) a m (g.each a y inside ey)) in
+      let own : m.jobs a ≡ Some script.job = subst (λ (t : Option Script). IsJob m a t) at (is_job size (length n.histories) y.task (slice_get n.doings a) a m (g.each a y among ey)) in
       of_task (Some (record { job = job; steps = []; answer = answer })) (Done ∷ []) n' (at ∙ (λ i. Some (record { job = is i; steps = none i; answer = ans i })))
       (subst (λ (k : AbstractNotes). NotesAgree size n' (with_own s a s.shared (record y { task = None })) k) (λ i. noted_step m a ((sym (own ∙ ap (λ (j : AbstractJob). Some j) is)) i) (End answer)) k)
 
@@ -245,7 +245,7 @@ module _ (size a : ℕ) (s : World) (y : AbstractActor) (n : Notes) (m : Abstrac
 
   does_alike : (job : AbstractJob) (script : Script) (doing : Doing) → y.task ≡ Some script → script.job ≡ job → slice_get n.doings a ≡ Some (Some doing) → DoesAlike size (length n.histories) doing job a m
   does_alike job script doing at is here = subst (λ (j : AbstractJob). DoesAlike size (length n.histories) doing j a m) is
-      (subst (λ (t : Option Script). IsNotedSo size (length n.histories) t (Some (Some doing)) a m) at (subst (λ (o : Option (Option Doing)). IsNotedSo size (length n.histories) y.task o a m) here (g.each a y inside ey)))
+      (subst (λ (t : Option Script). IsNotedSo size (length n.histories) t (Some (Some doing)) a m) at (subst (λ (o : Option (Option Doing)). IsNotedSo size (length n.histories) y.task o a m) here (g.each a y among ey)))
 
   write_answers : (block : ℕ) (os : List ℕ) (content : Content) (script : Script) (doing : Doing) → y.task ≡ Some script → script.steps ≡ [] → script.answer ≡ AnsweredDone → script.job ≡ Writing block os content → slice_get n.doings a ≡ Some (Some doing) →
       After (Done ∷ []) (put (record n { finished = all_raised n.finished doing.entered }) a None)
@@ -449,38 +449,38 @@ set_aside size n s m a y doing g ey none = record {
 
 pub notes_followed : NotesFollowed
 notes_followed = record {
-  quiet = λ turn size most a s words committing orders devices actors f y n m ey inside g.
+  quiet = λ turn size most a s words committing orders devices actors f y n m ey among g.
       let t = f.told y ey in
-      subst (λ (rs : List Record). NotesAgree size n (after_all s rs) (told m rs)) (sym t.2) (unnoted_after size a s y n m ey inside g t.0 t.1);
-  read = λ block offset contents turn size most a s words committing orders devices actors f y n m ey inside g.
+      subst (λ (rs : List Record). NotesAgree size n (after_all s rs) (told m rs)) (sym t.2) (unnoted_after size a s y n m ey among g t.0 t.1);
+  read = λ block offset contents turn size most a s words committing orders devices actors f y n m ey among g.
       let t = f.told y ey in
       subst (λ (rs : List Record). NotesAgree size n (after_all s rs) (told m rs)) (sym t.told_is)
-      (unnoted_after size a s y n m ey inside g (map Gave contents) (subst (λ (k : Option Script). AreUnnoted k (map Gave contents)) (sym t.at) (reads_unnoted t.location block t.all t.rest t.answer contents offset)));
-  write = λ block offset count content turn size most a s words committing orders devices actors f y n m ey inside g doing here l inside.
+      (unnoted_after size a s y n m ey among g (map Gave contents) (subst (λ (k : Option Script). AreUnnoted k (map Gave contents)) (sym t.at) (reads_unnoted t.location block t.all t.rest t.answer contents offset)));
+  write = λ block offset count content turn size most a s words committing orders devices actors f y n m ey among g doing here l inside.
       let t = f.told y ey in
       let n' = write_note n a doing (enter_each content (rising (block * size + offset) count) (entering n doing)) in
       subst (λ (rs : List Record). NotesAgree size n' (after_all s rs) (told m rs)) (sym t.told_is)
-      (write_after size a s y n m ey inside g block offset count content t.location t.all t.rest t.answer t.results doing t.are t.at here l inside);
-  read_answered = λ block os turn size most a s words committing orders devices actors f y n m ey inside g.
+      (write_after size a s y n m ey among g block offset count content t.location t.all t.rest t.answer t.results doing t.are t.at here l inside);
+  read_answered = λ block os turn size most a s words committing orders devices actors f y n m ey among g.
       let t = f.told y ey in let k = script_of (Reading block os) y.task t.0 in
-      subst (λ (rs : List Record). NotesAgree size (put n a None) (after_all s rs) (told m rs)) (sym t.1) (read_answers size a s y n m ey inside g block os k.script k.at k.none k.done k.is);
-  write_answered = λ block os content turn size most a s words committing orders devices actors f y n m ey inside g doing here.
+      subst (λ (rs : List Record). NotesAgree size (put n a None) (after_all s rs) (told m rs)) (sym t.1) (read_answers size a s y n m ey among g block os k.script k.at k.none k.done k.is);
+  write_answered = λ block os content turn size most a s words committing orders devices actors f y n m ey among g doing here.
       let t = f.told y ey in let k = script_of (Writing block os content) y.task t.0 in
       subst (λ (rs : List Record). NotesAgree size (put (record n { finished = all_raised n.finished doing.entered }) a None) (after_all s rs) (told m rs)) (sym t.1)
-      (write_answers size a s y n m ey inside g block os content k.script doing k.at k.none k.done k.is here);
-  flush_answered = λ turn size most a s words committing orders devices actors f y n m ey inside g doing here long.
+      (write_answers size a s y n m ey among g block os content k.script doing k.at k.none k.done k.is here);
+  flush_answered = λ turn size most a s words committing orders devices actors f y n m ey among g doing here long.
       let t = f.told y ey in let k = script_of (Flushing None) y.task t.0 in
       subst (λ (rs : List Record). NotesAgree size (put (record n { floors = greater_of n.floors doing.then_finished }) a None) (after_all s rs) (told m rs)) (sym t.1)
-      (flush_answers size a s y n m ey inside g k.script doing k.at k.none k.done k.is here long);
-  refused = λ job refusal turn size most a s words committing orders devices actors f y n m ey inside g.
+      (flush_answers size a s y n m ey among g k.script doing k.at k.none k.done k.is here long);
+  refused = λ job refusal turn size most a s words committing orders devices actors f y n m ey among g.
       let t = f.told y ey in
-      subst (λ (rs : List Record). NotesAgree size (put n a None) (after_all s rs) (told m rs)) (sym t.1) (by_task size a s y n m ey inside g job refusal y.task refl t.0);
-  starts = λ abstract_job job turn size most a s words committing orders devices actors f y n m ey inside g was here.
-      subst (λ (rs : List Record). NotesAgree size (put n a (Some (begun n job))) (after_all s rs) (told m rs)) (sym (f.told y ey)) (start_after size a s y n m ey inside g abstract_job job was here);
-  starts_late = λ job turn size most a s words committing orders devices actors f y n m ey inside g none.
+      subst (λ (rs : List Record). NotesAgree size (put n a None) (after_all s rs) (told m rs)) (sym t.1) (by_task size a s y n m ey among g job refusal y.task refl t.0);
+  starts = λ abstract_job job turn size most a s words committing orders devices actors f y n m ey among g was here.
+      subst (λ (rs : List Record). NotesAgree size (put n a (Some (begun n job))) (after_all s rs) (told m rs)) (sym (f.told y ey)) (start_after size a s y n m ey among g abstract_job job was here);
+  starts_late = λ job turn size most a s words committing orders devices actors f y n m ey among g none.
       let t = f.told y ey in
-      subst (λ (rs : List Record). NotesAgree size (put n a (Some (begun n job))) (after_all s rs) (told m rs)) (sym t.2) (late_after size a s y n m ey inside g t.0 job none);
-  carries = λ from turn size most a s words committing orders devices actors f y n m ey inside g out. carried_noted size n from out f.records s m (f.told y ey) g;
+      subst (λ (rs : List Record). NotesAgree size (put n a (Some (begun n job))) (after_all s rs) (told m rs)) (sym t.2) (late_after size a s y n m ey among g t.0 job none);
+  carries = λ from turn size most a s words committing orders devices actors f y n m ey among g out. carried_noted size n from out f.records s m (f.told y ey) g;
   aside = λ size n s m a y doing g ey none. set_aside size n s m a y doing g ey none;
   redone = λ size n s m a doing doing' g here e f. record {
     histories = g.histories;
@@ -514,9 +514,9 @@ notes_followed = record {
     behind = λ b l. tt;
     each = λ b z l e. subst (λ (v : AbstractActor). IsNotedSo size (length (map only shown)) v.task (slice_get (begins many shown).doings b) b (opened view)) (replicated (length s.actors) b resting z e) tt;
   };
-  newest_read = λ turn size most a block offset contents s words committing orders devices actors f y n m ey inside g right.
+  newest_read = λ turn size most a block offset contents s words committing orders devices actors f y n m ey among g right.
       let t = f.told y ey in
-      let job = subst (λ (k : Option Script). IsJob m a k) t.at (is_job size (length n.histories) y.task (slice_get n.doings a) a m (g.each a y inside ey)) in
+      let job = subst (λ (k : Option Script). IsJob m a k) t.at (is_job size (length n.histories) y.task (slice_get n.doings a) a m (g.each a y among ey)) in
       subst (λ (h : ℕ → ℕ → History). AreNewest h block offset contents) g.histories
       (reads_newest t.location block t.all t.rest t.answer contents offset m a job
       (subst (λ (k : Option Script). AllRight m (map (λ (r : Record). On r) (records a k (map Gave contents)))) t.at (subst (λ (rs : List Record). AllRight m (map (λ (r : Record). On r) rs)) t.told_is right)));
@@ -526,7 +526,7 @@ notes_followed = record {
     script_of job None so = absurd so
     script_of job (Some script) so = record { script = script; at = refl; none = so.0; done = so.1; is = so.2 }
 
-    by_task : (size a : ℕ) (s : World) (y : AbstractActor) (n : Notes) (m : AbstractNotes) (ey : slice_get s.actors a ≡ Some y) (inside : a < length n.doings) (g : NotesAgree size n s m) (job : AbstractJob) (refusal : Refusal) (task : Option Script) → y.task ≡ task → AnswersSo job (Refuses refusal) y.task →
+    by_task : (size a : ℕ) (s : World) (y : AbstractActor) (n : Notes) (m : AbstractNotes) (ey : slice_get s.actors a ≡ Some y) (among : a < length n.doings) (g : NotesAgree size n s m) (job : AbstractJob) (refusal : Refusal) (task : Option Script) → y.task ≡ task → AnswersSo job (Refuses refusal) y.task →
         NotesAgree size (put n a None) (after_all s (records a y.task (Done ∷ []))) (told m (records a y.task (Done ∷ [])))
-    by_task size a s y n m ey inside g job refusal None e so = absent_answers size a s y n m ey inside g e
-    by_task size a s y n m ey inside g job refusal (Some script) e so = let so' = subst (λ (t : Option Script). AnswersSo job (Refuses refusal) t) e so in refusal_answers size a s y n m ey inside g script e so'.0 so'.1
+    by_task size a s y n m ey among g job refusal None e so = absent_answers size a s y n m ey among g e
+    by_task size a s y n m ey among g job refusal (Some script) e so = let so' = subst (λ (t : Option Script). AnswersSo job (Refuses refusal) t) e so in refusal_answers size a s y n m ey among g script e so'.0 so'.1

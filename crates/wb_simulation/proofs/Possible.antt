@@ -1,5 +1,5 @@
 -- A target that was just made agrees with the abstract world that begins.
-use Rattle.std.proofs.Common.{◌≡◌, ◌+◌, ◌*◌, ◌∙◌, inl, ℕ, zero, suc, Bool, true, false, cond, nat_lt, unwrap_or, Some, None, length, replicate, refl, sym, ap, subst, slice_get}
+use Rattle.std.proofs.Common.{◌≡◌, ◌+◌, ◌*◌, ◌∙◌, inl, ℕ, zero, suc, Bool, true, false, cond, nat_lt, unwrap_or, Some, None, length, replicate, refl, sym, ap, subst, slice_get, Option}
 use Rattle.std.proofs.lemmas.List.{length-replicate}
 use Rattle.wb_disk.specs.Device.{Content, only}
 use Rattle.wb_contents.specs.Devices.{by_block}
@@ -10,6 +10,7 @@ use Rattle.wb_refines.specs.Models.{SealAgrees}
 use Rattle.wb_refines.proofs.Holding.{holds_nothing}
 use Rattle.wb_runs.specs.States.{Actor, resting}
 use Rattle.wb_runs.specs.declared.job.Job.TheVariants.{Migrate}
+use Rattle.wb_policy.specs.declared.order.Order.{Order}
 use Rattle.wb_simulation.specs.Behind.{IsUnused, live_there}
 use Rattle.wb_simulation.specs.Actors.{StandsFor}
 use Rattle.wb_simulation.specs.Laws.{CanAgree}
@@ -43,7 +44,7 @@ can_agree size most blocks caches cache origin many = record {
   led = λ a y e l. absurd (nobody a y e l);
   whole = λ a y e l u. absurd (nobody a y e l);
   one_leads = λ a b y z e f l m. absurd (nobody a y e l);
-  many = length-replicate (many + caches) idle ∙ (λ i. sym (length-replicate many resting) i + sym (length-replicate caches None) i);
+  many = length-replicate (many + caches) idle ∙ (λ i. sym (length-replicate many resting) i + sym (length-replicate {A = Option Order} caches None) i);
   each = λ a x y e f. subst (λ (v : Actor). StandsFor size most (fresh_words blocks) v y) (replicated many a resting x e)
       (subst (λ (v : AbstractActor). StandsFor size most (fresh_words blocks) resting v) (replicated (many + caches) a idle y f) (rests size most blocks));
   who = λ c. None;
