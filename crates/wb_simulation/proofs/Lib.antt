@@ -1,5 +1,7 @@
 mod Steps
 mod Kept
+mod Behind
+mod Beside
 mod Telling
 mod Cells
 mod Among

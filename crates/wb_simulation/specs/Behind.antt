@@ -27,6 +27,7 @@ use Rattle.wb_refines.specs.Carried.{IsMigrationAt}
 use Rattle.wb_runs.specs.declared.job.Job.{Job}
 use Rattle.wb_runs.specs.declared.job.Job.TheVariants.{Migrate}
 use Rattle.wb_runs.specs.States.{Actor}
+use Rattle.wb_runs.specs.Happenings.{IsMade}
 use Rattle.wb_simulation.specs.Steps.{IsPart, AreOfBlock, ArePaired, IsOutside}
 
 -- An order of the desk that is live on this cache block, as it is there; a replacement's is that of the block that leaves.
@@ -60,6 +61,7 @@ HasRead size list at steps buffer = Unit {0}
 -- same steps, under the same order, with what the actor's card counts.
 pub record IsCarried (size : ℕ) (devices : Devices (List History)) (c : CBlock) (order : Option Order) (state : Block) (x : Actor) (y : AbstractActor) : Type 0 where
   pub migration : Migration
+  pub made : IsMade migration
   pub block : OBlock
   pub plan : Plan
   pub task : x.task ≡ Some (Migrate migration block, plan)

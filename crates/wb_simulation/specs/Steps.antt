@@ -35,11 +35,16 @@ abbrev pub IsWrittenNext : ℕ → Extent → List Want → Type 0
 IsWrittenNext size r (Device (Write device e) ∷ later) = (e.count ≡ r.count) × (e.first % size ≡ r.first % size)
 IsWrittenNext size r steps = ⊥
 
--- a migration writes each extent that it has read, before it reads the next one
+-- the next step is no write
+abbrev pub IsNoWrite : List Want → Type 0
+IsNoWrite (Device (Write device e) ∷ later) = ⊥
+IsNoWrite steps = Unit {0}
+
+-- A migration writes each extent that it has read, before it does anything else, and writes nothing else.
 abbrev pub ArePaired : ℕ → List Want → Type 0
 ArePaired size [] = Unit {0}
 ArePaired size (Device (Read device e) ∷ later) = IsWrittenNext size e later × ArePaired size later
-ArePaired size (next ∷ later) = ArePaired size later
+ArePaired size (next ∷ later) = IsNoWrite later × ArePaired size later
 
 -- Who takes these steps has still to look at the fail word, or has only to answer.
 abbrev pub IsOutside : List Want → Type 0
