@@ -363,7 +363,7 @@ module _ (P A : Type 0) (shape : Shape) where
 
   -- ---- every event
 
-  inside_what : (w : State P A) (n : Notes) (event : Event) (what : What) (read : List Bytes) (chosen : Chosen P A) → Base P A shape w n → Inside shape w → MayBe shape w event what read chosen → Inside shape (after_what shape w event what chosen)
+  pub inside_what : (w : State P A) (n : Notes) (event : Event) (what : What) (read : List Bytes) (chosen : Chosen P A) → Base P A shape w n → Inside shape w → MayBe shape w event what read chosen → Inside shape (after_what shape w event what chosen)
   inside_what w n (Start a job) Started read chosen b i h = starts w n a job chosen b (clear w job i) (table_inside w n a job chosen b h.2)
   inside_what w n (Start a job) Skipped read chosen b i h = i
   inside_what w n (Start a job) (Refused refusal) read chosen b i h = i

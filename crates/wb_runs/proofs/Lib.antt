@@ -17,7 +17,7 @@ pub mod Using
 mod Plans
 mod Refusing
 pub mod Covering
-mod SoFar
+pub mod SoFar
 pub mod Opening
 pub mod Claims
 pub mod Linking
@@ -34,4 +34,4 @@ mod FirstLife
 mod Surviving
 mod FirstPromotion
 mod Bounds
-mod InsideRuns
+pub mod InsideRuns

@@ -22,7 +22,7 @@ use Rattle.wb_devices.specs.declared.devices.Devices.{Devices}
 use Rattle.wb_devices.specs.Moving.{device_in}
 use Rattle.wb_link.specs.Tables.{Flushing as FlushingFor}
 use Rattle.wb_link.specs.World.{World, Actor as AbstractActor}
-use Rattle.wb_refines.specs.Flushes.{IsFlushing, flushing}
+use Rattle.wb_refines.specs.Flushes.{IsFlushing, IsWrittenAfter, flushing}
 use Rattle.wb_runs.specs.declared.job.Job.TheVariants.{Flush}
 use Rattle.wb_runs.specs.States.{Actor, with_device}
 use Rattle.wb_simulation.specs.Actors.{IsFlushAt, IsOfFlush, LeadsAt, StandsFor}
@@ -138,7 +138,7 @@ flush_steps_followed = record {
   metadata_fails = λ size most step metadata words committing orders devices actors a x plan s d ex t e g.
       let y = flush_of size most words committing orders devices actors a x plan s ex g t in
       let k = at_flush size most words plan (Device step) y.0 e (λ answer q. absurd (cc)) (λ q. absurd (cc)) y.3 in
-      subst (λ (p : Plan). (written : Bool) × FollowsBy (Puts written) Quietly size most a s words committing orders (with_device Metadata devices metadata) (slice_set actors a (after_step Flush p Fault x))) (sym k.is)
+      subst (λ (p : Plan). (written : Bool) × IsWrittenAfter step s.shared.root_written written × FollowsBy (Puts written) Quietly size most a s words committing orders (with_device Metadata devices metadata) (slice_set actors a (after_step Flush p Fault x))) (sym k.is)
       (metadata_failed size most words committing orders devices actors a x plan s y.0 ex y.1 g (none_of x Flush plan tt t) (past x Flush plan (Device step) k.later t (ap (λ (p : Plan). p.steps) k.is) (λ o. o)) metadata step k.later plan.answer (is_on_metadata size most words committing orders devices actors a x plan s y.0 ex y.1 g (none_of x Flush plan tt t) step k.later d k.rest)
       (leading size most words committing orders devices actors a x plan s y.0 ex y.1 g (none_of x Flush plan tt t) (Device step) k.later plan.answer k.leads k.at k.same));
   ends = λ size most words committing orders devices actors a x plan s ex t e g.

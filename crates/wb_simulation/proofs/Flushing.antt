@@ -34,7 +34,7 @@ use Rattle.wb_link.specs.World.{World, Shared, Mapped, Nothing, Actor as Abstrac
 use Rattle.wb_refines.specs.Going.{gone}
 use Rattle.wb_refines.specs.Translation.{wants_of}
 use Rattle.wb_refines.specs.Models.{WordsAgree}
-use Rattle.wb_refines.specs.Flushes.{IsFlushing, IsOnMetadata, IsNoBegin, flushing, Leads}
+use Rattle.wb_refines.specs.Flushes.{IsFlushing, IsOnMetadata, IsNoBegin, IsWrittenAfter, flushing, Leads}
 use Rattle.wb_refines.proofs.Cells.{flag_of, failed_flag}
 use Rattle.wb_refines.proofs.Flushing.{flush_steps_followed as followed_alone}
 use Rattle.wb_refines.proofs.Holding.{holds_nothing}
@@ -133,11 +133,12 @@ module _ (size most : ℕ) (words : Words) (committing : Bool) (orders : List (O
   metadata_done past metadata (Read device e) later answer d o is = absurd o
   metadata_done past metadata (Write device e) later answer d o is = absurd o
 
-  pub metadata_failed : ¬ AreOutside x.task → (metadata : List History) (step : DeviceStep) (later : List Want) (answer : Answer) → IsOnMetadata (Device step ∷ later) → IsFlushing size [] (flushing most (Device step ∷ later) answer) true y → (written : Bool) × OnBy (Puts written) (with_device Metadata devices metadata) (after (flushing most (Device step ∷ later) answer) Fault)
+  pub metadata_failed : ¬ AreOutside x.task → (metadata : List History) (step : DeviceStep) (later : List Want) (answer : Answer) → IsOnMetadata (Device step ∷ later) → IsFlushing size [] (flushing most (Device step ∷ later) answer) true y → (written : Bool) × IsWrittenAfter step s.shared.root_written written × OnBy (Puts written) (with_device Metadata devices metadata) (after (flushing most (Device step ∷ later) answer) Fault)
   metadata_failed past metadata step later answer m is =
       let l = followed_alone.fails_metadata size most step [] s.actors a s.shared y later answer m is in (
         l.0,
-        goes (Puts l.0) (with_device Metadata devices metadata) (Device step) later answer (after (flushing most (Device step ∷ later) answer) Fault) (record s.shared { root_written = l.0 }) is (has_wants size (Device step ∷ later) m) l.1 refl refl refl (λ n. absurd (cc))
+        l.1,
+        goes (Puts l.0) (with_device Metadata devices metadata) (Device step) later answer (after (flushing most (Device step ∷ later) answer) Fault) (record s.shared { root_written = l.0 }) is (has_wants size (Device step ∷ later) m) l.2 refl refl refl (λ n. absurd (cc))
             (record { fail = g.words_agree.fail; seals = g.words_agree.seals }) g.origin g.cache refl refl refl (refl, refl, refl) (refl, refl) refl past refl refl,
       )
 
