@@ -9,3 +9,8 @@ mod Rooted
 mod Opening
 mod Answering
 mod Desking
+mod Showing
+mod Opened
+mod Opens
+mod Targets
+mod Requests

@@ -138,7 +138,7 @@ module _ (P A : Type 0) (shape : Shape) (images : Images) (devices : Devices (Li
         reached_at (RootFound global root loader) i m e found = absurd (omega (arith, e))
         reached_at (AllRead state) i m e found = absurd (omega (arith, e))
 
-        settle_done : (read : List Bytes) (chosen : Chosen P A) → DoesSync (Opens mode reading) commit device chosen → Goes P A shape (after_it (Sync Metadata) Done chosen (record devices { metadata = synced device })) (n' (Sync Metadata) Done read)
+        pub settle_done : (read : List Bytes) (chosen : Chosen P A) → DoesSync (Opens mode reading) commit device chosen → Goes P A shape (after_it (Sync Metadata) Done chosen (record devices { metadata = synced device })) (n' (Sync Metadata) Done read)
         settle_done read chosen s =
             let b = begins_of chosen (subst (λ (c : Option RunningCommit). DoesSync (Opens mode reading) c device chosen) rd.1 s) in
             let l = openings_followed.settles shape.geometry (size P A shape) images.committed f.phase.later Writeback f.site devices ph f.phase.devices_follow.agree in
@@ -149,7 +149,7 @@ module _ (P A : Type 0) (shape : Shape) (images : Images) (devices : Devices (Li
             (reached_at b.0 (one_image l.state) (synced device) b.2 found)
             (inl (record { total = total; left = left; stage = Caching; is = refl; phase_is = refl; read = ((b.0, refl), refl, refl) }))
 
-        settle_fails : (read : List Bytes) (chosen : Chosen P A) (lands : ℕ → Bool) → Goes P A shape (after_it (Sync Metadata) Fault chosen (record devices { metadata = synced_where lands device })) (n' (Sync Metadata) Fault read)
+        pub settle_fails : (read : List Bytes) (chosen : Chosen P A) (lands : ℕ → Bool) → Goes P A shape (after_it (Sync Metadata) Fault chosen (record devices { metadata = synced_where lands device })) (n' (Sync Metadata) Fault read)
         settle_fails read chosen lands =
             let l = openings_followed.settling_fails shape.geometry (size P A shape) images.committed f.phase.later Writeback f.site devices ph f.phase.devices_follow.agree (synced_where lands device) (partly_synced lands device) in
             goes_to (opening_at total left Settling) xt (Sync Metadata) Fault read chosen images f.phase.later GoneThere (record devices { metadata = synced_where lands device }) None None _
@@ -161,28 +161,28 @@ module _ (P A : Type 0) (shape : Shape) (images : Images) (devices : Devices (Li
       -- ---- the syncs of cache and origin
 
       module _ (ph : f.site.phase ≡ OpensThere Writeback Caching) (rd : HasReadAt Caching reading commit f.phase.later) (xt : x.task ≡ Some (Open opened_in, opening_at total left Caching)) where
-        cache_done : (read : List Bytes) (chosen : Chosen P A) → Goes P A shape (after_it (Sync Cache) Done chosen (record devices { cache = synced devices.cache })) (n' (Sync Cache) Done read)
+        pub cache_done : (read : List Bytes) (chosen : Chosen P A) → Goes P A shape (after_it (Sync Cache) Done chosen (record devices { cache = synced devices.cache })) (n' (Sync Cache) Done read)
         cache_done read chosen =
             let l = openings_followed.syncs_cache shape.geometry (size P A shape) images.committed f.phase.later Writeback f.site devices ph f.phase.devices_follow.agree in
             goes_to (opening_at total left Caching) xt (Sync Cache) Done read chosen images f.phase.later (OpensThere Writeback Basing) (record devices { cache = synced devices.cache }) reading commit (opening_at total left Basing) refl refl refl
             (arrives P A shape images w n (n' (Sync Cache) Done read) f (same (Sync Cache) Done read) images.committed f.phase.later (OpensThere Writeback Basing) (record devices { cache = synced devices.cache }) l (no_stand Basing)) f.phase.devices_follow.fit (no_stand Basing) known
             (inl (record { total = total; left = left; stage = Basing; is = refl; phase_is = refl; read = rd }))
 
-        cache_fails : (read : List Bytes) (chosen : Chosen P A) (lands : ℕ → Bool) → Goes P A shape (after_it (Sync Cache) Fault chosen (record devices { cache = synced_where lands devices.cache })) (n' (Sync Cache) Fault read)
+        pub cache_fails : (read : List Bytes) (chosen : Chosen P A) (lands : ℕ → Bool) → Goes P A shape (after_it (Sync Cache) Fault chosen (record devices { cache = synced_where lands devices.cache })) (n' (Sync Cache) Fault read)
         cache_fails read chosen lands =
             let l = openings_followed.cache_fails shape.geometry (size P A shape) images.committed f.phase.later Writeback f.site devices ph f.phase.devices_follow.agree lands in
             goes_to (opening_at total left Caching) xt (Sync Cache) Fault read chosen images f.phase.later GoneThere (record devices { cache = synced_where lands devices.cache }) reading commit _ refl refl refl
             (arrives P A shape images w n (n' (Sync Cache) Fault read) f (same (Sync Cache) Fault read) images.committed f.phase.later GoneThere (record devices { cache = synced_where lands devices.cache }) l no_gone) f.phase.devices_follow.fit no_gone known (inr (over total _))
 
       module _ (ph : f.site.phase ≡ OpensThere Writeback Basing) (rd : HasReadAt Basing reading commit f.phase.later) (xt : x.task ≡ Some (Open opened_in, opening_at total left Basing)) where
-        origin_done : (read : List Bytes) (chosen : Chosen P A) → Goes P A shape (after_it (Sync Origin) Done chosen (record devices { origin = synced devices.origin })) (n' (Sync Origin) Done read)
+        pub origin_done : (read : List Bytes) (chosen : Chosen P A) → Goes P A shape (after_it (Sync Origin) Done chosen (record devices { origin = synced devices.origin })) (n' (Sync Origin) Done read)
         origin_done read chosen =
             let l = openings_followed.syncs_origin shape.geometry (size P A shape) images.committed f.phase.later Writeback f.site devices ph f.phase.devices_follow.agree in
             goes_to (opening_at total left Basing) xt (Sync Origin) Done read chosen images f.phase.later (OpensThere Writeback Looking) (record devices { origin = synced devices.origin }) reading commit (opening_at total left Looking) refl refl refl
             (arrives P A shape images w n (n' (Sync Origin) Done read) f (same (Sync Origin) Done read) images.committed f.phase.later (OpensThere Writeback Looking) (record devices { origin = synced devices.origin }) l (no_stand Looking)) f.phase.devices_follow.fit (no_stand Looking) known
             (inl (record { total = total; left = left; stage = Looking; is = refl; phase_is = refl; read = rd }))
 
-        origin_fails : (read : List Bytes) (chosen : Chosen P A) (lands : ℕ → Bool) → Goes P A shape (after_it (Sync Origin) Fault chosen (record devices { origin = synced_where lands devices.origin })) (n' (Sync Origin) Fault read)
+        pub origin_fails : (read : List Bytes) (chosen : Chosen P A) (lands : ℕ → Bool) → Goes P A shape (after_it (Sync Origin) Fault chosen (record devices { origin = synced_where lands devices.origin })) (n' (Sync Origin) Fault read)
         origin_fails read chosen lands =
             let l = openings_followed.origin_fails shape.geometry (size P A shape) images.committed f.phase.later Writeback f.site devices ph f.phase.devices_follow.agree lands in
             goes_to (opening_at total left Basing) xt (Sync Origin) Fault read chosen images f.phase.later GoneThere (record devices { origin = synced_where lands devices.origin }) reading commit _ refl refl refl
@@ -263,7 +263,7 @@ module _ (P A : Type 0) (shape : Shape) (images : Images) (devices : Devices (Li
             }))
 
         -- by what its step gives
-        looks : (got : Got) (read : List Bytes) (chosen : Chosen P A) → DoesRead shape.geometry left rd.0.0 device None got chosen → Goes P A shape (after_it (ReadMetadata left) got chosen devices) (n' (ReadMetadata left) got read)
+        pub looks : (got : Got) (read : List Bytes) (chosen : Chosen P A) → DoesRead shape.geometry left rd.0.0 device None got chosen → Goes P A shape (after_it (ReadMetadata left) got chosen devices) (n' (ReadMetadata left) got read)
         looks got read (Reaches after' commit') (no_fault, inl more) = by_got got no_fault more.3
           where
             reached : HasReached shape.geometry images more.0 device
@@ -288,7 +288,7 @@ module _ (P A : Type 0) (shape : Shape) (images : Images) (devices : Devices (Li
             by_refusal r e = look_stops got read (Reaches after' commit') r more.4 more.5 (ap (λ (v : Got). after (opening_at total left Looking) v) e)
         looks got read chosen g = absurd g
 
-        look_fails : (read : List Bytes) → Goes P A shape (after_it (ReadMetadata left) Fault Plain devices) (n' (ReadMetadata left) Fault read)
+        pub look_fails : (read : List Bytes) → Goes P A shape (after_it (ReadMetadata left) Fault Plain devices) (n' (ReadMetadata left) Fault read)
         look_fails read = look_stops Fault read Plain (Io Metadata) refl refl refl
 
       -- ---- the root
@@ -316,7 +316,7 @@ module _ (P A : Type 0) (shape : Shape) (images : Images) (devices : Devices (Li
         abbrev k : RootingKept shape.geometry images (AllRead rd.0.stored) rd.0.running device
         k = rooting i rd.0
 
-        root_done : (read : List Bytes) → DoesStep rd.0.running.image rd.0.running.steps device new → Goes P A shape (after_it WriteRoot Done (Puts new) devices') (n' WriteRoot Done read)
+        pub root_done : (read : List Bytes) → DoesStep rd.0.running.image rd.0.running.steps device new → Goes P A shape (after_it WriteRoot Done (Puts new) devices') (n' WriteRoot Done read)
         root_done read does =
             let t = rooted_on A shape.geometry images (AllRead rd.0.stored) rd.0.running device new k does in
             let goal = t.kept.of.new in
@@ -331,7 +331,7 @@ module _ (P A : Type 0) (shape : Shape) (images : Images) (devices : Devices (Li
             (subst (λ (s : Stored). Arrived P A shape s (Some goal) (OpensThere Writeback (Renewing i)) devices' (n' WriteRoot Done read)) (sym t.committed_is) v) t.kept.under.fit_new (no_stand (Renewing i)) t.kept
             (inl (record { total = total; left = left; stage = Renewing i; is = refl; phase_is = refl; read = (learnt_still i rd.0 _, (goal, refl, leads)) }))
 
-        root_fails : (read : List Bytes) → FailsStep rd.0.running.image rd.0.running.steps device new → Goes P A shape (after_it WriteRoot Fault (Puts new) devices') (n' WriteRoot Fault read)
+        pub root_fails : (read : List Bytes) → FailsStep rd.0.running.image rd.0.running.steps device new → Goes P A shape (after_it WriteRoot Fault (Puts new) devices') (n' WriteRoot Fault read)
         root_fails read bad =
             let goal = k.of.new in
             let read_so = subst (λ (s : Stored). Rattle.wb_roots.specs.Roots.MayBeReadAs shape.geometry s (Some goal) new) (old_is i rd.0) (two_left shape.geometry k.of device images rd.0.running new k.under bad) in
@@ -353,7 +353,7 @@ module _ (P A : Type 0) (shape : Shape) (images : Images) (devices : Devices (Li
         agree_so = with_root shape (size P A shape) images.committed kept.of.new f.phase.later i devices devices f.site.world.shared f.phase.devices_follow.agree rd.1 (leads_to i rd.0) refl refl
             (subst (λ (s : Stored). Rattle.wb_roots.specs.Roots.MayBeReadAs shape.geometry s (Some kept.of.new) device) (old_is i rd.0) (two_read shape.geometry kept.of device images rd.0.running kept.under))
 
-        renew_done : (read : List Bytes) → DoesStep rd.0.running.image rd.0.running.steps device new → Goes P A shape (after_it (Sync Metadata) Done Plain renewed) (n' (Sync Metadata) Done read)
+        pub renew_done : (read : List Bytes) → DoesStep rd.0.running.image rd.0.running.steps device new → Goes P A shape (after_it (Sync Metadata) Done Plain renewed) (n' (Sync Metadata) Done read)
         renew_done read does =
             let t = rooted_on A shape.geometry images (AllRead rd.0.stored) rd.0.running device new kept does in
             let goal = kept.of.new in
@@ -368,7 +368,7 @@ module _ (P A : Type 0) (shape : Shape) (images : Images) (devices : Devices (Li
             (subst (λ (s : Stored). Arrived P A shape s (Some goal) (OpensThere Writeback (Answering i)) renewed (n' (Sync Metadata) Done read)) (sym t.committed_is) v) kept.under.fit_new (no_stand (Answering i)) t.kept
             (inl (record { total = total; left = left; stage = Answering i; is = refl; phase_is = refl; read = (learnt_still i rd.0 _, (goal, refl, leads_to i rd.0)) }))
 
-        renew_fails : (read : List Bytes) → FailsStep rd.0.running.image rd.0.running.steps device new → Goes P A shape (after_it (Sync Metadata) Fault Plain renewed) (n' (Sync Metadata) Fault read)
+        pub renew_fails : (read : List Bytes) → FailsStep rd.0.running.image rd.0.running.steps device new → Goes P A shape (after_it (Sync Metadata) Fault Plain renewed) (n' (Sync Metadata) Fault read)
         renew_fails read bad =
             let goal = kept.of.new in
             let read_so = subst (λ (s : Stored). Rattle.wb_roots.specs.Roots.MayBeReadAs shape.geometry s (Some goal) new) (old_is i rd.0) (two_left shape.geometry kept.of device images rd.0.running new kept.under bad) in
