@@ -14,3 +14,6 @@ mod Opened
 mod Opens
 mod Targets
 mod Requests
+mod Flushes
+mod Asked
+mod Starts
