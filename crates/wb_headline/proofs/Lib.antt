@@ -17,3 +17,4 @@ mod Requests
 mod Flushes
 mod Asked
 mod Starts
+mod Stands
