@@ -36,7 +36,7 @@ use Rattle.wb_runs.specs.declared.job.Job.{Job}
 use Rattle.wb_runs.specs.declared.job.Job.TheVariants.{Read, Write, Flush, Open, Migrate}
 use Rattle.wb_runs.specs.States.{Shape, State, Actor, Target, Phase, Stands, with_device, sector_count}
 use Rattle.wb_runs.specs.Happenings.{Chosen, Plain, Cut, Orders, Begins, Reaches, Puts, Commits, Asks, Opened, Gives, Falters, MayFailAt, DoesPut, DoesSync, DoesBegin, FailsPut, FailsSync, LandedOr, sector_put, block_range}
-use Rattle.wb_runs.specs.Effects.{device_done, device_failed, stepped, actor_then, put_by}
+use Rattle.wb_runs.specs.Effects.{device_done, device_failed, stepped, actor_then, put_by, led}
 use Rattle.wb_runs.specs.Holding.{cards_of, AllSuited}
 use Rattle.wb_runs.specs.Clerk.{Notes, Doing, noted_step}
 use Rattle.wb_runs.specs.Headline.{shown}
@@ -174,16 +174,44 @@ module _ (P A : Type 0) (shape : Shape) (images : Images) (t : Target P) (commit
     put_step step read (Puts new) None e d = absurd d
     put_step step read chosen o e d = absurd d
 
+    -- with its commit led on
+    leads : (step : DeviceStep) (got : Got) (read : List Bytes) (new : List History) (o now : Option RunningCommit) → o ≡ now → Goes P A shape (record { devices = record devices { metadata = new }; commit = now; phase = Stands t; actors = slice_set actors a (actor_then {P = P} {A = A} shape (Stands t) devices x (Device step) got) }) (noted_step shape [] n a (Some (Some doing)) (Device step) got read) →
+        Goes P A shape (record { devices = record devices { metadata = new }; commit = o; phase = Stands t; actors = slice_set actors a (actor_then {P = P} {A = A} shape (Stands t) devices x (Device step) got) }) (noted_step shape [] n a (Some (Some doing)) (Device step) got read)
+    leads step got read new o now e g = subst (λ (m : Option RunningCommit). Goes P A shape (record { devices = record devices { metadata = new }; commit = m; phase = Stands t; actors = slice_set actors a (actor_then {P = P} {A = A} shape (Stands t) devices x (Device step) got) }) (noted_step shape [] n a (Some (Some doing)) (Device step) got read)) (sym e) g
+
+    by_sync : (read : List Bytes) (chosen : Chosen P A) (o : Option RunningCommit) → commit ≡ o → DoesSync {P = P} {A = A} (Stands t) o devices.metadata chosen → Device (Sync Metadata) ≡ want plan → Done_by Flush (Device (Sync Metadata)) Done read chosen
+    by_sync read chosen (Some c) runs d e = subst (λ (ch : Chosen P A). Done_by Flush (Device (Sync Metadata)) Done read ch) (sym d.1)
+        (leads (Sync Metadata) Done read (synced devices.metadata) (led commit Done) _ (ap (λ (m : Option RunningCommit). led m Done) runs)
+        (sync_done P A shape images t commit devices actors n known f rule a x ex plan xt [] doing noted job_is read c runs (synced devices.metadata) e (and_left _ _ d.0) (sync_does c.image c.steps devices.metadata d.0)))
+    by_sync read chosen None runs d e = absurd d
+
+    by_begin : (clean : Bool) (allowed : ℕ) (got : Got) (read : List Bytes) (chosen : Chosen P A) → Desk (BeginCommit clean allowed) ≡ want plan → DoesBegin allowed t.desk got chosen → Done_by Flush (Desk (BeginCommit clean allowed)) got read chosen
+    by_begin clean allowed (Began nodes) read (Commits c tree) e d = begins P A shape images t commit devices actors n known f rule a x ex plan xt [] doing noted job_is nodes allowed clean c tree e d.2 d.3
+    by_begin clean allowed (GotRefused refusal) read Plain e d = begin_refused P A shape images t commit devices actors n known f rule a x ex plan xt [] doing noted job_is refusal allowed clean e d
+    by_begin clean allowed got read chosen e d = absurd d
+
+    all_done : (o : Option RunningCommit) → is_all_done o ≡ true → (c : RunningCommit) × (o ≡ Some c) × (is_committed c.steps ≡ true)
+    all_done None e = absurd (cc)
+    all_done (Some c) e = (c, refl, e)
+
     pub flush_steps : (next : Want) (got : Got) (read : List Bytes) (chosen : Chosen P A) → length doing.then_finished ≡ length n.floors → next ≡ want plan → Gives shape w Flush next got read chosen → Done_by Flush next got read chosen
     flush_steps (Cell step) got read chosen asked e g = subst (λ (v : Got). Done_by Flush (Cell step) v read chosen) (sym g.1)
         (flush_words P A shape images t commit devices actors n known f rule a x ex plan xt [] doing noted job_is step (which step (mine (Cell step) e)) e)
     flush_steps (Device (Sync Cache)) got read chosen asked e g = subst (λ (v : Got). Done_by Flush (Device (Sync Cache)) v read chosen) (sym g.1) (syncs P A shape images t commit devices actors n known f rule a x ex plan xt [] doing noted job_is Cache tt e read)
     flush_steps (Device (Sync Origin)) got read chosen asked e g = subst (λ (v : Got). Done_by Flush (Device (Sync Origin)) v read chosen) (sym g.1) (syncs P A shape images t commit devices actors n known f rule a x ex plan xt [] doing noted job_is Origin tt e read)
-    flush_steps (Device (Sync Metadata)) got read chosen asked e g = ?
-    flush_steps (Device (WriteNode k)) got read chosen asked e g = ?
-    flush_steps (Device WriteRoot) got read chosen asked e g = ?
-    flush_steps (Desk (BeginCommit clean allowed)) got read chosen asked e g = ?
-    flush_steps (Desk EndCommit) got read chosen asked e g = ?
+    flush_steps (Device (Sync Metadata)) got read chosen asked e g = subst (λ (v : Got). Done_by Flush (Device (Sync Metadata)) v read chosen) (sym g.1) (by_sync read chosen commit refl g.2 e)
+    flush_steps (Device (WriteNode k)) got read chosen asked e g =
+        let p = put_step (WriteNode k) read chosen commit refl g.2 in
+        subst (λ (v : Got). Done_by Flush (Device (WriteNode k)) v read chosen) (sym g.1) (subst (λ (c : Chosen P A). Done_by Flush (Device (WriteNode k)) Done read c) (sym p.1)
+        (leads (WriteNode k) Done read p.0 (led commit Done) _ (ap (λ (m : Option RunningCommit). led m Done) p.3) (node_done P A shape images t commit devices actors n known f rule a x ex plan xt [] doing noted job_is read p.2 p.3 p.0 k e p.4 p.5)))
+    flush_steps (Device WriteRoot) got read chosen asked e g =
+        let p = put_step WriteRoot read chosen commit refl g.2 in
+        subst (λ (v : Got). Done_by Flush (Device WriteRoot) v read chosen) (sym g.1) (subst (λ (c : Chosen P A). Done_by Flush (Device WriteRoot) Done read c) (sym p.1)
+        (leads WriteRoot Done read p.0 (led commit Done) _ (ap (λ (m : Option RunningCommit). led m Done) p.3) (root_done P A shape images t commit devices actors n known f rule a x ex plan xt [] doing noted job_is read p.2 p.3 p.0 e p.4 p.5)))
+    flush_steps (Desk (BeginCommit clean allowed)) got read chosen asked e g = by_begin clean allowed got read chosen e g.2
+    flush_steps (Desk EndCommit) got read chosen asked e g =
+        let c = all_done commit g.2 in
+        subst (λ (v : Got). Done_by Flush (Desk EndCommit) v read chosen) (sym g.1) (ends P A shape images t commit devices actors n known f rule a x ex plan xt [] doing noted job_is c.0 c.1 e c.2)
     flush_steps (End answer) got read chosen asked e g = subst (λ (c : Chosen P A). Done_by Flush (End answer) got read c) (sym g.0.1)
         (flush_answers P A shape images t commit devices actors n known f rule a x ex plan xt _ doing noted job_is answer got read e asked)
     flush_steps (Device (ReadExtent d ex')) got read chosen asked e g = absurd g
@@ -192,3 +220,41 @@ module _ (P A : Type 0) (shape : Shape) (images : Images) (t : Target P) (commit
     flush_steps (Desk (Map b c)) got read chosen asked e g = absurd g
     flush_steps (Desk (Unmap b)) got read chosen asked e g = absurd g
     flush_steps (Desk (ReleaseOrder b)) got read chosen asked e g = absurd g
+
+    -- a step of the commit that fails
+    failing : (c : RunningCommit) (new : List History) (choice : Choice) → LandedOr (lands Metadata choice (sector_put (coming_step c.image c.steps))) (DoesStep c.image c.steps devices.metadata new) (new ≡ devices.metadata) → DoesStep c.image c.steps devices.metadata new ⊎ (new ≡ devices.metadata)
+    failing c new choice h = by (lands Metadata choice (sector_put (coming_step c.image c.steps))) h
+      where
+        by : (v : Bool) → LandedOr v (DoesStep c.image c.steps devices.metadata new) (new ≡ devices.metadata) → DoesStep c.image c.steps devices.metadata new ⊎ (new ≡ devices.metadata)
+        by true h = inl h
+        by false h = inr h
+
+    by_node_fault : (choice : Choice) (k : ℕ) (read : List Bytes) (chosen : Chosen P A) (o : Option RunningCommit) → commit ≡ o → FailsPut o choice (WriteNode k) devices.metadata chosen → Device (WriteNode k) ≡ want plan → Failed_by choice Flush (Device (WriteNode k)) read chosen
+    by_node_fault choice k read (Puts new) (Some c) runs d e = leads (WriteNode k) Fault read new (led commit Fault) None (ap (λ (m : Option RunningCommit). led m Fault) runs)
+        (node_fails P A shape images t commit devices actors n known f rule a x ex plan xt [] doing noted job_is read c runs new k e (and_left _ _ d.0) (put_fails c.image c.steps (WriteNode k) devices.metadata new tt d.0 (failing c new choice d.1)))
+    by_node_fault choice k read (Puts new) None runs d e = absurd d
+    by_node_fault choice k read chosen o runs d e = absurd d
+
+    by_root_fault : (choice : Choice) (read : List Bytes) (chosen : Chosen P A) (o : Option RunningCommit) → commit ≡ o → FailsPut o choice WriteRoot devices.metadata chosen → Device WriteRoot ≡ want plan → Failed_by choice Flush (Device WriteRoot) read chosen
+    by_root_fault choice read (Puts new) (Some c) runs d e = leads WriteRoot Fault read new (led commit Fault) None (ap (λ (m : Option RunningCommit). led m Fault) runs)
+        (root_fails P A shape images t commit devices actors n known f rule a x ex plan xt [] doing noted job_is read c runs new e (and_left _ _ d.0) (put_fails c.image c.steps WriteRoot devices.metadata new tt d.0 (failing c new choice d.1)))
+    by_root_fault choice read (Puts new) None runs d e = absurd d
+    by_root_fault choice read chosen o runs d e = absurd d
+
+    by_sync_fault : (choice : Choice) (read : List Bytes) (o : Option RunningCommit) → commit ≡ o → FailsSync {P = P} {A = A} (Stands t) o devices.metadata → Device (Sync Metadata) ≡ want plan → Failed_by choice Flush (Device (Sync Metadata)) read Plain
+    by_sync_fault choice read (Some c) runs d e = leads (Sync Metadata) Fault read (synced_where (lands Metadata choice) devices.metadata) (led commit Fault) None (ap (λ (m : Option RunningCommit). led m Fault) runs)
+        (metadata_sync_fails P A shape images t commit devices actors n known f rule a x ex plan xt [] doing noted job_is read c runs (synced_where (lands Metadata choice) devices.metadata) e (and_left _ _ d.0) (sync_fails c.image c.steps (lands Metadata choice) devices.metadata d.0))
+    by_sync_fault choice read None runs d e = absurd d
+
+    pub flush_faults : (choice : Choice) (next : Want) (read : List Bytes) (chosen : Chosen P A) → next ≡ want plan → MayFailAt devices choice next → Falters w choice next chosen → Failed_by choice Flush next read chosen
+    flush_faults choice (Device (Sync Cache)) read chosen e m g = data_sync_fails P A shape images t commit devices actors n known f rule a x ex plan xt [] doing noted job_is Cache tt e read (lands Cache choice)
+    flush_faults choice (Device (Sync Origin)) read chosen e m g = data_sync_fails P A shape images t commit devices actors n known f rule a x ex plan xt [] doing noted job_is Origin tt e read (lands Origin choice)
+    flush_faults choice (Device (Sync Metadata)) read chosen e m g = subst (λ (c : Chosen P A). Failed_by choice Flush (Device (Sync Metadata)) read c) (sym g.0) (by_sync_fault choice read commit refl g.1 e)
+    flush_faults choice (Device (WriteNode k)) read chosen e m g = by_node_fault choice k read chosen commit refl g e
+    flush_faults choice (Device WriteRoot) read chosen e m g = by_root_fault choice read chosen commit refl g e
+    flush_faults choice (Device (ReadExtent d ex')) read chosen e m g = absurd (mine (Device (ReadExtent d ex')) e)
+    flush_faults choice (Device (WriteExtent d ex')) read chosen e m g = absurd (mine (Device (WriteExtent d ex')) e)
+    flush_faults choice (Device (ReadMetadata k)) read chosen e m g = absurd (mine (Device (ReadMetadata k)) e)
+    flush_faults choice (Cell step) read chosen e m g = absurd m
+    flush_faults choice (Desk step) read chosen e m g = absurd m
+    flush_faults choice (End answer) read chosen e m g = absurd m
