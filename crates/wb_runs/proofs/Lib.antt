@@ -13,6 +13,7 @@ mod Ruling
 mod Suiting
 mod Sealing
 pub mod Ordering
+pub mod Owning
 pub mod Using
 mod Plans
 mod Refusing
