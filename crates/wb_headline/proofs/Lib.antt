@@ -18,3 +18,4 @@ mod Flushes
 mod Asked
 mod Starts
 mod Stands
+mod Whole

@@ -149,7 +149,7 @@ pub record Inside {P A : Type 0} (shape : Shape) (w : State P A) : Type 0 where
   pub seals : SealsHere shape w.phase
   pub tasks : (a : ℕ) (x : Actor) → slice_get w.actors a ≡ Some x → PlanInside shape x.task
 
-want_inside : (shape : Shape) (plan : Plan) → AllInside shape plan.steps → StepInside shape (want plan)
+pub want_inside : (shape : Shape) (plan : Plan) → AllInside shape plan.steps → StepInside shape (want plan)
 want_inside shape plan a = by_steps plan.steps a
   where
     by_steps : (steps : List Want) → AllInside shape steps → StepInside shape (Rattle.wb_tasks.specs.Plan.first_step steps plan.answer)
