@@ -177,11 +177,97 @@ module _ (P A : Type 0) (shape : Shape) where
 
     -- ---- starts
 
-    start_by_phase : (devices : Devices (List History)) (commit : Option RunningCommit) (phase : Phase P A) (actors : List Actor) (n : Notes) → Whole (record { devices = devices; commit = commit; phase = phase; actors = actors }) n → (a : ℕ) (x : Actor) (job : Job) (chosen : Chosen P A) → slice_get actors a ≡ Some x → x.task ≡ None →
-        (¬ Rattle.wb_runs.specs.Happenings.IsOutOfPlace phase job) → StartGives shape phase (Some x) job Started chosen →
-        Goes P A shape (with_actor (cleared (record { devices = devices; commit = commit; phase = phase; actors = actors }) job) (slice_get (cleared (record { devices = devices; commit = commit; phase = phase; actors = actors }) job).actors a)
-            (λ y. record (cleared (record { devices = devices; commit = commit; phase = phase; actors = actors }) job) { phase = phase_given (cleared (record { devices = devices; commit = commit; phase = phase; actors = actors }) job).phase job chosen; actors = slice_set (cleared (record { devices = devices; commit = commit; phase = phase; actors = actors }) job).actors a (given shape y job chosen) }))
-        (put (starting n job) a (Some (begun n job)))
-    start_by_phase devices commit phase actors n b a x (Open mode) chosen ex xt place g = ?
-    start_by_phase devices commit (Stands t) actors n b a x job chosen ex xt place g = ?
-    start_by_phase devices commit phase actors n b a x job chosen ex xt place g = ?
+    -- the state that a start leads to
+    abbrev Begun_to : State P A → Notes → ℕ → Job → Chosen P A → Type 0
+    Begun_to w n a job chosen = Goes P A shape (started shape w a job chosen) (put (starting n job) a (Some (begun n job)))
+
+    start_opening : (w : State P A) (n : Notes) → Whole w n → (a : ℕ) (x : Actor) (mode : Mode) (chosen : Chosen P A) → slice_get w.actors a ≡ Some x → (¬ Rattle.wb_runs.specs.Happenings.IsOutOfPlace w.phase (Open mode)) → Begun_to w n a (Open mode) chosen
+    start_opening w n b a x mode chosen ex place =
+        let c = cleared w (Open mode) in
+        subst (λ (o : Option Actor). Goes P A shape (with_actor c o (λ y. record c { phase = phase_given c.phase (Open mode) chosen; actors = slice_set c.actors a (given shape y (Open mode) chosen) })) (put (starting n (Open mode)) a (Some (begun n (Open mode))))) (sym (there_rests w.actors a x ex))
+        (opening_starts P A shape b.goes.images w n b.goes.known b.goes.followed a mode x (given shape Rattle.wb_runs.specs.States.resting (Open mode) chosen) (λ o. place (inl o)) (λ o. place (inr o)) refl)
+
+    start_at_target : (t : Target P) (commit : Option RunningCommit) (devices : Devices (List History)) (actors : List Actor) (n : Notes) → Whole (at_target t commit devices actors) n → (a : ℕ) (x : Actor) (job : Job) (chosen : Chosen P A) → slice_get actors a ≡ Some x → x.task ≡ None → (¬ Rattle.wb_runs.specs.Happenings.IsOutOfPlace {P = P} {A = A} (Stands t) job) →
+        StartGives shape (Stands t) (Some x) job Started chosen → Begun_to (at_target t commit devices actors) n a job chosen
+    start_at_target t commit devices actors n b a x (Open mode) chosen ex xt place g = start_opening (at_target t commit devices actors) n b a x mode chosen ex place
+    start_at_target t commit devices actors n b a x (Read extent) (Cut cut) ex xt place g =
+        let w = at_target t commit devices actors in
+        subst (λ (o : Option Actor). Goes P A shape (with_actor w o (λ y. record w { phase = phase_given w.phase (Read extent) (Cut cut); actors = slice_set w.actors a (given {P = P} {A = A} shape y (Read extent) (Cut cut)) })) (put n a (Some (begun n (Read extent))))) (sym ex)
+        (read_starts P A shape b.goes.images t commit devices actors n b.goes.known b.goes.followed a x ex xt extent cut (subst (λ (o : Option (Job × Plan)). TaskSuits shape.geometry.origin_blocks x.card o) xt (b.used.suited a x ex)) g.0 g.1)
+    start_at_target t commit devices actors n b a x (Write extent content) (Cut cut) ex xt place g =
+        let w = at_target t commit devices actors in
+        subst (λ (o : Option Actor). Goes P A shape (with_actor w o (λ y. record w { phase = phase_given w.phase (Write extent content) (Cut cut); actors = slice_set w.actors a (given {P = P} {A = A} shape y (Write extent content) (Cut cut)) })) (put n a (Some (begun n (Write extent content))))) (sym ex)
+        (write_starts P A shape b.goes.images t commit devices actors n b.goes.known b.goes.followed a x ex xt extent content cut (subst (λ (o : Option (Job × Plan)). TaskSuits shape.geometry.origin_blocks x.card o) xt (b.used.suited a x ex)) g.0 g.1)
+    start_at_target t commit devices actors n b a x Flush chosen ex xt place g =
+        let w = at_target t commit devices actors in
+        subst (λ (o : Option Actor). Goes P A shape (with_actor w o (λ y. record w { phase = phase_given w.phase Flush chosen; actors = slice_set w.actors a (given {P = P} {A = A} shape y Flush chosen) })) (put n a (Some (begun n Flush)))) (sym ex)
+        (flush_starts P A shape b.goes.images t commit devices actors n b.goes.known b.goes.followed a x ex xt [])
+    start_at_target t commit devices actors n b a x (Migrate migration block) chosen ex xt place g =
+        let w = at_target t commit devices actors in
+        subst (λ (o : Option Actor). Goes P A shape (with_actor w o (λ y. record w { phase = phase_given w.phase (Migrate migration block) chosen; actors = slice_set w.actors a (given {P = P} {A = A} shape y (Migrate migration block) chosen) })) (put n a (Some (begun n (Migrate migration block))))) (sym ex)
+        (migrations.starts t commit devices actors n b a x migration block chosen ex xt g)
+    start_at_target t commit devices actors n b a x (Read extent) chosen ex xt place g = absurd g
+    start_at_target t commit devices actors n b a x (Write extent content) chosen ex xt place g = absurd g
+
+    -- where none stands, nothing but an opening is in place
+    start_by_phase : (w : State P A) (phase : Phase P A) → w.phase ≡ phase → (n : Notes) → Whole w n → (a : ℕ) (x : Actor) (job : Job) (chosen : Chosen P A) → slice_get w.actors a ≡ Some x → x.task ≡ None → (¬ Rattle.wb_runs.specs.Happenings.IsOutOfPlace phase job) → StartGives shape phase (Some x) job Started chosen → Begun_to w n a job chosen
+    start_by_phase w (Stands t) e n b a x job chosen ex xt place g =
+        let is : record { devices = w.devices; commit = w.commit; phase = Stands t; actors = w.actors } ≡ w = λ i. record w { phase = sym e i } in
+        subst (λ (v : State P A). Begun_to v n a job chosen) is (start_at_target t w.commit w.devices w.actors n (subst (λ (v : State P A). Whole v n) (sym is) b) a x job chosen ex xt place g)
+    start_by_phase w phase e n b a x (Open mode) chosen ex xt place g = start_opening w n b a x mode chosen ex (subst (λ (p : Phase P A). ¬ Rattle.wb_runs.specs.Happenings.IsOutOfPlace p (Open mode)) (sym e) place)
+    start_by_phase w Gone e n b a x (Read extent) chosen ex xt place g = absurd (place (λ z. z))
+    start_by_phase w Gone e n b a x (Write extent content) chosen ex xt place g = absurd (place (λ z. z))
+    start_by_phase w Gone e n b a x Flush chosen ex xt place g = absurd (place (λ z. z))
+    start_by_phase w Gone e n b a x (Migrate migration block) chosen ex xt place g = absurd (place (inl (λ z. z)))
+    start_by_phase w (Opens mode reading) e n b a x (Read extent) chosen ex xt place g = absurd (place (λ z. z))
+    start_by_phase w (Opens mode reading) e n b a x (Write extent content) chosen ex xt place g = absurd (place (λ z. z))
+    start_by_phase w (Opens mode reading) e n b a x Flush chosen ex xt place g = absurd (place (λ z. z))
+    start_by_phase w (Opens mode reading) e n b a x (Migrate migration block) chosen ex xt place g = absurd (place (inl (λ z. z)))
+
+    start_goes : (w : State P A) (n : Notes) → Whole w n → (a : ℕ) (job : Job) (chosen : Chosen P A) → (¬ DoesNotApply w (Start a job)) → StartGives shape w.phase (slice_get w.actors a) job Started chosen → Begun_to w n a job chosen
+    start_goes w n b a job chosen applies g =
+        let x = free P A w a job applies in
+        start_by_phase w w.phase refl n b a x.0 job chosen x.1 x.2 (λ o. applies (inr (inr o))) (subst (λ (o : Option Actor). StartGives shape w.phase o job Started chosen) x.1 g)
+
+    -- ---- every event
+
+    goes_what : (w : State P A) (n : Notes) → Whole w n → (event : Event) (what : What) (read : List Bytes) (chosen : Chosen P A) → MayBe shape w event what read chosen → Goes P A shape (after_what shape w event what chosen) (noted_what shape (shown shape (after_what shape w event what chosen)) n event what read)
+    goes_what w n b (Start a job) Started read chosen h = start_goes w n b a job chosen h.1 h.2
+    goes_what w n b (Step a) (Stepped next got) read chosen h = step_goes w n b a next got read chosen (slice_get w.actors a) refl h
+    goes_what w n b (FaultStep a choice) (Stepped next got) read chosen h =
+        subst (λ (g : Got). Goes P A shape (after_what shape w (FaultStep a choice) (Stepped next g) chosen) (noted_what shape (shown shape (after_what shape w (FaultStep a choice) (Stepped next g) chosen)) n (FaultStep a choice) (Stepped next g) read)) (sym h.1) (fault_goes w n b a choice next read chosen (slice_get w.actors a) refl h.2)
+    goes_what w n b (Stop choice) Stopped read chosen h = crash_goes P A shape b.goes.images w n b.goes.known b.goes.followed choice
+    goes_what w n b (Start a job) Skipped read chosen h = b.goes
+    goes_what w n b (Start a job) (Refused refusal) read chosen h = b.goes
+    goes_what w n b (Start a job) (Stepped next got) read chosen h = b.goes
+    goes_what w n b (Start a job) Stopped read chosen h = b.goes
+    goes_what w n b (Step a) Skipped read chosen h = b.goes
+    goes_what w n b (Step a) (Refused refusal) read chosen h = b.goes
+    goes_what w n b (Step a) Started read chosen h = b.goes
+    goes_what w n b (Step a) Stopped read chosen h = b.goes
+    goes_what w n b (FaultStep a choice) Skipped read chosen h = b.goes
+    goes_what w n b (FaultStep a choice) (Refused refusal) read chosen h = b.goes
+    goes_what w n b (FaultStep a choice) Started read chosen h = b.goes
+    goes_what w n b (FaultStep a choice) Stopped read chosen h = b.goes
+    goes_what w n b (Stop choice) Skipped read chosen h = b.goes
+    goes_what w n b (Stop choice) (Refused refusal) read chosen h = b.goes
+    goes_what w n b (Stop choice) Started read chosen h = b.goes
+    goes_what w n b (Stop choice) (Stepped next got) read chosen h = b.goes
+
+    pub whole_after : (w : State P A) (n : Notes) (h : Happening P A) → Whole w n → MayBe shape w h.record_is.event h.record_is.what h.record_is.read.items h.chosen → Whole (after_happening shape w h) (note_happening shape w n h)
+    whole_after w n h b m =
+        let event = h.record_is.event in
+        let what = h.record_is.what in
+        let read = h.record_is.read.items in
+        let known = known_of w n b in
+        record {
+          goes = goes_what w n b event what read h.chosen m;
+          used = used_what P A shape w event what read h.chosen known b.used m;
+          linked = links_what P A shape (shown shape (after_happening shape w h)) w n event what read h.chosen known b.used b.linked m;
+          inside = inside_what P A shape w n event what read h.chosen (base_of w n b) b.inside m;
+          asked = what_asked (sector_count shape) shape (shown shape (after_happening shape w h)) n event what read (b.goes.followed.notes_agree.as_many ∙ b.goes.followed.sized.sectors) b.asked;
+        }
+
+    pub whole_always : (w : State P A) (n : Notes) (hs : List (Happening P A)) → Whole w n → IsRun shape w hs → Whole (after_all shape w hs) (noted shape w n hs)
+    whole_always w n [] b r = b
+    whole_always w n (h ∷ hs) b r = whole_always (after_happening shape w h) (note_happening shape w n h) hs (whole_after w n h b r.0) r.1
