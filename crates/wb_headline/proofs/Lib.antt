@@ -19,3 +19,6 @@ mod Asked
 mod Starts
 mod Stands
 mod Whole
+mod Begin
+mod Latest
+mod Given
