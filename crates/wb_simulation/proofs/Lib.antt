@@ -5,6 +5,7 @@ mod Beside
 mod Telling
 mod Cells
 mod Among
+mod Carrying
 mod Followed
 mod Moving
 mod Starting
