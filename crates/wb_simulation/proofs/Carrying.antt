@@ -24,9 +24,9 @@ use Rattle.wb_runs.specs.States.{Actor}
 use Rattle.wb_simulation.specs.Actors.{StandsFor}
 use Rattle.wb_simulation.specs.Behind.{IsCarried, HasKept, IsUnused, IsUncarried, StandsBehind, live_there}
 use Rattle.wb_simulation.specs.Telling.{Carries, AreFromBehind}
-use Rattle.wb_simulation.specs.Worlds.{zeros, Agrees, Turn, TurnedTo, DeskTurnedTo, FollowsBy}
+use Rattle.wb_simulation.specs.Worlds.{zeros, Agrees, Turn, Stays, TurnedTo, DeskTurnedTo, FollowsBy}
 use Rattle.wb_simulation.proofs.Kept.{stands_on}
-use Rattle.wb_simulation.proofs.Behind.{is_inside, StaysOutside, CarriesOthers, uncarried_on, behind_kept, behind_leads, carried_leads}
+use Rattle.wb_simulation.proofs.Behind.{is_inside, StaysOutside, CarriesOthers, uncarried_on, behind_kept, behind_leads, carries_same}
 
 -- ---- one list of results after the other
 
@@ -245,3 +245,54 @@ module _ (size most : ℕ) (words words' : Words) (up : flag words.fail ≡ true
         desk = subst (λ (v : World). DeskTurnedTo turn s.shared v.shared) (sym is) desk;
         told = λ v e. steps_behind (length actors) there (omega arith) all y.task;
       }
+
+-- ---- nothing is done there
+
+module _ (size most : ℕ) (words words' : Words) (up : flag words.fail ≡ true → flag words'.fail ≡ true) (committing : Bool) (orders : List (Option Order)) (devices : Devices (List History)) (actors : List Actor) (a : ℕ) (x x' : Actor) (s : World)
+    (g : Agrees size most words committing orders devices actors s) (ex : slice_get actors a ≡ Some x) (nowhere : (c : ℕ) → g.who c ≢ Some a) (outside : StaysOutside words x x') where
+  each_idle : ((own : AbstractActor) → slice_get s.actors a ≡ Some own → StandsFor size most words' x' own) → (b : ℕ) (z : Actor) (v : AbstractActor) → slice_get (slice_set actors a x') b ≡ Some z → slice_get s.actors b ≡ Some v → StandsFor size most words' z v
+  each_idle own b z v ez ev = elim (cases_eq b a) [
+    | inl e ↦
+        let here : Some x' ≡ Some z = sym (get_set_same actors a x x' ex) ∙ ap (λ (k : ℕ). slice_get (slice_set actors a x') k) (sym e) ∙ ez in
+        let one : x' ≡ z = cc in
+        subst (λ (q : Actor). StandsFor size most words' q v) one (own v (ap (λ (k : ℕ). slice_get s.actors k) (sym e) ∙ ev))
+    | inr m ↦ stands_on size most words words' up v z (g.each b z v (sym (get_set_other actors a b x' m) ∙ ez) ev)
+  ]
+
+  idle_carried : ((migration : Migration) (block : OBlock) (plan : Plan) → x'.task ≡ Some (Migrate migration block, plan) → IsUncarried words' plan.steps) →
+      (b : ℕ) (z : Actor) (migration : Migration) (block : OBlock) (plan : Plan) → slice_get (slice_set actors a x') b ≡ Some z → z.task ≡ Some (Migrate migration block, plan) → (IsUncarried words' plan.steps × ((d : ℕ) → g.who d ≢ Some b)) ⊎ ((d : ℕ) × (d < length orders) × (g.who d ≡ Some b))
+  idle_carried here b z migration block plan ez task = elim (cases_eq b a) [
+    | inl e ↦
+        let now : Some x' ≡ Some z = sym (get_set_same actors a x x' ex) ∙ ap (λ (k : ℕ). slice_get (slice_set actors a x') k) (sym e) ∙ ez in
+        let one : x' ≡ z = cc in
+        inl (here migration block plan (ap (λ (v : Actor). v.task) one ∙ task), λ d f. nowhere d (f ∙ ap (λ (k : ℕ). Some k) e))
+    | inr n ↦ elim (g.carried b z migration block plan (sym (get_set_other actors a b x' n) ∙ ez) task) [ inl u ↦ inl (uncarried_on words words' up plan.steps u.0, u.1) | inr k ↦ inr k ]
+  ]
+
+  pub carries_nothing : WordsAgree words' s.shared → ((own : AbstractActor) → slice_get s.actors a ≡ Some own → StandsFor size most words' x' own) → ((migration : Migration) (block : OBlock) (plan : Plan) → x'.task ≡ Some (Migrate migration block, plan) → IsUncarried words' plan.steps) →
+      FollowsBy Stays (Carries (length actors)) size most a s words' committing orders devices (slice_set actors a x')
+  carries_nothing w own here = record {
+    records = [];
+    run = tt;
+    agrees = record {
+      words_agree = w;
+      origin = g.origin;
+      cache = g.cache;
+      mode = g.mode;
+      commits = g.commits;
+      broken = g.broken;
+      led = g.led;
+      whole = g.whole;
+      one_leads = g.one_leads;
+      many = g.many ∙ ap (λ (n : ℕ). n + length orders) (sym (length-set actors a x'));
+      each = each_idle own;
+      who = g.who;
+      behind = λ d o u e eu. behind_kept size words words' up devices devices actors a x x' ex s.shared.blocks s.shared.blocks outside (carries_same size devices actors a s.shared.blocks s.shared.blocks refl) d o u (g.who d) (nowhere d)
+          (g.behind d o u e (ap (λ (k : ℕ). slice_get s.actors (k + d)) (sym (length-set actors a x')) ∙ eu));
+      one_each = g.one_each;
+      carried = idle_carried here;
+    };
+    turned = (refl, refl, refl);
+    desk = (refl, refl);
+    told = λ v e. tt;
+  }

@@ -6,6 +6,7 @@ mod Telling
 mod Cells
 mod Among
 mod Carrying
+mod Promoting
 mod Followed
 mod Moving
 mod Starting
