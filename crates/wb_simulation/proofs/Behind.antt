@@ -103,7 +103,7 @@ module _ (size : ℕ) (devices : Devices (List History)) (c : CBlock) (order : O
     paired = k.paired;
     unfinished = k.unfinished;
     mine = k.mine;
-    has = elim k.has [ inl l ↦ inl l | inr t ↦ inr (t.0, t.1, mapped t.2) ];
+    has = elim k.has [ inl l ↦ inl l | inr t ↦ inr (t.0, t.1, t.2, mapped t.3) ];
     at = k.at;
     buffer = has_read;
   }

@@ -12,6 +12,7 @@ use Rattle.wb_policy.specs.declared.order.Order.TheVariants.{Promote, Replace, D
 use Rattle.wb_tasks.specs.Tables.{BlockRange, Migrating, OnBlock}
 use Rattle.wb_tasks.specs.Plan.{Plan}
 use Rattle.wb_tasks.specs.Ready.{source_of}
+use Rattle.wb_tasks.specs.declared.step.Answer.TheVariants.{Done as Finished}
 use Rattle.wb_tasks.specs.declared.step.DeviceStep.TheVariants.{Write}
 use Rattle.wb_tasks.specs.declared.step.Migration.{Migration}
 use Rattle.wb_tasks.specs.declared.step.Want.{Want}
@@ -48,9 +49,9 @@ IsTail (Cell (Seal block place dirty) ∷ later) = IsTail later
 IsTail (Cell (Release access block) ∷ later) = IsTail later
 IsTail steps = ⊥
 
--- Its own order is live; or it is over, and the block is mapped there.
-abbrev pub HasOrder : AbstractOrder → Option AbstractOrder → Block → List Want → Type 0
-HasOrder own live state steps = (live ≡ Some own) ⊎ ((live ≡ None) × IsTail steps × (state ≡ Mapped))
+-- Its own order is live; or it is over, and the block is mapped there, which is to be answered.
+abbrev pub HasOrder : AbstractOrder → Option AbstractOrder → Block → Plan → Type 0
+HasOrder own live state plan = (live ≡ Some own) ⊎ ((live ≡ None) × IsTail plan.steps × (plan.answer ≡ Finished) × (state ≡ Mapped))
 
 -- Where an extent is written next, this is what its source has now, from that row on.
 abbrev pub HasRead : ℕ → List History → ℕ → List Want → List Content → Type 0
@@ -76,7 +77,7 @@ pub record IsCarried (size : ℕ) (devices : Devices (List History)) (c : CBlock
   pub paired : ArePaired size plan.steps
   pub unfinished : plan.steps ≢ []
   pub mine : (o : Order) → order ≡ Some o → Contains x.orders o
-  pub has : HasOrder (order_on part c next) (live_there c.0 order) state plan.steps
+  pub has : HasOrder (order_on part c next) (live_there c.0 order) state plan
   pub at : IsMigrationAt part c next migration (live_there c.0 order) plan x.card y
   pub buffer : HasRead size (device_in (source_of migration) devices) (row (source (order_on part c next) migration) part.block.0) plan.steps x.buffer
 
