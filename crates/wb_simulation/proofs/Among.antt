@@ -207,7 +207,8 @@ module _ (size most : ℕ) (words words' : Words) (up : flag words.fail ≡ true
               each = each_on (gone y y.task results) st;
               who = g.who;
               behind = behind_on (gone y y.task results) devices' t.blocks others;
-              one_each = g.one_each;
+              within = g.within;
+      one_each = g.one_each;
               carried = uncarried_then others.still;
             }));
         turned = subst (λ (v : World). TurnedTo turn s.shared v.shared) (sym went.is) (subst (λ (v : Shared). TurnedTo turn s.shared v) (sym is) turned);

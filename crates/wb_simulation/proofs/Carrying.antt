@@ -166,6 +166,12 @@ module _ (size most : ℕ) (words words' : Words) (up : flag words.fail ≡ true
               (behind_kept size words words' up devices devices' actors a x x' ex s.shared.blocks t.blocks outside carries d o u (g.who d) (λ f. alone d n f) old)
         ]
 
+    all_within : (d b : ℕ) → changed g.who c who d ≡ Some b → d < length orders'
+    all_within d b e = elim (cases_eq d c) [
+      | inl same ↦ (let l = is_inside orders' c order' eo' in omega (arith, l, same))
+      | inr n ↦ (let l = g.within d b (sym (changed_other g.who c d who n) ∙ e) in omega (arith, l, long))
+    ]
+
     each_one : (d e b : ℕ) → changed g.who c who d ≡ Some b → changed g.who c who e ≡ Some b → d ≡ e
     each_one d e b p q = elim (cases_eq d c) [
       | inl same ↦ elim (cases_eq e c) [
@@ -201,7 +207,7 @@ module _ (size most : ℕ) (words words' : Words) (up : flag words.fail ≡ true
     ]
 
     -- the whole state agrees then
-    agrees_then : WordsAgree words' t → t.origin ≡ by_block size zeros devices'.origin → t.cache ≡ by_block size zeros devices'.cache → t.mode ≡ s.shared.mode → t.committing ≡ s.shared.committing → t.broken ≡ s.shared.broken → CarriesOthers size devices devices' actors a s.shared.blocks t.blocks →
+    pub agrees_then : WordsAgree words' t → t.origin ≡ by_block size zeros devices'.origin → t.cache ≡ by_block size zeros devices'.cache → t.mode ≡ s.shared.mode → t.committing ≡ s.shared.committing → t.broken ≡ s.shared.broken → CarriesOthers size devices devices' actors a s.shared.blocks t.blocks →
         ((own : AbstractActor) → slice_get s.actors a ≡ Some own → StandsFor size most words' x' own) → ((migration : Migration) (block : OBlock) (plan : Plan) → x'.task ≡ Some (Migrate migration block, plan) → (IsUncarried words' plan.steps × (who ≡ None)) ⊎ (who ≡ Some a)) →
         Agrees size most words' committing orders' devices' (slice_set actors a x') (with_own s there t y')
     agrees_then w origin cache mode commits broken carries own here = record {
@@ -218,6 +224,7 @@ module _ (size most : ℕ) (words words' : Words) (up : flag words.fail ≡ true
       each = each_beside own;
       who = changed g.who c who;
       behind = behind_beside carries;
+      within = all_within;
       one_each = each_one;
       carried = carried_beside here;
     }
@@ -289,6 +296,7 @@ module _ (size most : ℕ) (words words' : Words) (up : flag words.fail ≡ true
       who = g.who;
       behind = λ d o u e eu. behind_kept size words words' up devices devices actors a x x' ex s.shared.blocks s.shared.blocks outside (carries_same size devices actors a s.shared.blocks s.shared.blocks refl) d o u (g.who d) (nowhere d)
           (g.behind d o u e (ap (λ (k : ℕ). slice_get s.actors (k + d)) (sym (length-set actors a x')) ∙ eu));
+      within = g.within;
       one_each = g.one_each;
       carried = idle_carried here;
     };

@@ -15,8 +15,11 @@ use Rattle.wb_words.specs.declared.word.Word.TheVariants.{Cell as LockWord, Seal
 use Rattle.wb_words.specs.SharedWords.{place_in, dirty_in}
 use Rattle.wb_policy.specs.declared.order.Order.{Order}
 use Rattle.wb_tasks.specs.Tables.{BlockRange, Migrating, OnBlock}
-use Rattle.wb_tasks.specs.Plan.{Plan, want, after, got_of, first_step, work_of, Fits}
-use Rattle.wb_tasks.specs.Ready.{Suits, source_of}
+use Rattle.wb_tasks.specs.Plan.{Plan, want, after, got_of, first_step, work_of, onward, refused, may_take, exchange, Fits}
+use Rattle.wb_tasks.specs.Ready.{Has, Suits, source_of}
+use Rattle.wb_tasks.specs.declared.step.DeskStep.TheVariants.{ReleaseOrder}
+use Rattle.wb_types.specs.declared.refusal.Refusal.TheVariants.{Failed, Busy}
+use Rattle.wb_words.specs.declared.word.Access.{Access}
 use Rattle.wb_tasks.proofs.Readiness.{keeps_ready, ends_holding_nothing, job_stays}
 use Rattle.wb_tasks.specs.declared.step.Answer.TheVariants.{Done as Finished}
 use Rattle.wb_link.proofs.Lists.{get_set_same}
@@ -27,7 +30,7 @@ use Rattle.wb_tasks.specs.declared.step.Answer.{Answer}
 use Rattle.wb_tasks.specs.declared.step.Migration.{Migration}
 use Rattle.wb_tasks.specs.declared.step.Migration.TheVariants.{Promote, Demote, Clean}
 use Rattle.wb_tasks.specs.declared.step.Want.{Want}
-use Rattle.wb_tasks.specs.declared.step.Want.TheVariants.{Cell, Device, End}
+use Rattle.wb_tasks.specs.declared.step.Want.TheVariants.{Cell, Device, Desk, End}
 use Rattle.wb_devices.specs.declared.devices.Devices.{Devices}
 use Rattle.wb_devices.specs.Moving.{device_in}
 use Rattle.wb_link.specs.World.{World, Shared, Block, Nothing, Actor as AbstractActor}
@@ -43,9 +46,9 @@ use Rattle.wb_runs.specs.declared.job.Job.TheVariants.{Migrate}
 use Rattle.wb_runs.specs.Happenings.{IsMade}
 use Rattle.wb_runs.specs.States.{Actor}
 use Rattle.wb_runs.specs.Holding.{cards_of}
-use Rattle.wb_simulation.specs.Steps.{AreOfBlock, ArePaired, IsNoWrite, IsOutside}
+use Rattle.wb_simulation.specs.Steps.{AreOfBlock, ArePaired, IsNoWrite, IsOutside, IsTail, IsLettingGo}
 use Rattle.wb_simulation.specs.Actors.{IsAside, IsBusyAt, StandsFor}
-use Rattle.wb_simulation.specs.Behind.{IsCarried, HasKept, HasOrder, HasRead, IsTail, IsUncarried, StandsBehind, AreOutside, live_there}
+use Rattle.wb_simulation.specs.Behind.{IsCarried, HasKept, HasOrder, HasRead, IsUncarried, StandsBehind, AreOutside, live_there}
 use Rattle.wb_simulation.specs.Worlds.{Agrees, Stays}
 use Rattle.wb_simulation.specs.Laws.{went}
 use Rattle.wb_simulation.specs.Promoting.{Carried}
@@ -148,7 +151,7 @@ no_write_read size list at (Device (Rattle.wb_tasks.specs.declared.step.DeviceSt
 no_write_read size list at (Device (Rattle.wb_tasks.specs.declared.step.DeviceStep.TheVariants.WriteNode number) ∷ ws) buffer n = tt
 no_write_read size list at (Device Rattle.wb_tasks.specs.declared.step.DeviceStep.TheVariants.WriteRoot ∷ ws) buffer n = tt
 no_write_read size list at (Cell step ∷ ws) buffer n = tt
-no_write_read size list at (Rattle.wb_tasks.specs.declared.step.Want.TheVariants.Desk step ∷ ws) buffer n = tt
+no_write_read size list at (Desk step ∷ ws) buffer n = tt
 no_write_read size list at (End answer ∷ ws) buffer n = tt
 
 -- a promotion may find its block anywhere
@@ -191,6 +194,56 @@ tail_after words part migration (Finish b) ws answer t = absurd t
 tail_after words part migration (Count kind) ws answer t = absurd t
 tail_after words part migration SetFailed ws answer t = absurd t
 tail_after words part migration SetSuspended ws answer t = absurd t
+
+release_goes : (ws : List Want) (access : Access) (block : OBlock) → IsLettingGo (Cell (Release access block) ∷ ws) → IsLettingGo ws
+release_goes (Desk (ReleaseOrder b) ∷ later) access block l = tt
+release_goes ws access block l = absurd l
+
+-- what is to be refused is so still, and what is to be answered done
+answers_after : (words : Words) (part : BlockRange) (migration : Migration) (step : CellStep) (ws : List Want) (answer : Answer) (card : Card) → Has (Migrating migration part) card (Cell step ∷ ws) →
+    (after (plan_of (Migrating migration part) (Cell step ∷ ws) answer) (got_of (result_of words step))).steps ≢ [] → IsLettingGo (Cell step ∷ ws) ⊎ (answer ≡ Finished) →
+    IsLettingGo (after (plan_of (Migrating migration part) (Cell step ∷ ws) answer) (got_of (result_of words step))).steps ⊎ ((after (plan_of (Migrating migration part) (Cell step ∷ ws) answer) (got_of (result_of words step))).answer ≡ Finished)
+answers_after words part migration step ws answer card h some (inl l) = by_step step h some l
+  where
+    by_step : (q : CellStep) → Has (Migrating migration part) card (Cell q ∷ ws) → (after (plan_of (Migrating migration part) (Cell q ∷ ws) answer) (got_of (result_of words q))).steps ≢ [] → IsLettingGo (Cell q ∷ ws) →
+        IsLettingGo (after (plan_of (Migrating migration part) (Cell q ∷ ws) answer) (got_of (result_of words q))).steps ⊎ ((after (plan_of (Migrating migration part) (Cell q ∷ ws) answer) (got_of (result_of words q))).answer ≡ Finished)
+    by_step SetFailed h some l = absurd (some h.1)
+    by_step (Release access b) h some l = inl (release_goes ws access b l)
+    by_step (Look word) h some l = absurd l
+    by_step (Take access b seen) h some l = absurd l
+    by_step (Seal b place dirty) h some l = absurd l
+    by_step (Finish b) h some l = absurd l
+    by_step (Count kind) h some l = absurd l
+    by_step SetSuspended h some l = absurd l
+answers_after words part migration (Look Fail) ws answer card h some (inr e) = by_test (words.fail == 0) some
+  where
+    by_test : (t : Bool) → (if t then onward (plan_of (Migrating migration part) (Cell (Look Fail) ∷ ws) answer) else refused (plan_of (Migrating migration part) (Cell (Look Fail) ∷ ws) answer) [] Failed).steps ≢ [] →
+        IsLettingGo (if t then onward (plan_of (Migrating migration part) (Cell (Look Fail) ∷ ws) answer) else refused (plan_of (Migrating migration part) (Cell (Look Fail) ∷ ws) answer) [] Failed).steps
+        ⊎ ((if t then onward (plan_of (Migrating migration part) (Cell (Look Fail) ∷ ws) answer) else refused (plan_of (Migrating migration part) (Cell (Look Fail) ∷ ws) answer) [] Failed).answer ≡ Finished)
+    by_test true some = inr e
+    by_test false some = absurd (some refl)
+answers_after words part migration (Look (LockWord b)) ws answer card h some (inr e) = by_test (may_take (OnBlock (Migrating migration part)) (word_at words.cells b)) some
+  where
+    by_test : (t : Bool) → (if t then record (plan_of (Migrating migration part) (Cell (Look (LockWord b)) ∷ ws) answer) { steps = exchange (OnBlock (Migrating migration part)) (word_at words.cells b) } else refused (plan_of (Migrating migration part) (Cell (Look (LockWord b)) ∷ ws) answer) [] Busy).steps ≢ [] →
+        IsLettingGo (if t then record (plan_of (Migrating migration part) (Cell (Look (LockWord b)) ∷ ws) answer) { steps = exchange (OnBlock (Migrating migration part)) (word_at words.cells b) } else refused (plan_of (Migrating migration part) (Cell (Look (LockWord b)) ∷ ws) answer) [] Busy).steps
+        ⊎ ((if t then record (plan_of (Migrating migration part) (Cell (Look (LockWord b)) ∷ ws) answer) { steps = exchange (OnBlock (Migrating migration part)) (word_at words.cells b) } else refused (plan_of (Migrating migration part) (Cell (Look (LockWord b)) ∷ ws) answer) [] Busy).answer ≡ Finished)
+    by_test true some = inr e
+    by_test false some = absurd (some refl)
+answers_after words part migration (Look (SealWord b)) ws answer card h some (inr e) = inr e
+answers_after words part migration (Look (Number b)) ws answer card h some (inr e) = inr e
+answers_after words part migration (Look (CountWord kind)) ws answer card h some (inr e) = inr e
+answers_after words part migration (Take access b seen) ws answer card h some (inr e) = by_test (word_at words.cells b == seen) some
+  where
+    by_test : (t : Bool) → (after (plan_of (Migrating migration part) (Cell (Take access b seen) ∷ ws) answer) (got_of (if t then Won else NotWon))).steps ≢ [] →
+        IsLettingGo (after (plan_of (Migrating migration part) (Cell (Take access b seen) ∷ ws) answer) (got_of (if t then Won else NotWon))).steps ⊎ ((after (plan_of (Migrating migration part) (Cell (Take access b seen) ∷ ws) answer) (got_of (if t then Won else NotWon))).answer ≡ Finished)
+    by_test true some = inr e
+    by_test false some = absurd (some refl)
+answers_after words part migration (Release access b) ws answer card h some (inr e) = inr e
+answers_after words part migration (Seal b place dirty) ws answer card h some (inr e) = inr e
+answers_after words part migration (Finish b) ws answer card h some (inr e) = inr e
+answers_after words part migration (Count kind) ws answer card h some (inr e) = inr e
+answers_after words part migration SetFailed ws answer card h some (inr e) = inr e
+answers_after words part migration SetSuspended ws answer card h some (inr e) = inr e
 
 -- what a promotion does once it has its block, wherever that is
 made_works : (size : ℕ) (part : BlockRange) (is : IsPart size part) (migration : Migration) (c : CBlock) → IsMade migration → Fills migration c → c.0 < 2 ^ 32 → (seal : ℕ) → AreCopies size part.block.0 (work_of (OnBlock (Migrating migration part)) seal)
@@ -321,6 +374,7 @@ module _ (size most blocks : ℕ) (words : Words) (committing : Bool) (orders : 
         fills = f.is.fills;
         of_block = copies.0;
         paired = copies.1;
+        answers = answers_after words part m step ws f.is.plan.answer x.card suits_now.1 (λ n. let bad : v ∷ vs ≡ [] = sym e ∙ n in absurd (cc)) (elim f.is.answers [ inl l ↦ inl (subst (λ (us : List Want). IsLettingGo us) steps l) | inr q ↦ inr q ]);
         unfinished = λ n. let bad : v ∷ vs ≡ [] = sym e ∙ n in absurd (cc);
         mine = f.is.mine;
         has = subst (λ (k : ℕ → Block). HasOrder (order_on part cache f.is.next) (live_there f.c f.order) (k f.c) plan') (sym goes_there.same.images.blocks) has;
