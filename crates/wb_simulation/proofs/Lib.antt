@@ -7,6 +7,7 @@ mod Cells
 mod Among
 mod Carrying
 mod Promoting
+mod Copying
 mod Followed
 mod Moving
 mod Starting
