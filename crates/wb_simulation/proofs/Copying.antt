@@ -29,12 +29,12 @@ use Rattle.wb_tasks.specs.declared.step.Want.TheVariants.{Cell, Device, Desk, En
 use Rattle.wb_devices.specs.declared.devices.Devices.{Devices}
 use Rattle.wb_devices.specs.Moving.{device_in}
 use Rattle.wb_link.specs.Tables.{Order as AbstractOrder, Got as AbstractGot, Answer as AbstractAnswer, Io as AnsweredIo}
-use Rattle.wb_link.specs.World.{World, Shared, Block, Owns, Actor as AbstractActor}
+use Rattle.wb_link.specs.World.{World, Shared, Block, Held as Having, Owns, Actor as AbstractActor}
 use Rattle.wb_link.proofs.Lists.{get_set_same}
 use Rattle.wb_refines.specs.Going.{shared_after, gone, MayGo}
 use Rattle.wb_contents.specs.Devices.{by_block}
 use Rattle.wb_refines.specs.Translation.{location_at, offsets}
-use Rattle.wb_refines.specs.Data.{row, IsSide, IsInBlock, read_fault}
+use Rattle.wb_refines.specs.Data.{row, IsSide, SameBeside, IsInBlock, read_fault}
 use Rattle.wb_refines.specs.Models.{SawSeal, SameImages, WordsAgree, plan_of, held_of, held_for}
 use Rattle.wb_refines.specs.Migrations.{order_on, source, migration_wants, job_under}
 use Rattle.wb_refines.specs.Copies.{Across, Copies, copied, copied_where, migrating}
@@ -119,15 +119,19 @@ module _ (size most blocks : ℕ) (words : Words) (committing : Bool) (orders : 
   pub live_is : live_there f.c f.order ≡ Some own
   live_is = elim f.is.has [ inl l ↦ l | inr t ↦ absurd (no_tail (subst (λ (us : List Want). IsTail us) steps t.1)) ]
 
-  -- the one behind, that has the block
-  pub y_is : held_for (next ∷ ws) x.card ≡ Owns part.block.0 → f.y ≡ migrating size own os migration (next ∷ ws) at.answer at.buffer
-  y_is held = at.is ∙ (λ i. record {
+  -- the one behind, that has this
+  pub y_has : (held : Having) → held_for (next ∷ ws) x.card ≡ held → f.y ≡ record (migrating size own os migration (next ∷ ws) at.answer at.buffer) { held = held }
+  y_has holds is = at.is ∙ (λ i. record {
     task = Some (record { job = job_under own (offsets (sym f.is.is_part.sized i) part.extents) migration; steps = migration_wants (sym f.is.is_part.sized i) own (offsets (sym f.is.is_part.sized i) part.extents) migration (next ∷ ws); answer = at.answer });
-    held = held i;
+    held = is i;
     order = live_is i;
     leads = false;
     buffer = at.buffer;
   })
+
+  -- or its block
+  pub y_is : held_for (next ∷ ws) x.card ≡ Owns part.block.0 → f.y ≡ migrating size own os migration (next ∷ ws) at.answer at.buffer
+  y_is holds = y_has (Owns part.block.0) holds
 
   -- and what it is then
   pub at_again : (z : AbstractActor) (us : List Want) (told : AbstractAnswer) (buffer : Content) (kept : Option AbstractOrder) (answer : Answer) → z ≡ record (migrating size own os migration us told buffer) { held = held_for us x.card; order = kept } → AnswersAlike answer told → SawSeal (plan_of (Migrating migration part) us answer) us x.card →
@@ -230,3 +234,116 @@ module _ (size most blocks : ℕ) (words : Words) (committing : Bool) (orders : 
       from Demote made jobs i given = absurd made
       from Clean made jobs i given = absurd made
   reads ws steps room written = absurd written
+
+-- ---- a write, and a step that fails
+
+-- a promotion writes the cache
+writes_cache : (migration : Migration) (part : BlockRange) (device : Dev) (e : Extent) → IsMade migration → IsJobs (Migrating migration part) (Write device e) → device ≡ Cache
+writes_cache (Promote k) part device e made jobs = jobs
+writes_cache Demote part device e made jobs = absurd made
+writes_cache Clean part device e made jobs = absurd made
+
+module _ (size most blocks : ℕ) (words : Words) (committing : Bool) (orders : List (Option Order)) (devices : Devices (List History)) (actors : List Actor) (a : ℕ) (x : Actor) (s : World) (g : Agrees size most words committing orders devices actors s) (ex : slice_get actors a ≡ Some x)
+    (f : IsFound size most words committing orders devices actors a x s g) (device : Dev) (e : Extent) (on_cache : device ≡ Cache) where
+  abbrev to : Option ℕ
+  to = location_at size device e
+
+  abbrev source_is : Option ℕ
+  source_is = source (order_on f.is.part (record { 0 = f.c }) f.is.next) f.is.migration
+
+  side_to : (d : Dev) → d ≡ Cache → IsSide size zeros (location_at size d e) (device_in d devices) s.shared
+  side_to Cache same = g.cache
+  side_to Origin same = absurd (cc)
+  side_to Metadata same = absurd (cc)
+
+  side_from : (m : Migration) → IsMade m → IsSide size zeros (source (order_on f.is.part (record { 0 = f.c }) f.is.next) m) (device_in (source_of m) devices) s.shared
+  side_from (Promote k) made = g.origin
+  side_from Demote made = absurd made
+  side_from Clean made = absurd made
+
+  across : (m : Migration) → IsMade m → (d : Dev) → d ≡ Cache → Across (source (order_on f.is.part (record { 0 = f.c }) f.is.next) m) (location_at size d e)
+  across (Promote k) made Cache same = tt
+  across (Promote k) made Origin same = absurd (cc)
+  across (Promote k) made Metadata same = absurd (cc)
+  across Demote made d same = absurd made
+  across Clean made d same = absurd made
+
+  sides : (d : Dev) → d ≡ Cache → (list : List History) (t : Shared) → IsSide size zeros (location_at size d e) list t → SameBeside (location_at size d e) s.shared t →
+      (t.origin ≡ by_block size zeros (with_device d devices list).origin) × (t.cache ≡ by_block size zeros (with_device d devices list).cache) × ((with_device d devices list).origin ≡ devices.origin)
+  sides Cache same list t side beside = (beside.other ∙ g.origin, side, refl)
+  sides Origin same list t side beside = absurd (cc)
+  sides Metadata same list t side beside = absurd (cc)
+
+  -- it has copied, or failed at that, and this is left
+  copy_on : (next : Want) (ws : List Want) (steps : f.is.plan.steps ≡ next ∷ ws) (no_tail : ¬ IsTail (next ∷ ws)) → ¬ IsOutside (next ∷ ws) → (us : List Want) (told : AbstractAnswer) (answer : Answer) (results : List AbstractGot) (list : List History) →
+      held_for (next ∷ ws) x.card ≡ Owns f.is.part.block.0 → held_for us x.card ≡ Owns f.is.part.block.0 → AnswersAlike answer told → SawSeal (plan_of (Migrating f.is.migration f.is.part) us answer) us x.card →
+      Copies size zeros s.actors (length actors + f.c) s.shared (migrating size (order_on f.is.part (record { 0 = f.c }) f.is.next) (offsets size f.is.part.extents) f.is.migration (next ∷ ws) (at size most blocks words committing orders devices actors a x s g ex f next ws steps no_tail).answer (at size most blocks words committing orders devices actors a x s g ex f next ws steps no_tail).buffer) results to list
+      (λ c. migrating size (order_on f.is.part (record { 0 = f.c }) f.is.next) (offsets size f.is.part.extents) f.is.migration us told c) →
+      GoesOn size most blocks words committing orders devices actors a x s g ex f next ws steps no_tail us answer (device_in (source_of f.is.migration) (with_device device devices list)) x.buffer →
+      Carried Stays size most a s words committing orders (with_device device devices list) actors (record x { task = Some (Migrate f.is.migration f.is.block, plan_of (Migrating f.is.migration f.is.part) us answer) })
+  copy_on next ws steps no_tail within us told answer results list held held_then alike saw copies on =
+      let order : AbstractOrder = order_on f.is.part (record { 0 = f.c }) f.is.next in
+      let os = offsets size f.is.part.extents in
+      let is = y_is size most blocks words committing orders devices actors a x s g ex f next ws steps no_tail held in
+      let live = live_is size most blocks words committing orders devices actors a x s g ex f next ws steps no_tail in
+      let cp = subst (λ (v : AbstractActor). Copies size zeros s.actors (length actors + f.c) s.shared v results to list (λ c. migrating size order os f.is.migration us told c)) (sym is) copies in
+      let t = shared_after s.shared f.y f.y.task results in
+      let z = gone f.y f.y.task results in
+      let now = sides device on_cache list t cp.side_is cp.beside in
+      carry_on size most blocks words committing orders devices actors a x s g ex f next ws steps no_tail within us answer x.buffer (with_device device devices list) results t z cp.may refl refl
+      (at_again size most blocks words committing orders devices actors a x s g ex f next ws steps no_tail z us told cp.last (live_there f.c f.order) answer
+      (cp.is ∙ (λ i. record (migrating size order os f.is.migration us told cp.last) { held = sym held_then i; order = sym live i })) alike saw)
+      on (words_beside words to s.shared t cp.beside g.words_agree) now.0 now.1 cp.beside.images (carries_beside size devices (with_device device devices list) actors a s.shared.blocks t.blocks now.2 cp.beside.images.blocks)
+
+  module _ (ws : List Want) (steps : f.is.plan.steps ≡ Device (Write device e) ∷ ws) (suits : Suits blocks f.is.plan x.card) (room : e.first + e.count ≤ length (device_in device devices)) where
+    suits_now : Has (Migrating f.is.migration f.is.part) x.card (Device (Write device e) ∷ ws)
+    suits_now = (subst (λ (q : Plan). Suits blocks q x.card) (plan_is size most blocks words committing orders devices actors a x s g ex f (Device (Write device e)) ws steps (λ n. n)) suits).1
+
+    rest : IsRest (Migrating f.is.migration f.is.part) suits_now.1.0 ws
+    rest = suits_now.1.1.1
+
+    still_paired : IsNoWrite ws × ArePaired size ws
+    still_paired = paired size most blocks words committing orders devices actors a x s g ex f (Device (Write device e)) ws steps (λ n. n)
+
+    in_block : IsInBlock size f.is.part.block.0 device e × AreOfBlock size f.is.part.block.0 ws
+    in_block = of_block size most blocks words committing orders devices actors a x s g ex f (Device (Write device e)) ws steps (λ n. n)
+
+    has_read : HasRead size (device_in (source_of f.is.migration) devices) (row source_is f.is.part.block.0) (Device (Write device e) ∷ ws) x.buffer
+    has_read = subst (λ (us : List Want). HasRead size (device_in (source_of f.is.migration) devices) (row source_is f.is.part.block.0) us x.buffer) steps f.is.buffer
+
+    abbrev here : IsMigrationAt f.is.part (record { 0 = f.c }) f.is.next f.is.migration (live_there f.c f.order) (plan_of (Migrating f.is.migration f.is.part) (Device (Write device e) ∷ ws) f.is.plan.answer) x.card f.y
+    here = at size most blocks words committing orders devices actors a x s g ex f (Device (Write device e)) ws steps (λ n. n)
+
+    done_is : f.is.plan.answer ≡ Finished
+    done_is = elim f.is.answers [ inl l ↦ absurd (subst (λ (us : List Want). IsLettingGo us) steps l) | inr q ↦ q ]
+
+    pub writes : Carried Stays size most a s words committing orders (with_device device devices (written_each (device_in device devices) e.first x.buffer)) actors (record x { task = Some (Migrate f.is.migration f.is.block, plan_of (Migrating f.is.migration f.is.part) ws f.is.plan.answer) })
+    writes = copy_on (Device (Write device e)) ws steps (λ n. n) (λ o. o) ws here.answer f.is.plan.answer (copied x.buffer) (written_each (device_in device devices) e.first x.buffer) (ap held_of suits_now.0)
+        (held_plain ws x.card (rest_plain (Migrating f.is.migration f.is.part) suits_now.1.0 ws rest) ∙ ap held_of suits_now.0) here.alike (saw_plain (plan_of (Migrating f.is.migration f.is.part) ws f.is.plan.answer) ws x.card (rest_plain (Migrating f.is.migration f.is.part) suits_now.1.0 ws rest))
+        (copies_followed.write_done size zeros s.actors (length actors + f.c) s.shared (order_on f.is.part (record { 0 = f.c }) f.is.next) (offsets size f.is.part.extents) f.is.migration device e ws here.answer here.buffer (device_in (source_of f.is.migration) devices) (device_in device devices) x.buffer
+        (across f.is.migration f.is.made device on_cache) in_block.0 (side_from f.is.migration f.is.made) (side_to device on_cache) has_read.0 has_read.1 room)
+        (record {
+          of_block = in_block.1;
+          paired = still_paired.1;
+          some = λ n. subst (λ (us : List Want). IsRest (Migrating f.is.migration f.is.part) suits_now.1.0 us) n rest;
+          answers = inr done_is;
+          read = no_write_read size _ _ ws x.buffer still_paired.0;
+        })
+
+    pub write_falls : (lands : ℕ → Bool) → Carried Stays size most a s words committing orders (with_device device devices (written_where lands (device_in device devices) e.first x.buffer)) actors
+        (record x { task = Some (Migrate f.is.migration f.is.block, plan_of (Migrating f.is.migration f.is.part) (Cell SetFailed ∷ []) (Refuses (Io device))) })
+    write_falls lands = copy_on (Device (Write device e)) ws steps (λ n. n) (λ o. o) (Cell SetFailed ∷ []) AnsweredIo (Refuses (Io device)) (copied_where lands e.first x.buffer) (written_where lands (device_in device devices) e.first x.buffer) (ap held_of suits_now.0) (ap held_of suits_now.0) (λ n. absurd (cc)) (Io device, refl)
+        (copies_followed.write_fails size zeros s.actors (length actors + f.c) s.shared (order_on f.is.part (record { 0 = f.c }) f.is.next) (offsets size f.is.part.extents) f.is.migration device e ws here.answer here.buffer (device_in (source_of f.is.migration) devices) (device_in device devices) x.buffer lands
+        (across f.is.migration f.is.made device on_cache) in_block.0 (side_from f.is.migration f.is.made) (side_to device on_cache) has_read.0 has_read.1 room)
+        (record { of_block = tt; paired = (tt, tt); some = λ n. absurd (cc); answers = inl tt; read = tt })
+
+  -- a read that fails is that of what was to be written
+  pub read_falls : (from : Dev) (r : Extent) (later : List Want) (steps : f.is.plan.steps ≡ Device (Read from r) ∷ Device (Write device e) ∷ later) → Suits blocks f.is.plan x.card → Carried Stays size most a s words committing orders (with_device device devices (device_in device devices)) actors
+      (record x { task = Some (Migrate f.is.migration f.is.block, plan_of (Migrating f.is.migration f.is.part) (Cell (Release Owned f.is.part.block) ∷ Desk (ReleaseOrder f.is.part.block) ∷ []) (Refuses (Io from))) })
+  read_falls from r later steps suits =
+      let here = at size most blocks words committing orders devices actors a x s g ex f (Device (Read from r)) (Device (Write device e) ∷ later) steps (λ n. n) in
+      let hold = (subst (λ (q : Plan). Suits blocks q x.card) (plan_is size most blocks words committing orders devices actors a x s g ex f (Device (Read from r)) (Device (Write device e) ∷ later) steps (λ n. n)) suits).1.0 in
+      let in_block = (of_block size most blocks words committing orders devices actors a x s g ex f (Device (Read from r)) (Device (Write device e) ∷ later) steps (λ n. n)).1.0 in
+      copy_on (Device (Read from r)) (Device (Write device e) ∷ later) steps (λ n. n) (λ o. o) (Cell (Release Owned f.is.part.block) ∷ Desk (ReleaseOrder f.is.part.block) ∷ []) AnsweredIo (Refuses (Io from)) read_fault (device_in device devices) (ap held_of hold) (ap held_of hold) (λ n. absurd (cc)) tt
+      (copies_followed.read_fails size zeros s.actors (length actors + f.c) s.shared (order_on f.is.part (record { 0 = f.c }) f.is.next) (offsets size f.is.part.extents) f.is.migration f.is.part.block from device r e later here.answer here.buffer (device_in device devices) refl in_block (side_to device on_cache))
+      (record { of_block = tt; paired = (tt, (tt, tt)); some = λ n. absurd (cc); answers = inl tt; read = tt })

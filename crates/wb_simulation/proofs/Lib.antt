@@ -8,6 +8,7 @@ mod Among
 mod Carrying
 mod Promoting
 mod Copying
+mod Deciding
 mod Followed
 mod Moving
 mod Starting
