@@ -9,6 +9,7 @@ mod Carrying
 mod Promoting
 mod Copying
 mod Deciding
+mod Cut
 mod Followed
 mod Moving
 mod Starting
