@@ -10,6 +10,7 @@ mod Promoting
 mod Copying
 mod Deciding
 mod Cut
+mod Ordering
 mod Followed
 mod Moving
 mod Starting
