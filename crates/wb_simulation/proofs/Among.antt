@@ -116,9 +116,9 @@ module _ (size most : ℕ) (words : Words) (committing : Bool) (orders : List (O
         behind c order None is away st = elim st.holds [ inl none ↦ absurd (held none) | inr k ↦ kept order k ]
         behind c order (Some d) is away st =
             let other : d ≢ a = (λ f.
-                let here : Some st.0 ≡ Some x = sym st.1 ∙ ap (λ (i : ℕ). slice_get actors i) f ∙ ex in
-                let same : st.0 ≡ x = cc in
-                carries c away (is ∙ ap (λ (i : ℕ). Some i) f) st.2.migration st.2.block st.2.plan (ap (λ (v : Actor). v.task) (sym same) ∙ st.2.task)) in
+            let here : Some st.0 ≡ Some x = sym st.1 ∙ ap (λ (i : ℕ). slice_get actors i) f ∙ ex in
+            let same : st.0 ≡ x = cc in
+            carries c away (is ∙ ap (λ (i : ℕ). Some i) f) st.2.migration st.2.block st.2.plan (ap (λ (v : Actor). v.task) (sym same) ∙ st.2.task)) in
             (d, st.0.card, other, card_there actors d st.0 st.1, carried_below size devices (record { 0 = c }) order (s.shared.blocks c) st.0 y st.2)
 
 -- ---- one goes on
@@ -208,7 +208,7 @@ module _ (size most : ℕ) (words words' : Words) (up : flag words.fail ≡ true
               who = g.who;
               behind = behind_on (gone y y.task results) devices' t.blocks others;
               within = g.within;
-      one_each = g.one_each;
+              one_each = g.one_each;
               carried = uncarried_then others.still;
             }));
         turned = subst (λ (v : World). TurnedTo turn s.shared v.shared) (sym went.is) (subst (λ (v : Shared). TurnedTo turn s.shared v) (sym is) turned);

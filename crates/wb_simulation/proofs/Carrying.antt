@@ -190,15 +190,24 @@ module _ (size most : ℕ) (words words' : Words) (up : flag words.fail ≡ true
       | inl e ↦
           let now : Some x' ≡ Some z = sym (get_set_same actors a x x' ex) ∙ ap (λ (k : ℕ). slice_get (slice_set actors a x') k) (sym e) ∙ ez in
           let one : x' ≡ z = cc in
-          elim (here migration block plan (ap (λ (v : Actor). v.task) one ∙ task)) [ inl u ↦ inl (u.0, λ d f. elim (cases_eq d c) [
-            | inl same ↦ (let bad : None ≡ Some b = sym u.1 ∙ sym (changed_same g.who c who) ∙ ap (changed g.who c who) (sym same) ∙ f in absurd (cc))
-            | inr m ↦ absurd (alone d m (sym (changed_other g.who c d who m) ∙ f ∙ ap (λ (k : ℕ). Some k) e))
-          ]) | inr w ↦ inr (c, is_inside orders' c order' eo', changed_same g.who c who ∙ w ∙ ap (λ (k : ℕ). Some k) (sym e)) ]
+          elim (here migration block plan (ap (λ (v : Actor). v.task) one ∙ task)) [
+            | inl u ↦ inl (
+              u.0,
+              λ d f. elim (cases_eq d c) [
+                | inl same ↦ (let bad : None ≡ Some b = sym u.1 ∙ sym (changed_same g.who c who) ∙ ap (changed g.who c who) (sym same) ∙ f in absurd (cc))
+                | inr m ↦ absurd (alone d m (sym (changed_other g.who c d who m) ∙ f ∙ ap (λ (k : ℕ). Some k) e))
+              ],
+            )
+            | inr w ↦ inr (c, is_inside orders' c order' eo', changed_same g.who c who ∙ w ∙ ap (λ (k : ℕ). Some k) (sym e))
+          ]
       | inr n ↦ elim (g.carried b z migration block plan (sym (get_set_other actors a b x' n) ∙ ez) task) [
-        | inl u ↦ inl (uncarried_on words words' up plan.steps u.0, λ d f. elim (cases_eq d c) [
-          | inl same ↦ absurd (n (mine b (sym (changed_same g.who c who) ∙ ap (changed g.who c who) (sym same) ∙ f)))
-          | inr m ↦ absurd (u.1 d (sym (changed_other g.who c d who m) ∙ f))
-        ])
+        | inl u ↦ inl (
+          uncarried_on words words' up plan.steps u.0,
+          λ d f. elim (cases_eq d c) [
+            | inl same ↦ absurd (n (mine b (sym (changed_same g.who c who) ∙ ap (changed g.who c who) (sym same) ∙ f)))
+            | inr m ↦ absurd (u.1 d (sym (changed_other g.who c d who m) ∙ f))
+          ],
+        )
         | inr k ↦ elim (cases_eq k.0 c) [
           | inl same ↦ absurd (n (was b (ap g.who (sym same) ∙ k.2)))
           | inr m ↦ inr (k.0, (let l = k.1 in omega (arith, l, long)), changed_other g.who c k.0 who m ∙ k.2)

@@ -238,7 +238,7 @@ module _ (size most blocks : ℕ) (words : Words) (committing : Bool) (orders : 
 -- ---- a write, and a step that fails
 
 -- a promotion writes the cache
-writes_cache : (migration : Migration) (part : BlockRange) (device : Dev) (e : Extent) → IsMade migration → IsJobs (Migrating migration part) (Write device e) → device ≡ Cache
+pub writes_cache : (migration : Migration) (part : BlockRange) (device : Dev) (e : Extent) → IsMade migration → IsJobs (Migrating migration part) (Write device e) → device ≡ Cache
 writes_cache (Promote k) part device e made jobs = jobs
 writes_cache Demote part device e made jobs = absurd made
 writes_cache Clean part device e made jobs = absurd made

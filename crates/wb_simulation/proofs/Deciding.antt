@@ -89,7 +89,7 @@ module _ (size most blocks : ℕ) (words : Words) (committing : Bool) (orders : 
     pub map_refused : (refusal : Refusal) → Carried Stays size most a s words committing orders devices actors (record x { task = Some (Migrate f.is.migration f.is.block, plan_of (Migrating f.is.migration f.is.part) (Cell (Release Owned f.is.part.block) ∷ Desk (ReleaseOrder f.is.part.block) ∷ []) (Refuses refusal)) })
     map_refused refusal =
         let to = subst (λ (m : Migration). GoesTo s.actors (length actors + f.c) s.shared (migrating size own os m (Desk (Map f.is.part.block c) ∷ ws) here.answer here.buffer) (Short ∷ []) s.shared (migrating size own os m (Cell (Release Owned f.is.part.block) ∷ Desk (ReleaseOrder f.is.part.block) ∷ []) AnsweredFailed here.buffer)) (sym promotes)
-            (carrying_followed.has_no_room size s.actors (length actors + f.c) s.shared own os c f.is.part.block ws here.answer here.buffer refl) in
+        (carrying_followed.has_no_room size s.actors (length actors + f.c) s.shared own os c f.is.part.block ws here.answer here.buffer refl) in
         let goes = subst (λ (v : AbstractActor). GoesTo s.actors (length actors + f.c) s.shared v (Short ∷ []) s.shared (migrating size own os f.is.migration (Cell (Release Owned f.is.part.block) ∷ Desk (ReleaseOrder f.is.part.block) ∷ []) AnsweredFailed here.buffer)) (sym y_there) to in
         let z = migrating size own os f.is.migration (Cell (Release Owned f.is.part.block) ∷ Desk (ReleaseOrder f.is.part.block) ∷ []) AnsweredFailed here.buffer in
         carry_on size most blocks words committing orders devices actors a x s g ex f (Desk (Map f.is.part.block c)) ws steps (λ n. n) (λ o. o) (Cell (Release Owned f.is.part.block) ∷ Desk (ReleaseOrder f.is.part.block) ∷ []) (Refuses refusal) x.buffer devices (Short ∷ []) s.shared z
@@ -106,7 +106,7 @@ module _ (size most blocks : ℕ) (words : Words) (committing : Bool) (orders : 
         let t = effect s.shared (Promoting own os) here.buffer (Map_to own) DoneThere in
         let z = under None (migrating size own os f.is.migration ws here.answer here.buffer) in
         let to = subst (λ (m : Migration). GoesTo s.actors (length actors + f.c) s.shared (migrating size own os m (Desk (Map f.is.part.block c) ∷ ws) here.answer here.buffer) (DoneThere ∷ DoneThere ∷ []) t (under None (migrating size own os m ws here.answer here.buffer))) (sym promotes)
-            (carrying_followed.maps size s.actors (length actors + f.c) s.shared own os c f.is.part.block ws here.answer here.buffer) in
+        (carrying_followed.maps size s.actors (length actors + f.c) s.shared own os c f.is.part.block ws here.answer here.buffer) in
         let goes = subst (λ (v : AbstractActor). GoesTo s.actors (length actors + f.c) s.shared v (DoneThere ∷ DoneThere ∷ []) t z) (sym y_there) to in
         let left = plan_of (Migrating f.is.migration f.is.part) ws f.is.plan.answer in
         let x' = record x { task = Some (Migrate f.is.migration f.is.block, left); orders = dropped f.is.part.block x.orders } in

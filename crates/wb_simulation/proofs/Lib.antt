@@ -11,6 +11,7 @@ mod Copying
 mod Deciding
 mod Cut
 mod Ordering
+mod Promotions
 mod Followed
 mod Moving
 mod Starting

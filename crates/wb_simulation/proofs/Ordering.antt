@@ -46,12 +46,15 @@ use Rattle.wb_simulation.proofs.Among.{behind_there, at_place, nobody_alone}
 use Rattle.wb_simulation.proofs.Carrying.{agrees_then, carries_nothing}
 use Rattle.wb_simulation.proofs.Promoting.{found}
 
+nobody_does : (task : Option (Job × Plan)) (doing : Job × Plan) → task ≡ None → task ≡ Some doing → ⊥
+nobody_does task doing n e = let bad : None ≡ Some doing = sym n ∙ e in absurd (cc)
+
 module _ (size most : ℕ) (words : Words) (committing : Bool) (orders : List (Option Order)) (devices : Devices (List History)) (actors : List Actor) (a : ℕ) (x : Actor) (s : World) (g : Agrees size most words committing orders devices actors s) (ex : slice_get actors a ≡ Some x) (none : x.task ≡ None) where
   -- who has no task is at no migration
   pub at_none : (c : ℕ) → g.who c ≢ Some a
   at_none c w =
       let f = found size most words committing orders devices actors a x s g ex c (g.within c a w) w in
-      let bad : None ≡ Some (Migrate f.is.migration f.is.block, f.is.plan) = sym none ∙ f.is.task in absurd (cc)
+      absurd (nobody_does x.task (Migrate f.is.migration f.is.block, f.is.plan) none f.is.task)
 
   -- at its own number it is aside from the start
   pub begins_aside : (x' : Actor) (migration : Migration) (block : OBlock) (plan : Plan) → x'.task ≡ Some (Migrate migration block, plan) → x'.card ≡ x.card → Rattle.wb_simulation.specs.Steps.IsOutside plan.steps → (own : AbstractActor) → slice_get s.actors a ≡ Some own → StandsFor size most words x' own

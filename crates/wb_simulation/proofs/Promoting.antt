@@ -169,7 +169,7 @@ abbrev job_in : Job → Option (Job × Plan) → Job
 job_in other None = other
 job_in other (Some doing) = doing.0
 
-abbrev migration_in : Migration → Job → Migration
+abbrev pub migration_in : Migration → Job → Migration
 migration_in other (Migrate migration block) = migration
 migration_in other job = other
 
@@ -347,40 +347,40 @@ module _ (size most blocks : ℕ) (words : Words) (committing : Bool) (orders : 
         (ap (λ (v : AbstractActor). v.order) i.is) (ap (λ (v : AbstractActor). v.leads) i.is)
         (inl (ap (λ (v : AbstractActor). v.held) i.is ∙ ap (λ (us : List Want). held_for us card') e ∙ ap held_of nothing))
     | inr k ↦ settles_over size words' devices actors' f.c f.order (t.blocks f.c) a s.actors (length actors + f.c) t z k.1.script k.1.task k.1.nothing k.1.order k.1.leads (inr (record {
-        failed = k.0;
-        live = live_still k.1.refused;
-        keeper = a;
-        x = x';
-        at = get_set_same actors a x x' ex;
-        below = record { owned = k.1.below.owned; shared = k.1.below.shared };
-        outside = subst (λ (us : List Want). IsOutside us) (sym e) tt;
-      }))
+      failed = k.0;
+      live = live_still k.1.refused;
+      keeper = a;
+      x = x';
+      at = get_set_same actors a x x' ex;
+      below = record { owned = k.1.below.owned; shared = k.1.below.shared };
+      outside = subst (λ (us : List Want). IsOutside us) (sym e) tt;
+    }))
   ]
 
   on : (v : Want) (vs : List Want) → plan'.steps ≡ v ∷ vs → Settled plan'.steps
   on v vs e = elim goes_there.at [
     | inl i ↦ settles_on size words' devices actors' f.c f.order (t.blocks f.c) a s.actors (length actors + f.c) t z x' plan'.steps (get_set_same actors a x x' ex) (record {
-        migration = m;
-        made = f.is.made;
-        block = f.is.block;
-        plan = plan';
-        task = refl;
-        part = part;
-        next = f.is.next;
-        job = job_stays plan (got_of (result_of words step));
-        block_is = f.is.block_is;
-        is_part = f.is.is_part;
-        small = f.is.small;
-        fills = f.is.fills;
-        of_block = copies.0;
-        paired = copies.1;
-        answers = answers_after words part m step ws f.is.plan.answer x.card suits_now.1 (λ n. let bad : v ∷ vs ≡ [] = sym e ∙ n in absurd (cc)) (elim f.is.answers [ inl l ↦ inl (subst (λ (us : List Want). IsLettingGo us) steps l) | inr q ↦ inr q ]);
-        unfinished = λ n. let bad : v ∷ vs ≡ [] = sym e ∙ n in absurd (cc);
-        mine = f.is.mine;
-        has = subst (λ (k : ℕ → Block). HasOrder (order_on part cache f.is.next) (live_there f.c f.order) (k f.c) plan') (sym goes_there.same.images.blocks) has;
-        at = i;
-        buffer = no_write_read size _ _ plan'.steps x.buffer copies.2;
-      })
+      migration = m;
+      made = f.is.made;
+      block = f.is.block;
+      plan = plan';
+      task = refl;
+      part = part;
+      next = f.is.next;
+      job = job_stays plan (got_of (result_of words step));
+      block_is = f.is.block_is;
+      is_part = f.is.is_part;
+      small = f.is.small;
+      fills = f.is.fills;
+      of_block = copies.0;
+      paired = copies.1;
+      answers = answers_after words part m step ws f.is.plan.answer x.card suits_now.1 (λ n. let bad : v ∷ vs ≡ [] = sym e ∙ n in absurd (cc)) (elim f.is.answers [ inl l ↦ inl (subst (λ (us : List Want). IsLettingGo us) steps l) | inr q ↦ inr q ]);
+      unfinished = λ n. let bad : v ∷ vs ≡ [] = sym e ∙ n in absurd (cc);
+      mine = f.is.mine;
+      has = subst (λ (k : ℕ → Block). HasOrder (order_on part cache f.is.next) (live_there f.c f.order) (k f.c) plan') (sym goes_there.same.images.blocks) has;
+      at = i;
+      buffer = no_write_read size _ _ plan'.steps x.buffer copies.2;
+    })
     | inr k ↦ (let bad : v ∷ vs ≡ [] = sym e ∙ k.1.over in absurd (cc))
   ]
 
@@ -410,8 +410,11 @@ module _ (size most : ℕ) (words : Words) (committing : Bool) (orders : List (O
       let outside = stays_looking words x (Migrate migration block) plan (Look Fail) ws task steps in
       carries_nothing size most words words (λ e. e) committing orders devices actors a x x' s g ex nowhere outside g.words_agree
       (own_aside size most words committing orders devices actors a x s g ex words (λ e. e) x' migration block plan (after plan (got_of (result_of words (Look Fail)))) task refl outside)
-      (λ m b p e. inr (failed, subst (λ (q : Plan). IsOutside q.steps) (same_plan x'.task (Migrate migration block) (Migrate m b) (after plan (got_of (result_of words (Look Fail)))) p refl e)
-          (outside failed (subst (λ (t : Option (Job × Plan)). AreOutside t) (sym task) (subst (λ (us : List Want). IsOutside us) (sym steps) out))).0))
+      (λ m b p e. inr (
+        failed,
+        subst (λ (q : Plan). IsOutside q.steps) (same_plan x'.task (Migrate migration block) (Migrate m b) (after plan (got_of (result_of words (Look Fail)))) p refl e)
+            (outside failed (subst (λ (t : Option (Job × Plan)). AreOutside t) (sym task) (subst (λ (us : List Want). IsOutside us) (sym steps) out))).0,
+      ))
   cell_nowhere f z fail (Look (LockWord b)) ws steps failed out = absurd out
   cell_nowhere f z fail (Look (SealWord b)) ws steps failed out = absurd out
   cell_nowhere f z fail (Look (Number b)) ws steps failed out = absurd out
