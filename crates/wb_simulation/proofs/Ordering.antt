@@ -11,7 +11,7 @@ use Rattle.wb_types.specs.Extents.{IsCutInto}
 use Rattle.wb_disk.specs.Device.{History}
 use Rattle.wb_contents.specs.Volume.{changed}
 use Rattle.wb_contents.proofs.Positions.{changed_same, changed_other}
-use Rattle.wb_words.specs.SharedWords.{Words}
+use Rattle.wb_words.specs.SharedWords.{Words, flag}
 use Rattle.wb_words.specs.declared.card.Hold.TheVariants.{Nothing as HoldsNothing}
 use Rattle.wb_policy.specs.declared.order.Order.{Order}
 use Rattle.wb_policy.specs.declared.order.Order.TheVariants.{Promote as PromoteOrder}
@@ -21,10 +21,10 @@ use Rattle.wb_tasks.specs.declared.step.Migration.{Migration}
 use Rattle.wb_tasks.specs.declared.step.Migration.TheVariants.{Promote}
 use Rattle.wb_devices.specs.declared.devices.Devices.{Devices}
 use Rattle.wb_link.specs.Tables.{Job as AbstractJob, Order as AbstractOrder, Promoting, Finished as AnsweredDone}
-use Rattle.wb_link.specs.World.{World, Shared, Block, Free, Mapped, Reserved, Start, Again, Apart, Ungiven, MayStart, MayAgain, Waits, Actor as AbstractActor, is_alone}
+use Rattle.wb_link.specs.World.{World, Shared, Block, Free, Mapped, Reserved, Start, Again, Apart, Ungiven, MayStart, MayAgain, Waits, Actor as AbstractActor, is_alone, Nothing}
 use Rattle.wb_link.proofs.Lists.{get_set_same, get_set_other}
 use Rattle.wb_refines.specs.Tasks.{IsIdle, AllInBlocks}
-use Rattle.wb_refines.specs.Models.{held_of}
+use Rattle.wb_refines.specs.Models.{held_of, IsBelow}
 use Rattle.wb_refines.specs.Translation.{offsets}
 use Rattle.wb_refines.specs.Migrations.{order_on}
 use Rattle.wb_refines.specs.Copies.{migrating}
@@ -34,7 +34,7 @@ use Rattle.wb_refines.proofs.Tasks.{within_offsets}
 use Rattle.wb_runs.specs.declared.job.Job.{Job}
 use Rattle.wb_runs.specs.declared.job.Job.TheVariants.{Migrate}
 use Rattle.wb_runs.specs.States.{Actor}
-use Rattle.wb_simulation.specs.Steps.{IsPart}
+use Rattle.wb_simulation.specs.Steps.{IsPart, IsOutside}
 use Rattle.wb_simulation.specs.Actors.{IsBusyAt, StandsFor}
 use Rattle.wb_simulation.specs.Behind.{IsCarried, IsUnused, IsUncarried, StandsBehind, order_there, live_there}
 use Rattle.wb_simulation.specs.Worlds.{Agrees, Stays, Reserves, TurnedTo, DeskTurnedTo}
@@ -44,8 +44,10 @@ use Rattle.wb_simulation.proofs.Beside.{carries_newest}
 use Rattle.wb_simulation.proofs.Cut.{whole_part, whole_covered}
 use Rattle.wb_simulation.proofs.Among.{behind_there, at_place, nobody_alone}
 use Rattle.wb_simulation.proofs.Carrying.{agrees_then, carries_nothing}
-use Rattle.wb_simulation.proofs.Promoting.{found}
+use Rattle.wb_simulation.proofs.Promoting.{found, same_plan}
+use Rattle.wb_words.specs.declared.card.Card.{Card}
 
+-- no task is one
 nobody_does : (task : Option (Job × Plan)) (doing : Job × Plan) → task ≡ None → task ≡ Some doing → ⊥
 nobody_does task doing n e = let bad : None ≡ Some doing = sym n ∙ e in absurd (cc)
 
@@ -57,13 +59,13 @@ module _ (size most : ℕ) (words : Words) (committing : Bool) (orders : List (O
       absurd (nobody_does x.task (Migrate f.is.migration f.is.block, f.is.plan) none f.is.task)
 
   -- at its own number it is aside from the start
-  pub begins_aside : (x' : Actor) (migration : Migration) (block : OBlock) (plan : Plan) → x'.task ≡ Some (Migrate migration block, plan) → x'.card ≡ x.card → Rattle.wb_simulation.specs.Steps.IsOutside plan.steps → (own : AbstractActor) → slice_get s.actors a ≡ Some own → StandsFor size most words x' own
+  pub begins_aside : (x' : Actor) (migration : Migration) (block : OBlock) (plan : Plan) → x'.task ≡ Some (Migrate migration block, plan) → x'.card ≡ x.card → IsOutside plan.steps → (own : AbstractActor) → slice_get s.actors a ≡ Some own → StandsFor size most words x' own
   begins_aside x' migration block plan task card out own e =
       let st = g.each a x own ex e in
       let rests = subst (λ (t : Option (Job × Plan)). IsBusyAt size most words t x.card own) none st.at in
       record {
         at = subst (λ (t : Option (Job × Plan)). IsBusyAt size most words t x'.card own) (sym task) (record { nothing = rests.0; rests = elim rests.1 [ inl i ↦ inl i | inr f ↦ inr (f, out) ] });
-        below = subst (λ (k : Rattle.wb_words.specs.declared.card.Card.Card). Rattle.wb_refines.specs.Models.IsBelow own k) (sym card) st.below;
+        below = subst (λ (k : Card). IsBelow own k) (sym card) st.below;
         order = st.order;
         among_others = st.among_others;
       }
@@ -129,7 +131,7 @@ module _ (size most : ℕ) (words : Words) (committing : Bool) (orders : List (O
     at = record {
       answer = AnsweredDone;
       buffer = y.buffer;
-      is = λ i. record (begun_there y) { held = held_of (sym (ap (λ (k : Rattle.wb_words.specs.declared.card.Card.Card). k.hold) card ∙ hold) i) };
+      is = λ i. record (begun_there y) { held = held_of (sym (ap (λ (k : Card). k.hold) card ∙ hold) i) };
       alike = refl;
       saw = tt;
     };
@@ -192,12 +194,12 @@ module _ (size most : ℕ) (words : Words) (committing : Bool) (orders : List (O
     x' = begun (Migrate (Promote c) block) (promotion size block c cut) x
 
     -- it has kept something at a failure, and nothing is begun there
-    late : Rattle.wb_words.specs.SharedWords.flag words.fail ≡ true → Carried Stays size most a s words committing orders devices actors x'
+    late : flag words.fail ≡ true → Carried Stays size most a s words committing orders devices actors x'
     late failed = carries_nothing size most words words (λ e. e) committing orders devices actors a x x' s g ex (at_none size most words committing orders devices actors a x s g ex none) (λ f was. (tt, λ u below. below)) g.words_agree
         (begins_aside size most words committing orders devices actors a x s g ex none x' (Promote c) block (promotion size block c cut) refl refl tt)
-        (λ m b p e. inr (failed, subst (λ (q : Plan). Rattle.wb_simulation.specs.Steps.IsOutside q.steps) (Rattle.wb_simulation.proofs.Promoting.same_plan x'.task (Migrate (Promote c) block) (Migrate m b) (promotion size block c cut) p refl e) tt))
+        (λ m b p e. inr (failed, subst (λ (q : Plan). IsOutside q.steps) (same_plan x'.task (Migrate (Promote c) block) (Migrate m b) (promotion size block c cut) p refl e) tt))
 
-    anew : (y : AbstractActor) → slice_get s.actors (length actors + c.0) ≡ Some y → g.who c.0 ≡ None → IsUnused words actors c.0 (Some (PromoteOrder block c)) y → y.held ≡ Rattle.wb_link.specs.World.Nothing → Carried Stays size most a s words committing orders devices actors x'
+    anew : (y : AbstractActor) → slice_get s.actors (length actors + c.0) ≡ Some y → g.who c.0 ≡ None → IsUnused words actors c.0 (Some (PromoteOrder block c)) y → y.held ≡ Nothing → Carried Stays size most a s words committing orders devices actors x'
     anew y ey who u held =
         let there = length actors + c.0 in
         let may : MayAgain size s.shared job = (within_offsets size cut inside, whole_covered size block some cut is_cut, reserved) in

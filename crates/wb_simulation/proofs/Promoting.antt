@@ -2,8 +2,8 @@
 use Rattle.std.proofs.Common.{◌≡◌, ◌≢◌, ◌<◌, ◌+◌, ◌^◌, ◌==◌, ◌∙◌, ◌⊎◌, inl, inr, cond, if◌then◌else◌, ℕ, Bool, true, false, List, [], ◌∷◌, Option, Some, None, refl, sym, ap, subst, arith, length, slice_get, slice_set}
 use Rattle.wb_types.specs.declared.number.OBlock.{OBlock}
 use Rattle.wb_types.specs.declared.number.CBlock.{CBlock}
-use Rattle.wb_disk.specs.Device.{History}
-use Rattle.wb_words.specs.SharedWords.{Words, flag, fail_word, word_at}
+use Rattle.wb_disk.specs.Device.{Content, History}
+use Rattle.wb_words.specs.SharedWords.{Words, flag, fail_word, word_at, place_in, dirty_in}
 use Rattle.wb_words.specs.Rule.{LockRule}
 use Rattle.wb_words.specs.Effects.{result_of, words_after, card_after}
 use Rattle.wb_words.specs.declared.card.Card.{Card}
@@ -12,10 +12,9 @@ use Rattle.wb_words.specs.declared.step.CellStep.{CellStep}
 use Rattle.wb_words.specs.declared.step.CellStep.TheVariants.{Look, Take, Release, Seal, Finish, Count, SetFailed, SetSuspended}
 use Rattle.wb_words.specs.declared.step.CellResult.TheVariants.{Done as Won, Lost as NotWon}
 use Rattle.wb_words.specs.declared.word.Word.TheVariants.{Cell as LockWord, Seal as SealWord, Number, Count as CountWord, Fail}
-use Rattle.wb_words.specs.SharedWords.{place_in, dirty_in}
 use Rattle.wb_policy.specs.declared.order.Order.{Order}
 use Rattle.wb_tasks.specs.Tables.{BlockRange, Migrating, OnBlock}
-use Rattle.wb_tasks.specs.Plan.{Plan, want, after, got_of, first_step, work_of, onward, refused, may_take, exchange, Fits}
+use Rattle.wb_tasks.specs.Plan.{Plan, want, after, got_of, first_step, work_of, onward, refused, may_take, exchange}
 use Rattle.wb_tasks.specs.Ready.{Has, Suits, source_of}
 use Rattle.wb_tasks.specs.declared.step.DeskStep.TheVariants.{ReleaseOrder}
 use Rattle.wb_types.specs.declared.refusal.Refusal.TheVariants.{Failed, Busy}
@@ -41,6 +40,8 @@ use Rattle.wb_refines.specs.Migrations.{order_on, source, migration_wants, job_u
 use Rattle.wb_refines.specs.Carried.{IsMigrationAt, FollowsMigration}
 use Rattle.wb_refines.proofs.Carried.{migration_cells_followed}
 use Rattle.wb_refines.proofs.Holding.{holds_nothing}
+use Rattle.wb_tasks.specs.declared.step.DeviceStep.TheVariants.{Read, Write, Sync, ReadMetadata, WriteNode, WriteRoot}
+use Rattle.wb_runs.proofs.Suiting.{cell_fits}
 use Rattle.wb_runs.specs.declared.job.Job.{Job}
 use Rattle.wb_runs.specs.declared.job.Job.TheVariants.{Migrate}
 use Rattle.wb_runs.specs.Happenings.{IsMade}
@@ -127,29 +128,15 @@ module _ (size most : ℕ) (words : Words) (committing : Bool) (orders : List (O
 
 -- ---- a step on the words
 
--- what comes of it is of the kind that it asks for
-cell_fits : (words : Words) (step : CellStep) → Fits (Cell step) (got_of (result_of words step))
-cell_fits words (Look word) = tt
-cell_fits words (Take access b seen) = by_test (word_at words.cells b == seen)
-  where
-    by_test : (t : Bool) → Fits (Cell (Take access b seen)) (got_of (if t then Won else NotWon))
-    by_test true = tt
-    by_test false = tt
-cell_fits words (Release access b) = tt
-cell_fits words (Seal b place dirty) = tt
-cell_fits words (Finish b) = tt
-cell_fits words (Count kind) = tt
-cell_fits words SetFailed = tt
-cell_fits words SetSuspended = tt
-
-pub no_write_read : (size : ℕ) (list : List History) (at : ℕ) (steps : List Want) (buffer : List _) → IsNoWrite steps → HasRead size list at steps buffer
+-- what is no write has nothing to have been read
+pub no_write_read : (size : ℕ) (list : List History) (at : ℕ) (steps : List Want) (buffer : List Content) → IsNoWrite steps → HasRead size list at steps buffer
 no_write_read size list at [] buffer n = tt
-no_write_read size list at (Device (Rattle.wb_tasks.specs.declared.step.DeviceStep.TheVariants.Write device e) ∷ ws) buffer n = absurd n
-no_write_read size list at (Device (Rattle.wb_tasks.specs.declared.step.DeviceStep.TheVariants.Read device e) ∷ ws) buffer n = tt
-no_write_read size list at (Device (Rattle.wb_tasks.specs.declared.step.DeviceStep.TheVariants.Sync device) ∷ ws) buffer n = tt
-no_write_read size list at (Device (Rattle.wb_tasks.specs.declared.step.DeviceStep.TheVariants.ReadMetadata left) ∷ ws) buffer n = tt
-no_write_read size list at (Device (Rattle.wb_tasks.specs.declared.step.DeviceStep.TheVariants.WriteNode number) ∷ ws) buffer n = tt
-no_write_read size list at (Device Rattle.wb_tasks.specs.declared.step.DeviceStep.TheVariants.WriteRoot ∷ ws) buffer n = tt
+no_write_read size list at (Device (Write device e) ∷ ws) buffer n = absurd n
+no_write_read size list at (Device (Read device e) ∷ ws) buffer n = tt
+no_write_read size list at (Device (Sync device) ∷ ws) buffer n = tt
+no_write_read size list at (Device (ReadMetadata left) ∷ ws) buffer n = tt
+no_write_read size list at (Device (WriteNode number) ∷ ws) buffer n = tt
+no_write_read size list at (Device WriteRoot ∷ ws) buffer n = tt
 no_write_read size list at (Cell step ∷ ws) buffer n = tt
 no_write_read size list at (Desk step ∷ ws) buffer n = tt
 no_write_read size list at (End answer ∷ ws) buffer n = tt
@@ -177,6 +164,7 @@ abbrev block_in : OBlock → Job → OBlock
 block_in other (Migrate migration block) = block
 block_in other job = other
 
+-- two tasks that are the same have the same plan, and job
 pub same_plan : (task : Option (Job × Plan)) (job job' : Job) (p q : Plan) → task ≡ Some (job, p) → task ≡ Some (job', q) → p ≡ q
 same_plan task job job' p q e f = ap (plan_in p) (sym e ∙ f)
 
@@ -400,10 +388,9 @@ module _ (size most blocks : ℕ) (words : Words) (committing : Bool) (orders : 
 
 -- ---- any step of a migration on the words
 
--- a failed target leaves of a migration's look at the fail word that it has only to answer
 module _ (size most : ℕ) (words : Words) (committing : Bool) (orders : List (Option Order)) (devices : Devices (List History)) (actors : List Actor) (a : ℕ) (x : Actor) (migration : Migration) (block : OBlock) (plan : Plan) (s : World) (g : Agrees size most words committing orders devices actors s) (ex : slice_get actors a ≡ Some x)
     (task : x.task ≡ Some (Migrate migration block, plan)) (nowhere : (c : ℕ) → g.who c ≢ Some a) where
-  -- on the words, where it is outside of a failed target's tasks
+  -- What is carried nowhere is outside of a failed target's tasks, and stays so.
   pub cell_nowhere : (failures suspensions : ℕ) → words.fail ≡ fail_word failures suspensions → (step : CellStep) (ws : List Want) → plan.steps ≡ Cell step ∷ ws → flag words.fail ≡ true → IsOutside (Cell step ∷ ws) → Carried Stays size most a s (words_after words step) committing orders devices actors (went words (Migrate migration block) plan step x)
   cell_nowhere f z fail (Look Fail) ws steps failed out =
       let x' = went words (Migrate migration block) plan (Look Fail) x in
