@@ -22,3 +22,4 @@ mod Whole
 mod Begin
 mod Latest
 mod Given
+mod Promise

@@ -10,7 +10,7 @@ pub mod MetadataRuns
 pub mod Lists
 pub mod Extents
 mod Ruling
-mod Suiting
+pub mod Suiting
 mod Sealing
 pub mod Ordering
 pub mod Owning

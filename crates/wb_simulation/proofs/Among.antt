@@ -116,9 +116,9 @@ module _ (size most : ℕ) (words : Words) (committing : Bool) (orders : List (O
         behind c order None is away st = elim st.holds [ inl none ↦ absurd (held none) | inr k ↦ kept order k ]
         behind c order (Some d) is away st =
             let other : d ≢ a = (λ f.
-                let here : Some st.0 ≡ Some x = sym st.1 ∙ ap (λ (i : ℕ). slice_get actors i) f ∙ ex in
-                let same : st.0 ≡ x = cc in
-                carries c away (is ∙ ap (λ (i : ℕ). Some i) f) st.2.migration st.2.block st.2.plan (ap (λ (v : Actor). v.task) (sym same) ∙ st.2.task)) in
+            let here : Some st.0 ≡ Some x = sym st.1 ∙ ap (λ (i : ℕ). slice_get actors i) f ∙ ex in
+            let same : st.0 ≡ x = cc in
+            carries c away (is ∙ ap (λ (i : ℕ). Some i) f) st.2.migration st.2.block st.2.plan (ap (λ (v : Actor). v.task) (sym same) ∙ st.2.task)) in
             (d, st.0.card, other, card_there actors d st.0 st.1, carried_below size devices (record { 0 = c }) order (s.shared.blocks c) st.0 y st.2)
 
 -- ---- one goes on
@@ -161,13 +161,13 @@ module _ (size most : ℕ) (words words' : Words) (up : flag words.fail ≡ true
           let is : st.0 ≡ x = cc in
           no_migration x.task st.2.migration st.2.block st.2.plan o.before (ap (λ (v : Actor). v.task) (sym is) ∙ st.2.task)
 
-  pub uncarried_then : IsNoMigration x'.task → (b : ℕ) (z : Actor) (migration : Migration) (block : OBlock) (plan : Plan) → slice_get (slice_set actors a x') b ≡ Some z → z.task ≡ Some (Migrate migration block, plan) → IsUncarried words' plan.steps ⊎ ((c : ℕ) × (c < length orders) × (g.who c ≡ Some b))
+  pub uncarried_then : IsNoMigration x'.task → (b : ℕ) (z : Actor) (migration : Migration) (block : OBlock) (plan : Plan) → slice_get (slice_set actors a x') b ≡ Some z → z.task ≡ Some (Migrate migration block, plan) → (IsUncarried words' plan.steps × ((c : ℕ) → g.who c ≢ Some b)) ⊎ ((c : ℕ) × (c < length orders) × (g.who c ≡ Some b))
   uncarried_then none b z migration block plan ez t = elim (cases_eq b a) [
     | inl e ↦
         let here : Some x' ≡ Some z = sym (get_set_same actors a x x' ex) ∙ ap (λ k. slice_get (slice_set actors a x') k) (sym e) ∙ ez in
         let one : x' ≡ z = cc in
         absurd (no_migration x'.task migration block plan none (ap (λ (v : Actor). v.task) one ∙ t))
-    | inr n ↦ elim (g.carried b z migration block plan (sym (get_set_other actors a b x' n) ∙ ez) t) [ inl u ↦ inl (uncarried_on words words' up plan.steps u) | inr c ↦ inr c ]
+    | inr n ↦ elim (g.carried b z migration block plan (sym (get_set_other actors a b x' n) ∙ ez) t) [ inl u ↦ inl (uncarried_on words words' up plan.steps u.0, u.1) | inr c ↦ inr c ]
   ]
 
   -- who leads a commit after it is as it was before, if the one that went on leads none unless it is as it was
@@ -207,6 +207,7 @@ module _ (size most : ℕ) (words words' : Words) (up : flag words.fail ≡ true
               each = each_on (gone y y.task results) st;
               who = g.who;
               behind = behind_on (gone y y.task results) devices' t.blocks others;
+              within = g.within;
               one_each = g.one_each;
               carried = uncarried_then others.still;
             }));

@@ -102,8 +102,9 @@ module _ (size : ℕ) (devices : Devices (List History)) (c : CBlock) (order : O
     of_block = k.of_block;
     paired = k.paired;
     unfinished = k.unfinished;
+    answers = k.answers;
     mine = k.mine;
-    has = elim k.has [ inl l ↦ inl l | inr t ↦ inr (t.0, t.1, mapped t.2) ];
+    has = elim k.has [ inl l ↦ inl l | inr t ↦ inr (t.0, t.1, t.2, mapped t.3) ];
     at = k.at;
     buffer = has_read;
   }

@@ -58,7 +58,7 @@ same_else : (s : Shared) → SameElse s s
 same_else s = record { origin = refl; cache = refl; images = same_images s }
 
 -- what a step tells of a seal
-tells : (size block : ℕ) (step : CellStep) (ws : List Want) → AreOfBlock size block (Cell step ∷ ws) → TellsPlace step × AreOfBlock size block ws
+pub tells : (size block : ℕ) (step : CellStep) (ws : List Want) → AreOfBlock size block (Cell step ∷ ws) → TellsPlace step × AreOfBlock size block ws
 tells size block (Look word) ws o = (tt, o)
 tells size block (Take access b seen) ws o = (tt, o)
 tells size block (Release access b) ws o = (tt, o)

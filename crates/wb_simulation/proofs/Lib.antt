@@ -5,6 +5,13 @@ mod Beside
 mod Telling
 mod Cells
 mod Among
+mod Carrying
+mod Promoting
+mod Copying
+mod Deciding
+mod Cut
+mod Ordering
+pub mod Promotions
 pub mod Followed
 pub mod Moving
 pub mod Starting

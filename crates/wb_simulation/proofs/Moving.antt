@@ -59,7 +59,7 @@ at_device size content words job_on part step ws answer card y (inr (inr l)) = e
 ]
 
 -- the words tell of the world what they told
-words_beside : (words : Words) (to : Option ℕ) (s t : Shared) → SameBeside to s t → WordsAgree words s → WordsAgree words t
+pub words_beside : (words : Words) (to : Option ℕ) (s t : Shared) → SameBeside to s t → WordsAgree words s → WordsAgree words t
 words_beside words to s t b w = record { fail = b.fail ∙ w.fail; seals = λ block. subst (λ (f : ℕ → Seal). SealAgrees (word_at words.seals block) (f block.0)) (sym b.seals) (w.seals block) }
 
 module _ (size most : ℕ) (words : Words) (committing : Bool) (orders : List (Option Order)) (devices : Devices (List History)) (actors : List Actor) (a : ℕ) (x : Actor) (s : World) (y : AbstractActor) (ex : slice_get actors a ≡ Some x) (ey : slice_get s.actors a ≡ Some y) (g : Agrees size most words committing orders devices actors s) where
@@ -88,7 +88,7 @@ module _ (size most : ℕ) (words : Words) (committing : Bool) (orders : List (O
       m.side_is (m.beside.other ∙ g.cache) k.mode k.committing k.broken (k.committed, k.running, k.root_written) (k.mapping, k.blocks)
       (record { before = before; still = still; outside = stays_past words x (record x { task = Some (job, plan) }) past; carries = subst (λ (f : ℕ → Block). CarriesOthers size devices (with_device Origin devices list) actors a s.shared.blocks f) (sym k.blocks) carries })
 
-same_device : (device : Dev) (devices : Devices (List History)) → HoldsBlocks device → with_device device devices (device_in device devices) ≡ devices
+pub same_device : (device : Dev) (devices : Devices (List History)) → HoldsBlocks device → with_device device devices (device_in device devices) ≡ devices
 same_device Cache devices h = refl
 same_device Origin devices h = refl
 same_device Metadata devices h = absurd h

@@ -229,6 +229,7 @@ opened_followed size most origin_blocks cache_blocks clean entries learnt blocks
   });
   who = λ c. None;
   behind = λ c order y e f. subst (λ (v : AbstractActor). IsUnused words actors c order v) (replicated (length actors + cache_blocks) (length actors + c) idle y f) (record { task = refl; order_is = ap (live_there c) (replicated cache_blocks c None order e); leads = refl; holds = inl refl });
+  within = λ c a e. absurd (cc);
   one_each = λ c d a e f. absurd (cc);
   carried = λ a x migration block plan e t. absurd (let bad : None ≡ Some (Migrate migration block, plan) = sym (rest a x e) ∙ t in cc);
 }

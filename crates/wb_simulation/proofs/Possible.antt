@@ -50,6 +50,7 @@ can_agree size most blocks caches cache origin many = record {
   who = λ c. None;
   behind = λ c order y e f. subst (λ (v : AbstractActor). IsUnused (fresh_words blocks) (replicate many resting) c order v) (replicated (many + caches) (length (replicate many resting) + c) idle y f)
       (record { task = refl; order_is = ap (live_there c) (replicated caches c None order e); leads = refl; holds = inl refl });
+  within = λ c a e. absurd (cc);
   one_each = λ c d a e f. absurd (cc);
   carried = λ a x migration block plan e t. absurd (let idle_is : resting ≡ x = replicated many a resting x e in let bad : None ≡ Some (Migrate migration block, plan) = ap (λ (v : Actor). v.task) idle_is ∙ t in cc);
 }

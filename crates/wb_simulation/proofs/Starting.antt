@@ -58,6 +58,7 @@ module _ (size most : ℕ) (words : Words) (committing : Bool) (orders : List (O
       each = each_on size most words words (λ f. f) committing orders devices actors a x (record x { task = Some (job, plan) }) s y g ex ey st.then_is (stands st.then_is st.at).0;
       who = g.who;
       behind = behind_on size most words words (λ f. f) committing orders devices actors a x (record x { task = Some (job, plan) }) s y g ex ey st.then_is devices s.shared.blocks others;
+      within = g.within;
       one_each = g.one_each;
       carried = uncarried_then size most words words (λ f. f) committing orders devices actors a x (record x { task = Some (job, plan) }) s y g ex ey migrates;
     });

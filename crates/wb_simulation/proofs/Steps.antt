@@ -149,4 +149,4 @@ module _ (size : ℕ) (part : BlockRange) (is : IsPart size part) where
 
   -- what a promotion does once it has its block
   pub promotion_works : (c : CBlock) → c.0 < 2 ^ 32 → (place : Option CBlock) (dirty : Bool) → Copies (work (Migrating (Promote c) part) place dirty)
-  promotion_works c small place dirty = copied_in c part.extents (ending (Promote c) part.block place) is.each ((place_told c.0 false small, tt), (tt, (tt, (tt, tt))), tt)
+  promotion_works c small place dirty = copied_in c part.extents (ending (Promote c) part.block place) is.each ((place_told c.0 false small, tt), (tt, tt, (tt, (tt, tt))), tt)
