@@ -23,3 +23,4 @@ mod Begin
 mod Latest
 mod Given
 mod Promise
+mod Carrying
