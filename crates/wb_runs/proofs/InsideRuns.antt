@@ -146,7 +146,7 @@ pub record Inside {P A : Type 0} (shape : Shape) (w : State P A) : Type 0 where
   pub seals : SealsHere shape w.phase
   pub tasks : (a : ℕ) (x : Actor) → slice_get w.actors a ≡ Some x → PlanInside shape x.task
 
-want_inside : (shape : Shape) (plan : Plan) → AllInside shape plan.steps → StepInside shape (want plan)
+pub want_inside : (shape : Shape) (plan : Plan) → AllInside shape plan.steps → StepInside shape (want plan)
 want_inside shape plan a = by_steps plan.steps a
   where
     by_steps : (steps : List Want) → AllInside shape steps → StepInside shape (Rattle.wb_tasks.specs.Plan.first_step steps plan.answer)
@@ -360,7 +360,7 @@ module _ (P A : Type 0) (shape : Shape) where
 
   -- ---- every event
 
-  inside_what : (w : State P A) (n : Notes) (event : Event) (what : What) (read : List Bytes) (chosen : Chosen P A) → Base P A shape w n → Inside shape w → MayBe shape w event what read chosen → Inside shape (after_what shape w event what chosen)
+  pub inside_what : (w : State P A) (n : Notes) (event : Event) (what : What) (read : List Bytes) (chosen : Chosen P A) → Base P A shape w n → Inside shape w → MayBe shape w event what read chosen → Inside shape (after_what shape w event what chosen)
   inside_what w n (Start a job) Started read chosen b i h = starts w n a job chosen b (clear w job i) (table_inside w n a job chosen b h.2)
   inside_what w n (Start a job) Skipped read chosen b i h = i
   inside_what w n (Start a job) (Refused refusal) read chosen b i h = i

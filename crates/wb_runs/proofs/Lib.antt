@@ -10,7 +10,7 @@ pub mod MetadataRuns
 pub mod Lists
 pub mod Extents
 mod Ruling
-mod Suiting
+pub mod Suiting
 mod Sealing
 pub mod Ordering
 pub mod Owning
@@ -18,7 +18,7 @@ pub mod Using
 mod Plans
 mod Refusing
 pub mod Covering
-mod SoFar
+pub mod SoFar
 pub mod Opening
 pub mod Claims
 pub mod Linking
@@ -36,7 +36,7 @@ mod FirstLife
 mod Surviving
 mod FirstPromotion
 mod Bounds
-mod InsideRuns
+pub mod InsideRuns
 mod Points
 mod Going
 mod Progressing

@@ -200,8 +200,9 @@ module _ (P : Type 0) (g : Geometry) (images : Images) (desk : DeskState P) (dev
         );
       }
 
-  -- one that was done ends
-  pub ends_over : (commit : RunningCommit) → AtDesk g images desk (Some commit) device → is_committed commit.steps ≡ true → Turns (λ now. AtDesk g now (ended desk) None device) images
+  -- one that was done ends, and its state is the one image
+  pub ends_over : (commit : RunningCommit) → AtDesk g images desk (Some commit) device → is_committed commit.steps ≡ true →
+      Turns (λ now. AtDesk g now (ended desk) None device × ((state : Stored) × (images.running ≡ Some state) × (now ≡ one_image state))) images
   ends_over commit k done =
       let l = k.stands in
       let stores = all_done g images commit l.of device l.under done in
@@ -211,7 +212,7 @@ module _ (P : Type 0) (g : Geometry) (images : Images) (desk : DeskState P) (dev
         now = one_image l.of.new;
         turn = Ends;
         turned = (l.of.new, ap (λ (i : Images). i.running) l.under.are, refl);
-        kept = subst (λ (d : DeskState P). AtDesk g (one_image l.of.new) d None device) (sym is) (record {
+        kept = (subst (λ (d : DeskState P). AtDesk g (one_image l.of.new) d None device) (sym is) (record {
           is = record { geometry = k.is.geometry; kept = ended_kept unknowing desk k.is.kept l.busy; orders = k.is.orders; sound = k.is.sound };
           stands = inl (record {
             stored = l.of.new;
@@ -224,7 +225,7 @@ module _ (P : Type 0) (g : Geometry) (images : Images) (desk : DeskState P) (dev
             fit = l.under.fit_new;
             idle = refl;
           });
-        });
+        }), (l.of.new, ap (λ (i : Images). i.running) l.under.are, refl));
       }
 
 -- ---- an opening reads all, and its target stands

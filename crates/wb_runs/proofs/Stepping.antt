@@ -208,7 +208,7 @@ module _ (P A : Type 0) (shape : Shape) where
 
   end_commit : (i : Images) (phase : Phase P A) (commit : Option RunningCommit) (m : List History) (got : Got) (chosen : Chosen P A) → K i phase commit m → OfTarget phase (λ t. is_all_done commit ≡ true) →
       T i (phase_then shape phase (Desk EndCommit) got chosen) (commit_then phase commit (Desk EndCommit) got chosen) m
-  end_commit i (Stands t) (Some c) m got chosen k s = ends_over P shape.geometry i t.desk m c k s
+  end_commit i (Stands t) (Some c) m got chosen k s = let e = ends_over P shape.geometry i t.desk m c k s in record { now = e.now; turn = e.turn; turned = e.turned; kept = e.kept.0 }
   end_commit i (Stands t) None m got chosen k s = absurd (cc)
   end_commit i Gone commit m got chosen k s = absurd s
   end_commit i (Opens mode reading) commit m got chosen k s = absurd s

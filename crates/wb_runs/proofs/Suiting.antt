@@ -32,7 +32,7 @@ use Rattle.wb_runs.proofs.Stepping.{metadata_fact, begin_fact, map_fact, no_unma
 -- ---- results
 
 -- of a step on the words
-cell_fits : (words : Words) (step : CellStep) → Fits (Cell step) (got_of (result_of words step))
+pub cell_fits : (words : Words) (step : CellStep) → Fits (Cell step) (got_of (result_of words step))
 cell_fits words (Look word) = tt
 cell_fits words (Take access b seen) = by_test (eqb (word_at words.cells b) seen)
   where

@@ -84,8 +84,9 @@ abbrev pub IsBusyAt : (size most : ℕ) → Words → Option (Job × Plan) → C
 IsBusyAt size most words None card y = (y.task ≡ None) × (IsIdle y ⊎ (flag words.fail ≡ true))
 IsBusyAt size most words (Some doing) card y = IsDoing size most words doing.0 doing.1 card y
 
--- An actor of a run is this one there, which has no block that the card does not count, and no task that has to be alone.
+-- An actor of a run is this one there, which has no block that the card does not count, no order, and no task that has to be alone.
 pub record StandsFor (size most : ℕ) (words : Words) (x : Actor) (y : AbstractActor) : Type 0 where
   pub at : IsBusyAt size most words x.task x.card y
   pub below : IsBelow y x.card
+  pub order : y.order ≡ None
   pub among_others : is_alone y.task ≡ false

@@ -6,16 +6,16 @@ use Rattle.wb_types.specs.declared.number.OBlock.{OBlock}
 use Rattle.wb_disk.specs.Device.{Content, History}
 use Rattle.wb_disk.specs.Extents.{GivesEach}
 use Rattle.wb_words.specs.SharedWords.{Words, flag}
-use Rattle.wb_words.specs.declared.step.CellStep.TheVariants.{Release, Seal}
 use Rattle.wb_policy.specs.declared.order.Order.{Order}
 use Rattle.wb_policy.specs.declared.order.Order.TheVariants.{Promote, Replace, Demote, Clean}
 use Rattle.wb_tasks.specs.Tables.{BlockRange, Migrating, OnBlock}
 use Rattle.wb_tasks.specs.Plan.{Plan}
 use Rattle.wb_tasks.specs.Ready.{source_of}
+use Rattle.wb_tasks.specs.declared.step.Answer.TheVariants.{Done as Finished}
 use Rattle.wb_tasks.specs.declared.step.DeviceStep.TheVariants.{Write}
 use Rattle.wb_tasks.specs.declared.step.Migration.{Migration}
 use Rattle.wb_tasks.specs.declared.step.Want.{Want}
-use Rattle.wb_tasks.specs.declared.step.Want.TheVariants.{Cell, Device}
+use Rattle.wb_tasks.specs.declared.step.Want.TheVariants.{Device}
 use Rattle.wb_devices.specs.declared.devices.Devices.{Devices}
 use Rattle.wb_devices.specs.Moving.{device_in}
 use Rattle.wb_link.specs.Tables.{Order as AbstractOrder}
@@ -27,7 +27,8 @@ use Rattle.wb_refines.specs.Carried.{IsMigrationAt}
 use Rattle.wb_runs.specs.declared.job.Job.{Job}
 use Rattle.wb_runs.specs.declared.job.Job.TheVariants.{Migrate}
 use Rattle.wb_runs.specs.States.{Actor}
-use Rattle.wb_simulation.specs.Steps.{IsPart, AreOfBlock, ArePaired, IsOutside}
+use Rattle.wb_runs.specs.Happenings.{IsMade}
+use Rattle.wb_simulation.specs.Steps.{IsPart, AreOfBlock, ArePaired, IsOutside, IsTail, IsLettingGo}
 
 -- An order of the desk that is live on this cache block, as it is there; a replacement's is that of the block that leaves.
 abbrev pub order_there : ℕ → Order → AbstractOrder
@@ -40,16 +41,9 @@ abbrev pub live_there : ℕ → Option Order → Option AbstractOrder
 live_there c None = None
 live_there c (Some order) = Some (order_there c order)
 
--- what is left once a promotion's order is over: its seal, and its block to give back
-abbrev pub IsTail : List Want → Type 0
-IsTail [] = Unit {0}
-IsTail (Cell (Seal block place dirty) ∷ later) = IsTail later
-IsTail (Cell (Release access block) ∷ later) = IsTail later
-IsTail steps = ⊥
-
--- Its own order is live; or it is over, and the block is mapped there.
-abbrev pub HasOrder : AbstractOrder → Option AbstractOrder → Block → List Want → Type 0
-HasOrder own live state steps = (live ≡ Some own) ⊎ ((live ≡ None) × IsTail steps × (state ≡ Mapped))
+-- Its own order is live; or it is over, and the block is mapped there, which is to be answered.
+abbrev pub HasOrder : AbstractOrder → Option AbstractOrder → Block → Plan → Type 0
+HasOrder own live state plan = (live ≡ Some own) ⊎ ((live ≡ None) × IsTail plan.steps × (plan.answer ≡ Finished) × (state ≡ Mapped))
 
 -- Where an extent is written next, this is what its source has now, from that row on.
 abbrev pub HasRead : ℕ → List History → ℕ → List Want → List Content → Type 0
@@ -60,6 +54,7 @@ HasRead size list at steps buffer = Unit {0}
 -- same steps, under the same order, with what the actor's card counts.
 pub record IsCarried (size : ℕ) (devices : Devices (List History)) (c : CBlock) (order : Option Order) (state : Block) (x : Actor) (y : AbstractActor) : Type 0 where
   pub migration : Migration
+  pub made : IsMade migration
   pub block : OBlock
   pub plan : Plan
   pub task : x.task ≡ Some (Migrate migration block, plan)
@@ -73,8 +68,9 @@ pub record IsCarried (size : ℕ) (devices : Devices (List History)) (c : CBlock
   pub of_block : AreOfBlock size part.block.0 plan.steps
   pub paired : ArePaired size plan.steps
   pub unfinished : plan.steps ≢ []
+  pub answers : IsLettingGo plan.steps ⊎ (plan.answer ≡ Finished)
   pub mine : (o : Order) → order ≡ Some o → Contains x.orders o
-  pub has : HasOrder (order_on part c next) (live_there c.0 order) state plan.steps
+  pub has : HasOrder (order_on part c next) (live_there c.0 order) state plan
   pub at : IsMigrationAt part c next migration (live_there c.0 order) plan x.card y
   pub buffer : HasRead size (device_in (source_of migration) devices) (row (source (order_on part c next) migration) part.block.0) plan.steps x.buffer
 

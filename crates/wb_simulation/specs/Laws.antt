@@ -1,5 +1,5 @@
 -- How what actors of a run do is followed in the abstract world, where a target stands.
-use Rattle.std.specs.Prelude.{◌%◌, ◌≡◌, ◌≤◌, ◌+◌, ◌⊎◌, ℕ, Bool, true, false, List, [], Some, None, length, replicate, slice_get, slice_set}
+use Rattle.std.specs.Prelude.{◌%◌, ◌≡◌, ◌≤◌, ◌+◌, ◌⊎◌, ℕ, Bool, true, false, List, [], Some, None, length, replicate, slice_get, slice_set, Option}
 use Rattle.wb_types.specs.declared.extent.Extent.{Extent}
 use Rattle.wb_types.specs.declared.mode.Dev.{Dev}
 use Rattle.wb_types.specs.declared.mode.Dev.TheVariants.{Metadata}
@@ -30,11 +30,11 @@ use Rattle.wb_devices.specs.Moving.{device_in}
 use Rattle.wb_link.specs.Tables.{Job as AbstractJob, Flushing as FlushingFor}
 use Rattle.wb_refines.specs.Translation.{job_for}
 use Rattle.wb_link.specs.World.{World, begins as world_begins}
-use Rattle.wb_refines.specs.Flushes.{IsNoBegin}
+use Rattle.wb_refines.specs.Flushes.{IsNoBegin, IsWrittenAfter}
 use Rattle.wb_runs.specs.declared.job.Job.{Job}
 use Rattle.wb_runs.specs.declared.job.Job.TheVariants.{Read, Write, Flush}
 use Rattle.wb_runs.specs.States.{Actor, resting, with_device}
-use Rattle.wb_runs.specs.Holding.{cards_of}
+use Rattle.wb_runs.specs.Holding.{cards_of, AllSuited}
 use Rattle.wb_simulation.specs.Steps.{IsPart}
 use Rattle.wb_simulation.specs.Telling.{Quietly, Reads, Writes, Answers, Starts}
 use Rattle.wb_simulation.specs.Worlds.{zeros, Agrees, Turn, Stays, Begins, Puts, Ends, FollowsBy, Follows}
@@ -59,7 +59,7 @@ abbrev pub after_step : Job → Plan → Got → Actor → Actor
 after_step job plan got x = record x { task = Some (job, after plan got) }
 
 -- A step of a read or a write on an extent of a device, done or failing; of a write that fails each sector has landed or not. That the words keep
--- their rule says that nobody else writes a block of which a migration has read an extent.
+-- their rule, and everybody has what the task needs, says that nobody else writes a block of which a migration has read an extent.
 pub record ExtentStepsFollowed : Type 0 where
   pub read_done : (size most blocks : ℕ) (words : Words) (committing : Bool) (orders : List (Option Order)) (devices : Devices (List History)) (actors : List Actor) (a : ℕ) (x : Actor) (extent : Extent) (part : BlockRange) (plan : Plan) (device : Dev) (e : Extent) (contents : List Content) (s : World) →
       slice_get actors a ≡ Some x → x.task ≡ Some (Read extent, plan) → plan.job ≡ OnBlock (Reading part) → Suits blocks plan x.card → want plan ≡ Device (ReadExtent device e) → HoldsBlocks device → length contents ≡ e.count → GivesEach (device_in device devices) e.first contents →
@@ -68,10 +68,10 @@ pub record ExtentStepsFollowed : Type 0 where
       slice_get actors a ≡ Some x → x.task ≡ Some (Read extent, plan) → plan.job ≡ OnBlock (Reading part) → Suits blocks plan x.card → want plan ≡ Device (ReadExtent device e) → HoldsBlocks device →
       Agrees size most words committing orders devices actors s → Follows Quietly size most a s words committing orders devices (slice_set actors a (after_step (Read extent) plan Fault x))
   pub write_done : (size most blocks : ℕ) (words : Words) (committing : Bool) (orders : List (Option Order)) (devices : Devices (List History)) (actors : List Actor) (a : ℕ) (x : Actor) (extent : Extent) (content : Content) (part : BlockRange) (plan : Plan) (device : Dev) (e : Extent) (s : World) →
-      LockRule blocks words (cards_of actors) → slice_get actors a ≡ Some x → x.task ≡ Some (Write extent content, plan) → plan.job ≡ OnBlock (Writing part) → Suits blocks plan x.card → want plan ≡ Device (WriteExtent device e) → HoldsBlocks device → e.first + e.count ≤ length (device_in device devices) →
+      LockRule blocks words (cards_of actors) → AllSuited blocks actors → slice_get actors a ≡ Some x → x.task ≡ Some (Write extent content, plan) → plan.job ≡ OnBlock (Writing part) → Suits blocks plan x.card → want plan ≡ Device (WriteExtent device e) → HoldsBlocks device → e.first + e.count ≤ length (device_in device devices) →
       Agrees size most words committing orders devices actors s → Follows (Writes part.block.0 (e.first % size) e.count content) size most a s words committing orders (with_device device devices (written_each (device_in device devices) e.first (replicate e.count content))) (slice_set actors a (after_step (Write extent content) plan Done x))
   pub write_fails : (size most blocks : ℕ) (words : Words) (committing : Bool) (orders : List (Option Order)) (devices : Devices (List History)) (actors : List Actor) (a : ℕ) (x : Actor) (extent : Extent) (content : Content) (part : BlockRange) (plan : Plan) (device : Dev) (e : Extent) (lands : ℕ → Bool) (s : World) →
-      LockRule blocks words (cards_of actors) → slice_get actors a ≡ Some x → x.task ≡ Some (Write extent content, plan) → plan.job ≡ OnBlock (Writing part) → Suits blocks plan x.card → want plan ≡ Device (WriteExtent device e) → HoldsBlocks device → e.first + e.count ≤ length (device_in device devices) →
+      LockRule blocks words (cards_of actors) → AllSuited blocks actors → slice_get actors a ≡ Some x → x.task ≡ Some (Write extent content, plan) → plan.job ≡ OnBlock (Writing part) → Suits blocks plan x.card → want plan ≡ Device (WriteExtent device e) → HoldsBlocks device → e.first + e.count ≤ length (device_in device devices) →
       Agrees size most words committing orders devices actors s → Follows (Writes part.block.0 (e.first % size) e.count content) size most a s words committing orders (with_device device devices (written_where lands (device_in device devices) e.first (replicate e.count content))) (slice_set actors a (after_step (Write extent content) plan Fault x))
 
 -- The job is given to the actor there too, or to nobody, since the actor has kept something at a failure.
@@ -111,7 +111,7 @@ pub record FlushStepsFollowed : Type 0 where
   pub looks : (size most : ℕ) (words : Words) (committing : Bool) (orders : List (Option Order)) (devices : Devices (List History)) (actors : List Actor) (a : ℕ) (x : Actor) (plan : Plan) (s : World) →
       slice_get actors a ≡ Some x → x.task ≡ Some (Flush, plan) → want plan ≡ Cell (Look Fail) → Agrees size most words committing orders devices actors s →
       Follows Quietly size most a s words committing orders devices (slice_set actors a (went words Flush plan (Look Fail) x))
-  pub begins : (size most nodes allowed : ℕ) (clean : Bool) (words : Words) (devices : Devices (List History)) (actors : List Actor) (a : ℕ) (x : Actor) (plan : Plan) (s : World) →
+  pub begins : (size most nodes allowed : ℕ) (clean : Bool) (words : Words) (orders : List (Option Order)) (devices : Devices (List History)) (actors : List Actor) (a : ℕ) (x : Actor) (plan : Plan) (s : World) →
       slice_get actors a ≡ Some x → x.task ≡ Some (Flush, plan) → want plan ≡ Desk (BeginCommit clean allowed) → Agrees size most words false orders devices actors s →
       FollowsBy Begins Quietly size most a s words true orders devices (slice_set actors a (after_step Flush plan (Began nodes) x))
   pub is_refused : (size most allowed : ℕ) (clean : Bool) (refusal : Refusal) (words : Words) (committing : Bool) (orders : List (Option Order)) (devices : Devices (List History)) (actors : List Actor) (a : ℕ) (x : Actor) (plan : Plan) (s : World) → IsNoBegin refusal →
@@ -129,7 +129,7 @@ pub record FlushStepsFollowed : Type 0 where
       FollowsBy (turn_of step) Quietly size most a s words committing orders (with_device Metadata devices metadata) (slice_set actors a (after_step Flush plan Done x))
   pub metadata_fails : (size most : ℕ) (step : DeviceStep) (metadata : List History) (words : Words) (committing : Bool) (orders : List (Option Order)) (devices : Devices (List History)) (actors : List Actor) (a : ℕ) (x : Actor) (plan : Plan) (s : World) → device_of step ≡ Metadata →
       slice_get actors a ≡ Some x → x.task ≡ Some (Flush, plan) → want plan ≡ Device step → Agrees size most words committing orders devices actors s →
-      (written : Bool) × FollowsBy (Puts written) Quietly size most a s words committing orders (with_device Metadata devices metadata) (slice_set actors a (after_step Flush plan Fault x))
+      (written : Bool) × IsWrittenAfter step s.shared.root_written written × FollowsBy (Puts written) Quietly size most a s words committing orders (with_device Metadata devices metadata) (slice_set actors a (after_step Flush plan Fault x))
   pub ends : (size most : ℕ) (words : Words) (committing : Bool) (orders : List (Option Order)) (devices : Devices (List History)) (actors : List Actor) (a : ℕ) (x : Actor) (plan : Plan) (s : World) →
       slice_get actors a ≡ Some x → x.task ≡ Some (Flush, plan) → want plan ≡ Desk EndCommit → Agrees size most words committing orders devices actors s →
       FollowsBy Ends Quietly size most a s words false orders devices (slice_set actors a (after_step Flush plan Done x))

@@ -48,8 +48,9 @@ pub record Agrees (size most : ℕ) (words : Words) (committing : Bool) (orders 
   -- which of the run's actors, if any, is at a migration onto each cache block
   pub who : ℕ → Option ℕ
   pub behind : (c : ℕ) (order : Option Order) (y : AbstractActor) → slice_get orders c ≡ Some order → slice_get s.actors (length actors + c) ≡ Some y → StandsBehind size words devices actors c order (s.shared.blocks c) (who c) y
+  pub within : (c a : ℕ) → who c ≡ Some a → c < length orders
   pub one_each : (c d a : ℕ) → who c ≡ Some a → who d ≡ Some a → c ≡ d
-  pub carried : (a : ℕ) (x : Actor) (migration : Migration) (block : OBlock) (plan : Plan) → slice_get actors a ≡ Some x → x.task ≡ Some (Migrate migration block, plan) → IsUncarried words plan.steps ⊎ ((c : ℕ) × (c < length orders) × (who c ≡ Some a))
+  pub carried : (a : ℕ) (x : Actor) (migration : Migration) (block : OBlock) (plan : Plan) → slice_get actors a ≡ Some x → x.task ≡ Some (Migrate migration block, plan) → (IsUncarried words plan.steps × ((c : ℕ) → who c ≢ Some a)) ⊎ ((c : ℕ) × (c < length orders) × (who c ≡ Some a))
 
 -- What comes of the desk and of the images that the metadata stand for: they stay; a commit begins, from the desk's mapping; its root is
 -- written, or not; it ends; a cache block is reserved for an order; an order ends by an entry of the mapping; it is given up.
