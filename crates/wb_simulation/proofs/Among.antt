@@ -1,5 +1,5 @@
 -- One actor goes on, and all others are as they were.
-use Rattle.std.proofs.Common.{bit_or, ◌≡◌, ◌≢◌, ◌<◌, ◌≤◌, ◌+◌, ◌-◌, ◌==◌, ◌∙◌, inl, inr, cond, if◌then◌else◌, ℕ, zero, suc, Bool, true, false, List, [], ◌∷◌, Option, Some, None, refl, sym, ap, subst, arith, length, slice_get, slice_set, ◌⊎◌}
+use Rattle.std.proofs.Common.{bit_or, ◌≡◌, ◌≢◌, ◌<◌, ◌+◌, ◌-◌, ◌==◌, ◌∙◌, inl, inr, cond, if◌then◌else◌, ℕ, Bool, true, false, List, Option, Some, None, refl, sym, ap, subst, arith, length, slice_get, slice_set, ◌⊎◌}
 use Rattle.std.proofs.lemmas.Bool.{cases_eq, cases_lt}
 use Rattle.std.proofs.lemmas.List.{length-set}
 use Rattle.wb_disk.specs.Device.{History}
@@ -31,7 +31,7 @@ use Rattle.wb_simulation.specs.Telling.{Telling, IsTold}
 use Rattle.wb_simulation.specs.Worlds.{zeros, Agrees, Turn, Stays, TurnedTo, DeskTurnedTo, FollowsBy, Follows, IsUnfinished}
 use Rattle.wb_simulation.specs.Behind.{StandsBehind, HasKept, IsUncarried, AreOutside}
 use Rattle.wb_simulation.proofs.Kept.{stands_on}
-use Rattle.wb_simulation.proofs.Behind.{is_inside, there_is, IsNoMigration, no_migration, StaysOutside, CarriesOthers, uncarried_on, card_there, behind_kept, behind_leads, behind_among, carried_below}
+use Rattle.wb_simulation.proofs.Behind.{is_inside, there_is, IsNoMigration, no_migration, StaysOutside, CarriesOthers, uncarried_on, card_there, behind_kept, behind_among, carried_below}
 
 -- the failed bit is never cleared
 pub failed_stays : (words : Words) (step : CellStep) (failures suspensions : ℕ) → words.fail ≡ fail_word failures suspensions → flag words.fail ≡ true → flag (words_after words step).fail ≡ true

@@ -1,23 +1,20 @@
 -- What a migration has read is what its source has still, where the device was synced, or another block was written.
-use Rattle.std.proofs.Common.{◌≡◌, ◌≢◌, ◌<◌, ◌≤◌, ◌+◌, ◌*◌, ◌%◌, ◌/◌, ◌∙◌, ◌⊎◌, inl, inr, if◌then◌else◌, ℕ, zero, suc, Bool, true, false, List, [], ◌∷◌, Option, Some, None, refl, sym, ap, subst, arith, length, map, slice_get, slice_set}
-use Rattle.std.proofs.lemmas.Bool.{cases_eq, cases_lt}
+use Rattle.std.proofs.Common.{◌≡◌, ◌≢◌, ◌<◌, ◌≤◌, ◌+◌, ◌*◌, ◌%◌, ◌∙◌, ◌⊎◌, inl, inr, if◌then◌else◌, ℕ, zero, suc, Bool, true, false, List, [], ◌∷◌, Option, Some, None, refl, sym, ap, subst, arith, length, map, slice_get}
+use Rattle.std.proofs.lemmas.Bool.{cases_lt}
 use Rattle.std.proofs.lemmas.Nat.{mul-le}
 use Rattle.wb_types.specs.declared.extent.Extent.{Extent}
 use Rattle.wb_types.specs.declared.mode.Dev.{Dev}
 use Rattle.wb_types.specs.declared.mode.Dev.TheVariants.{Metadata, Cache, Origin}
 use Rattle.wb_types.specs.declared.number.OBlock.{OBlock}
-use Rattle.wb_types.specs.declared.number.CBlock.{CBlock}
 use Rattle.wb_disk.specs.Device.{Content, History, Gives, newest, added, grown, written}
 use Rattle.wb_disk.specs.Extents.{GivesEach, written_where}
 use Rattle.wb_words.specs.declared.word.Access.TheVariants.{Owned}
 use Rattle.wb_words.specs.declared.card.Hold.{Hold}
 use Rattle.wb_words.specs.declared.card.Hold.TheVariants.{Held}
-use Rattle.wb_words.specs.declared.card.Card.{Card}
 use Rattle.wb_words.specs.SharedWords.{Words}
 use Rattle.wb_words.specs.Cards.{owns, owners}
 use Rattle.wb_words.specs.Rule.{LockRule}
-use Rattle.wb_policy.specs.declared.order.Order.{Order}
-use Rattle.wb_tasks.specs.Tables.{TaskJob, BlockJob, OnBlock, Migrating, access_of, range_of}
+use Rattle.wb_tasks.specs.Tables.{TaskJob, Migrating}
 use Rattle.wb_tasks.specs.Plan.{Plan}
 use Rattle.wb_tasks.specs.Ready.{Has, SuitsJob, HoldsBlocks, source_of}
 use Rattle.wb_tasks.specs.declared.step.DeviceStep.TheVariants.{Read, Write, Sync, ReadMetadata, WriteNode, WriteRoot}
@@ -27,7 +24,7 @@ use Rattle.wb_tasks.specs.declared.step.Want.{Want}
 use Rattle.wb_tasks.specs.declared.step.Want.TheVariants.{Cell, Device, Desk, End}
 use Rattle.wb_devices.specs.declared.devices.Devices.{Devices}
 use Rattle.wb_devices.specs.Moving.{device_in}
-use Rattle.wb_link.specs.World.{Block, Mapped, Actor as AbstractActor}
+use Rattle.wb_link.specs.World.{Block, Mapped}
 use Rattle.wb_link.proofs.Lists.{get_set_other}
 use Rattle.wb_refines.specs.Data.{row, IsInBlock}
 use Rattle.wb_refines.specs.Translation.{location_at}
@@ -39,7 +36,7 @@ use Rattle.wb_runs.specs.Happenings.{IsMade}
 use Rattle.wb_runs.specs.States.{Actor, with_device}
 use Rattle.wb_runs.specs.Holding.{cards_of, AllSuited, TaskSuits}
 use Rattle.wb_simulation.specs.Steps.{AreOfBlock}
-use Rattle.wb_simulation.specs.Behind.{IsCarried, HasRead}
+use Rattle.wb_simulation.specs.Behind.{HasRead}
 use Rattle.wb_simulation.proofs.Behind.{CarriesOthers, carried_with, card_there}
 
 -- ---- what reads give

@@ -14,10 +14,10 @@ use Rattle.wb_tasks.specs.declared.step.Migration.{Migration}
 use Rattle.wb_tasks.specs.declared.step.Want.{Want}
 use Rattle.wb_devices.specs.declared.devices.Devices.{Devices}
 use Rattle.wb_link.specs.Tables.{Script, Got, Done, Answer as AbstractAnswer, want}
-use Rattle.wb_link.specs.World.{World, Shared, Block, Nothing, Record, IsRun, after_all, effect, actor_after, task_after, Actor as AbstractActor}
+use Rattle.wb_link.specs.World.{World, Shared, Block, Nothing, after_all, effect, actor_after, task_after, Actor as AbstractActor}
 use Rattle.wb_link.proofs.Lists.{get_set_same, get_set_other}
 use Rattle.wb_refines.specs.Going.{records, shared_after, gone, MayGo}
-use Rattle.wb_refines.specs.Models.{WordsAgree, IsBelow}
+use Rattle.wb_refines.specs.Models.{WordsAgree}
 use Rattle.wb_refines.proofs.Going.{goes, with_own}
 use Rattle.wb_runs.specs.declared.job.Job.TheVariants.{Migrate}
 use Rattle.wb_runs.specs.States.{Actor}

@@ -1,31 +1,27 @@
 -- A promotion's steps on extents are followed by the one behind.
-use Rattle.std.proofs.Common.{◌≡◌, ◌≢◌, ◌<◌, ◌≤◌, ◌+◌, ◌*◌, ◌%◌, ◌∙◌, ◌⊎◌, inl, inr, ℕ, zero, suc, Bool, true, false, List, [], ◌∷◌, Option, Some, None, refl, sym, ap, subst, arith, length, map, take, drop, slice_get, slice_set}
+use Rattle.std.proofs.Common.{◌≡◌, ◌≢◌, ◌≤◌, ◌+◌, ◌*◌, ◌%◌, ◌∙◌, ◌⊎◌, inl, inr, ℕ, zero, suc, Bool, false, List, [], ◌∷◌, Option, Some, refl, sym, ap, subst, arith, length, map, take, drop, slice_get, slice_set}
 use Rattle.wb_types.specs.declared.extent.Extent.{Extent}
 use Rattle.wb_types.specs.declared.mode.Dev.{Dev}
 use Rattle.wb_types.specs.declared.mode.Dev.TheVariants.{Metadata, Cache, Origin}
-use Rattle.wb_types.specs.declared.number.OBlock.{OBlock}
 use Rattle.wb_types.specs.declared.number.CBlock.{CBlock}
 use Rattle.wb_types.specs.declared.refusal.Refusal.TheVariants.{Io}
 use Rattle.wb_disk.specs.Device.{Content, History, newest}
 use Rattle.wb_disk.specs.Extents.{GivesEach, written_each, written_where}
 use Rattle.wb_words.specs.SharedWords.{Words}
 use Rattle.wb_words.specs.declared.word.Access.TheVariants.{Owned}
-use Rattle.wb_words.specs.declared.card.Card.{Card}
-use Rattle.wb_words.specs.declared.card.Hold.TheVariants.{Held}
 use Rattle.wb_words.specs.declared.step.CellStep.TheVariants.{Release, SetFailed}
 use Rattle.wb_policy.specs.declared.order.Order.{Order}
-use Rattle.wb_tasks.specs.Tables.{BlockRange, Migrating, OnBlock}
-use Rattle.wb_tasks.specs.Plan.{Plan, want, after}
-use Rattle.wb_tasks.specs.Ready.{Has, Suits, IsJobs, IsRest, HoldsBlocks, source_of, target_of}
+use Rattle.wb_tasks.specs.Tables.{BlockRange, Migrating}
+use Rattle.wb_tasks.specs.Plan.{Plan}
+use Rattle.wb_tasks.specs.Ready.{Has, Suits, IsJobs, IsRest, source_of}
 use Rattle.wb_tasks.specs.declared.step.Answer.{Answer}
 use Rattle.wb_tasks.specs.declared.step.Answer.TheVariants.{Done as Finished, Refused as Refuses}
 use Rattle.wb_tasks.specs.declared.step.DeviceStep.TheVariants.{Read, Write}
 use Rattle.wb_tasks.specs.declared.step.DeskStep.TheVariants.{ReleaseOrder}
-use Rattle.wb_tasks.specs.declared.step.Got.TheVariants.{Done, Fault}
 use Rattle.wb_tasks.specs.declared.step.Migration.{Migration}
 use Rattle.wb_tasks.specs.declared.step.Migration.TheVariants.{Promote, Demote, Clean}
 use Rattle.wb_tasks.specs.declared.step.Want.{Want}
-use Rattle.wb_tasks.specs.declared.step.Want.TheVariants.{Cell, Device, Desk, End}
+use Rattle.wb_tasks.specs.declared.step.Want.TheVariants.{Cell, Device, Desk}
 use Rattle.wb_devices.specs.declared.devices.Devices.{Devices}
 use Rattle.wb_devices.specs.Moving.{device_in}
 use Rattle.wb_link.specs.Tables.{Order as AbstractOrder, Got as AbstractGot, Answer as AbstractAnswer, Io as AnsweredIo}
@@ -42,19 +38,18 @@ use Rattle.wb_refines.specs.Carried.{IsMigrationAt, AnswersAlike}
 use Rattle.wb_refines.proofs.Cells.{held_plain, saw_plain, same_images}
 use Rattle.wb_refines.proofs.Followed.{rest_plain}
 use Rattle.wb_refines.proofs.Copying.{copies_followed}
-use Rattle.wb_runs.specs.declared.job.Job.{Job}
 use Rattle.wb_runs.specs.declared.job.Job.TheVariants.{Migrate}
 use Rattle.wb_runs.specs.Effects.{contents_at}
 use Rattle.wb_runs.specs.Happenings.{IsMade}
 use Rattle.wb_runs.specs.States.{Actor, with_device}
 use Rattle.wb_simulation.specs.Steps.{AreOfBlock, ArePaired, IsNoWrite, IsWrittenNext, IsOutside, IsTail, IsLettingGo}
-use Rattle.wb_simulation.specs.Behind.{IsCarried, HasOrder, HasRead, live_there}
+use Rattle.wb_simulation.specs.Behind.{HasRead, live_there}
 use Rattle.wb_simulation.specs.Worlds.{zeros, Agrees, Stays}
 use Rattle.wb_simulation.specs.Promoting.{Carried}
 use Rattle.wb_simulation.proofs.Cells.{shared_stays, gone_nowhere}
 use Rattle.wb_simulation.proofs.Behind.{CarriesOthers, carried_with, past, stays_past, carries_same}
-use Rattle.wb_simulation.proofs.Moving.{words_beside, same_device}
-use Rattle.wb_simulation.proofs.Carrying.{Settles, settles_on, carries_by}
+use Rattle.wb_simulation.proofs.Moving.{words_beside}
+use Rattle.wb_simulation.proofs.Carrying.{settles_on, carries_by}
 use Rattle.wb_simulation.proofs.Promoting.{IsFound, only_who, only_there, own_aside, no_write_read, same_plan}
 
 -- ---- what a read of a device gives

@@ -1,5 +1,5 @@
 -- A whole block, however it is cut: its extents are of the block, and have each of its offsets.
-use Rattle.std.proofs.Common.{◌≡◌, ◌≤◌, ◌<◌, ◌+◌, ◌-◌, ◌*◌, ◌/◌, ◌%◌, ◌++◌, ◌∙◌, inl, inr, ℕ, zero, suc, List, [], ◌∷◌, refl, sym, ap, subst, arith, Contains}
+use Rattle.std.proofs.Common.{◌≡◌, ◌<◌, ◌+◌, ◌-◌, ◌*◌, ◌/◌, ◌%◌, ◌∙◌, inl, inr, ℕ, zero, suc, List, [], ◌∷◌, refl, sym, ap, subst, arith, Contains}
 use Rattle.std.proofs.lemmas.List.Elements.{Contains-append_cases, Contains-append_left, Contains-append_right}
 use Rattle.std.proofs.lemmas.List.Sorted.{Contains-permutation}
 use Rattle.std.proofs.lemmas.Nat.{div-mul-add, mod-mul-add}
@@ -7,7 +7,7 @@ use Rattle.wb_types.proofs.Lists.{Contains-first, Contains-behind, Contains-one}
 use Rattle.wb_types.specs.declared.extent.Extent.{Extent}
 use Rattle.wb_types.specs.declared.number.OBlock.{OBlock}
 use Rattle.wb_types.specs.Extents.{rising, sectors_in, sectors_of, IsCutInto}
-use Rattle.wb_tasks.specs.Tables.{BlockRange, whole_block}
+use Rattle.wb_tasks.specs.Tables.{whole_block}
 use Rattle.wb_link.specs.World.{Covers}
 use Rattle.wb_refines.specs.Translation.{offsets, offsets_in}
 use Rattle.wb_runs.proofs.Extents.{Within, AllWithin, cut_within}

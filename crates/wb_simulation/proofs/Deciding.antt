@@ -1,35 +1,31 @@
 -- What a promotion asks of the desk, and its answer, are followed by the one behind.
-use Rattle.std.proofs.Common.{◌≡◌, ◌≢◌, ◌<◌, ◌∙◌, ◌⊎◌, inl, inr, ℕ, Bool, true, false, List, [], ◌∷◌, Option, Some, None, ◌+◌, refl, sym, ap, subst, arith, length, slice_get, slice_set}
+use Rattle.std.proofs.Common.{◌≡◌, ◌≢◌, ◌∙◌, inl, inr, ℕ, Bool, List, [], ◌∷◌, Option, Some, None, ◌+◌, refl, sym, ap, subst, length, slice_get, slice_set}
 use Rattle.std.proofs.lemmas.Bool.{cases_eq}
 use Rattle.std.proofs.lemmas.List.{length-set}
-use Rattle.wb_types.specs.declared.number.OBlock.{OBlock}
 use Rattle.wb_types.specs.declared.number.CBlock.{CBlock}
 use Rattle.wb_types.specs.declared.refusal.Refusal.{Refusal}
-use Rattle.wb_disk.specs.Device.{Content, History}
+use Rattle.wb_disk.specs.Device.{History}
 use Rattle.wb_contents.specs.Volume.{changed}
 use Rattle.wb_contents.proofs.Positions.{changed_same, changed_other}
 use Rattle.wb_words.specs.SharedWords.{Words}
 use Rattle.wb_words.specs.declared.word.Access.TheVariants.{Owned}
 use Rattle.wb_words.specs.declared.step.CellStep.TheVariants.{Release}
 use Rattle.wb_policy.specs.declared.order.Order.{Order}
-use Rattle.wb_tasks.specs.Tables.{Migrating, OnBlock}
-use Rattle.wb_tasks.specs.Plan.{Plan, want, after, first_step}
+use Rattle.wb_tasks.specs.Tables.{Migrating}
+use Rattle.wb_tasks.specs.Plan.{Plan}
 use Rattle.wb_tasks.specs.Ready.{Has, Suits, IsRest}
-use Rattle.wb_tasks.specs.declared.step.Answer.{Answer}
 use Rattle.wb_tasks.specs.declared.step.Answer.TheVariants.{Done as Finished, Refused as Refuses}
 use Rattle.wb_tasks.specs.declared.step.DeskStep.TheVariants.{Map, ReleaseOrder}
-use Rattle.wb_tasks.specs.declared.step.Got.TheVariants.{Done, Refused}
 use Rattle.wb_tasks.specs.declared.step.Migration.{Migration}
 use Rattle.wb_tasks.specs.declared.step.Migration.TheVariants.{Promote}
 use Rattle.wb_tasks.specs.declared.step.Want.{Want}
-use Rattle.wb_tasks.specs.declared.step.Want.TheVariants.{Cell, Device, Desk, End}
+use Rattle.wb_tasks.specs.declared.step.Want.TheVariants.{Cell, Desk}
 use Rattle.wb_devices.specs.declared.devices.Devices.{Devices}
 use Rattle.wb_link.specs.Tables.{Order as AbstractOrder, Done as DoneThere, Short, Map_to, Give_up, Promoting, Failed as AnsweredFailed}
-use Rattle.wb_link.specs.World.{World, Shared, Block, Mapped, Nothing, Owns, effect, given_back, Actor as AbstractActor}
+use Rattle.wb_link.specs.World.{World, Mapped, Nothing, effect, given_back, Actor as AbstractActor}
 use Rattle.wb_link.proofs.Lists.{get_set_same, get_set_other}
-use Rattle.wb_refines.specs.Going.{shared_after, gone}
 use Rattle.wb_refines.specs.Translation.{offsets}
-use Rattle.wb_refines.specs.Models.{plan_of, held_of, held_for}
+use Rattle.wb_refines.specs.Models.{plan_of, held_of}
 use Rattle.wb_refines.specs.Migrations.{order_on, migration_wants, job_under}
 use Rattle.wb_refines.specs.Copies.{migrating}
 use Rattle.wb_refines.specs.Carrying.{GoesTo, without_block, under}
@@ -41,15 +37,14 @@ use Rattle.wb_refines.proofs.Followed.{rest_plain}
 use Rattle.wb_runs.specs.declared.job.Job.TheVariants.{Migrate}
 use Rattle.wb_runs.specs.Effects.{dropped}
 use Rattle.wb_runs.specs.States.{Actor}
-use Rattle.wb_simulation.specs.Steps.{AreOfBlock, ArePaired, IsLettingGo}
+use Rattle.wb_simulation.specs.Steps.{IsLettingGo}
 use Rattle.wb_simulation.specs.Worlds.{Agrees, Stays, Maps, GivesUp}
-use Rattle.wb_simulation.specs.Laws.{after_step}
 use Rattle.wb_simulation.specs.Promoting.{Carried}
-use Rattle.wb_simulation.proofs.Behind.{past, stays_past, stays_with, carries_same}
+use Rattle.wb_simulation.proofs.Behind.{past, stays_past, carries_same}
 use Rattle.wb_simulation.proofs.Beside.{carries_newest}
-use Rattle.wb_simulation.proofs.Carrying.{settles_on, settles_over, carries_by, carries_nothing}
+use Rattle.wb_simulation.proofs.Carrying.{settles_on, settles_over, carries_by}
 use Rattle.wb_simulation.proofs.Promoting.{IsFound, only_who, only_there, own_aside, no_write_read, same_plan}
-use Rattle.wb_simulation.proofs.Copying.{carry_on, at, at_again, y_is, y_has, plan_is, task, of_block, paired, live_is, GoesOn}
+use Rattle.wb_simulation.proofs.Copying.{carry_on, at, at_again, y_is, y_has, plan_is, task, of_block, paired, live_is}
 
 module _ (size most blocks : ℕ) (words : Words) (committing : Bool) (orders : List (Option Order)) (devices : Devices (List History)) (actors : List Actor) (a : ℕ) (x : Actor) (s : World) (g : Agrees size most words committing orders devices actors s) (ex : slice_get actors a ≡ Some x)
     (f : IsFound size most words committing orders devices actors a x s g) (ws : List Want) where

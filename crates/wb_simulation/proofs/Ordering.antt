@@ -1,5 +1,5 @@
 -- A promotion's start is followed: under an order that is given, or once more under the one that its actor keeps.
-use Rattle.std.proofs.Common.{◌≡◌, ◌≢◌, ◌<◌, ◌+◌, ◌^◌, ◌∙◌, ◌⊎◌, inl, inr, ℕ, Bool, true, false, List, [], ◌∷◌, Option, Some, None, refl, sym, ap, subst, arith, length, slice_get, slice_set, Contains}
+use Rattle.std.proofs.Common.{◌≡◌, ◌≢◌, ◌<◌, ◌+◌, ◌^◌, ◌∙◌, inl, inr, ℕ, Bool, true, List, [], ◌∷◌, Option, Some, None, refl, sym, ap, subst, arith, length, slice_get, slice_set, Contains}
 use Rattle.std.proofs.lemmas.Bool.{cases_eq}
 use Rattle.std.proofs.lemmas.List.{length-set}
 use Rattle.wb_types.proofs.Lists.{Contains-first}
@@ -10,18 +10,18 @@ use Rattle.wb_types.specs.declared.mode.Mode.TheVariants.{Writeback, Passthrough
 use Rattle.wb_types.specs.Extents.{IsCutInto}
 use Rattle.wb_disk.specs.Device.{History}
 use Rattle.wb_contents.specs.Volume.{changed}
-use Rattle.wb_contents.proofs.Positions.{changed_same, changed_other}
+use Rattle.wb_contents.proofs.Positions.{changed_other}
 use Rattle.wb_words.specs.SharedWords.{Words, flag}
 use Rattle.wb_words.specs.declared.card.Hold.TheVariants.{Nothing as HoldsNothing}
 use Rattle.wb_policy.specs.declared.order.Order.{Order}
 use Rattle.wb_policy.specs.declared.order.Order.TheVariants.{Promote as PromoteOrder}
-use Rattle.wb_tasks.specs.Tables.{BlockRange, Migrating, OnBlock, whole_block}
+use Rattle.wb_tasks.specs.Tables.{BlockRange, whole_block}
 use Rattle.wb_tasks.specs.Plan.{Plan}
 use Rattle.wb_tasks.specs.declared.step.Migration.{Migration}
 use Rattle.wb_tasks.specs.declared.step.Migration.TheVariants.{Promote}
 use Rattle.wb_devices.specs.declared.devices.Devices.{Devices}
 use Rattle.wb_link.specs.Tables.{Job as AbstractJob, Order as AbstractOrder, Promoting, Finished as AnsweredDone}
-use Rattle.wb_link.specs.World.{World, Shared, Block, Free, Mapped, Reserved, Start, Again, Apart, Ungiven, MayStart, MayAgain, Waits, Actor as AbstractActor, is_alone, Nothing}
+use Rattle.wb_link.specs.World.{World, Block, Free, Mapped, Reserved, Start, Again, Apart, Ungiven, MayStart, MayAgain, Actor as AbstractActor, Nothing}
 use Rattle.wb_link.proofs.Lists.{get_set_same, get_set_other}
 use Rattle.wb_refines.specs.Tasks.{IsIdle, AllInBlocks}
 use Rattle.wb_refines.specs.Models.{held_of, IsBelow}
@@ -36,10 +36,10 @@ use Rattle.wb_runs.specs.declared.job.Job.TheVariants.{Migrate}
 use Rattle.wb_runs.specs.States.{Actor}
 use Rattle.wb_simulation.specs.Steps.{IsPart, IsOutside}
 use Rattle.wb_simulation.specs.Actors.{IsBusyAt, StandsFor}
-use Rattle.wb_simulation.specs.Behind.{IsCarried, IsUnused, IsUncarried, StandsBehind, order_there, live_there}
+use Rattle.wb_simulation.specs.Behind.{IsCarried, IsUnused, StandsBehind, order_there, live_there}
 use Rattle.wb_simulation.specs.Worlds.{Agrees, Stays, Reserves, TurnedTo, DeskTurnedTo}
 use Rattle.wb_simulation.specs.Promoting.{Carried, IsUngiven, promotion, begun}
-use Rattle.wb_simulation.proofs.Behind.{is_inside, there_is, stays_with, carries_same}
+use Rattle.wb_simulation.proofs.Behind.{carries_same}
 use Rattle.wb_simulation.proofs.Beside.{carries_newest}
 use Rattle.wb_simulation.proofs.Cut.{whole_part, whole_covered}
 use Rattle.wb_simulation.proofs.Among.{behind_there, at_place, nobody_alone}

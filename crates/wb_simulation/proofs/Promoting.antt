@@ -1,5 +1,5 @@
 -- Where a migration of the run is carried, and its steps on the shared words.
-use Rattle.std.proofs.Common.{◌≡◌, ◌≢◌, ◌<◌, ◌+◌, ◌^◌, ◌==◌, ◌∙◌, ◌⊎◌, inl, inr, cond, if◌then◌else◌, ℕ, Bool, true, false, List, [], ◌∷◌, Option, Some, None, refl, sym, ap, subst, arith, length, slice_get, slice_set}
+use Rattle.std.proofs.Common.{◌≡◌, ◌≢◌, ◌<◌, ◌+◌, ◌^◌, ◌==◌, ◌∙◌, ◌⊎◌, inl, inr, if◌then◌else◌, ℕ, Bool, true, false, List, [], ◌∷◌, Option, Some, None, refl, sym, ap, subst, arith, length, slice_get, slice_set}
 use Rattle.wb_types.specs.declared.number.OBlock.{OBlock}
 use Rattle.wb_types.specs.declared.number.CBlock.{CBlock}
 use Rattle.wb_disk.specs.Device.{Content, History}
@@ -15,7 +15,7 @@ use Rattle.wb_words.specs.declared.word.Word.TheVariants.{Cell as LockWord, Seal
 use Rattle.wb_policy.specs.declared.order.Order.{Order}
 use Rattle.wb_tasks.specs.Tables.{BlockRange, Migrating, OnBlock}
 use Rattle.wb_tasks.specs.Plan.{Plan, want, after, got_of, first_step, work_of, onward, refused, may_take, exchange}
-use Rattle.wb_tasks.specs.Ready.{Has, Suits, source_of}
+use Rattle.wb_tasks.specs.Ready.{Has, Suits}
 use Rattle.wb_tasks.specs.declared.step.DeskStep.TheVariants.{ReleaseOrder}
 use Rattle.wb_types.specs.declared.refusal.Refusal.TheVariants.{Failed, Busy}
 use Rattle.wb_words.specs.declared.word.Access.{Access}
@@ -31,12 +31,10 @@ use Rattle.wb_tasks.specs.declared.step.Migration.TheVariants.{Promote, Demote, 
 use Rattle.wb_tasks.specs.declared.step.Want.{Want}
 use Rattle.wb_tasks.specs.declared.step.Want.TheVariants.{Cell, Device, Desk, End}
 use Rattle.wb_devices.specs.declared.devices.Devices.{Devices}
-use Rattle.wb_devices.specs.Moving.{device_in}
-use Rattle.wb_link.specs.World.{World, Shared, Block, Nothing, Actor as AbstractActor}
+use Rattle.wb_link.specs.World.{World, Shared, Block, Actor as AbstractActor}
 use Rattle.wb_refines.specs.Going.{shared_after, gone}
-use Rattle.wb_refines.specs.Data.{row}
-use Rattle.wb_refines.specs.Models.{IsBelow, TakesBeside, plan_of, held_of, held_for}
-use Rattle.wb_refines.specs.Migrations.{order_on, source, migration_wants, job_under, IsWhere, Fills}
+use Rattle.wb_refines.specs.Models.{TakesBeside, plan_of, held_of, held_for}
+use Rattle.wb_refines.specs.Migrations.{order_on, migration_wants, job_under, IsWhere, Fills}
 use Rattle.wb_refines.specs.Carried.{IsMigrationAt, FollowsMigration}
 use Rattle.wb_refines.proofs.Carried.{migration_cells_followed}
 use Rattle.wb_refines.proofs.Holding.{holds_nothing}
@@ -48,15 +46,15 @@ use Rattle.wb_runs.specs.Happenings.{IsMade}
 use Rattle.wb_runs.specs.States.{Actor}
 use Rattle.wb_runs.specs.Holding.{cards_of}
 use Rattle.wb_simulation.specs.Steps.{AreOfBlock, ArePaired, IsNoWrite, IsOutside, IsTail, IsLettingGo}
-use Rattle.wb_simulation.specs.Actors.{IsAside, IsBusyAt, StandsFor}
-use Rattle.wb_simulation.specs.Behind.{IsCarried, HasKept, HasOrder, HasRead, IsUncarried, StandsBehind, AreOutside, live_there}
+use Rattle.wb_simulation.specs.Actors.{IsBusyAt, StandsFor}
+use Rattle.wb_simulation.specs.Behind.{IsCarried, HasOrder, HasRead, StandsBehind, AreOutside, live_there}
 use Rattle.wb_simulation.specs.Worlds.{Agrees, Stays}
 use Rattle.wb_simulation.specs.Laws.{went}
 use Rattle.wb_simulation.specs.Promoting.{Carried}
 use Rattle.wb_simulation.proofs.Steps.{AreCopies, after_cell, promotion_works}
 use Rattle.wb_simulation.proofs.Cells.{tells}
 use Rattle.wb_simulation.proofs.Behind.{StaysOutside, stays_looking, past, carries_same}
-use Rattle.wb_simulation.proofs.Among.{own_there, behind_there, below_beside, failed_stays}
+use Rattle.wb_simulation.proofs.Among.{behind_there, below_beside, failed_stays}
 use Rattle.wb_simulation.proofs.Carrying.{Settles, settles_on, settles_over, carries_by, carries_nothing}
 use Rattle.wb_simulation.proofs.Followed.{doing_of, begins_by}
 use Rattle.wb_simulation.proofs.Behind.{there_is}

@@ -12,7 +12,7 @@ use Rattle.wb_link.specs.World.{World, Start, Actor as AbstractActor, is_alone}
 use Rattle.wb_refines.specs.Translation.{job_for}
 use Rattle.wb_refines.specs.Models.{IsAt}
 use Rattle.wb_refines.specs.Flushes.{IsFlushing}
-use Rattle.wb_refines.specs.Tasks.{IsIdle, NobodyIsAlone, AllInBlocks, Starts as CanStart}
+use Rattle.wb_refines.specs.Tasks.{IsIdle, AllInBlocks, Starts as CanStart}
 use Rattle.wb_refines.proofs.Holding.{holds_nothing}
 use Rattle.wb_refines.proofs.Locks.{has_no_more}
 use Rattle.wb_refines.proofs.Tasks.{tasks_begin}

@@ -16,7 +16,7 @@ use Rattle.wb_words.specs.declared.card.Hold.TheVariants.{Nothing}
 use Rattle.wb_words.specs.declared.step.CellStep.{CellStep}
 use Rattle.wb_policy.specs.declared.order.Order.{Order}
 use Rattle.wb_policy.specs.declared.order.Order.TheVariants.{Promote as PromoteOrder}
-use Rattle.wb_tasks.specs.Tables.{BlockRange, Migrating, OnBlock, whole_block}
+use Rattle.wb_tasks.specs.Tables.{Migrating, OnBlock, whole_block}
 use Rattle.wb_tasks.specs.Plan.{Plan, table, want, after}
 use Rattle.wb_tasks.specs.Ready.{Suits}
 use Rattle.wb_tasks.specs.declared.step.Answer.{Answer}
