@@ -50,7 +50,7 @@ use Rattle.wb_simulation.proofs.Cells.{shared_stays, gone_nowhere}
 use Rattle.wb_simulation.proofs.Behind.{CarriesOthers, carried_with, past, stays_past, carries_same}
 use Rattle.wb_simulation.proofs.Moving.{words_beside}
 use Rattle.wb_simulation.proofs.Carrying.{settles_on, carries_by}
-use Rattle.wb_simulation.proofs.Promoting.{IsFound, only_who, only_there, own_aside, no_write_read, same_plan}
+use Rattle.wb_simulation.proofs.Found.{IsFound, only_who, only_there, own_aside, plan_is, task_at, of_block_at, paired_at, no_write_read, same_plan}
 
 -- ---- what a read of a device gives
 
@@ -95,20 +95,8 @@ module _ (size most blocks : ℕ) (words : Words) (committing : Bool) (orders : 
   abbrev plan : Plan
   plan = plan_of (Migrating migration part) (next ∷ ws) f.is.plan.answer
 
-  pub plan_is : f.is.plan ≡ plan
-  plan_is = λ i. record { job = f.is.job i; steps = steps i; answer = f.is.plan.answer }
-
-  pub task : x.task ≡ Some (Migrate migration f.is.block, plan)
-  task = f.is.task ∙ ap (λ (q : Plan). Some (Migrate migration f.is.block, q)) plan_is
-
-  pub of_block : AreOfBlock size part.block.0 (next ∷ ws)
-  of_block = subst (λ (us : List Want). AreOfBlock size part.block.0 us) steps f.is.of_block
-
-  pub paired : ArePaired size (next ∷ ws)
-  paired = subst (λ (us : List Want). ArePaired size us) steps f.is.paired
-
   pub at : IsMigrationAt part cache f.is.next migration (live_there f.c f.order) plan x.card f.y
-  at = subst (λ (q : Plan). IsMigrationAt part cache f.is.next migration (live_there f.c f.order) q x.card f.y) plan_is f.is.at
+  at = subst (λ (q : Plan). IsMigrationAt part cache f.is.next migration (live_there f.c f.order) q x.card f.y) (plan_is size most words committing orders devices actors a x s g f next ws steps) f.is.at
 
   -- its order is live
   pub live_is : live_there f.c f.order ≡ Some own
@@ -164,7 +152,7 @@ module _ (size most blocks : ℕ) (words : Words) (committing : Bool) (orders : 
   carry_on within us answer buffer devices' results t z may shared_is gone_is at' on w origin cache_is k carries =
       let x' = left_with us answer buffer in
       let left = plan_of (Migrating migration part) us answer in
-      let outside = stays_past words x x' (past x (Migrate migration f.is.block) plan next ws task refl within) in
+      let outside = stays_past words x x' (past x (Migrate migration f.is.block) plan next ws (task_at size most words committing orders devices actors a x s g f next ws steps) refl within) in
       carries_by size most words words (λ e. e) committing orders orders devices devices' actors a x x' s g ex f.c f.order f.order refl (λ d n. refl) f.live f.live
       (only_who size most words committing orders devices actors a x s g ex f) (only_there size most words committing orders devices actors a x s g ex f) outside Stays f.y f.there results t z may shared_is gone_is us
       (settles_on size words devices' (slice_set actors a x') f.c f.order (t.blocks f.c) a s.actors (length actors + f.c) t z x' us (get_set_same actors a x x' ex) (record {
@@ -191,7 +179,7 @@ module _ (size most blocks : ℕ) (words : Words) (committing : Bool) (orders : 
       }))
       (λ m b p e. ap (λ (q : Plan). q.steps) (same_plan x'.task (Migrate m b) (Migrate migration f.is.block) p left e refl))
       w origin cache_is k.mode k.committing k.broken (k.committed, k.running, k.root_written) (k.mapping, k.blocks) carries
-      (own_aside size most words committing orders devices actors a x s g ex words (λ e. e) x' migration f.is.block plan left task refl outside)
+      (own_aside size most words committing orders devices actors a x s g ex words (λ e. e) x' migration f.is.block plan left (task_at size most words committing orders devices actors a x s g f next ws steps) refl outside)
 
 -- ---- a read that is done
 
@@ -202,13 +190,13 @@ module _ (size most blocks : ℕ) (words : Words) (committing : Bool) (orders : 
       Carried Stays size most a s words committing orders devices actors (record x { task = Some (Migrate f.is.migration f.is.block, plan_of (Migrating f.is.migration f.is.part) ws f.is.plan.answer); buffer = contents_at (device_in device devices) e })
   reads (Device (Write to r) ∷ later) steps room written =
       let given = given_from (device_in device devices) e.first e.count room in
-      let of = of_block size most blocks words committing orders devices actors a x s g ex f (Device (Read device e)) (Device (Write to r) ∷ later) steps (λ n. n) in
+      let of = of_block_at size most words committing orders devices actors a x s g f (Device (Read device e)) (Device (Write to r) ∷ later) steps in
       let is = at size most blocks words committing orders devices actors a x s g ex f (Device (Read device e)) (Device (Write to r) ∷ later) steps (λ n. n) in
       carry_on size most blocks words committing orders devices actors a x s g ex f (Device (Read device e)) (Device (Write to r) ∷ later) steps (λ n. n) (λ o. o) (Device (Write to r) ∷ later) f.is.plan.answer (contents_at (device_in device devices) e) devices [] s.shared f.y tt
       (shared_stays s.shared f.y f.y.task) (gone_nowhere f.y f.y.task) (record { answer = is.answer; buffer = is.buffer; is = is.is; alike = is.alike; saw = tt })
       (record {
         of_block = of.1;
-        paired = (paired size most blocks words committing orders devices actors a x s g ex f (Device (Read device e)) (Device (Write to r) ∷ later) steps (λ n. n)).1;
+        paired = (paired_at size most words committing orders devices actors a x s g f (Device (Read device e)) (Device (Write to r) ∷ later) steps).1;
         some = λ n. absurd (cc);
         answers = elim f.is.answers [ inl l ↦ absurd (subst (λ (us : List Want). IsLettingGo us) steps l) | inr q ↦ inr q ];
         read = (given.0 ∙ sym written.0, from f.is.migration f.is.made reads_from of.0 given.1);
@@ -216,7 +204,7 @@ module _ (size most blocks : ℕ) (words : Words) (committing : Bool) (orders : 
       g.words_agree g.origin g.cache (same_images s.shared) (carries_same size devices actors a s.shared.blocks s.shared.blocks refl)
     where
       reads_from : IsJobs (Migrating f.is.migration f.is.part) (Read device e)
-      reads_from = (subst (λ (q : Plan). Suits blocks q x.card) (plan_is size most blocks words committing orders devices actors a x s g ex f (Device (Read device e)) (Device (Write to r) ∷ later) steps (λ n. n)) suits).1.1.1.0
+      reads_from = (subst (λ (q : Plan). Suits blocks q x.card) (plan_is size most words committing orders devices actors a x s g f (Device (Read device e)) (Device (Write to r) ∷ later) steps) suits).1.1.1.0
 
       from : (m : Migration) → IsMade m → IsJobs (Migrating m f.is.part) (Read device e) → IsInBlock size f.is.part.block.0 device e → GivesEach (device_in device devices) e.first (contents_at (device_in device devices) e) →
           GivesEach (device_in (source_of m) devices) (row (source (order_on f.is.part (record { 0 = f.c }) f.is.next) m) f.is.part.block.0 * size + r.first % size) (contents_at (device_in device devices) e)
@@ -292,16 +280,16 @@ module _ (size most blocks : ℕ) (words : Words) (committing : Bool) (orders : 
 
   module _ (ws : List Want) (steps : f.is.plan.steps ≡ Device (Write device e) ∷ ws) (suits : Suits blocks f.is.plan x.card) (room : e.first + e.count ≤ length (device_in device devices)) where
     suits_now : Has (Migrating f.is.migration f.is.part) x.card (Device (Write device e) ∷ ws)
-    suits_now = (subst (λ (q : Plan). Suits blocks q x.card) (plan_is size most blocks words committing orders devices actors a x s g ex f (Device (Write device e)) ws steps (λ n. n)) suits).1
+    suits_now = (subst (λ (q : Plan). Suits blocks q x.card) (plan_is size most words committing orders devices actors a x s g f (Device (Write device e)) ws steps) suits).1
 
     rest : IsRest (Migrating f.is.migration f.is.part) suits_now.1.0 ws
     rest = suits_now.1.1.1
 
     still_paired : IsNoWrite ws × ArePaired size ws
-    still_paired = paired size most blocks words committing orders devices actors a x s g ex f (Device (Write device e)) ws steps (λ n. n)
+    still_paired = paired_at size most words committing orders devices actors a x s g f (Device (Write device e)) ws steps
 
     in_block : IsInBlock size f.is.part.block.0 device e × AreOfBlock size f.is.part.block.0 ws
-    in_block = of_block size most blocks words committing orders devices actors a x s g ex f (Device (Write device e)) ws steps (λ n. n)
+    in_block = of_block_at size most words committing orders devices actors a x s g f (Device (Write device e)) ws steps
 
     has_read : HasRead size (device_in (source_of f.is.migration) devices) (row source_is f.is.part.block.0) (Device (Write device e) ∷ ws) x.buffer
     has_read = subst (λ (us : List Want). HasRead size (device_in (source_of f.is.migration) devices) (row source_is f.is.part.block.0) us x.buffer) steps f.is.buffer
@@ -337,8 +325,8 @@ module _ (size most blocks : ℕ) (words : Words) (committing : Bool) (orders : 
       (record x { task = Some (Migrate f.is.migration f.is.block, plan_of (Migrating f.is.migration f.is.part) (Cell (Release Owned f.is.part.block) ∷ Desk (ReleaseOrder f.is.part.block) ∷ []) (Refuses (Io from))) })
   read_falls from r later steps suits =
       let here = at size most blocks words committing orders devices actors a x s g ex f (Device (Read from r)) (Device (Write device e) ∷ later) steps (λ n. n) in
-      let hold = (subst (λ (q : Plan). Suits blocks q x.card) (plan_is size most blocks words committing orders devices actors a x s g ex f (Device (Read from r)) (Device (Write device e) ∷ later) steps (λ n. n)) suits).1.0 in
-      let in_block = (of_block size most blocks words committing orders devices actors a x s g ex f (Device (Read from r)) (Device (Write device e) ∷ later) steps (λ n. n)).1.0 in
+      let hold = (subst (λ (q : Plan). Suits blocks q x.card) (plan_is size most words committing orders devices actors a x s g f (Device (Read from r)) (Device (Write device e) ∷ later) steps) suits).1.0 in
+      let in_block = (of_block_at size most words committing orders devices actors a x s g f (Device (Read from r)) (Device (Write device e) ∷ later) steps).1.0 in
       copy_on (Device (Read from r)) (Device (Write device e) ∷ later) steps (λ n. n) (λ o. o) (Cell (Release Owned f.is.part.block) ∷ Desk (ReleaseOrder f.is.part.block) ∷ []) AnsweredIo (Refuses (Io from)) read_fault (device_in device devices) (ap held_of hold) (ap held_of hold) (λ n. absurd (cc)) tt
       (copies_followed.read_fails size zeros s.actors (length actors + f.c) s.shared (order_on f.is.part (record { 0 = f.c }) f.is.next) (offsets size f.is.part.extents) f.is.migration f.is.part.block from device r e later here.answer here.buffer (device_in device devices) refl in_block (side_to device on_cache))
       (record { of_block = tt; paired = (tt, (tt, tt)); some = λ n. absurd (cc); answers = inl tt; read = tt })

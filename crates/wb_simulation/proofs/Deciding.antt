@@ -43,8 +43,8 @@ use Rattle.wb_simulation.specs.Promoting.{Carried}
 use Rattle.wb_simulation.proofs.Behind.{past, stays_past, carries_same}
 use Rattle.wb_simulation.proofs.Beside.{carries_newest}
 use Rattle.wb_simulation.proofs.Carrying.{settles_on, settles_over, carries_by}
-use Rattle.wb_simulation.proofs.Promoting.{IsFound, only_who, only_there, own_aside, no_write_read, same_plan}
-use Rattle.wb_simulation.proofs.Copying.{carry_on, at, at_again, y_is, y_has, plan_is, task, of_block, paired, live_is}
+use Rattle.wb_simulation.proofs.Found.{IsFound, only_who, only_there, own_aside, plan_is, task_at, of_block_at, paired_at, no_write_read, same_plan}
+use Rattle.wb_simulation.proofs.Copying.{carry_on, at, at_again, y_is, y_has, live_is}
 
 module _ (size most blocks : ℕ) (words : Words) (committing : Bool) (orders : List (Option Order)) (devices : Devices (List History)) (actors : List Actor) (a : ℕ) (x : Actor) (s : World) (g : Agrees size most words committing orders devices actors s) (ex : slice_get actors a ≡ Some x)
     (f : IsFound size most words committing orders devices actors a x s g) (ws : List Want) where
@@ -69,7 +69,7 @@ module _ (size most blocks : ℕ) (words : Words) (committing : Bool) (orders : 
     here = at size most blocks words committing orders devices actors a x s g ex f (Desk (Map f.is.part.block c)) ws steps (λ n. n)
 
     suits_now : Has (Migrating f.is.migration f.is.part) x.card (Desk (Map f.is.part.block c) ∷ ws)
-    suits_now = (subst (λ (q : Plan). Suits blocks q x.card) (plan_is size most blocks words committing orders devices actors a x s g ex f (Desk (Map f.is.part.block c)) ws steps (λ n. n)) suits).1
+    suits_now = (subst (λ (q : Plan). Suits blocks q x.card) (plan_is size most words committing orders devices actors a x s g f (Desk (Map f.is.part.block c)) ws steps) suits).1
 
     promotes : f.is.migration ≡ Promote c
     promotes = suits_now.1.1.0.1
@@ -105,9 +105,9 @@ module _ (size most blocks : ℕ) (words : Words) (committing : Bool) (orders : 
         let goes = subst (λ (v : AbstractActor). GoesTo s.actors (length actors + f.c) s.shared v (DoneThere ∷ DoneThere ∷ []) t z) (sym y_there) to in
         let left = plan_of (Migrating f.is.migration f.is.part) ws f.is.plan.answer in
         let x' = record x { task = Some (Migrate f.is.migration f.is.block, left); orders = dropped f.is.part.block x.orders } in
-        let now = task size most blocks words committing orders devices actors a x s g ex f (Desk (Map f.is.part.block c)) ws steps (λ n. n) in
+        let now = task_at size most words committing orders devices actors a x s g f (Desk (Map f.is.part.block c)) ws steps in
         let outside = stays_past words x x' (past x (Migrate f.is.migration f.is.block) (plan_of (Migrating f.is.migration f.is.part) (Desk (Map f.is.part.block c) ∷ ws) f.is.plan.answer) (Desk (Map f.is.part.block c)) ws now refl (λ o. o)) in
-        let ordered = paired size most blocks words committing orders devices actors a x s g ex f (Desk (Map f.is.part.block c)) ws steps (λ n. n) in
+        let ordered = paired_at size most words committing orders devices actors a x s g f (Desk (Map f.is.part.block c)) ws steps in
         let plain = rest_plain (Migrating f.is.migration f.is.part) suits_now.1.0 ws rest in
         let done_is : f.is.plan.answer ≡ Finished = elim f.is.answers [ inl l ↦ absurd (subst (λ (us : List Want). IsLettingGo us) steps l) | inr q ↦ q ] in
         carries_by size most words words (λ e. e) committing orders (slice_set orders f.c None) devices devices actors a x x' s g ex f.c f.order None over_length over_beside f.live over_here
@@ -125,7 +125,7 @@ module _ (size most blocks : ℕ) (words : Words) (committing : Bool) (orders : 
           is_part = f.is.is_part;
           small = f.is.small;
           fills = f.is.fills;
-          of_block = of_block size most blocks words committing orders devices actors a x s g ex f (Desk (Map f.is.part.block c)) ws steps (λ n. n);
+          of_block = of_block_at size most words committing orders devices actors a x s g f (Desk (Map f.is.part.block c)) ws steps;
           paired = ordered.2;
           unfinished = λ n. subst (λ (us : List Want). IsRest (Migrating f.is.migration f.is.part) suits_now.1.0 us) n rest;
           answers = inr done_is;
@@ -149,7 +149,7 @@ module _ (size most blocks : ℕ) (words : Words) (committing : Bool) (orders : 
     there = at size most blocks words committing orders devices actors a x s g ex f (Desk (ReleaseOrder f.is.part.block)) ws steps (λ n. n)
 
     suits_here : Has (Migrating f.is.migration f.is.part) x.card (Desk (ReleaseOrder f.is.part.block) ∷ ws)
-    suits_here = (subst (λ (q : Plan). Suits blocks q x.card) (plan_is size most blocks words committing orders devices actors a x s g ex f (Desk (ReleaseOrder f.is.part.block)) ws steps (λ n. n)) suits).1
+    suits_here = (subst (λ (q : Plan). Suits blocks q x.card) (plan_is size most words committing orders devices actors a x s g f (Desk (ReleaseOrder f.is.part.block)) ws steps) suits).1
 
     pub given_up : Carried (GivesUp f.c) size most a s words committing (slice_set orders f.c None) devices actors
         (record x { task = Some (Migrate f.is.migration f.is.block, plan_of (Migrating f.is.migration f.is.part) ws f.is.plan.answer); orders = dropped f.is.part.block x.orders })
@@ -160,7 +160,7 @@ module _ (size most blocks : ℕ) (words : Words) (committing : Bool) (orders : 
         let goes = subst (λ (v : AbstractActor). GoesTo s.actors (length actors + f.c) s.shared v (DoneThere ∷ []) t z) (sym is) (carrying_followed.gives_up size s.actors (length actors + f.c) s.shared own os f.is.migration f.is.part.block ws there.answer there.buffer) in
         let left = plan_of (Migrating f.is.migration f.is.part) ws f.is.plan.answer in
         let x' = record x { task = Some (Migrate f.is.migration f.is.block, left); orders = dropped f.is.part.block x.orders } in
-        let now = task size most blocks words committing orders devices actors a x s g ex f (Desk (ReleaseOrder f.is.part.block)) ws steps (λ n. n) in
+        let now = task_at size most words committing orders devices actors a x s g f (Desk (ReleaseOrder f.is.part.block)) ws steps in
         let outside = stays_past words x x' (past x (Migrate f.is.migration f.is.block) (plan_of (Migrating f.is.migration f.is.part) (Desk (ReleaseOrder f.is.part.block) ∷ ws) f.is.plan.answer) (Desk (ReleaseOrder f.is.part.block)) ws now refl (λ o. o)) in
         let nothing : ws ≡ [] = suits_here.2 in
         carries_by size most words words (λ e. e) committing orders (slice_set orders f.c None) devices devices actors a x x' s g ex f.c f.order None over_length over_beside f.live over_here

@@ -6,6 +6,7 @@ mod Telling
 mod Cells
 mod Among
 mod Carrying
+mod Found
 mod Promoting
 mod Copying
 mod Deciding

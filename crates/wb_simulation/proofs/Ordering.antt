@@ -44,7 +44,7 @@ use Rattle.wb_simulation.proofs.Beside.{carries_newest}
 use Rattle.wb_simulation.proofs.Cut.{whole_part, whole_covered}
 use Rattle.wb_simulation.proofs.Among.{behind_there, at_place, nobody_alone}
 use Rattle.wb_simulation.proofs.Carrying.{agrees_then, carries_nothing}
-use Rattle.wb_simulation.proofs.Promoting.{found, same_plan}
+use Rattle.wb_simulation.proofs.Found.{found, same_plan}
 use Rattle.wb_words.specs.declared.card.Card.{Card}
 
 -- no task is one

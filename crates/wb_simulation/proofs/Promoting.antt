@@ -1,8 +1,8 @@
--- Where a migration of the run is carried, and its steps on the shared words.
+-- A promotion's steps on the shared words are followed by the one behind.
 use Rattle.std.proofs.Common.{◌≡◌, ◌≢◌, ◌<◌, ◌+◌, ◌^◌, ◌==◌, ◌∙◌, ◌⊎◌, inl, inr, if◌then◌else◌, ℕ, Bool, true, false, List, [], ◌∷◌, Option, Some, None, refl, sym, ap, subst, arith, length, slice_get, slice_set}
 use Rattle.wb_types.specs.declared.number.OBlock.{OBlock}
 use Rattle.wb_types.specs.declared.number.CBlock.{CBlock}
-use Rattle.wb_disk.specs.Device.{Content, History}
+use Rattle.wb_disk.specs.Device.{History}
 use Rattle.wb_words.specs.SharedWords.{Words, flag, fail_word, word_at, place_in, dirty_in}
 use Rattle.wb_words.specs.Rule.{LockRule}
 use Rattle.wb_words.specs.Effects.{result_of, words_after, card_after}
@@ -29,145 +29,40 @@ use Rattle.wb_tasks.specs.declared.step.Answer.{Answer}
 use Rattle.wb_tasks.specs.declared.step.Migration.{Migration}
 use Rattle.wb_tasks.specs.declared.step.Migration.TheVariants.{Promote, Demote, Clean}
 use Rattle.wb_tasks.specs.declared.step.Want.{Want}
-use Rattle.wb_tasks.specs.declared.step.Want.TheVariants.{Cell, Device, Desk, End}
+use Rattle.wb_tasks.specs.declared.step.Want.TheVariants.{Cell, Desk}
 use Rattle.wb_devices.specs.declared.devices.Devices.{Devices}
 use Rattle.wb_link.specs.World.{World, Shared, Block, Actor as AbstractActor}
 use Rattle.wb_refines.specs.Going.{shared_after, gone}
-use Rattle.wb_refines.specs.Models.{TakesBeside, plan_of, held_of, held_for}
+use Rattle.wb_refines.specs.Models.{plan_of, held_of, held_for}
 use Rattle.wb_refines.specs.Migrations.{order_on, migration_wants, job_under, IsWhere, Fills}
 use Rattle.wb_refines.specs.Carried.{IsMigrationAt, FollowsMigration}
 use Rattle.wb_refines.proofs.Carried.{migration_cells_followed}
-use Rattle.wb_refines.proofs.Holding.{holds_nothing}
-use Rattle.wb_tasks.specs.declared.step.DeviceStep.TheVariants.{Read, Write, Sync, ReadMetadata, WriteNode, WriteRoot}
 use Rattle.wb_runs.proofs.Suiting.{cell_fits}
 use Rattle.wb_runs.specs.declared.job.Job.{Job}
 use Rattle.wb_runs.specs.declared.job.Job.TheVariants.{Migrate}
 use Rattle.wb_runs.specs.Happenings.{IsMade}
 use Rattle.wb_runs.specs.States.{Actor}
 use Rattle.wb_runs.specs.Holding.{cards_of}
-use Rattle.wb_simulation.specs.Steps.{AreOfBlock, ArePaired, IsNoWrite, IsOutside, IsTail, IsLettingGo}
-use Rattle.wb_simulation.specs.Actors.{IsBusyAt, StandsFor}
-use Rattle.wb_simulation.specs.Behind.{IsCarried, HasOrder, HasRead, StandsBehind, AreOutside, live_there}
+use Rattle.wb_simulation.specs.Steps.{IsOutside, IsTail, IsLettingGo}
+use Rattle.wb_simulation.specs.Behind.{HasOrder, AreOutside, live_there}
 use Rattle.wb_simulation.specs.Worlds.{Agrees, Stays}
 use Rattle.wb_simulation.specs.Laws.{went}
 use Rattle.wb_simulation.specs.Promoting.{Carried}
 use Rattle.wb_simulation.proofs.Steps.{AreCopies, after_cell, promotion_works}
 use Rattle.wb_simulation.proofs.Cells.{tells}
-use Rattle.wb_simulation.proofs.Behind.{StaysOutside, stays_looking, past, carries_same}
-use Rattle.wb_simulation.proofs.Among.{behind_there, below_beside, failed_stays}
+use Rattle.wb_simulation.proofs.Behind.{stays_looking, carries_same}
+use Rattle.wb_simulation.proofs.Among.{failed_stays}
 use Rattle.wb_simulation.proofs.Carrying.{Settles, settles_on, settles_over, carries_by, carries_nothing}
-use Rattle.wb_simulation.proofs.Followed.{doing_of, begins_by}
-use Rattle.wb_simulation.proofs.Behind.{there_is}
-
--- ---- the one behind
-
--- A migration of this actor is carried at this cache block.
-pub record IsFound (size most : ℕ) (words : Words) (committing : Bool) (orders : List (Option Order)) (devices : Devices (List History)) (actors : List Actor) (a : ℕ) (x : Actor) (s : World) (g : Agrees size most words committing orders devices actors s) : Type 0 where
-  pub c : ℕ
-  pub who : g.who c ≡ Some a
-  pub order : Option Order
-  pub live : slice_get orders c ≡ Some order
-  pub y : AbstractActor
-  pub there : slice_get s.actors (length actors + c) ≡ Some y
-  pub is : IsCarried size devices (record { 0 = c }) order (s.shared.blocks c) x y
-
-module _ (size most : ℕ) (words : Words) (committing : Bool) (orders : List (Option Order)) (devices : Devices (List History)) (actors : List Actor) (a : ℕ) (x : Actor) (s : World) (g : Agrees size most words committing orders devices actors s) (ex : slice_get actors a ≡ Some x) where
-  pub found : (c : ℕ) → c < length orders → g.who c ≡ Some a → IsFound size most words committing orders devices actors a x s g
-  found c l w =
-      let o = there_is orders c l in
-      let y = behind_there size most words committing orders devices actors s g c o.0 o.1 in
-      let st = subst (λ (k : Option ℕ). StandsBehind size words devices actors c o.0 (s.shared.blocks c) k y.0) w (g.behind c o.0 y.0 o.1 y.1) in
-      let both : Some st.0 ≡ Some x = sym st.1 ∙ ex in
-      let same : st.0 ≡ x = cc in
-      record { c = c; who = w; order = o.0; live = o.1; y = y.0; there = y.1; is = subst (λ (v : Actor). IsCarried size devices (record { 0 = c }) o.0 (s.shared.blocks c) v y.0) same st.2 }
-
-  -- nobody else is at a migration onto its cache block, nor is it at another one
-  pub only_who : (f : IsFound size most words committing orders devices actors a x s g) (b : ℕ) → g.who f.c ≡ Some b → b ≡ a
-  only_who f b e = let both : Some b ≡ Some a = sym e ∙ f.who in cc
-
-  pub only_there : (f : IsFound size most words committing orders devices actors a x s g) (d : ℕ) → d ≢ f.c → g.who d ≡ Some a → ⊥
-  only_there f d n e = n (g.one_each d f.c a e f.who)
-
-  -- at its own number it is aside, and stays so
-  pub own_aside : (words' : Words) → (flag words.fail ≡ true → flag words'.fail ≡ true) → (x' : Actor) (migration : Migration) (block : OBlock) (plan plan' : Plan) → x.task ≡ Some (Migrate migration block, plan) → x'.task ≡ Some (Migrate migration block, plan') → StaysOutside words x x' →
-      (own : AbstractActor) → slice_get s.actors a ≡ Some own → StandsFor size most words' x' own
-  own_aside words' up x' migration block plan plan' task task' outside own e =
-      let st = g.each a x own ex e in
-      let d = doing_of size most words x own (Migrate migration block) plan st task in
-      let out = (λ (f : flag words.fail ≡ true) (o : IsOutside plan.steps). outside f (subst (λ (t : Option (Job × Plan)). AreOutside t) (sym task) o)) in
-      record {
-        at = subst (λ (t : Option (Job × Plan)). IsBusyAt size most words' t x'.card own) (sym task') (record {
-          nothing = d.nothing;
-          rests = elim d.rests [ inl i ↦ inl i | inr f ↦ inr (up f.0, subst (λ (t : Option (Job × Plan)). AreOutside t) task' (out f.0 f.1).0) ];
-        });
-        below = elim d.rests [ inl i ↦ holds_nothing own x'.card i.held | inr f ↦ (out f.0 f.1).1 own st.below ];
-        order = st.order;
-        among_others = st.among_others;
-      }
-
-  -- and where it takes its block nobody else has a block that its card counts
-  pub takes_beside : (f : IsFound size most words committing orders devices actors a x s g) (migration : Migration) (block : OBlock) (plan : Plan) (ws : List Want) (q : CellStep) → x.task ≡ Some (Migrate migration block, plan) → plan.steps ≡ Cell q ∷ ws → TakesBeside q s.actors (cards_of actors) (length actors + f.c) a
-  takes_beside f migration block plan ws (Look (Number b)) task steps =
-      let out = past x (Migrate migration block) plan (Cell (Look (Number b))) ws task steps (λ o. o) in
-      below_beside size most words committing orders devices actors s g a (length actors + f.c) x ex out
-      (λ n own e held. let d = doing_of size most words x own (Migrate migration block) plan (g.each a x own ex e) task in elim d.rests [ inl i ↦ held i.held | inr k ↦ out (subst (λ (t : Option (Job × Plan)). AreOutside t) (sym task) k.1) ])
-      (λ c away w m k p e. away (ap (λ (i : ℕ). length actors + i) (g.one_each c f.c a w f.who)))
-  takes_beside f migration block plan ws (Look Fail) task steps = tt
-  takes_beside f migration block plan ws (Look (LockWord b)) task steps = tt
-  takes_beside f migration block plan ws (Look (SealWord b)) task steps = tt
-  takes_beside f migration block plan ws (Look (CountWord kind)) task steps = tt
-  takes_beside f migration block plan ws (Take access b seen) task steps = tt
-  takes_beside f migration block plan ws (Release access b) task steps = tt
-  takes_beside f migration block plan ws (Seal b place dirty) task steps = tt
-  takes_beside f migration block plan ws (Finish b) task steps = tt
-  takes_beside f migration block plan ws (Count kind) task steps = tt
-  takes_beside f migration block plan ws SetFailed task steps = tt
-  takes_beside f migration block plan ws SetSuspended task steps = tt
+use Rattle.wb_simulation.proofs.Followed.{begins_by}
+use Rattle.wb_simulation.proofs.Found.{IsFound, found, only_who, only_there, own_aside, takes_beside, plan_is, task_at, of_block_at, paired_at, no_write_read, same_plan, by_found}
 
 -- ---- a step on the words
-
--- what is no write has nothing to have been read
-pub no_write_read : (size : ℕ) (list : List History) (at : ℕ) (steps : List Want) (buffer : List Content) → IsNoWrite steps → HasRead size list at steps buffer
-no_write_read size list at [] buffer n = tt
-no_write_read size list at (Device (Write device e) ∷ ws) buffer n = absurd n
-no_write_read size list at (Device (Read device e) ∷ ws) buffer n = tt
-no_write_read size list at (Device (Sync device) ∷ ws) buffer n = tt
-no_write_read size list at (Device (ReadMetadata left) ∷ ws) buffer n = tt
-no_write_read size list at (Device (WriteNode number) ∷ ws) buffer n = tt
-no_write_read size list at (Device WriteRoot ∷ ws) buffer n = tt
-no_write_read size list at (Cell step ∷ ws) buffer n = tt
-no_write_read size list at (Desk step ∷ ws) buffer n = tt
-no_write_read size list at (End answer ∷ ws) buffer n = tt
 
 -- a promotion may find its block anywhere
 made_where : (migration : Migration) (c : CBlock) (place : Option CBlock) → IsMade migration → IsWhere migration c place
 made_where (Promote k) c place m = tt
 made_where Demote c place m = absurd m
 made_where Clean c place m = absurd m
-
--- what a task is, whatever it is where there is none
-abbrev plan_in : Plan → Option (Job × Plan) → Plan
-plan_in other None = other
-plan_in other (Some doing) = doing.1
-
-abbrev job_in : Job → Option (Job × Plan) → Job
-job_in other None = other
-job_in other (Some doing) = doing.0
-
-abbrev pub migration_in : Migration → Job → Migration
-migration_in other (Migrate migration block) = migration
-migration_in other job = other
-
-abbrev block_in : OBlock → Job → OBlock
-block_in other (Migrate migration block) = block
-block_in other job = other
-
--- two tasks that are the same have the same plan, and job
-pub same_plan : (task : Option (Job × Plan)) (job job' : Job) (p q : Plan) → task ≡ Some (job, p) → task ≡ Some (job', q) → p ≡ q
-same_plan task job job' p q e f = ap (plan_in p) (sym e ∙ f)
-
-pub same_job : (task : Option (Job × Plan)) (job job' : Job) (p q : Plan) → task ≡ Some (job, p) → task ≡ Some (job', q) → job ≡ job'
-same_job task job job' p q e f = ap (job_in job) (sym e ∙ f)
 
 -- a step on the words leaves a tail, and its answer
 tail_after : (words : Words) (part : BlockRange) (migration : Migration) (step : CellStep) (ws : List Want) (answer : Answer) → IsTail (Cell step ∷ ws) →
@@ -263,27 +158,15 @@ module _ (size most blocks : ℕ) (words : Words) (committing : Bool) (orders : 
   abbrev x' : Actor
   x' = record x { task = Some (Migrate m f.is.block, plan'); card = card' }
 
-  plan_is : f.is.plan ≡ plan
-  plan_is = λ i. record { job = f.is.job i; steps = steps i; answer = f.is.plan.answer }
-
-  task : x.task ≡ Some (Migrate m f.is.block, plan)
-  task = f.is.task ∙ ap (λ (q : Plan). Some (Migrate m f.is.block, q)) plan_is
-
-  of_block : AreOfBlock size part.block.0 (Cell step ∷ ws)
-  of_block = subst (λ (us : List Want). AreOfBlock size part.block.0 us) steps f.is.of_block
-
-  paired : ArePaired size (Cell step ∷ ws)
-  paired = subst (λ (us : List Want). ArePaired size us) steps f.is.paired
-
   -- what is left is of the block, and each extent is written once it was read
   copies : AreCopies size part.block.0 plan'.steps
   copies =
-      let t = tells size part.block.0 step ws of_block in
-      after_cell (AreCopies size part.block.0) (OnBlock (Migrating m part)) words step ws f.is.plan.answer (tt, tt, tt) (t.1, paired.1, paired.0) (λ seen. (tt, (tt, (tt, tt)), tt))
+      let t = tells size part.block.0 step ws (of_block_at size most words committing orders devices actors a x s g f (Cell step) ws steps) in
+      after_cell (AreCopies size part.block.0) (OnBlock (Migrating m part)) words step ws f.is.plan.answer (tt, tt, tt) (t.1, (paired_at size most words committing orders devices actors a x s g f (Cell step) ws steps).1, (paired_at size most words committing orders devices actors a x s g f (Cell step) ws steps).0) (λ seen. (tt, (tt, (tt, tt)), tt))
       (λ block seal. let w = made_works size part f.is.is_part m cache f.is.made f.is.fills f.is.small seal in (w.0, (w.2, w.1), tt)) (tt, (tt, tt), tt)
 
   suits_now : Suits blocks plan x.card
-  suits_now = subst (λ (q : Plan). Suits blocks q x.card) plan_is suits
+  suits_now = subst (λ (q : Plan). Suits blocks q x.card) (plan_is size most words committing orders devices actors a x s g f (Cell step) ws steps) suits
 
   suits_then : Suits blocks plan' card'
   suits_then = keeps_ready blocks plan x.card card' (got_of (result_of words step)) suits_now (cell_fits words step) (words, refl, refl)
@@ -291,8 +174,8 @@ module _ (size most blocks : ℕ) (words : Words) (committing : Bool) (orders : 
   goes_there : FollowsMigration s.actors (length actors + f.c) s.shared f.y words' part cache f.is.next m (live_there f.c f.order) plan' card'
   goes_there = migration_cells_followed blocks words (cards_of actors) s.actors (length actors + f.c) a x.card s.shared f.y part cache f.is.next m (live_there f.c f.order) step ws f.is.plan.answer
       (let some = f.is.is_part.some in let sized = f.is.is_part.sized in omega (arith, some, sized)) rule (card_there actors a x ex)
-      (takes_beside size most words committing orders devices actors a x s g ex f m f.is.block f.is.plan ws step f.is.task steps) g.words_agree (tells size part.block.0 step ws of_block).0 f.is.fills (λ seal e. made_where m cache (place_in seal) f.is.made) suits_now
-      (subst (λ (q : Plan). IsMigrationAt part cache f.is.next m (live_there f.c f.order) q x.card f.y) plan_is f.is.at)
+      (takes_beside size most words committing orders devices actors a x s g ex f m f.is.block f.is.plan ws step f.is.task steps) g.words_agree (tells size part.block.0 step ws (of_block_at size most words committing orders devices actors a x s g f (Cell step) ws steps)).0 f.is.fills (λ seal e. made_where m cache (place_in seal) f.is.made) suits_now
+      (subst (λ (q : Plan). IsMigrationAt part cache f.is.next m (live_there f.c f.order) q x.card f.y) (plan_is size most words committing orders devices actors a x s g f (Cell step) ws steps) f.is.at)
 
   has : HasOrder (order_on part cache f.is.next) (live_there f.c f.order) (s.shared.blocks f.c) plan'
   has = elim f.is.has [
@@ -377,12 +260,12 @@ module _ (size most blocks : ℕ) (words : Words) (committing : Bool) (orders : 
   pub cell_carried : Carried Stays size most a s words' committing orders devices actors x'
   cell_carried =
       let k = goes_there.same.images in
-      let outside = stays_looking words x (Migrate m f.is.block) plan step ws task refl in
+      let outside = stays_looking words x (Migrate m f.is.block) plan step ws (task_at size most words committing orders devices actors a x s g f (Cell step) ws steps) refl in
       carries_by size most words words' (failed_stays words step _ _ rule.logs.fail) committing orders orders devices devices actors a x x' s g ex f.c f.order f.order refl (λ d n. refl) f.live f.live
       (only_who size most words committing orders devices actors a x s g ex f) (only_there size most words committing orders devices actors a x s g ex f) outside Stays f.y f.there goes_there.results t z goes_there.may refl refl plan'.steps (settled plan'.steps refl)
       (λ migration block p e. ap (λ (q : Plan). q.steps) (same_plan x'.task (Migrate migration block) (Migrate m f.is.block) p plan' e refl))
       goes_there.words_agree (goes_there.same.origin ∙ g.origin) (goes_there.same.cache ∙ g.cache) k.mode k.committing k.broken (k.committed, k.running, k.root_written) (k.mapping, k.blocks) (carries_same size devices actors a s.shared.blocks t.blocks k.blocks)
-      (own_aside size most words committing orders devices actors a x s g ex words' (failed_stays words step _ _ rule.logs.fail) x' m f.is.block plan plan' task refl outside)
+      (own_aside size most words committing orders devices actors a x s g ex words' (failed_stays words step _ _ rule.logs.fail) x' m f.is.block plan plan' (task_at size most words committing orders devices actors a x s g f (Cell step) ws steps) refl outside)
 
 -- ---- any step of a migration on the words
 
@@ -411,14 +294,6 @@ module _ (size most : ℕ) (words : Words) (committing : Bool) (orders : List (O
   cell_nowhere f z fail (Count kind) ws steps failed out = absurd out
   cell_nowhere f z fail SetFailed ws steps failed out = absurd out
   cell_nowhere f z fail SetSuspended ws steps failed out = absurd out
-
--- What holds of a migration that is carried, by its own job and plan, holds of it by any that are the same.
-pub by_found : (size most : ℕ) (words : Words) (committing : Bool) (orders : List (Option Order)) (devices : Devices (List History)) (actors : List Actor) (a : ℕ) (x : Actor) (s : World) (g : Agrees size most words committing orders devices actors s) (f : IsFound size most words committing orders devices actors a x s g)
-    (migration : Migration) (block : OBlock) (plan : Plan) → x.task ≡ Some (Migrate migration block, plan) → (P : Migration → OBlock → Plan → Type 0) → P f.is.migration f.is.block f.is.plan → P migration block plan
-by_found size most words committing orders devices actors a x s g f migration block plan task P is =
-    let job = same_job x.task (Migrate f.is.migration f.is.block) (Migrate migration block) f.is.plan plan f.is.task task in
-    subst (λ (q : Plan). P migration block q) (same_plan x.task (Migrate f.is.migration f.is.block) (Migrate migration block) f.is.plan plan f.is.task task)
-    (subst (λ (q : OBlock). P migration q f.is.plan) (ap (block_in block) job) (subst (λ (q : Migration). P q f.is.block f.is.plan) (ap (migration_in migration) job) is))
 
 pub cells : (size most blocks : ℕ) (words : Words) (committing : Bool) (orders : List (Option Order)) (devices : Devices (List History)) (actors : List Actor) (a : ℕ) (x : Actor) (migration : Migration) (block : OBlock) (plan : Plan) (step : CellStep) (s : World) →
     LockRule blocks words (cards_of actors) → slice_get actors a ≡ Some x → x.task ≡ Some (Migrate migration block, plan) → Suits blocks plan x.card → want plan ≡ Cell step → Agrees size most words committing orders devices actors s →

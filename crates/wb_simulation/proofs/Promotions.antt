@@ -37,7 +37,8 @@ use Rattle.wb_simulation.proofs.Behind.{stays_with}
 use Rattle.wb_simulation.proofs.Followed.{begins_by, doing_of}
 use Rattle.wb_simulation.proofs.Moving.{same_device}
 use Rattle.wb_simulation.proofs.Carrying.{carries_nothing}
-use Rattle.wb_simulation.proofs.Promoting.{IsFound, found, by_found, cells, same_plan, same_job, migration_in}
+use Rattle.wb_simulation.proofs.Found.{IsFound, found, by_found, same_plan, same_job, migration_in}
+use Rattle.wb_simulation.proofs.Promoting.{cells}
 use Rattle.wb_simulation.proofs.Copying.{reads, writes, write_falls, read_falls, writes_cache}
 use Rattle.wb_simulation.proofs.Deciding.{map_refused, mapped, given_up}
 use Rattle.wb_simulation.proofs.Ordering.{starts, again}
