@@ -11,7 +11,7 @@ ghost use Rattle.wb_world.specs.Serving.{IsServed};
 ghost use Rattle.wb_world.specs.Showing.{opened_of};
 ghost use Rattle.wb_world.specs.Standing.{IsSound};
 
-use crate::law::headline;
+use crate::law::{headline, reads_give_the_latest_write};
 use crate::outcome::Outcome;
 use crate::phase::Phase;
 use crate::serving::{falter, start, step};
@@ -24,7 +24,7 @@ use wb_devices::Devices;
 use wb_disk::MemDisk;
 use wb_meta::format;
 use wb_policy::Quiet;
-use wb_runs::{Event, Record, never_stuck, reads_give_the_latest_write, words_are_used_rightly};
+use wb_runs::{Event, Record, never_stuck, steps_stay_inside, words_are_used_rightly};
 use wb_types::{Content, Geometry, Refusal};
 
 /// How many actors a world has.
@@ -92,6 +92,7 @@ impl World {
         }
         never_stuck::<Quiet, Global>();
         words_are_used_rightly::<Quiet, Global>();
+        steps_stay_inside::<Quiet, Global>();
         let Outcome { what, read } = happen(
             &self.geometry,
             self.alloc,
@@ -132,7 +133,7 @@ impl World {
         ensures promises { (run : IsReached self.now) → KeepsPromises self.now run }
     {
         headline();
-        reads_give_the_latest_write::<Quiet, Global>();
+        reads_give_the_latest_write();
         &self.trace
     }
 
@@ -141,7 +142,7 @@ impl World {
         ensures { IsRightRun self.shape (events_of self.trace) result.records }
     {
         headline();
-        reads_give_the_latest_write::<Quiet, Global>();
+        reads_give_the_latest_write();
         self.trace
     }
 }
@@ -165,7 +166,7 @@ fn happen(
 {
     match event {
         Event::Start(a, job) => {
-            let what = start(geometry, alloc, devices, phase, *a, job);
+            let what = start(geometry, alloc, devices, phase, *a, job)?;
             Ok(Outcome::told(alloc, what))
         }
         Event::Step(a) => step(geometry, alloc, devices, phase, *a),
