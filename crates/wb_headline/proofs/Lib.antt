@@ -24,3 +24,4 @@ mod Latest
 mod Given
 mod Promise
 mod Carrying
+mod Migrations

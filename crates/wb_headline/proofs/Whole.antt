@@ -64,15 +64,15 @@ module _ (P A : Type 0) (shape : Shape) where
 
   -- ---- one step of one actor
 
-  abbrev Stepped_to : State P A → Notes → ℕ → Actor → Job → Want → Got → List Bytes → Chosen P A → Doing → Type 0
+  abbrev pub Stepped_to : State P A → Notes → ℕ → Actor → Job → Want → Got → List Bytes → Chosen P A → Doing → Type 0
   Stepped_to w n a x job next got read chosen doing = Goes P A shape (stepped shape w a x next got chosen (λ step. device_done job x.buffer step chosen))
       (noted_step shape (shown shape (stepped shape w a x next got chosen (λ step. device_done job x.buffer step chosen))) n a (Some (Some doing)) next got read)
 
-  abbrev Faulted_to : State P A → Notes → ℕ → Actor → Choice → Job → Want → List Bytes → Chosen P A → Doing → Type 0
+  abbrev pub Faulted_to : State P A → Notes → ℕ → Actor → Choice → Job → Want → List Bytes → Chosen P A → Doing → Type 0
   Faulted_to w n a x choice job next read chosen doing = Goes P A shape (stepped shape w a x next Fault chosen (λ step. device_failed (lands (device_of step) choice) job x.buffer step chosen))
       (noted_step shape (shown shape (stepped shape w a x next Fault chosen (λ step. device_failed (lands (device_of step) choice) job x.buffer step chosen))) n a (Some (Some doing)) next Fault read)
 
-  abbrev at_target : Target P → Option RunningCommit → Devices (List History) → List Actor → State P A
+  abbrev pub at_target : Target P → Option RunningCommit → Devices (List History) → List Actor → State P A
   at_target t commit devices actors = record { devices = devices; commit = commit; phase = Stands t; actors = actors }
 
   -- What is followed of migrations: each step, done and failing, and each start.
@@ -83,7 +83,7 @@ module _ (P A : Type 0) (shape : Shape) where
     pub faults : (t : Target P) (commit : Option RunningCommit) (devices : Devices (List History)) (actors : List Actor) (n : Notes) → Whole (at_target t commit devices actors) n → (a : ℕ) (x : Actor) (migration : Migration) (block : OBlock) (plan : Plan) (doing : Doing) → slice_get actors a ≡ Some x → x.task ≡ Some (Migrate migration block, plan) →
         slice_get n.doings a ≡ Some (Some doing) → doing.job ≡ Migrate migration block → (choice : Choice) (next : Want) (read : List Bytes) (chosen : Chosen P A) → next ≡ want plan → MayFailAt devices choice next → Falters (at_target t commit devices actors) choice next chosen →
         Faulted_to (at_target t commit devices actors) n a x choice (Migrate migration block) next read chosen doing
-    pub starts : (t : Target P) (commit : Option RunningCommit) (devices : Devices (List History)) (actors : List Actor) (n : Notes) → Whole (at_target t commit devices actors) n → (a : ℕ) (x : Actor) (migration : Migration) (block : OBlock) (chosen : Chosen P A) → slice_get actors a ≡ Some x → x.task ≡ None →
+    pub starts : (t : Target P) (commit : Option RunningCommit) (devices : Devices (List History)) (actors : List Actor) (n : Notes) → Whole (at_target t commit devices actors) n → (a : ℕ) (x : Actor) (migration : Migration) (block : OBlock) (chosen : Chosen P A) → slice_get actors a ≡ Some x → x.task ≡ None → (¬ Rattle.wb_runs.specs.Happenings.IsOutOfPlace {P = P} {A = A} (Stands t) (Migrate migration block)) →
         StartGives shape (Stands t) (Some x) (Migrate migration block) Started chosen →
         Goes P A shape (record { devices = devices; commit = commit; phase = phase_given {P = P} {A = A} (Stands t) (Migrate migration block) chosen; actors = slice_set actors a (given shape x (Migrate migration block) chosen) }) (put n a (Some (begun n (Migrate migration block))))
 
@@ -205,7 +205,7 @@ module _ (P A : Type 0) (shape : Shape) where
     start_at_target t commit devices actors n b a x (Migrate migration block) chosen ex xt place g =
         let w = at_target t commit devices actors in
         subst (λ (o : Option Actor). Goes P A shape (with_actor w o (λ y. record w { phase = phase_given w.phase (Migrate migration block) chosen; actors = slice_set w.actors a (given {P = P} {A = A} shape y (Migrate migration block) chosen) })) (put n a (Some (begun n (Migrate migration block))))) (sym ex)
-        (migrations.starts t commit devices actors n b a x migration block chosen ex xt g)
+        (migrations.starts t commit devices actors n b a x migration block chosen ex xt place g)
     start_at_target t commit devices actors n b a x (Read extent) chosen ex xt place g = absurd g
     start_at_target t commit devices actors n b a x (Write extent content) chosen ex xt place g = absurd g
 
