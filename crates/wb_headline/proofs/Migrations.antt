@@ -1,4 +1,4 @@
--- Whatever comes of a promotion is followed, but for a start under an order that is kept and for an order that is given up.
+-- Whatever comes of a promotion is followed.
 use Rattle.std.proofs.Common.{◌≡◌, ◌≢◌, ◌∙◌, ◌<◌, ◌≤◌, ◌+◌, ◌==◌, ◌^◌, ◌⊎◌, inl, inr, ℕ, zero, suc, Bool, true, false, if◌then◌else◌, List, [], ◌∷◌, Option, Some, None, refl, sym, ap, subst, arith, length, is_some, slice_get, slice_set, Contains}
 use Rattle.std.proofs.lemmas.Bool.{eqb-true}
 use Rattle.std.proofs.lemmas.List.{length-set}
@@ -25,8 +25,8 @@ use Rattle.wb_tree.specs.Edits.{IsChangedAt}
 use Rattle.wb_orders.specs.declared.live_order.LiveOrder.{LiveOrder}
 use Rattle.wb_orders.specs.Named.{IsNamed}
 use Rattle.wb_orders.specs.Orders.{AreOrders, order_at}
-use Rattle.wb_desk.specs.Desks.{DeskState, MayReserve, NamesWhatIs, IsRight, holdings}
-use Rattle.wb_desk.specs.Calls.{reserved}
+use Rattle.wb_desk.specs.Desks.{DeskState, IsLive, MayReserve, NamesWhatIs, IsRight, holdings}
+use Rattle.wb_desk.specs.Calls.{reserved, released}
 use Rattle.wb_desk.specs.Entries.{Brings, MayMap, mapped, entry_of}
 use Rattle.wb_tasks.specs.Tables.{BlockRange, Migrating, OnBlock, TaskJob, whole_block}
 use Rattle.wb_tasks.specs.Plan.{Plan, want, table, device_of}
@@ -53,7 +53,7 @@ use Rattle.wb_runs.specs.Holding.{TaskSuits}
 use Rattle.wb_runs.specs.Inside.{StepInside}
 use Rattle.wb_runs.specs.Clerk.{Notes, Doing, noted_step, put, begun}
 use Rattle.wb_runs.specs.Headline.{cached_from, place_of}
-use Rattle.wb_runs.proofs.Desks.{mapped_stands, reserved_stands}
+use Rattle.wb_runs.proofs.Desks.{mapped_stands, reserved_stands, given_up_stands}
 use Rattle.wb_runs.proofs.Images.{Images, later_of}
 use Rattle.wb_runs.proofs.InsideRuns.{PlanInside, want_inside}
 use Rattle.wb_runs.proofs.Metadata.{kept_readable}
@@ -62,7 +62,7 @@ use Rattle.wb_simulation.specs.Behind.{order_there}
 use Rattle.wb_simulation.specs.Promoting.{IsUngiven}
 use Rattle.wb_simulation.specs.Steps.{IsOutside}
 use Rattle.wb_simulation.specs.Telling.{Carries}
-use Rattle.wb_simulation.specs.Worlds.{Reserves, Maps, FollowsBy}
+use Rattle.wb_simulation.specs.Worlds.{Stays, Reserves, Maps, GivesUp, FollowsBy}
 use Rattle.wb_simulation.specs.Noted.{told}
 use Rattle.wb_simulation.specs.Opened.{located}
 use Rattle.wb_simulation.proofs.Followed.{begins_by}
@@ -70,9 +70,10 @@ use Rattle.wb_simulation.proofs.Noted.{notes_followed}
 use Rattle.wb_simulation.proofs.Opening.{images_followed}
 use Rattle.wb_simulation.proofs.Promotions.{promotions_followed, carried_at, same}
 use Rattle.wb_headline.specs.Desks.{order_of, orders_of, live_orders, block_there}
-use Rattle.wb_headline.proofs.Desking.{desk_maps, desk_reserves}
+use Rattle.wb_headline.proofs.Desking.{desk_maps, desk_reserves, desk_releases}
 use Rattle.wb_headline.proofs.Following.{size, most, Sized, Followed, Goes}
-use Rattle.wb_headline.proofs.Targets.{standing, actor_is, beside, leads_on}
+use Rattle.wb_headline.proofs.Owned.{gives_up, slot_there}
+use Rattle.wb_headline.proofs.Targets.{standing, actor_is, beside, leads_on, stays_on}
 use Rattle.wb_headline.proofs.Carrying.{cells, read_done, read_fails, write_done, write_fails, map_refused, answers, carried_notes, sized_plain}
 use Rattle.wb_headline.proofs.Whole.{Whole, Stepped_to, Faulted_to, at_target, MigrationsGo}
 
@@ -100,6 +101,12 @@ live_here [] c o e = absurd (cc)
 live_here (None ∷ slots) zero o e = absurd (cc)
 live_here (Some l ∷ slots) zero o e = (l, refl, (let both : Some (Some l.order) ≡ Some (Some o) = e in cc))
 live_here (s ∷ slots) (suc c) o e = live_here slots c o e
+
+slot_within : (slots : List (Option LiveOrder)) (c : ℕ) (l : LiveOrder) → order_at slots c ≡ Some l → c < length slots
+slot_within [] zero l e = absurd (cc)
+slot_within [] (suc c) l e = absurd (cc)
+slot_within (s ∷ slots) zero l e = omega arith
+slot_within (s ∷ slots) (suc c) l e = let i = slot_within slots c l e in omega (arith, i)
 
 -- ---- where nothing is mapped
 
@@ -182,34 +189,80 @@ module _ (P A : Type 0) (shape : Shape) (t : Target P) (commit : Option RunningC
       (images_followed.stay shape.geometry b.goes.images.committed (later_of b.goes.images) devices.metadata devices.metadata s s' f.phase.images_agree g.turned readable.read)
       (λ state e. g.turned.1 ∙ f.phase.running state e))
 
+  -- the cache block that an order names is the one in which it lives
+  lives_at : (o : OBlock) (c : CBlock) (l : IsLive t.desk (PromoteOrder o c)) → (l.cache.0 ≡ c.0) × (l.cache.0 < length t.desk.space.blocks)
+  lives_at o c l = (named, omega (arith, less, many_blocks))
+    where
+      many_slots : length t.desk.orders.slots ≡ t.desk.geometry.cache_blocks
+      many_slots = b.goes.known.is.kept.slots
+
+      many_blocks : length t.desk.space.blocks ≡ t.desk.geometry.cache_blocks
+      many_blocks = b.goes.known.is.kept.blocks
+
+      less : l.cache.0 < t.desk.geometry.cache_blocks
+      less = let i = slot_within t.desk.orders.slots l.cache.0 l.live l.there in let m = many_slots in omega (arith, i, m)
+
+      named : l.cache.0 ≡ c.0
+      named = (subst (λ (q : Order). Rattle.wb_desk.specs.Desks.Names (holdings t.desk) (state t.desk.space.blocks l.cache.0) l.cache.0 q) l.same (subst (λ (q : Option LiveOrder). NamesWhatIs (holdings t.desk) (state t.desk.space.blocks l.cache.0) l.cache.0 q) l.there (b.goes.known.is.kept.each l.cache.0 less).stands)).0
+
+  -- an order is given up
+  released_on : (bl : OBlock) (read : List Bytes) (new : DeskState P) (c : CBlock) → migration ≡ Promote c → (l : IsLive t.desk (PromoteOrder block c)) → new ≡ released t.desk l.cache → Desk (ReleaseOrder bl) ≡ want plan → DoesRelease {P = P} {A = A} (order_for migration block) t.desk (Asks new) → To (Desk (ReleaseOrder bl)) Done read (Asks new)
+  released_on bl read new c made l is next d =
+      let y : Actor = record x { task = Some (job, Rattle.wb_tasks.specs.Plan.after plan Done); orders = dropped bl x.orders } in
+      let at = lives_at block c l in
+      let xt' : x.task ≡ Some (Migrate (Promote c) block, plan) = subst (λ (m : Migration). x.task ≡ Some (Migrate m block, plan)) made xt in
+      let g1 = promotions_followed.gives_up (size P A shape) (most P A shape) shape.geometry.origin_blocks t.words t.desk.space.committing (live_orders t.desk) devices actors a x block bl c plan f.site.world ex xt' suits (sym next) f.phase.agrees in
+      let g2 = subst (λ (m : Migration). FollowsBy (GivesUp c.0) (Carries (length actors)) (size P A shape) (most P A shape) a f.site.world t.words t.desk.space.committing (slice_set (live_orders t.desk) c.0 None) devices (slice_set actors a (record x { task = Some (Migrate m block, Rattle.wb_tasks.specs.Plan.after plan Done); orders = dropped bl x.orders }))) (sym made) g1 in
+      let g3 = subst (λ (k : ℕ). FollowsBy (GivesUp k) (Carries (length actors)) (size P A shape) (most P A shape) a f.site.world t.words t.desk.space.committing (slice_set (live_orders t.desk) k None) devices (slice_set actors a y)) (sym at.0) g2 in
+      let g = subst (λ (os : List (Option Order)). FollowsBy (GivesUp l.cache.0) (Carries (length actors)) (size P A shape) (most P A shape) a f.site.world t.words t.desk.space.committing os devices (slice_set actors a y)) (sym (orders_set t.desk.orders.slots l.cache.0 None)) g3 in
+      let desk' = released t.desk l.cache in
+      let s = f.site.world.shared in
+      let s' = (after_all f.site.world g.records).shared in
+      let readable = kept_readable shape.geometry b.goes.images devices.metadata P A (Stands t) commit b.goes.known in
+      subst (λ (k : DeskState P). To (Desk (ReleaseOrder bl)) Done read (Asks k)) (sym is)
+      (subst (λ (v : Actor). Goes P A shape (record { devices = devices; commit = commit; phase = Stands (record { words = t.words; desk = desk' }); actors = slice_set actors a v }) n) (sym (actor_is P A shape (Stands t) devices x job plan (Desk (ReleaseOrder bl)) Done xt))
+      (leads_on P A shape b.goes.images t commit devices actors n b.goes.known f a x ex (GivesUp l.cache.0) (Carries (length actors)) (record { words = t.words; desk = desk' }) commit devices (slice_set actors a y) n b.goes.images g tt
+      (carried_notes P A shape b.goes.images t commit devices actors n b.goes.known f a x ex (GivesUp l.cache.0) t.words t.desk.space.committing (live_orders desk') devices (slice_set actors a y) g)
+      (sized_plain P A shape b.goes.images t commit devices actors n b.goes.known f a x ex y)
+      (subst (λ (k : DeskState P). Rattle.wb_runs.proofs.Metadata.AtDesk shape.geometry b.goes.images k commit devices.metadata) is (given_up_stands P shape.geometry b.goes.images t.desk commit devices.metadata new (order_for migration block) b.goes.known d))
+      (desk_releases P t.desk s s' f.phase.desk l.cache at.1 g.desk.0 g.desk.1)
+      (images_followed.stay shape.geometry b.goes.images.committed (later_of b.goes.images) devices.metadata devices.metadata s s' f.phase.images_agree g.turned readable.read)
+      (λ state e. g.turned.1 ∙ f.phase.running state e)))
+
   by_map : (bl : OBlock) (c : CBlock) (got : Got) (read : List Bytes) (chosen : Chosen P A) → Desk (Map bl c) ≡ want plan → DoesMap bl c t.desk got chosen → To (Desk (Map bl c)) got read chosen
   by_map bl c Done read (Asks new) e d = subst (λ (v : DeskState P). To (Desk (Map bl c)) Done read (Asks v)) (sym d.2) (maps_on bl c new.tree new.policy read d.0 d.1 e)
   by_map bl c (GotRefused refusal) read Plain e d = map_refused P A shape b.goes.images t commit devices actors n b.goes.known f a x ex migration block plan xt suits doing noted job_is bl c refusal e
   by_map bl c got read chosen e d = absurd d
 
-  -- any step that is done or refused, if giving an order up is followed
-  any_step : ((bl : OBlock) (read : List Bytes) (chosen : Chosen P A) → Desk (ReleaseOrder bl) ≡ want plan → DoesRelease (order_for migration block) t.desk chosen → To (Desk (ReleaseOrder bl)) Done read chosen) →
-      (next : Want) (got : Got) (read : List Bytes) (chosen : Chosen P A) → next ≡ want plan → Gives shape w job next got read chosen → To next got read chosen
-  any_step releases (Cell step) got read chosen e g = subst (λ (v : Got). To (Cell step) v read chosen) (sym g.1)
+  -- its order is given up
+  releases : (bl : OBlock) (read : List Bytes) (chosen : Chosen P A) → Desk (ReleaseOrder bl) ≡ want plan → DoesRelease (order_for migration block) t.desk chosen → To (Desk (ReleaseOrder bl)) Done read chosen
+  releases bl read (Asks new) next d =
+      let r = gives_up P A shape b.goes.images t commit devices actors n b.goes.known f b.owned a x plan ex suits migration block bl new xt next d in
+      released_on bl read new r.0 r.1 r.4.0 r.4.1 next d
+  releases bl read chosen next d = absurd d
+
+  -- any step that is done or refused
+  any_step : (next : Want) (got : Got) (read : List Bytes) (chosen : Chosen P A) → next ≡ want plan → Gives shape w job next got read chosen → To next got read chosen
+  any_step (Cell step) got read chosen e g = subst (λ (v : Got). To (Cell step) v read chosen) (sym g.1)
       (cells P A shape b.goes.images t commit devices actors n b.goes.known f a x ex migration block plan xt suits doing noted job_is b.used.here step e)
-  any_step releases (Device (ReadExtent d ext)) got read chosen e g = subst (λ (v : Got). To (Device (ReadExtent d ext)) v read chosen) (sym g.2)
+  any_step (Device (ReadExtent d ext)) got read chosen e g = subst (λ (v : Got). To (Device (ReadExtent d ext)) v read chosen) (sym g.2)
       (subst (λ (c : Chosen P A). To (Device (ReadExtent d ext)) Done read c) (sym g.1.1)
       (subst (λ (ds : Devices (List History)). Goes P A shape (record { devices = ds; commit = commit; phase = Stands t; actors = slice_set actors a (actor_then {P = P} {A = A} shape (Stands t) devices x (Device (ReadExtent d ext)) Done) }) (noted_step shape [] n a (Some (Some doing)) (Device (ReadExtent d ext)) Done read)) (sym (same_device d devices g.0))
       (read_done P A shape b.goes.images t commit devices actors n b.goes.known f a x ex migration block plan xt suits doing noted job_is d ext read e g.3)))
-  any_step releases (Device (WriteExtent d ext)) got read chosen e g = subst (λ (v : Got). To (Device (WriteExtent d ext)) v read chosen) (sym g.2)
+  any_step (Device (WriteExtent d ext)) got read chosen e g = subst (λ (v : Got). To (Device (WriteExtent d ext)) v read chosen) (sym g.2)
       (subst (λ (c : Chosen P A). To (Device (WriteExtent d ext)) Done read c) (sym g.1.1)
       (write_done P A shape b.goes.images t commit devices actors n b.goes.known f a x ex migration block plan xt suits doing noted job_is d ext read g.0 e g.3))
-  any_step releases (Desk (Map bl c)) got read chosen e g = by_map bl c got read chosen e g.1
-  any_step releases (Desk (ReleaseOrder bl)) got read chosen e g = subst (λ (v : Got). To (Desk (ReleaseOrder bl)) v read chosen) (sym g.1) (releases bl read chosen e g.2)
-  any_step releases (End answer) got read chosen e g = subst (λ (c : Chosen P A). To (End answer) got read c) (sym g.0.1)
+  any_step (Desk (Map bl c)) got read chosen e g = by_map bl c got read chosen e g.1
+  any_step (Desk (ReleaseOrder bl)) got read chosen e g = subst (λ (v : Got). To (Desk (ReleaseOrder bl)) v read chosen) (sym g.1) (releases bl read chosen e g.2)
+  any_step (End answer) got read chosen e g = subst (λ (c : Chosen P A). To (End answer) got read c) (sym g.0.1)
       (answers P A shape b.goes.images t commit devices actors n b.goes.known f a x ex migration block plan xt suits doing noted job_is answer got _ read e)
-  any_step releases (Device (Sync d)) got read chosen e g = absurd ((own (Device (Sync d)) e (λ v q. absurd (cc)) (λ ws o. o)).2)
-  any_step releases (Device (ReadMetadata k)) got read chosen e g = absurd ((own (Device (ReadMetadata k)) e (λ v q. absurd (cc)) (λ ws o. o)).2)
-  any_step releases (Device (WriteNode k)) got read chosen e g = absurd ((own (Device (WriteNode k)) e (λ v q. absurd (cc)) (λ ws o. o)).2)
-  any_step releases (Device WriteRoot) got read chosen e g = absurd ((own (Device WriteRoot) e (λ v q. absurd (cc)) (λ ws o. o)).2)
-  any_step releases (Desk (Unmap bl)) got read chosen e g = absurd g
-  any_step releases (Desk (BeginCommit clean m)) got read chosen e g = absurd ((own (Desk (BeginCommit clean m)) e (λ v q. absurd (cc)) (λ ws o. o)).2)
-  any_step releases (Desk EndCommit) got read chosen e g = absurd ((own (Desk EndCommit) e (λ v q. absurd (cc)) (λ ws o. o)).2)
+  any_step (Device (Sync d)) got read chosen e g = absurd ((own (Device (Sync d)) e (λ v q. absurd (cc)) (λ ws o. o)).2)
+  any_step (Device (ReadMetadata k)) got read chosen e g = absurd ((own (Device (ReadMetadata k)) e (λ v q. absurd (cc)) (λ ws o. o)).2)
+  any_step (Device (WriteNode k)) got read chosen e g = absurd ((own (Device (WriteNode k)) e (λ v q. absurd (cc)) (λ ws o. o)).2)
+  any_step (Device WriteRoot) got read chosen e g = absurd ((own (Device WriteRoot) e (λ v q. absurd (cc)) (λ ws o. o)).2)
+  any_step (Desk (Unmap bl)) got read chosen e g = absurd g
+  any_step (Desk (BeginCommit clean m)) got read chosen e g = absurd ((own (Desk (BeginCommit clean m)) e (λ v q. absurd (cc)) (λ ws o. o)).2)
+  any_step (Desk EndCommit) got read chosen e g = absurd ((own (Desk EndCommit) e (λ v q. absurd (cc)) (λ ws o. o)).2)
 
   room : (d : Dev) (ext : Extent) → HoldsBlocks d → StepInside shape (Device (WriteExtent d ext)) → ext.first + ext.count ≤ length (Rattle.wb_devices.specs.Moving.device_in d devices)
   room Cache ext h i = subst (λ (k : ℕ). ext.first + ext.count ≤ k) (sym b.inside.cache) i
@@ -319,32 +372,49 @@ module _ (P A : Type 0) (shape : Shape) (t : Target P) (commit : Option RunningC
       (images_followed.stay shape.geometry b.goes.images.committed (later_of b.goes.images) devices.metadata devices.metadata s s'.shared g.phase.images_agree h.turned readable.read)
       (λ state e. h.turned.1 ∙ g.phase.running state e)
 
-  -- any start, if one under an order that is kept is followed
-  any_start : ((block : OBlock) (c : CBlock) (cut : List Extent) → IsCutInto (whole_block (size P A shape) block) cut → Contains x.orders (PromoteOrder block c) →
-      Goes P A shape (record { devices = devices; commit = commit; phase = Stands t; actors = slice_set actors a (given {P = P} {A = A} shape x (Migrate (Promote c) block) (Cut cut)) }) (put n a (Some (begun n (Migrate (Promote c) block))))) →
-      (migration : Migration) (block : OBlock) (chosen : Chosen P A) → (¬ IsOutOfPlace {P = P} {A = A} (Stands t) (Migrate migration block)) → StartGives shape (Stands t) (Some x) (Migrate migration block) Started chosen →
+  -- one under the order that its actor has kept
+  again : (block : OBlock) (c : CBlock) (cut : List Extent) → IsCutInto (whole_block (size P A shape) block) cut → Contains x.orders (PromoteOrder block c) →
+      Goes P A shape (record { devices = devices; commit = commit; phase = Stands t; actors = slice_set actors a (given {P = P} {A = A} shape x (Migrate (Promote c) block) (Cut cut)) }) (put n a (Some (begun n (Migrate (Promote c) block))))
+  again block c cut cuts has =
+      let l = b.owned.0.live a x (PromoteOrder block c) ex has in
+      let y : Actor = given {P = P} {A = A} shape x (Migrate (Promote c) block) (Cut cut) in
+      let s = g.site.world.shared in
+      let within = slot_within t.desk.orders.slots l.cache.0 l.live l.there in
+      let many_slots = b.goes.known.is.kept.slots in
+      let less : l.cache.0 < t.desk.geometry.cache_blocks = omega (arith, within, many_slots) in
+      let names = subst (λ (q : Order). Rattle.wb_desk.specs.Desks.Names (holdings t.desk) (state t.desk.space.blocks l.cache.0) l.cache.0 q) l.same (subst (λ (q : Option LiveOrder). NamesWhatIs (holdings t.desk) (state t.desk.space.blocks l.cache.0) l.cache.0 q) l.there (b.goes.known.is.kept.each l.cache.0 less).stands) in
+      let limit = t.desk.geometry.within.cache_to in
+      let small : c.0 < 2 ^ 32 = omega (arith, less, limit, names.0) in
+      let some : 0 < size P A shape = omega (arith, shape.geometry.within.block_from) in
+      let there_now = subst (λ (k : ℕ). slice_get (live_orders t.desk) k ≡ Some (Some (PromoteOrder block c))) names.0 (slot_there t.desk.orders.slots l.cache.0 l.live l.there ∙ ap (λ (q : Order). Some (Some q)) l.same) in
+      let kept = g.phase.desk.blocks c.0 ∙ ap block_there (ap (state t.desk.space.blocks) (sym names.0) ∙ names.1) in
+      let h = promotions_followed.again (size P A shape) (most P A shape) t.words t.desk.space.committing (live_orders t.desk) devices actors a x block c cut g.site.world ex xt holds some small cuts there_now has
+          (λ i z other ez mine. other (b.owned.0.one i a z x (PromoteOrder block c) ez ex mine has)) kept g.phase.agrees in
+      let s' = after_all g.site.world h.records in
+      let is_there = Rattle.wb_runs.proofs.Lists.set_there actors a x y ex in
+      let z = there s'.actors a (let m = h.agrees.many in let l = slice_get_within (slice_set actors a y) a y is_there in omega (arith, m, l)) in
+      let rests = (h.agrees.each a y z.0 is_there z.1).at.nothing in
+      let n' = put n a (Some (begun n (Migrate (Promote c) block))) in
+      let sized : Sized P A shape (slice_set actors a y) n' = record { actors_many = length-set actors a y ∙ g.sized.actors_many; doings_many = length-set n.doings a (Some (begun n (Migrate (Promote c) block))) ∙ g.sized.doings_many; sectors = g.sized.sectors } in
+      stays_on P A shape b.goes.images t commit devices actors n b.goes.known g a x ex (Carries (length actors)) t.words devices (slice_set actors a y) n' h tt
+      (notes_followed.aside (size P A shape) n s' (told g.notes h.records) a z.0 (Some (begun n (Migrate (Promote c) block))) (carried_notes P A shape b.goes.images t commit devices actors n b.goes.known g a x ex Stays t.words t.desk.space.committing (live_orders t.desk) devices (slice_set actors a y) h) z.1 rests)
+      sized refl
+
+  -- any start
+  any_start : (migration : Migration) (block : OBlock) (chosen : Chosen P A) → (¬ IsOutOfPlace {P = P} {A = A} (Stands t) (Migrate migration block)) → StartGives shape (Stands t) (Some x) (Migrate migration block) Started chosen →
       Goes P A shape (record { devices = devices; commit = commit; phase = phase_given {P = P} {A = A} (Stands t) (Migrate migration block) chosen; actors = slice_set actors a (given shape x (Migrate migration block) chosen) }) (put n a (Some (begun n (Migrate migration block))))
-  any_start again (Promote c) block (Cut cut) place h = again block c cut h.0 h.1
-  any_start again (Promote c) block (Orders cut k) place h = subst (λ (v : CBlock). Goes P A shape (record { devices = devices; commit = commit; phase = Stands (record { words = t.words; desk = reserved t.desk v (PromoteOrder block c) false }); actors = slice_set actors a (given {P = P} {A = A} shape x (Migrate (Promote c) block) (Orders cut c)) }) (put n a (Some (begun n (Migrate (Promote c) block))))) (sym h.1.lawful.0)
+  any_start (Promote c) block (Cut cut) place h = again block c cut h.0 h.1
+  any_start (Promote c) block (Orders cut k) place h = subst (λ (v : CBlock). Goes P A shape (record { devices = devices; commit = commit; phase = Stands (record { words = t.words; desk = reserved t.desk v (PromoteOrder block c) false }); actors = slice_set actors a (given {P = P} {A = A} shape x (Migrate (Promote c) block) (Orders cut c)) }) (put n a (Some (begun n (Migrate (Promote c) block))))) (sym h.1.lawful.0)
       (under_given block c cut h.0 (subst (λ (v : CBlock). MayReserve t.desk v (PromoteOrder block c)) h.1.lawful.0 h.1))
-  any_start again (Promote c) block chosen place h = absurd h
-  any_start again Demote block chosen place h = absurd (place (inr (λ z. z)))
-  any_start again Clean block chosen place h = absurd (place (inr (λ z. z)))
+  any_start (Promote c) block chosen place h = absurd h
+  any_start Demote block chosen place h = absurd (place (inr (λ z. z)))
+  any_start Clean block chosen place h = absurd (place (inr (λ z. z)))
 
 -- ---- all of them
 
--- what is not followed here: a start under an order that its actor keeps, and an order that is given up
-pub record OrdersGo (P A : Type 0) (shape : Shape) : Type 0 where
-  pub again : (t : Target P) (commit : Option RunningCommit) (devices : Devices (List History)) (actors : List Actor) (n : Notes) → Whole P A shape (at_target P A shape t commit devices actors) n → (a : ℕ) (x : Actor) (block : OBlock) (c : CBlock) (cut : List Extent) → slice_get actors a ≡ Some x → x.task ≡ None →
-      IsCutInto (whole_block (size P A shape) block) cut → Contains x.orders (PromoteOrder block c) →
-      Goes P A shape (record { devices = devices; commit = commit; phase = Stands t; actors = slice_set actors a (given {P = P} {A = A} shape x (Migrate (Promote c) block) (Cut cut)) }) (put n a (Some (begun n (Migrate (Promote c) block))))
-  pub releases : (t : Target P) (commit : Option RunningCommit) (devices : Devices (List History)) (actors : List Actor) (n : Notes) → Whole P A shape (at_target P A shape t commit devices actors) n → (a : ℕ) (x : Actor) (migration : Migration) (block : OBlock) (plan : Plan) (doing : Doing) → slice_get actors a ≡ Some x → x.task ≡ Some (Migrate migration block, plan) →
-      slice_get n.doings a ≡ Some (Some doing) → doing.job ≡ Migrate migration block → (bl : OBlock) (read : List Bytes) (chosen : Chosen P A) → Desk (ReleaseOrder bl) ≡ want plan → DoesRelease (order_for migration block) t.desk chosen →
-      Stepped_to P A shape (at_target P A shape t commit devices actors) n a x (Migrate migration block) (Desk (ReleaseOrder bl)) Done read chosen doing
-
-pub migrations_go : (P A : Type 0) (shape : Shape) → OrdersGo P A shape → MigrationsGo P A shape
-migrations_go P A shape orders = record {
-  steps = λ t commit devices actors n b a x migration block plan doing ex xt noted job_is. any_step P A shape t commit devices actors n b a x migration block plan doing ex xt noted job_is (orders.releases t commit devices actors n b a x migration block plan doing ex xt noted job_is);
+pub migrations_go : (P A : Type 0) (shape : Shape) → MigrationsGo P A shape
+migrations_go P A shape = record {
+  steps = λ t commit devices actors n b a x migration block plan doing ex xt noted job_is. any_step P A shape t commit devices actors n b a x migration block plan doing ex xt noted job_is;
   faults = λ t commit devices actors n b a x migration block plan doing ex xt noted job_is. any_fault P A shape t commit devices actors n b a x migration block plan doing ex xt noted job_is;
-  starts = λ t commit devices actors n b a x migration block chosen ex xt. any_start P A shape t commit devices actors n b a x ex xt (λ block c cut. orders.again t commit devices actors n b a x block c cut ex xt) migration block chosen;
+  starts = λ t commit devices actors n b a x migration block chosen ex xt. any_start P A shape t commit devices actors n b a x ex xt migration block chosen;
 }

@@ -6,7 +6,7 @@ mod Telling
 mod Cells
 mod Among
 mod Carrying
-mod Promoting
+pub mod Promoting
 mod Copying
 mod Deciding
 mod Cut
