@@ -121,4 +121,5 @@ module _ (P A : Type 0) (shape : Shape) (metadata : List History) (f : IsFormatt
       tasks = λ a x e. subst (λ (v : Actor). PlanInside shape v.task) (sym (replicated shape.actors a resting x e)) tt;
     };
     asked = nobody;
+    owned = λ a x e. ap (λ (v : Actor). v.orders) (replicated shape.actors a resting x e);
   }

@@ -24,3 +24,5 @@ mod Latest
 mod Given
 mod Promise
 mod Carrying
+mod Owned
+mod Migrations

@@ -14,6 +14,7 @@ use Rattle.wb_tasks.specs.declared.step.DeviceStep.{DeviceStep}
 use Rattle.wb_tasks.specs.declared.step.Migration.{Migration}
 use Rattle.wb_types.specs.declared.number.OBlock.{OBlock}
 use Rattle.wb_tasks.specs.declared.step.Want.{Want}
+use Rattle.wb_tasks.specs.declared.step.Want.TheVariants.{Device}
 use Rattle.wb_tasks.specs.declared.step.Got.{Got}
 use Rattle.wb_tasks.specs.declared.step.Got.TheVariants.{Fault}
 use Rattle.wb_devices.specs.declared.devices.Devices.{Devices}
@@ -26,7 +27,7 @@ use Rattle.wb_runs.specs.declared.event.What.{What}
 use Rattle.wb_runs.specs.declared.event.What.TheVariants.{Skipped, Refused, Started, Stepped, Stopped}
 use Rattle.wb_runs.specs.States.{Shape, State, Actor, Target, Phase, Stands, Gone, Opens, OfTarget, start, sector_count, cache_sector_count}
 use Rattle.wb_runs.specs.Happenings.{Chosen, Plain, Cut, Orders, Happening, OfSome, DoesNotApply, Gives, Falters, MayFailAt, StartGives, MayBe, task_job, order_for}
-use Rattle.wb_runs.specs.Effects.{device_done, device_failed, stepped, with_actor, job_of, given, cleared, phase_given, started, after_what, after_happening, after_all, IsRun}
+use Rattle.wb_runs.specs.Effects.{device_done, device_failed, phase_then, actor_then, stepped, with_actor, job_of, given, cleared, phase_given, started, after_what, after_happening, after_all, IsRun}
 use Rattle.wb_runs.specs.Clerk.{Notes, Doing, noted_step, noted_what, put, begun, starting, nobody, formatted}
 use Rattle.wb_runs.specs.Headline.{shown, note_happening, noted}
 use Rattle.wb_runs.specs.Holding.{TaskSuits}
@@ -41,6 +42,7 @@ use Rattle.wb_runs.proofs.LinkedRuns.{Base, links_what}
 use Rattle.wb_runs.proofs.InsideRuns.{Inside, inside_what, want_inside}
 use Rattle.wb_headline.proofs.Asked.{AllAsked, what_asked}
 use Rattle.wb_headline.proofs.Following.{Followed, Goes}
+use Rattle.wb_headline.proofs.Owned.{OwnedIn, NoOrders, none_set, none_rest, none_step, same_step, own_given, own_step}
 use Rattle.wb_headline.proofs.Targets.{standing}
 use Rattle.wb_headline.proofs.Crashing.{crash_goes}
 use Rattle.wb_headline.proofs.Opens.{opening_steps, opening_faults}
@@ -55,6 +57,7 @@ module _ (P A : Type 0) (shape : Shape) where
     pub linked : Linked {P = P} {A = A} shape w.phase w.actors n
     pub inside : Inside shape w
     pub asked : AllAsked (sector_count shape) n.doings
+    pub owned : OwnedIn w.phase w.actors
 
   known_of : (w : State P A) (n : Notes) → Whole w n → IsKnown P A shape w
   known_of w n b = record { images = b.goes.images; known = b.goes.known }
@@ -64,15 +67,15 @@ module _ (P A : Type 0) (shape : Shape) where
 
   -- ---- one step of one actor
 
-  abbrev Stepped_to : State P A → Notes → ℕ → Actor → Job → Want → Got → List Bytes → Chosen P A → Doing → Type 0
+  abbrev pub Stepped_to : State P A → Notes → ℕ → Actor → Job → Want → Got → List Bytes → Chosen P A → Doing → Type 0
   Stepped_to w n a x job next got read chosen doing = Goes P A shape (stepped shape w a x next got chosen (λ step. device_done job x.buffer step chosen))
       (noted_step shape (shown shape (stepped shape w a x next got chosen (λ step. device_done job x.buffer step chosen))) n a (Some (Some doing)) next got read)
 
-  abbrev Faulted_to : State P A → Notes → ℕ → Actor → Choice → Job → Want → List Bytes → Chosen P A → Doing → Type 0
+  abbrev pub Faulted_to : State P A → Notes → ℕ → Actor → Choice → Job → Want → List Bytes → Chosen P A → Doing → Type 0
   Faulted_to w n a x choice job next read chosen doing = Goes P A shape (stepped shape w a x next Fault chosen (λ step. device_failed (lands (device_of step) choice) job x.buffer step chosen))
       (noted_step shape (shown shape (stepped shape w a x next Fault chosen (λ step. device_failed (lands (device_of step) choice) job x.buffer step chosen))) n a (Some (Some doing)) next Fault read)
 
-  abbrev at_target : Target P → Option RunningCommit → Devices (List History) → List Actor → State P A
+  abbrev pub at_target : Target P → Option RunningCommit → Devices (List History) → List Actor → State P A
   at_target t commit devices actors = record { devices = devices; commit = commit; phase = Stands t; actors = actors }
 
   -- What is followed of migrations: each step, done and failing, and each start.
@@ -83,7 +86,7 @@ module _ (P A : Type 0) (shape : Shape) where
     pub faults : (t : Target P) (commit : Option RunningCommit) (devices : Devices (List History)) (actors : List Actor) (n : Notes) → Whole (at_target t commit devices actors) n → (a : ℕ) (x : Actor) (migration : Migration) (block : OBlock) (plan : Plan) (doing : Doing) → slice_get actors a ≡ Some x → x.task ≡ Some (Migrate migration block, plan) →
         slice_get n.doings a ≡ Some (Some doing) → doing.job ≡ Migrate migration block → (choice : Choice) (next : Want) (read : List Bytes) (chosen : Chosen P A) → next ≡ want plan → MayFailAt devices choice next → Falters (at_target t commit devices actors) choice next chosen →
         Faulted_to (at_target t commit devices actors) n a x choice (Migrate migration block) next read chosen doing
-    pub starts : (t : Target P) (commit : Option RunningCommit) (devices : Devices (List History)) (actors : List Actor) (n : Notes) → Whole (at_target t commit devices actors) n → (a : ℕ) (x : Actor) (migration : Migration) (block : OBlock) (chosen : Chosen P A) → slice_get actors a ≡ Some x → x.task ≡ None →
+    pub starts : (t : Target P) (commit : Option RunningCommit) (devices : Devices (List History)) (actors : List Actor) (n : Notes) → Whole (at_target t commit devices actors) n → (a : ℕ) (x : Actor) (migration : Migration) (block : OBlock) (chosen : Chosen P A) → slice_get actors a ≡ Some x → x.task ≡ None → (¬ Rattle.wb_runs.specs.Happenings.IsOutOfPlace {P = P} {A = A} (Stands t) (Migrate migration block)) →
         StartGives shape (Stands t) (Some x) (Migrate migration block) Started chosen →
         Goes P A shape (record { devices = devices; commit = commit; phase = phase_given {P = P} {A = A} (Stands t) (Migrate migration block) chosen; actors = slice_set actors a (given shape x (Migrate migration block) chosen) }) (put n a (Some (begun n (Migrate migration block))))
 
@@ -205,7 +208,7 @@ module _ (P A : Type 0) (shape : Shape) where
     start_at_target t commit devices actors n b a x (Migrate migration block) chosen ex xt place g =
         let w = at_target t commit devices actors in
         subst (λ (o : Option Actor). Goes P A shape (with_actor w o (λ y. record w { phase = phase_given w.phase (Migrate migration block) chosen; actors = slice_set w.actors a (given {P = P} {A = A} shape y (Migrate migration block) chosen) })) (put n a (Some (begun n (Migrate migration block))))) (sym ex)
-        (migrations.starts t commit devices actors n b a x migration block chosen ex xt g)
+        (migrations.starts t commit devices actors n b a x migration block chosen ex xt place g)
     start_at_target t commit devices actors n b a x (Read extent) chosen ex xt place g = absurd g
     start_at_target t commit devices actors n b a x (Write extent content) chosen ex xt place g = absurd g
 
@@ -228,6 +231,105 @@ module _ (P A : Type 0) (shape : Shape) where
     start_goes w n b a job chosen applies g =
         let x = free P A w a job applies in
         start_by_phase w w.phase refl n b a x.0 job chosen x.1 x.2 (λ o. applies (inr (inr o))) (subst (λ (o : Option Actor). StartGives shape w.phase o job Started chosen) x.1 g)
+
+    -- ---- orders that actors have
+
+    own_by_phase : (devices : Devices (List History)) (commit : Option RunningCommit) (phase : Phase P A) (actors : List Actor) (n : Notes) → Whole (record { devices = devices; commit = commit; phase = phase; actors = actors }) n → (a : ℕ) (x : Actor) (job : Job) (plan : Plan) → slice_get actors a ≡ Some x → x.task ≡ Some (job, plan) →
+        (next : Want) (got : Got) (read : List Bytes) (chosen : Chosen P A) → next ≡ want plan → Gives shape (record { devices = devices; commit = commit; phase = phase; actors = actors }) job next got read chosen → OwnedIn (phase_then shape phase next got chosen) (slice_set actors a (actor_then shape phase devices x next got))
+    own_by_phase devices commit (Stands t) actors n b a x job plan ex xt next got read chosen e g = own_step P A shape b.goes.images t commit devices actors n b.goes.known b.goes.followed b.owned a x plan ex (subst (λ (o : Option (Job × Plan)). TaskSuits shape.geometry.origin_blocks x.card o) xt (b.used.suited a x ex)) job xt next got read chosen e g
+    own_by_phase devices commit Gone actors n b a x job plan ex xt next got read chosen e g = none_step P A shape Gone (phase_then {P = P} {A = A} shape Gone next got chosen) devices actors a x next got ex b.owned
+    own_by_phase devices commit (Opens mode reading) actors n b a x job plan ex xt next got read chosen e g = none_step P A shape (Opens mode reading) (phase_then {P = P} {A = A} shape (Opens mode reading) next got chosen) devices actors a x next got ex b.owned
+
+    own_fault : (devices : Devices (List History)) (phase : Phase P A) (actors : List Actor) → OwnedIn phase actors → (a : ℕ) (x : Actor) → slice_get actors a ≡ Some x → (choice : Choice) (next : Want) (chosen : Chosen P A) → MayFailAt devices choice next → OwnedIn (phase_then shape phase next Fault chosen) (slice_set actors a (actor_then shape phase devices x next Fault))
+    own_fault devices (Stands t) actors o a x ex choice (Device step) chosen m = same_step P A shape t actors a x ex o t (actor_then {P = P} {A = A} shape (Stands t) devices x (Device step) Fault) refl refl
+    own_fault devices (Stands t) actors o a x ex choice next chosen m = absurd m
+    own_fault devices Gone actors o a x ex choice next chosen m = none_step P A shape Gone (phase_then {P = P} {A = A} shape Gone next Fault chosen) devices actors a x next Fault ex o
+    own_fault devices (Opens mode reading) actors o a x ex choice next chosen m = none_step P A shape (Opens mode reading) (phase_then {P = P} {A = A} shape (Opens mode reading) next Fault chosen) devices actors a x next Fault ex o
+
+    abbrev Owns : State P A → Type 0
+    Owns w = OwnedIn w.phase w.actors
+
+    own_steps : (w : State P A) (n : Notes) → Whole w n → (a : ℕ) (next : Want) (got : Got) (read : List Bytes) (chosen : Chosen P A) (o : Option Actor) → slice_get w.actors a ≡ o → OfSome o (λ x. OfSome x.task (λ doing. (next ≡ want doing.1) × Gives shape w doing.0 next got read chosen)) →
+        Owns (with_actor w o (λ x. stepped shape w a x next got chosen (λ step. device_done (job_of x.task) x.buffer step chosen)))
+    own_steps w n b a next got read chosen None e h = absurd h
+    own_steps w n b a next got read chosen (Some x) e h = by x.task refl h
+      where
+        by : (t : Option (Job × Plan)) → x.task ≡ t → OfSome t (λ doing. (next ≡ want doing.1) × Gives shape w doing.0 next got read chosen) → OwnedIn (phase_then shape w.phase next got chosen) (slice_set w.actors a (actor_then shape w.phase w.devices x next got))
+        by None xt h = absurd h
+        by (Some task) xt h = own_by_phase w.devices w.commit w.phase w.actors n b a x task.0 task.1 e xt next got read chosen h.0 h.1
+
+    own_faults : (w : State P A) (n : Notes) → Whole w n → (a : ℕ) (choice : Choice) (next : Want) (chosen : Chosen P A) (o : Option Actor) → slice_get w.actors a ≡ o → OfSome o (λ x. OfSome x.task (λ doing. (next ≡ want doing.1) × MayFailAt w.devices choice next × Falters w choice next chosen)) →
+        Owns (with_actor w o (λ x. stepped shape w a x next Fault chosen (λ step. device_failed (lands (device_of step) choice) (job_of x.task) x.buffer step chosen)))
+    own_faults w n b a choice next chosen None e h = absurd h
+    own_faults w n b a choice next chosen (Some x) e h = by x.task h
+      where
+        by : (t : Option (Job × Plan)) → OfSome t (λ doing. (next ≡ want doing.1) × MayFailAt w.devices choice next × Falters w choice next chosen) → OwnedIn (phase_then shape w.phase next Fault chosen) (slice_set w.actors a (actor_then shape w.phase w.devices x next Fault))
+        by None h = absurd h
+        by (Some task) h = own_fault w.devices w.phase w.actors b.owned a x e choice next chosen h.1
+
+    own_opening : (w : State P A) (a : ℕ) (x : Actor) (mode : Mode) (chosen : Chosen P A) → slice_get w.actors a ≡ Some x → Owns (started shape w a (Open mode) chosen)
+    own_opening w a x mode chosen ex =
+        let c = cleared w (Open mode) in
+        subst (λ (o : Option Actor). Owns (with_actor c o (λ y. record c { phase = phase_given c.phase (Open mode) chosen; actors = slice_set c.actors a (given shape y (Open mode) chosen) }))) (sym (there_rests w.actors a x ex))
+        (none_set c.actors a (given shape Rattle.wb_runs.specs.States.resting (Open mode) chosen) refl (none_rest w.actors))
+
+    own_at_target : (t : Target P) (commit : Option RunningCommit) (devices : Devices (List History)) (actors : List Actor) (n : Notes) → Whole (at_target t commit devices actors) n → (a : ℕ) (x : Actor) (job : Job) (chosen : Chosen P A) → slice_get actors a ≡ Some x → (¬ Rattle.wb_runs.specs.Happenings.IsOutOfPlace {P = P} {A = A} (Stands t) job) →
+        StartGives shape (Stands t) (Some x) job Started chosen → cleared (at_target t commit devices actors) job ≡ at_target t commit devices actors → Owns (started shape (at_target t commit devices actors) a job chosen)
+    own_at_target t commit devices actors n b a x job chosen ex place g same =
+        let w = at_target t commit devices actors in
+        subst (λ (c : State P A). Owns (with_actor c (slice_get c.actors a) (λ y. record c { phase = phase_given c.phase job chosen; actors = slice_set c.actors a (given shape y job chosen) }))) (sym same)
+        (subst (λ (o : Option Actor). Owns (with_actor w o (λ y. record w { phase = phase_given w.phase job chosen; actors = slice_set w.actors a (given shape y job chosen) }))) (sym ex)
+        (own_given P A shape t actors a x ex b.owned b.goes.known.is.orders job chosen place g))
+
+    own_start : (w : State P A) (phase : Phase P A) → w.phase ≡ phase → (n : Notes) → Whole w n → (a : ℕ) (x : Actor) (job : Job) (chosen : Chosen P A) → slice_get w.actors a ≡ Some x → (¬ Rattle.wb_runs.specs.Happenings.IsOutOfPlace phase job) → StartGives shape phase (Some x) job Started chosen → Owns (started shape w a job chosen)
+    own_start w phase e n b a x (Open mode) chosen ex place g = own_opening w a x mode chosen ex
+    own_start w (Stands t) e n b a x (Read extent) chosen ex place g =
+        let is : record { devices = w.devices; commit = w.commit; phase = Stands t; actors = w.actors } ≡ w = λ i. record w { phase = sym e i } in
+        subst (λ (v : State P A). Owns (started shape v a (Read extent) chosen)) is (own_at_target t w.commit w.devices w.actors n (subst (λ (v : State P A). Whole v n) (sym is) b) a x (Read extent) chosen ex place g refl)
+    own_start w (Stands t) e n b a x (Write extent content) chosen ex place g =
+        let is : record { devices = w.devices; commit = w.commit; phase = Stands t; actors = w.actors } ≡ w = λ i. record w { phase = sym e i } in
+        subst (λ (v : State P A). Owns (started shape v a (Write extent content) chosen)) is (own_at_target t w.commit w.devices w.actors n (subst (λ (v : State P A). Whole v n) (sym is) b) a x (Write extent content) chosen ex place g refl)
+    own_start w (Stands t) e n b a x Flush chosen ex place g =
+        let is : record { devices = w.devices; commit = w.commit; phase = Stands t; actors = w.actors } ≡ w = λ i. record w { phase = sym e i } in
+        subst (λ (v : State P A). Owns (started shape v a Flush chosen)) is (own_at_target t w.commit w.devices w.actors n (subst (λ (v : State P A). Whole v n) (sym is) b) a x Flush chosen ex place g refl)
+    own_start w (Stands t) e n b a x (Migrate m block) chosen ex place g =
+        let is : record { devices = w.devices; commit = w.commit; phase = Stands t; actors = w.actors } ≡ w = λ i. record w { phase = sym e i } in
+        subst (λ (v : State P A). Owns (started shape v a (Migrate m block) chosen)) is (own_at_target t w.commit w.devices w.actors n (subst (λ (v : State P A). Whole v n) (sym is) b) a x (Migrate m block) chosen ex place g refl)
+    own_start w Gone e n b a x (Read extent) chosen ex place g = absurd (place (λ z. z))
+    own_start w Gone e n b a x (Write extent content) chosen ex place g = absurd (place (λ z. z))
+    own_start w Gone e n b a x Flush chosen ex place g = absurd (place (λ z. z))
+    own_start w Gone e n b a x (Migrate m block) chosen ex place g = absurd (place (inl (λ z. z)))
+    own_start w (Opens mode reading) e n b a x (Read extent) chosen ex place g = absurd (place (λ z. z))
+    own_start w (Opens mode reading) e n b a x (Write extent content) chosen ex place g = absurd (place (λ z. z))
+    own_start w (Opens mode reading) e n b a x Flush chosen ex place g = absurd (place (λ z. z))
+    own_start w (Opens mode reading) e n b a x (Migrate m block) chosen ex place g = absurd (place (inl (λ z. z)))
+
+    own_starts : (w : State P A) (n : Notes) → Whole w n → (a : ℕ) (job : Job) (chosen : Chosen P A) → (¬ DoesNotApply w (Start a job)) → StartGives shape w.phase (slice_get w.actors a) job Started chosen → Owns (started shape w a job chosen)
+    own_starts w n b a job chosen applies g =
+        let x = free P A w a job applies in
+        own_start w w.phase refl n b a x.0 job chosen x.1 (λ o. applies (inr (inr o))) (subst (λ (o : Option Actor). StartGives shape w.phase o job Started chosen) x.1 g)
+
+    own_what : (w : State P A) (n : Notes) → Whole w n → (event : Event) (what : What) (read : List Bytes) (chosen : Chosen P A) → MayBe shape w event what read chosen → Owns (after_what shape w event what chosen)
+    own_what w n b (Start a job) Started read chosen h = own_starts w n b a job chosen h.1 h.2
+    own_what w n b (Step a) (Stepped next got) read chosen h = own_steps w n b a next got read chosen (slice_get w.actors a) refl h
+    own_what w n b (FaultStep a choice) (Stepped next got) read chosen h = subst (λ (g : Got). Owns (after_what shape w (FaultStep a choice) (Stepped next g) chosen)) (sym h.1) (own_faults w n b a choice next chosen (slice_get w.actors a) refl h.2)
+    own_what w n b (Stop choice) Stopped read chosen h = none_rest w.actors
+    own_what w n b (Start a job) Skipped read chosen h = b.owned
+    own_what w n b (Start a job) (Refused refusal) read chosen h = b.owned
+    own_what w n b (Step a) Skipped read chosen h = b.owned
+    own_what w n b (Step a) (Refused refusal) read chosen h = b.owned
+    own_what w n b (FaultStep a choice) Skipped read chosen h = b.owned
+    own_what w n b (FaultStep a choice) (Refused refusal) read chosen h = b.owned
+    own_what w n b (Stop choice) Skipped read chosen h = b.owned
+    own_what w n b (Stop choice) (Refused refusal) read chosen h = b.owned
+    own_what w n b (Start a job) (Stepped next got) read chosen h = b.owned
+    own_what w n b (Start a job) Stopped read chosen h = b.owned
+    own_what w n b (Step a) Started read chosen h = b.owned
+    own_what w n b (Step a) Stopped read chosen h = b.owned
+    own_what w n b (FaultStep a choice) Started read chosen h = b.owned
+    own_what w n b (FaultStep a choice) Stopped read chosen h = b.owned
+    own_what w n b (Stop choice) Started read chosen h = b.owned
+    own_what w n b (Stop choice) (Stepped next got) read chosen h = b.owned
 
     -- ---- every event
 
@@ -266,6 +368,7 @@ module _ (P A : Type 0) (shape : Shape) where
           linked = links_what P A shape (shown shape (after_happening shape w h)) w n event what read h.chosen known b.used b.linked m;
           inside = inside_what P A shape w n event what read h.chosen (base_of w n b) b.inside m;
           asked = what_asked (sector_count shape) shape (shown shape (after_happening shape w h)) n event what read (b.goes.followed.notes_agree.as_many ∙ b.goes.followed.sized.sectors) b.asked;
+          owned = own_what w n b event what read h.chosen m;
         }
 
     pub whole_always : (w : State P A) (n : Notes) (hs : List (Happening P A)) → Whole w n → IsRun shape w hs → Whole (after_all shape w hs) (noted shape w n hs)

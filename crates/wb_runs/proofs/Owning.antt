@@ -35,7 +35,7 @@ brings_named b (Demote x) h = absurd h
 brings_named b (Clean x) h = absurd h
 
 -- what is left of orders was there, and is of another block
-dropped_is : (b : OBlock) (orders : List Order) (order : Order) → Contains (dropped b orders) order → Contains orders order × (is_of b order ≡ false)
+pub dropped_is : (b : OBlock) (orders : List Order) (order : Order) → Contains (dropped b orders) order → Contains orders order × (is_of b order ≡ false)
 dropped_is b [] order h = absurd (omega (arith, h.1))
 dropped_is b (o ∷ orders) order h = by_test (is_of b o) refl h (λ later. dropped_is b orders order later)
   where

@@ -6,8 +6,8 @@ mod Telling
 mod Cells
 mod Among
 mod Carrying
-mod Found
-mod Promoting
+pub mod Found
+pub mod Promoting
 mod Copying
 mod Deciding
 mod Cut

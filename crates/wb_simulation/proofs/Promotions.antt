@@ -46,7 +46,7 @@ use Rattle.wb_simulation.proofs.Ordering.{starts, again}
 module _ (size most blocks : ℕ) (words : Words) (committing : Bool) (orders : List (Option Order)) (devices : Devices (List History)) (actors : List Actor) (a : ℕ) (x : Actor) (migration : Migration) (block : OBlock) (plan : Plan) (s : World) (ex : slice_get actors a ≡ Some x) (task : x.task ≡ Some (Migrate migration block, plan))
     (suits : Suits blocks plan x.card) (g : Agrees size most words committing orders devices actors s) (next : Want) (ws : List Want) (steps : plan.steps ≡ next ∷ ws) where
   -- A migration whose next step is on a device or the desk is carried.
-  carried_at : ¬ IsOutside (next ∷ ws) → IsFound size most words committing orders devices actors a x s g
+  pub carried_at : ¬ IsOutside (next ∷ ws) → IsFound size most words committing orders devices actors a x s g
   carried_at within = elim (g.carried a x migration block plan ex task) [
     | inl u ↦ elim u.0 [
       | inl none ↦ absurd (let bad : [] ≡ next ∷ ws = sym none ∙ steps in cc)
@@ -56,7 +56,7 @@ module _ (size most blocks : ℕ) (words : Words) (committing : Bool) (orders : 
   ]
 
   module _ (f : IsFound size most words committing orders devices actors a x s g) where
-    same : plan ≡ f.is.plan
+    pub same : plan ≡ f.is.plan
     same = sym (same_plan x.task (Migrate f.is.migration f.is.block) (Migrate migration block) f.is.plan plan f.is.task task)
 
     steps_there : f.is.plan.steps ≡ next ∷ ws
