@@ -7,7 +7,7 @@ mod Cells
 mod Among
 mod Carrying
 pub mod Found
-pub mod Promoting
+mod Promoting
 mod Copying
 mod Deciding
 mod Cut

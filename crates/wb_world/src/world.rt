@@ -11,7 +11,7 @@ ghost use Rattle.wb_world.specs.Serving.{IsServed};
 ghost use Rattle.wb_world.specs.Showing.{opened_of};
 ghost use Rattle.wb_world.specs.Standing.{IsSound};
 
-use crate::law::{headline, reads_give_the_latest_write};
+use crate::law::headline;
 use crate::outcome::Outcome;
 use crate::phase::Phase;
 use crate::serving::{falter, start, step};
@@ -22,6 +22,7 @@ use std::alloc::Global;
 use std::marker::Model;
 use wb_devices::Devices;
 use wb_disk::MemDisk;
+use wb_headline::reads_give_the_latest_write;
 use wb_meta::format;
 use wb_policy::Quiet;
 use wb_runs::{Event, Record, never_stuck, steps_stay_inside, words_are_used_rightly};
@@ -133,7 +134,7 @@ impl World {
         ensures promises { (run : IsReached self.now) → KeepsPromises self.now run }
     {
         headline();
-        reads_give_the_latest_write();
+        reads_give_the_latest_write::<Quiet, Global>();
         &self.trace
     }
 
@@ -142,7 +143,7 @@ impl World {
         ensures { IsRightRun self.shape (events_of self.trace) result.records }
     {
         headline();
-        reads_give_the_latest_write();
+        reads_give_the_latest_write::<Quiet, Global>();
         self.trace
     }
 }
