@@ -50,7 +50,7 @@ module _ (shape : Shape) (n : Notes) (m : AbstractNotes) (histories : m.historie
       let found : slice_get n.histories (at / block_size shape * block_size shape + at % block_size shape) ≡ Some h.0 = ap (λ k. slice_get n.histories k) where_at ∙ h.1 in
       let history : m.histories (at / block_size shape) (at % block_size shape) ≡ h.0 = ap (λ f. f (at / block_size shape) (at % block_size shape)) histories ∙ is_there (block_size shape) zeros n.histories (at / block_size shape) (at % block_size shape) h.0 o_less found in
       let floor : m.floors (at / block_size shape) (at % block_size shape) ≡ unwrap_or (slice_get n.floors at) 0 = ap (λ f. f (at / block_size shape) (at % block_size shape)) floors
-          ∙ ap (λ t. Rattle.std.proofs.Common.cond t (unwrap_or (slice_get n.floors (at / block_size shape * block_size shape + at % block_size shape)) 0) 0) (lt-ltb (at % block_size shape) (block_size shape) o_less) ∙ ap (λ k. unwrap_or (slice_get n.floors k) 0) where_at in
+      ∙ ap (λ t. Rattle.std.proofs.Common.cond t (unwrap_or (slice_get n.floors (at / block_size shape * block_size shape + at % block_size shape)) 0) 0) (lt-ltb (at % block_size shape) (block_size shape) o_less) ∙ ap (λ k. unwrap_or (slice_get n.floors k) 0) where_at in
       subst (λ (g : Option History). IsAllowed g (unwrap_or (slice_get n.floors at) 0) c) (sym h.1)
       (subst (λ (g : History). IsEntryFrom (unwrap_or (slice_get n.floors at) 0) g c) history (subst (λ (k : ℕ). IsEntryFrom k (m.histories (at / block_size shape) (at % block_size shape)) c) floor e))
     where

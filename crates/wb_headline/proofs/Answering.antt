@@ -60,10 +60,13 @@ opened_at (Some entry ∷ tree) (suc k) = opened_at tree k
 pub free_or_mapped : (tree : List (Option Entry)) (k : ℕ) → (block_there (opened_state tree k) ≡ MappedThere) ⊎ ((block_there (opened_state tree k) ≡ FreeThere) × IsUnnamed (located tree) k)
 free_or_mapped tree k = elim (opened_at tree k) [
   | inl m ↦ inl (ap block_there m)
-  | inr f ↦ inr (ap block_there f.0, λ b e.
-      let at = found_at tree b 0 k e in
-      let same : at.0 ≡ k = (let is = at.2 in omega (arith, is)) in
-      let bad : Some at.1 ≡ None = sym at.4 ∙ ap (λ i. slice_index_or tree i None) same ∙ f.1 in cc)
+  | inr f ↦ inr (
+    ap block_there f.0,
+    λ b e.
+        let at = found_at tree b 0 k e in
+        let same : at.0 ≡ k = (let is = at.2 in omega (arith, is)) in
+        let bad : Some at.1 ≡ None = sym at.4 ∙ ap (λ i. slice_index_or tree i None) same ∙ f.1 in cc,
+  )
 ]
 
 -- the abstract opening's answer, which makes the opened desk's blocks and shows what is newest

@@ -39,4 +39,4 @@ module _ (P A : Type 0) (shape : Shape) (images : Images) (w : State P A) (n : N
       let l = openings_followed.crashes shape.geometry (size P A shape) images.committed d.later f.site w.devices (all_crashed choice w.devices) d.agree (Crashed-crashed_from Metadata choice 0 w.devices.metadata) (Crashed-crashed_from Cache choice 0 w.devices.cache) (Crashed-crashed_from Origin choice 0 w.devices.origin) in
       let v = arrives P A shape images w n (record n { doings = nobody n.doings }) f (ended_same n) l.state None GoneThere (all_crashed choice w.devices) l.leads (λ e. absurd (cc)) in
       gone P A shape (one_image l.state) None GoneThere (all_crashed choice w.devices) (record n { doings = nobody n.doings }) v tt (λ e. absurd (cc)) (all_resting w.actors) (sized_so P A shape w.actors (all_resting w.actors) n (record n { doings = nobody n.doings }) (ended_same n) (length-map w.actors (λ (x : Actor). resting)) f.sized) None
-          (record { read = l.leads.agrees.images.read; fit = one_fit images d.later l.state r.fit d.fit l.one_of; fit_later = tt })
+      (record { read = l.leads.agrees.images.read; fit = one_fit images d.later l.state r.fit d.fit l.one_of; fit_later = tt })

@@ -1,5 +1,5 @@
 -- Whatever comes of a promotion is followed.
-use Rattle.std.proofs.Common.{◌≡◌, ◌≢◌, ◌∙◌, ◌<◌, ◌≤◌, ◌+◌, ◌==◌, ◌^◌, ◌⊎◌, inl, inr, ℕ, zero, suc, Bool, true, false, if◌then◌else◌, List, [], ◌∷◌, Option, Some, None, refl, sym, ap, subst, arith, length, is_some, slice_get, slice_set, Contains}
+use Rattle.std.proofs.Common.{if◌then◌else◌, ◌≡◌, ◌≢◌, ◌∙◌, ◌<◌, ◌≤◌, ◌+◌, ◌==◌, ◌^◌, inl, inr, ℕ, zero, suc, Bool, true, false, List, [], ◌∷◌, Option, Some, None, refl, sym, ap, subst, arith, length, is_some, slice_get, slice_set, Contains}
 use Rattle.std.proofs.lemmas.Bool.{eqb-true}
 use Rattle.std.proofs.lemmas.List.{length-set}
 use Rattle.std.proofs.lemmas.Option.{get_or_from_slice_get, slice_get_within}
@@ -18,18 +18,18 @@ use Rattle.wb_policy.specs.Law.{origins, IsUnmapped}
 use Rattle.wb_policy.specs.declared.order.Order.{Order}
 use Rattle.wb_policy.specs.declared.order.Order.TheVariants.{Promote as PromoteOrder, Replace, Demote as DemoteOrder, Clean as CleanOrder}
 use Rattle.wb_space.specs.declared.block.Block.{Block}
-use Rattle.wb_space.specs.declared.block.Block.TheVariants.{Free, Mapped, Reserved, Quarantined}
+use Rattle.wb_space.specs.declared.block.Block.TheVariants.{Free, Reserved}
 use Rattle.wb_space.specs.Blocks.{state}
 use Rattle.wb_tree.specs.Mapping.{Mapping}
 use Rattle.wb_tree.specs.Edits.{IsChangedAt}
 use Rattle.wb_orders.specs.declared.live_order.LiveOrder.{LiveOrder}
 use Rattle.wb_orders.specs.Named.{IsNamed}
-use Rattle.wb_orders.specs.Orders.{AreOrders, order_at}
+use Rattle.wb_orders.specs.Orders.{order_at}
 use Rattle.wb_desk.specs.Desks.{DeskState, IsLive, MayReserve, NamesWhatIs, IsRight, holdings}
 use Rattle.wb_desk.specs.Calls.{reserved, released}
 use Rattle.wb_desk.specs.Entries.{Brings, MayMap, mapped, entry_of}
 use Rattle.wb_tasks.specs.Tables.{BlockRange, Migrating, OnBlock, TaskJob, whole_block}
-use Rattle.wb_tasks.specs.Plan.{Plan, want, table, device_of}
+use Rattle.wb_tasks.specs.Plan.{Plan, want}
 use Rattle.wb_tasks.specs.Ready.{Suits, HoldsBlocks, IsOwnStep}
 use Rattle.wb_tasks.proofs.Readiness.{is_own_step}
 use Rattle.wb_tasks.specs.declared.step.Answer.{Answer}
@@ -46,15 +46,15 @@ use Rattle.wb_devices.specs.declared.running.RunningCommit.{RunningCommit}
 use Rattle.wb_runs.specs.declared.job.Job.{Job}
 use Rattle.wb_runs.specs.declared.job.Job.TheVariants.{Migrate}
 use Rattle.wb_runs.specs.declared.event.What.TheVariants.{Started}
-use Rattle.wb_runs.specs.States.{Shape, State, Actor, Target, Phase, Stands}
-use Rattle.wb_runs.specs.Happenings.{Chosen, Plain, Cut, Orders, Begins, Reaches, Puts, Commits, Asks, Opened, Gives, Falters, MayFailAt, StartGives, DoesMap, DoesRelease, IsOutOfPlace, order_for}
+use Rattle.wb_runs.specs.States.{Shape, State, Actor, Target, Stands}
+use Rattle.wb_runs.specs.Happenings.{Chosen, Plain, Cut, Orders, Asks, Gives, Falters, MayFailAt, StartGives, DoesMap, DoesRelease, IsOutOfPlace, order_for}
 use Rattle.wb_runs.specs.Effects.{actor_then, phase_given, given, dropped}
 use Rattle.wb_runs.specs.Holding.{TaskSuits}
 use Rattle.wb_runs.specs.Inside.{StepInside}
 use Rattle.wb_runs.specs.Clerk.{Notes, Doing, noted_step, put, begun}
-use Rattle.wb_runs.specs.Headline.{cached_from, place_of}
+use Rattle.wb_runs.specs.Headline.{cached_from}
 use Rattle.wb_runs.proofs.Desks.{mapped_stands, reserved_stands, given_up_stands}
-use Rattle.wb_runs.proofs.Images.{Images, later_of}
+use Rattle.wb_runs.proofs.Images.{later_of}
 use Rattle.wb_runs.proofs.InsideRuns.{PlanInside, want_inside}
 use Rattle.wb_runs.proofs.Metadata.{kept_readable}
 use Rattle.wb_link.specs.World.{after_all, Apart}
@@ -64,7 +64,6 @@ use Rattle.wb_simulation.specs.Steps.{IsOutside}
 use Rattle.wb_simulation.specs.Telling.{Carries}
 use Rattle.wb_simulation.specs.Worlds.{Stays, Reserves, Maps, GivesUp, FollowsBy}
 use Rattle.wb_simulation.specs.Noted.{told}
-use Rattle.wb_simulation.specs.Opened.{located}
 use Rattle.wb_simulation.proofs.Followed.{begins_by}
 use Rattle.wb_simulation.proofs.Noted.{notes_followed}
 use Rattle.wb_simulation.proofs.Opening.{images_followed}
@@ -73,7 +72,7 @@ use Rattle.wb_headline.specs.Desks.{order_of, orders_of, live_orders, block_ther
 use Rattle.wb_headline.proofs.Desking.{desk_maps, desk_reserves, desk_releases}
 use Rattle.wb_headline.proofs.Following.{size, most, Sized, Followed, Goes}
 use Rattle.wb_headline.proofs.Owned.{gives_up, slot_there}
-use Rattle.wb_headline.proofs.Targets.{standing, actor_is, beside, leads_on, stays_on}
+use Rattle.wb_headline.proofs.Targets.{standing, actor_is, leads_on, stays_on}
 use Rattle.wb_headline.proofs.Carrying.{cells, read_done, read_fails, write_done, write_fails, map_refused, answers, carried_notes, sized_plain}
 use Rattle.wb_headline.proofs.Whole.{Whole, Stepped_to, Faulted_to, at_target, MigrationsGo}
 
@@ -176,8 +175,8 @@ module _ (P A : Type 0) (shape : Shape) (t : Target P) (commit : Option RunningC
       let less : c.0 < t.desk.geometry.cache_blocks = omega (arith, room, many_blocks) in
       let right = b.goes.known.is.kept.each c.0 less in
       let free = (let is = get_or_from_slice_get t.desk.space.blocks c.0 Reserved Free may.reserved in
-          let r = subst (λ (v : Block). IsRight (holdings t.desk) c.0 (Rattle.std.proofs.Common.slice_index_or t.desk.tree.entries c.0 None) v (order_at t.desk.orders.slots c.0)) is right in
-          no_entry (Rattle.std.proofs.Common.slice_index_or t.desk.tree.entries c.0 None) (sym r.filled)) in
+      let r = subst (λ (v : Block). IsRight (holdings t.desk) c.0 (Rattle.std.proofs.Common.slice_index_or t.desk.tree.entries c.0 None) v (order_at t.desk.orders.slots c.0)) is right in
+      no_entry (Rattle.std.proofs.Common.slice_index_or t.desk.tree.entries c.0 None) (sym r.filled)) in
       let none = nowhere_from t.desk.tree.entries 0 bl.0 (brought_unmapped (holdings t.desk) (state t.desk.space.blocks c.0) c.0 bl (order_at t.desk.orders.slots c.0) may.live may.there right.stands may.brings) in
       let readable = kept_readable shape.geometry b.goes.images devices.metadata P A (Stands t) commit b.goes.known in
       subst (λ (v : Actor). Goes P A shape (record { devices = devices; commit = commit; phase = Stands (record { words = t.words; desk = desk' }); actors = slice_set actors a v }) n) (sym (actor_is P A shape (Stands t) devices x job plan (Desk (Map bl c)) Done xt))
@@ -389,7 +388,7 @@ module _ (P A : Type 0) (shape : Shape) (t : Target P) (commit : Option RunningC
       let there_now = subst (λ (k : ℕ). slice_get (live_orders t.desk) k ≡ Some (Some (PromoteOrder block c))) names.0 (slot_there t.desk.orders.slots l.cache.0 l.live l.there ∙ ap (λ (q : Order). Some (Some q)) l.same) in
       let kept = g.phase.desk.blocks c.0 ∙ ap block_there (ap (state t.desk.space.blocks) (sym names.0) ∙ names.1) in
       let h = promotions_followed.again (size P A shape) (most P A shape) t.words t.desk.space.committing (live_orders t.desk) devices actors a x block c cut g.site.world ex xt holds some small cuts there_now has
-          (λ i z other ez mine. other (b.owned.0.one i a z x (PromoteOrder block c) ez ex mine has)) kept g.phase.agrees in
+      (λ i z other ez mine. other (b.owned.0.one i a z x (PromoteOrder block c) ez ex mine has)) kept g.phase.agrees in
       let s' = after_all g.site.world h.records in
       let is_there = Rattle.wb_runs.proofs.Lists.set_there actors a x y ex in
       let z = there s'.actors a (let m = h.agrees.many in let l = slice_get_within (slice_set actors a y) a y is_there in omega (arith, m, l)) in

@@ -360,7 +360,7 @@ module _ (P A : Type 0) (shape : Shape) (images : Images) (devices : Devices (Li
             let new_is : t.kept.of.new ≡ goal = ap (λ (c : Rattle.wb_roots.specs.Roots.Commit). c.new) t.of_is in
             let old : t.kept.of.old ≡ images.committed = ap (λ (c : Rattle.wb_roots.specs.Roots.Commit). c.old) t.of_is ∙ old_is i rd.0 in
             let read_so = subst (λ (s : Stored). Rattle.wb_roots.specs.Roots.MayBeReadAs shape.geometry images.committed (Some s) new) new_is
-                (subst (λ (s : Stored). Rattle.wb_roots.specs.Roots.MayBeReadAs shape.geometry s (Some t.kept.of.new) new) old (two_read shape.geometry t.kept.of new t.now _ t.kept.under)) in
+            (subst (λ (s : Stored). Rattle.wb_roots.specs.Roots.MayBeReadAs shape.geometry s (Some t.kept.of.new) new) old (two_read shape.geometry t.kept.of new t.now _ t.kept.under)) in
             let l = openings_followed.renews i new shape.geometry (size P A shape) images.committed (Some goal) Writeback f.site devices ph agree_so read_so in
             let v = arrives P A shape images w n (n' (Sync Metadata) Done read) f (same (Sync Metadata) Done read) images.committed (Some goal) (OpensThere Writeback (Answering i)) renewed l (no_stand (Answering i)) in
             goes_to (opening_at total left (Renewing i)) xt (Sync Metadata) Done read Plain t.now (Some goal) (OpensThere Writeback (Answering i)) renewed (Some (AllRead rd.0.stored)) (Some _) (opening_at total left (Answering i))

@@ -80,7 +80,7 @@ module _ (P A : Type 0) (shape : Shape) (images : Images) (devices : Devices (Li
           over_reading policy done =
               let o = opened_goes P A shape images devices commit mode reading actors n known f alone a x ex opened_in (opening_at total left (Answering i)) xt got i ph rd policy done cache_size origin_size in
               let Then : Option (ReadSteps A) → Job → Type 0 = λ r j. Goes P A shape (record { devices = devices; commit = None; phase = phase_opened shape mode r (Opened policy); actors = slice_set actors a (actor_then {P = P} {A = A} shape (Opens mode reading) devices x (End Finished) got) })
-                  (Rattle.wb_runs.specs.Clerk.finished_note n a doing j (shown_in shape devices (phase_opened shape mode r (Opened policy)))) in
+              (Rattle.wb_runs.specs.Clerk.finished_note n a doing j (shown_in shape devices (phase_opened shape mode r (Opened policy)))) in
               subst (λ (j : Job). Then reading j) (sym job_is) (subst (λ (r : Option (ReadSteps A)). Then r (Open opened_in)) (sym rd.0.reading_is) o)
 
           by_chosen : (c : Chosen P A) → Rattle.wb_runs.specs.Happenings.DoesOpen (Opens mode reading) commit c → Done_by job buffer (End Finished) got read c

@@ -1,7 +1,6 @@
 -- Orders that actors have live on the desk, are promotions, and no two actors have one, whatever happens.
-use Rattle.std.proofs.Common.{◌≡◌, ◌≢◌, ◌∙◌, ◌<◌, ◌+◌, ◌==◌, ◌||◌, ◌⊎◌, inl, inr, ℕ, zero, suc, Bool, true, false, List, [], ◌∷◌, Option, Some, None, refl, sym, ap, subst, arith, length, slice_get, slice_set, Contains}
+use Rattle.std.proofs.Common.{◌≡◌, ◌≢◌, ◌∙◌, ◌<◌, ◌==◌, ◌||◌, inl, inr, ℕ, zero, suc, Bool, true, false, List, [], ◌∷◌, Option, Some, None, refl, sym, ap, subst, arith, length, slice_get, slice_set, Contains}
 use Rattle.std.proofs.lemmas.Bool.{eq-eqb}
-use Rattle.std.proofs.lemmas.Option.{get_or_from_slice_get, slice_get_within}
 use Rattle.wb_types.proofs.Lists.{set_cases}
 use Rattle.wb_types.specs.declared.number.OBlock.{OBlock}
 use Rattle.wb_types.specs.declared.number.CBlock.{CBlock}
@@ -10,10 +9,10 @@ use Rattle.wb_policy.specs.declared.order.Order.{Order}
 use Rattle.wb_policy.specs.declared.order.Order.TheVariants.{Promote as PromoteOrder, Replace, Demote as DemoteOrder, Clean as CleanOrder}
 use Rattle.wb_orders.specs.declared.live_order.LiveOrder.{LiveOrder}
 use Rattle.wb_orders.specs.Orders.{AreOrders, order_at}
-use Rattle.wb_desk.specs.Desks.{DeskState, IsLive, MayReserve, holdings}
-use Rattle.wb_desk.specs.Entries.{Brings, MayMap}
+use Rattle.wb_desk.specs.Desks.{DeskState, IsLive, holdings}
+use Rattle.wb_desk.specs.Entries.{Brings}
 use Rattle.wb_stage.specs.Asking.{is_of, IsGivenUp}
-use Rattle.wb_tasks.specs.Tables.{BlockRange, Migrating, OnBlock, TaskJob}
+use Rattle.wb_tasks.specs.Tables.{Migrating, OnBlock, TaskJob}
 use Rattle.wb_tasks.specs.Plan.{Plan, want}
 use Rattle.wb_tasks.specs.Ready.{Suits, IsOwnStep}
 use Rattle.wb_tasks.proofs.Readiness.{is_own_step}
@@ -30,9 +29,9 @@ use Rattle.wb_devices.specs.declared.running.RunningCommit.{RunningCommit}
 use Rattle.wb_refines.specs.Migrations.{Fills}
 use Rattle.wb_runs.specs.declared.job.Job.{Job}
 use Rattle.wb_runs.specs.declared.job.Job.TheVariants.{Migrate}
-use Rattle.wb_runs.specs.States.{Shape, State, Actor, Target, Phase, Stands, Gone, Opens}
+use Rattle.wb_runs.specs.States.{Shape, Actor, Target, Phase, Stands, Gone, Opens}
 use Rattle.wb_runs.specs.Happenings.{Chosen, Plain, Cut, Orders, Asks, Gives, DoesMap, DoesRelease, StartGives, IsOutOfPlace, IsMade, order_for}
-use Rattle.wb_runs.specs.Effects.{dropped, begun_desk, asked_desk, orders_then, phase_then, actor_then, phase_given, given, all_resting}
+use Rattle.wb_runs.specs.Effects.{dropped, begun_desk, orders_then, phase_then, actor_then, phase_given, given, all_resting}
 use Rattle.wb_runs.specs.declared.job.Job.TheVariants.{Read, Write, Flush, Open}
 use Rattle.wb_runs.specs.declared.event.What.TheVariants.{Started}
 use Rattle.wb_words.specs.Effects.{words_after}
@@ -46,7 +45,11 @@ use Rattle.wb_runs.proofs.Owning.{Owned, owned_none, owned_same, owned_given, ow
 use Rattle.wb_simulation.specs.Behind.{order_there, live_there, HasOrder}
 use Rattle.wb_simulation.specs.Steps.{IsOutside, IsTail}
 use Rattle.wb_simulation.proofs.Followed.{begins_by}
+<<<<<<< HEAD
 use Rattle.wb_simulation.proofs.Found.{IsFound, by_found, same_job}
+=======
+use Rattle.wb_simulation.proofs.Promoting.{IsFound, by_found}
+>>>>>>> ef7dd055c20d3c63eabcd3f8fb2f0dc9142b31ae
 use Rattle.wb_simulation.proofs.Promotions.{carried_at, same}
 use Rattle.wb_headline.specs.Desks.{order_of, orders_of, live_orders}
 use Rattle.wb_headline.proofs.Following.{size, most, Followed}
@@ -252,9 +255,10 @@ module _ (P A : Type 0) (shape : Shape) where
     map_own : (m : Migration) (b bl : OBlock) (c : CBlock) (got : Got) (chosen : Chosen P A) → x.task ≡ Some (Migrate m b, plan) → Desk (Map bl c) ≡ want plan → DoesMap bl c t.desk got chosen → After (Desk (Map bl c)) got chosen
     map_own m b bl c Done (Asks new) xt e d =
         let may = d.0 in
-        let has = map_order P A shape images t commit devices actors n known f a x m b plan ex xt suits bl c e may.live may.there in
-        (owned_over P t.desk actors a x (y (Desk (Map bl c)) Done) ex o.0 may.live.order bl c may.live has may.there refl (brings_of bl may.live.order may.brings) refl new (ap (λ (k : DeskState P). k.orders.slots) d.2),
-        promotions_set actors a (y (Desk (Map bl c)) Done) (fewer bl x.orders (o.1 a x ex)) o.1)
+        let has = map_order P A shape images t commit devices actors n known f a x m b plan ex xt suits bl c e may.live may.there in (
+          owned_over P t.desk actors a x (y (Desk (Map bl c)) Done) ex o.0 may.live.order bl c may.live has may.there refl (brings_of bl may.live.order may.brings) refl new (ap (λ (k : DeskState P). k.orders.slots) d.2),
+          promotions_set actors a (y (Desk (Map bl c)) Done) (fewer bl x.orders (o.1 a x ex)) o.1,
+        )
     map_own m b bl c (GotRefused refusal) Plain xt e d = same_step t actors a x ex o t (y (Desk (Map bl c)) (GotRefused refusal)) refl refl
     map_own m b bl c got chosen xt e d = absurd d
 
@@ -270,9 +274,10 @@ module _ (P A : Type 0) (shape : Shape) where
     release_own : (m : Migration) (b bl : OBlock) (chosen : Chosen P A) → x.task ≡ Some (Migrate m b, plan) → Desk (ReleaseOrder bl) ≡ want plan → DoesRelease (order_for m b) t.desk chosen → After (Desk (ReleaseOrder bl)) Done chosen
     release_own m b bl (Asks new) xt e d =
         let r = gives_up m b bl new xt e d in
-        let l = r.4.0 in
-        (owned_over P t.desk actors a x (y (Desk (ReleaseOrder bl)) Done) ex o.0 (PromoteOrder b r.0) bl l.cache l.live r.3 l.there l.same (eq-eqb b.0 bl.0 (ap (λ (q : OBlock). q.0) (sym r.2))) refl new (ap (λ (k : DeskState P). k.orders.slots) r.4.1),
-        promotions_set actors a (y (Desk (ReleaseOrder bl)) Done) (fewer bl x.orders (o.1 a x ex)) o.1)
+        let l = r.4.0 in (
+          owned_over P t.desk actors a x (y (Desk (ReleaseOrder bl)) Done) ex o.0 (PromoteOrder b r.0) bl l.cache l.live r.3 l.there l.same (eq-eqb b.0 bl.0 (ap (λ (q : OBlock). q.0) (sym r.2))) refl new (ap (λ (k : DeskState P). k.orders.slots) r.4.1),
+          promotions_set actors a (y (Desk (ReleaseOrder bl)) Done) (fewer bl x.orders (o.1 a x ex)) o.1,
+        )
     release_own m b bl chosen xt e d = absurd d
 
     pub own_step : (job : Job) → x.task ≡ Some (job, plan) → (next : Want) (got : Got) (read : List Bytes) (chosen : Chosen P A) → next ≡ want plan → Gives shape (standing P A shape images t commit devices actors n) job next got read chosen → After next got chosen

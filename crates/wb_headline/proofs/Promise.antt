@@ -185,8 +185,8 @@ module _ (P A : Type 0) (shape : Shape) where
       by_job (Write extent content) (Refuses refusal) c r s = tt
       by_job Flush answer c r s = tt
       by_job (Migrate migration block) answer c r s = tt
-  right_doing n shown_now (Some None) answer latest covers refuses shows = absurd covers
-  right_doing n shown_now None answer latest covers refuses shows = absurd covers
+  right_doing n shown_now (Some None) answer latest covers refuses _ = absurd covers
+  right_doing n shown_now None answer latest covers refuses _ = absurd covers
 
   right_answer : (shown_now : List Bytes) (n : Notes) (event : Event) (what : What) → AllLatest n.doings → AnswerCovers n event what → RefusesByCause n event what → OpensRightly shown_now n event what → AnswersRightly shown_now n event what
   right_answer shown_now n (Step a) (Stepped (End Finished) got) l c r o = right_doing n shown_now (slice_get n.doings a) Finished (λ d e. l a d e) c (λ refusal e. absurd (cc)) (λ e. o)

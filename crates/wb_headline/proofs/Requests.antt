@@ -206,7 +206,7 @@ module _ (P A : Type 0) (shape : Shape) (images : Images) (t : Target P) (commit
           let first = notes_followed.redone (size P A shape) n f.site.world f.notes a doing mid f.notes_agree noted same_entered same_then in
           let less1 = subst (λ (k : ℕ). a < k) (sym (length-set n.doings a (Some mid))) noted_less in
           let second = notes_followed.write written_part.block.0 (e.first % size P A shape) e.count content Stays (size P A shape) (most P A shape) a f.site.world t.words t.desk.space.committing (live_orders t.desk) (with_device device devices list) (slice_set actors a (after_step (Write extent content) plan got x)) g b.0 n1 f.notes b.1 less1 first mid
-              (set_there n.doings a (Some doing) (Some mid) noted) in_block in_range in
+          (set_there n.doings a (Some doing) (Some mid) noted) in_block in_range in
           stays_on P A shape images t commit devices actors n known f a x ex (Writes written_part.block.0 (e.first % size P A shape) e.count content) t.words (with_device device devices list) (slice_set actors a (after_step (Write extent content) plan got x)) n2 g tt second sized (metadata_same device list holds)
 
     -- histories keep their number

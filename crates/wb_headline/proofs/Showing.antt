@@ -31,13 +31,13 @@ pub state_allowed : (sectors actors : ℕ) (g : Geometry) (v : Site) (m : Abstra
     Contains (entries (at_location (by_block sectors zeros devices.origin) (by_block sectors zeros devices.cache) (locations state b) b o)) c → IsEntryFrom (m.floors b o) (m.histories b o) c
 state_allowed sectors actors g v m committed later devices state r d (inl e) b o c k =
     committed_allowed sectors actors v m r b o c (subst (λ (h : History). Contains (entries h) c) (sym (
-      ap (λ f. at_location f v.world.shared.cache (v.world.shared.committed b) b o) d.origin ∙ ap (λ f. at_location (by_block sectors zeros devices.origin) f (v.world.shared.committed b) b o) d.cache
-      ∙ ap (λ l. at_location (by_block sectors zeros devices.origin) (by_block sectors zeros devices.cache) (l b) b o) (d.images.committed_is ∙ ap locations (sym e)))) k)
+    ap (λ f. at_location f v.world.shared.cache (v.world.shared.committed b) b o) d.origin ∙ ap (λ f. at_location (by_block sectors zeros devices.origin) f (v.world.shared.committed b) b o) d.cache
+    ∙ ap (λ l. at_location (by_block sectors zeros devices.origin) (by_block sectors zeros devices.cache) (l b) b o) (d.images.committed_is ∙ ap locations (sym e)))) k)
 state_allowed sectors actors g v m committed later devices state r d (inr e) b o c k =
     let runs = subst (λ (l : Option Stored). IsRunning l v.world.shared) e d.images.later_is in
     running_allowed sectors actors v m r runs.0 b o c (subst (λ (h : History). Contains (entries h) c) (sym (
-      ap (λ f. at_location f v.world.shared.cache (v.world.shared.running b) b o) d.origin ∙ ap (λ f. at_location (by_block sectors zeros devices.origin) f (v.world.shared.running b) b o) d.cache
-      ∙ ap (λ l. at_location (by_block sectors zeros devices.origin) (by_block sectors zeros devices.cache) (l b) b o) runs.1)) k)
+    ap (λ f. at_location f v.world.shared.cache (v.world.shared.running b) b o) d.origin ∙ ap (λ f. at_location (by_block sectors zeros devices.origin) f (v.world.shared.running b) b o) d.cache
+    ∙ ap (λ l. at_location (by_block sectors zeros devices.origin) (by_block sectors zeros devices.cache) (l b) b o) runs.1)) k)
 
 -- a state that is represented has each block once
 mapping_of : (g : Geometry) (sectors : List Bytes) (state : Stored) → Represents sectors state.root state.found → state.root.geometry ≡ g → IsMapping g.cache_blocks g.origin_blocks state.found.entries

@@ -1,16 +1,11 @@
 -- Every run is followed.
-use Rattle.std.proofs.Common.{◌≡◌, ◌≢◌, ◌∙◌, ◌⊎◌, inl, inr, ℕ, Bool, true, false, List, [], ◌∷◌, Option, Some, None, refl, sym, ap, subst, length, replicate, slice_get, slice_set}
-use Rattle.std.proofs.lemmas.List.{length-replicate}
+use Rattle.std.proofs.Common.{◌≡◌, ◌∙◌, inl, inr, ℕ, List, [], ◌∷◌, Option, Some, None, refl, sym, ap, subst, length, slice_get, slice_set}
 use Rattle.wb_types.specs.declared.mode.Mode.{Mode}
-use Rattle.wb_types.specs.declared.refusal.Refusal.{Refusal}
 use Rattle.wb_disk.specs.Device.{Content as Bytes, History}
 use Rattle.wb_disk.specs.Crash.{Choice}
 use Rattle.wb_disk.specs.Failing.{lands}
-use Rattle.wb_meta.specs.Formats.{IsFormatted}
-use Rattle.wb_meta.specs.declared.read_steps.ReadSteps.{ReadSteps}
-use Rattle.wb_tasks.specs.Plan.{Plan, want, device_of, table}
+use Rattle.wb_tasks.specs.Plan.{Plan, want, device_of}
 use Rattle.wb_tasks.specs.Ready.{Suits}
-use Rattle.wb_tasks.specs.declared.step.DeviceStep.{DeviceStep}
 use Rattle.wb_tasks.specs.declared.step.Migration.{Migration}
 use Rattle.wb_types.specs.declared.number.OBlock.{OBlock}
 use Rattle.wb_tasks.specs.declared.step.Want.{Want}
@@ -25,15 +20,13 @@ use Rattle.wb_runs.specs.declared.event.Event.{Event}
 use Rattle.wb_runs.specs.declared.event.Event.TheVariants.{Start, Step, FaultStep, Stop}
 use Rattle.wb_runs.specs.declared.event.What.{What}
 use Rattle.wb_runs.specs.declared.event.What.TheVariants.{Skipped, Refused, Started, Stepped, Stopped}
-use Rattle.wb_runs.specs.States.{Shape, State, Actor, Target, Phase, Stands, Gone, Opens, OfTarget, start, sector_count, cache_sector_count}
-use Rattle.wb_runs.specs.Happenings.{Chosen, Plain, Cut, Orders, Happening, OfSome, DoesNotApply, Gives, Falters, MayFailAt, StartGives, MayBe, task_job, order_for}
+use Rattle.wb_runs.specs.States.{Shape, State, Actor, Target, Phase, Stands, Gone, Opens, start, sector_count}
+use Rattle.wb_runs.specs.Happenings.{Chosen, Cut, Happening, OfSome, DoesNotApply, Gives, Falters, MayFailAt, StartGives, MayBe}
 use Rattle.wb_runs.specs.Effects.{device_done, device_failed, phase_then, actor_then, stepped, with_actor, job_of, given, cleared, phase_given, started, after_what, after_happening, after_all, IsRun}
-use Rattle.wb_runs.specs.Clerk.{Notes, Doing, noted_step, noted_what, put, begun, starting, nobody, formatted}
+use Rattle.wb_runs.specs.Clerk.{Notes, Doing, noted_step, noted_what, put, begun, starting}
 use Rattle.wb_runs.specs.Headline.{shown, note_happening, noted}
 use Rattle.wb_runs.specs.Holding.{TaskSuits}
 use Rattle.wb_runs.proofs.Lists.{free, there_rests}
-use Rattle.wb_runs.proofs.Images.{Images}
-use Rattle.wb_runs.proofs.Metadata.{MetadataKept}
 use Rattle.wb_runs.proofs.MetadataRuns.{IsKnown}
 use Rattle.wb_runs.proofs.Using.{UsedRightly, used_what}
 use Rattle.wb_runs.proofs.Claims.{Noted, TaskClaim, noted_of}
@@ -41,9 +34,8 @@ use Rattle.wb_runs.proofs.Linking.{Linked, TaskHere, InPhase}
 use Rattle.wb_runs.proofs.LinkedRuns.{Base, links_what}
 use Rattle.wb_runs.proofs.InsideRuns.{Inside, inside_what, want_inside}
 use Rattle.wb_headline.proofs.Asked.{AllAsked, what_asked}
-use Rattle.wb_headline.proofs.Following.{Followed, Goes}
-use Rattle.wb_headline.proofs.Owned.{OwnedIn, NoOrders, none_set, none_rest, none_step, same_step, own_given, own_step}
-use Rattle.wb_headline.proofs.Targets.{standing}
+use Rattle.wb_headline.proofs.Following.{Goes}
+use Rattle.wb_headline.proofs.Owned.{OwnedIn, none_set, none_rest, none_step, same_step, own_given, own_step}
 use Rattle.wb_headline.proofs.Crashing.{crash_goes}
 use Rattle.wb_headline.proofs.Opens.{opening_steps, opening_faults}
 use Rattle.wb_headline.proofs.Starts.{read_starts, write_starts, flush_starts, opening_starts}

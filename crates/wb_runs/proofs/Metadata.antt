@@ -212,20 +212,23 @@ module _ (P : Type 0) (g : Geometry) (images : Images) (desk : DeskState P) (dev
         now = one_image l.of.new;
         turn = Ends;
         turned = (l.of.new, ap (λ (i : Images). i.running) l.under.are, refl);
-        kept = (subst (λ (d : DeskState P). AtDesk g (one_image l.of.new) d None device) (sym is) (record {
-          is = record { geometry = k.is.geometry; kept = ended_kept unknowing desk k.is.kept l.busy; orders = k.is.orders; sound = k.is.sound };
-          stands = inl (record {
-            stored = l.of.new;
-            are = refl;
-            used = l.of.used;
-            stores = stored_edited l.of.tree desk.tree device l.of.new l.of.used stores l.edited k.is.sound;
-            places = l.places;
-            generation = sym l.generation;
-            same = l.under.can.same_geometry ∙ l.under.same;
-            fit = l.under.fit_new;
-            idle = refl;
-          });
-        }), (l.of.new, ap (λ (i : Images). i.running) l.under.are, refl));
+        kept = (
+          subst (λ (d : DeskState P). AtDesk g (one_image l.of.new) d None device) (sym is) (record {
+            is = record { geometry = k.is.geometry; kept = ended_kept unknowing desk k.is.kept l.busy; orders = k.is.orders; sound = k.is.sound };
+            stands = inl (record {
+              stored = l.of.new;
+              are = refl;
+              used = l.of.used;
+              stores = stored_edited l.of.tree desk.tree device l.of.new l.of.used stores l.edited k.is.sound;
+              places = l.places;
+              generation = sym l.generation;
+              same = l.under.can.same_geometry ∙ l.under.same;
+              fit = l.under.fit_new;
+              idle = refl;
+            });
+          }),
+          (l.of.new, ap (λ (i : Images). i.running) l.under.are, refl),
+        );
       }
 
 -- ---- an opening reads all, and its target stands

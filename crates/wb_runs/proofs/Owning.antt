@@ -111,11 +111,14 @@ module _ (P : Type 0) (desk : DeskState P) (actors : List Actor) (a : ℕ) (x y 
   pub owned_given : (cache : CBlock) (order : Order) → AreOrders desk.orders → MayReserve desk cache order → y.orders ≡ order ∷ x.orders → Owned (reserved desk cache order false) (slice_set actors a y)
   owned_given cache order are may mine = owned_by (reserved desk cache order false)
       (λ o h. first_or order o x.orders (IsLive (reserved desk cache order false) o) (subst (λ (os : List Order). Contains os o) mine h)
-          (λ same. subst (λ (p : Order). IsLive (reserved desk cache order false) p) (sym same) new)
-          (λ later. on o (owned.live a x o e later)))
-      (λ b z o n f h. (on o (owned.live b z o f h), λ i. first_or order o x.orders ⊥ (subst (λ (os : List Order). Contains os o) mine i)
-          (λ same. fresh (owned.live b z order f (subst (λ (p : Order). Contains z.orders p) same h)))
-          (λ later. n (owned.one b a z x o f e h later))))
+      (λ same. subst (λ (p : Order). IsLive (reserved desk cache order false) p) (sym same) new)
+      (λ later. on o (owned.live a x o e later)))
+      (λ b z o n f h. (
+        on o (owned.live b z o f h),
+        λ i. first_or order o x.orders ⊥ (subst (λ (os : List Order). Contains os o) mine i)
+            (λ same. fresh (owned.live b z order f (subst (λ (p : Order). Contains z.orders p) same h)))
+            (λ later. n (owned.one b a z x o f e h later)),
+      ))
     where
       new : IsLive (reserved desk cache order false) order
       new = record {
@@ -144,11 +147,12 @@ module _ (P : Type 0) (desk : DeskState P) (actors : List Actor) (a : ℕ) (x y 
     pub owned_over : (desk' : DeskState P) → desk'.orders.slots ≡ slice_set desk.orders.slots cache.0 None → Owned desk' (slice_set actors a y)
     owned_over desk' same = owned_by desk'
         (λ o h. let r = dropped_is b x.orders o (subst (λ (os : List Order). Contains os o) mine h) in
-            let l = owned.live a x o e r.0 in
-            live_beside P desk desk' cache None o same l (λ s. absurd (let f : is_of b o ≡ true = ap (is_of b) (at_cache o l s) ∙ named in cc)))
-        (λ c z o n f h. let l = owned.live c z o f h in
-            (live_beside P desk desk' cache None o same l (λ s. n (owned.one c a z x order f e (subst (λ (p : Order). Contains z.orders p) (at_cache o l s) h) has)),
-            λ i. n (owned.one c a z x o f e h (dropped_is b x.orders o (subst (λ (os : List Order). Contains os o) mine i)).0)))
+        let l = owned.live a x o e r.0 in
+        live_beside P desk desk' cache None o same l (λ s. absurd (let f : is_of b o ≡ true = ap (is_of b) (at_cache o l s) ∙ named in cc)))
+        (λ c z o n f h. let l = owned.live c z o f h in (
+          live_beside P desk desk' cache None o same l (λ s. n (owned.one c a z x order f e (subst (λ (p : Order). Contains z.orders p) (at_cache o l s) h) has)),
+          λ i. n (owned.one c a z x o f e h (dropped_is b x.orders o (subst (λ (os : List Order). Contains os o) mine i)).0),
+        ))
       where
         -- an order that lives in this cache block is this one
         at_cache : (o : Order) (l : IsLive desk o) → l.cache.0 ≡ cache.0 → o ≡ order
