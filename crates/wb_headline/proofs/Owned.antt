@@ -45,11 +45,7 @@ use Rattle.wb_runs.proofs.Owning.{Owned, owned_none, owned_same, owned_given, ow
 use Rattle.wb_simulation.specs.Behind.{order_there, live_there, HasOrder}
 use Rattle.wb_simulation.specs.Steps.{IsOutside, IsTail}
 use Rattle.wb_simulation.proofs.Followed.{begins_by}
-<<<<<<< HEAD
-use Rattle.wb_simulation.proofs.Found.{IsFound, by_found, same_job}
-=======
-use Rattle.wb_simulation.proofs.Promoting.{IsFound, by_found}
->>>>>>> ef7dd055c20d3c63eabcd3f8fb2f0dc9142b31ae
+use Rattle.wb_simulation.proofs.Found.{IsFound, by_found}
 use Rattle.wb_simulation.proofs.Promotions.{carried_at, same}
 use Rattle.wb_headline.specs.Desks.{order_of, orders_of, live_orders}
 use Rattle.wb_headline.proofs.Following.{size, most, Followed}
