@@ -25,7 +25,7 @@ use wb_disk::MemDisk;
 use wb_headline::reads_give_the_latest_write;
 use wb_meta::format;
 use wb_policy::Quiet;
-use wb_runs::{Event, Record, never_stuck, steps_stay_inside, words_are_used_rightly};
+use wb_runs::{Event, Record, never_stuck, words_are_used_rightly};
 use wb_types::{Content, Geometry, Refusal};
 
 /// How many actors a world has.
@@ -93,7 +93,6 @@ impl World {
         }
         never_stuck::<Quiet, Global>();
         words_are_used_rightly::<Quiet, Global>();
-        steps_stay_inside::<Quiet, Global>();
         let Outcome { what, read } = happen(
             &self.geometry,
             self.alloc,
