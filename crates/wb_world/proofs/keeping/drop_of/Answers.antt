@@ -1,4 +1,4 @@
-use Rattle.std.proofs.Common.{◌≡◌, ◌∙◌, rules, Bool, not, List, sym}
+use Rattle.std.proofs.Common.{◌∙◌, rules, not, sym}
 use Rattle.std.proofs.lemmas.Fn.{filter_same}
 use Rattle.wb_policy.specs.declared.order.Order.{Order}
 use Rattle.wb_stage.specs.Asking.{is_of}

@@ -1,7 +1,7 @@
 use Rattle.std.proofs.Common.{refl, subst}
 use Rattle.wb_tasks.specs.declared.step.DeviceStep.{DeviceStep}
 use Rattle.wb_world.specs.Life.{contents_of}
-use Rattle.wb_world.specs.Serving.{DoesOn, IsDoable}
+use Rattle.wb_world.specs.Serving.{IsDoable}
 use Rattle.wb_world.proofs.Doing.{did_read}
 use Rattle.wb_world.proofs.moving.do_step.Goals as goal
 

@@ -1,10 +1,6 @@
-use Rattle.std.proofs.Common.{◌≡◌, ◌∙◌, refl, sym, ap, take}
-use Rattle.wb_disk.specs.Device.{Content as Bytes}
+use Rattle.std.proofs.Common.{◌∙◌, ap, take}
 use Rattle.wb_disk.specs.Extents.{written_where}
 use Rattle.wb_disk.specs.Failing.{lands}
-use Rattle.wb_types.specs.declared.extent.Extent.{Extent}
-use Rattle.wb_runs.specs.declared.job.Job.{Job}
-use Rattle.wb_runs.specs.Effects.{contents_for}
 use Rattle.wb_world.proofs.Landing.{written_inside}
 use Rattle.wb_world.proofs.moving.write_extent.Goals as goal
 

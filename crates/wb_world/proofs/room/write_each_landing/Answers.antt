@@ -1,4 +1,4 @@
-use Rattle.std.proofs.Common.{◌≡◌, ◌∙◌, ◌+◌, ◌-◌, suc, Bool, drop, take, true, false, if◌then◌else◌, arith, ap, sym, add-one}
+use Rattle.std.proofs.Common.{◌≡◌, ◌∙◌, ◌+◌, suc, Bool, drop, take, true, false, if◌then◌else◌, arith, ap, sym, add-one}
 use Rattle.wb_disk.specs.Device.{written}
 use Rattle.wb_disk.specs.Extents.{written_where}
 use Rattle.wb_disk.specs.Memory.{HasRoom}

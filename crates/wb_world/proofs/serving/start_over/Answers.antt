@@ -6,7 +6,6 @@ use Rattle.wb_policy.specs.declared.quiet.Quiet.{Quiet}
 use Rattle.wb_runs.specs.declared.event.Event.TheVariants.{Start}
 use Rattle.wb_world.specs.declared.world.TheConstants.{ACTORS}
 use Rattle.wb_world.specs.declared.phase.Phase.TheVariants.{Standing}
-use Rattle.wb_world.specs.declared.target.Target.{Target}
 use Rattle.wb_world.specs.Life.{contents_of, shape_of, state_of}
 use Rattle.wb_world.proofs.Members.{absent, on_err, put_back}
 use Rattle.wb_world.proofs.Openings.{passes}

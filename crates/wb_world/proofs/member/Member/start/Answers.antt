@@ -1,8 +1,4 @@
-use Rattle.std.proofs.Common.{◌≡◌, ◌∙◌, Bool, Option, Some, None, sym, ap, subst}
-use Rattle.wb_desk.specs.Desks.{DeskState}
-use Rattle.wb_policy.specs.declared.quiet.Quiet.{Quiet}
-use Rattle.wb_tasks.specs.Plan.{Plan}
-use Rattle.wb_runs.specs.declared.job.Job.{Job}
+use Rattle.std.proofs.Common.{◌≡◌, ◌∙◌, Bool, None, sym, ap, subst}
 use Rattle.wb_runs.specs.declared.event.What.TheVariants.{Refused, Started}
 use Rattle.wb_types.specs.declared.refusal.Refusal.TheVariants.{Busy}
 use Rattle.wb_world.specs.declared.world.TheConstants.{ACTORS}

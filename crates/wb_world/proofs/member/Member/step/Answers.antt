@@ -1,4 +1,4 @@
-use Rattle.std.proofs.Common.{◌≡◌, ◌∙◌, Bool, true, false, if◌then◌else◌, List, [], Option, Some, None, sym, ap, subst}
+use Rattle.std.proofs.Common.{◌≡◌, ◌∙◌, Bool, true, false, if◌then◌else◌, List, [], sym, ap, subst}
 use Rattle.wb_disk.specs.Device.{Content as Bytes}
 use Rattle.wb_policy.specs.declared.order.Order.{Order}
 use Rattle.wb_runs.specs.Effects.{orders_then}
