@@ -99,7 +99,7 @@ set_by_block size blank device b o h l inside = everywhere (by_block size blank 
       there b' o' n = by b' o' n (nat_lt o' size) refl ∙ sym (elsewhere_is (by_block size blank device) b o b' o' h n)
 
 -- a sector that the device has
-is_there : (size : ℕ) (blank : Content) (device : List History) (b o : ℕ) (h : History) → o < size → slice_get device (b * size + o) ≡ Some h → by_block size blank device b o ≡ h
+pub is_there : (size : ℕ) (blank : Content) (device : List History) (b o : ℕ) (h : History) → o < size → slice_get device (b * size + o) ≡ Some h → by_block size blank device b o ≡ h
 is_there size blank device b o h l e = ap (λ t. cond t (at_number blank device (b * size + o)) (only blank)) (lt-ltb o size l) ∙ ap (λ x. unwrap_or x (only blank)) e
 
 pub write_is_act : WriteIsAct

@@ -1,5 +1,5 @@
 -- What the lines of a replay ask.
-use Rattle.std.specs.Prelude.{◌≡◌, ◌==◌, ◌<◌, ℕ, List, [], ◌∷◌, codes}
+use Rattle.std.specs.Prelude.{◌≡◌, ◌==◌, ◌<◌, ◌^◌, ℕ, List, [], ◌∷◌, codes}
 use Rattle.std.specs.List.{slice_split}
 use Rattle.wb_types.specs.declared.mode.Dev.{Dev}
 use Rattle.wb_types.specs.declared.mode.Dev.TheVariants.{Metadata, Cache, Origin}
@@ -12,7 +12,7 @@ use Rattle.wb_lines.specs.declared.line.TheConstants.{ACTORS}
 use Rattle.wb_lines.specs.declared.line.Line.{Line}
 use Rattle.wb_lines.specs.declared.line.Line.TheVariants.{Nothing, Start, Step, End, Fault, Stop, Open, View}
 use Rattle.wb_lines.specs.declared.line.Task.{Task}
-use Rattle.wb_lines.specs.declared.line.Task.TheVariants.{Read, Write, Flush}
+use Rattle.wb_lines.specs.declared.line.Task.TheVariants.{Read, Write, Flush, Promote}
 use Rattle.wb_lines.specs.declared.setup.Setup.{Setup}
 
 -- one of the actors
@@ -57,11 +57,21 @@ SpellsAllNamed [] [] = Unit {0}
 SpellsAllNamed (word ∷ words) (named ∷ more) = SpellsNamed word named × SpellsAllNamed words more
 SpellsAllNamed words more = ⊥
 
--- The words of a task: `r S N`, `w S N hh` or `flush`.
+-- a block, whose number is one of 32 bits
+abbrev pub SpellsBlock : List ℕ → ℕ → Type 0
+SpellsBlock word block = SpellsNumber word block × (block < 2 ^ 32)
+
+-- a block of the origin, and one of the cache
+abbrev pub SpellsBlocks : List (List ℕ) → ℕ → ℕ → Type 0
+SpellsBlocks (one ∷ other ∷ []) block cache = SpellsBlock one block × SpellsBlock other cache
+SpellsBlocks words block cache = ⊥
+
+-- The words of a task: `r S N`, `w S N hh`, `flush` or `promote b c`.
 abbrev pub SpellsTask : List (List ℕ) → Task → Type 0
 SpellsTask (name ∷ words) (Read at count) = (name ≡ codes "r") × SpellsSectors words at.0 count
 SpellsTask (name ∷ words) (Write at count fill) = (name ≡ codes "w") × SpellsFill words at.0 count fill
 SpellsTask (name ∷ words) Flush = (name ≡ codes "flush") × (words ≡ [])
+SpellsTask (name ∷ words) (Promote block cache) = (name ≡ codes "promote") × SpellsBlocks words block cache
 SpellsTask words task = ⊥
 
 -- how many steps: one where no number stands

@@ -4,7 +4,7 @@ ghost use Rattle.std.specs.Prelude.{◌≡◌, ◌≢◌, ◌∷◌, ℕ, [], If
 ghost use Rattle.wb_types.specs.declared.refusal.Refusal.TheVariants.{Memory};
 ghost use Rattle.wb_table.specs.Words.{words_of};
 ghost use Rattle.wb_disk.specs.declared.crash_choice.Base.{Base as Kept};
-ghost use Rattle.wb_lines.specs.Lines.{Asks, SpellsActor, SpellsEnd, SpellsFault, SpellsStart, SpellsStep, SpellsSteps, SpellsTask};
+ghost use Rattle.wb_lines.specs.Lines.{Asks, SpellsActor, SpellsBlock, SpellsBlocks, SpellsEnd, SpellsFault, SpellsStart, SpellsStep, SpellsSteps, SpellsTask};
 ghost use Rattle.wb_lines.specs.declared.line.Line.{Line as Asked};
 ghost use Rattle.wb_lines.specs.declared.line.Task.{Task as Told};
 
@@ -26,6 +26,8 @@ pub enum Task {
     Write { at: Sector, count: u64, fill: u8 },
     /// `flush`: makes durable what was finished.
     Flush,
+    /// `promote b c`: copies this block of the origin into this cache block, and maps it.
+    Promote { block: u32, cache: u32 },
 }
 
 /// What a line asks.
@@ -221,8 +223,32 @@ fn read_task(mut words: SplitSpaces<'_>) -> Option<Task>
             words.expect_end()?;
             Some(Task::Flush)
         }
+        "promote" => {
+            let (block, cache) = read_blocks(words)?;
+            Some(Task::Promote { block, cache })
+        }
         _ => None,
     }
+}
+
+/// Reads a block of the origin and one of the cache, and nothing behind them.
+fn read_blocks(mut words: SplitSpaces<'_>) -> Option<(u32, u32)>
+    ensures found { IfSome result (λ read. SpellsBlocks (words_of words.entry.0.now) read.0 read.1) }
+    ensures none { IfNone result ((block cache : ℕ) → ¬ SpellsBlocks (words_of words.entry.0.now) block cache) }
+{
+    let block = read_block(words.next()?)?;
+    let cache = read_block(words.next()?)?;
+    words.expect_end()?;
+    Some((block, cache))
+}
+
+/// Reads the number of a block.
+fn read_block(word: &str) -> Option<u32>
+    ensures found { IfSome result (SpellsBlock word.now) }
+    ensures none { IfNone result ((block : ℕ) → ¬ SpellsBlock word.now block) }
+{
+    let number = read_number(word)?;
+    u32::try_from(number).ok()
 }
 
 /// Reads how many steps, one where no number stands.

@@ -21,7 +21,7 @@ use Rattle.wb_link.specs.Tables.{Flag, Short, Done as DoneThere, Fault as FaultT
 use Rattle.wb_link.specs.World.{Shared, Nothing, Actor}
 use Rattle.wb_refines.specs.Translation.{wants_of, answer_for}
 use Rattle.wb_refines.specs.Going.{AreQuiet, shared_after, gone}
-use Rattle.wb_refines.specs.Flushes.{flushing, Leads, IsOnMetadata, IsNoBegin, FlushStepsFollowed}
+use Rattle.wb_refines.specs.Flushes.{flushing, Leads, IsOnMetadata, IsNoBegin, IsWrittenAfter, FlushStepsFollowed}
 use Rattle.wb_refines.proofs.Cells.{flag_of}
 
 -- nodes are nothing in the abstract world
@@ -39,18 +39,18 @@ module _ (size most : ℕ) (content : Content) (actors : List Actor) (a : ℕ) (
 
   -- a fault of whatever step on the metadata
   on_metadata : (steps : List Want) (answer : AnswerThere) (refusal : Dev) → IsOnMetadata steps →
-      (written : Bool) × Leads size content actors a s (asking (wants_of size (FlushingFor None) steps) answer true) (record s { root_written = written }) (flushing most (Cell SetFailed ∷ []) (Refuses (Io refusal))) true
+      (written : Bool) × (s.root_written ≡ true → written ≡ true) × Leads size content actors a s (asking (wants_of size (FlushingFor None) steps) answer true) (record s { root_written = written }) (flushing most (Cell SetFailed ∷ []) (Refuses (Io refusal))) true
   on_metadata (Device (WriteNode number) ∷ later) answer d m = on_metadata later answer d m
   on_metadata (Device (Sync Metadata) ∷ later) answer d m = on_metadata later answer d m
-  on_metadata (Device WriteRoot ∷ later) answer d m = (true, record { results = FaultThere (record { landed = true; more = false; settled = λ b o. false }) ∷ []; may = (tt, tt, tt); quiet = (tt, tt); shared = refl; at = record { buffer = buffer; is = refl } })
-  on_metadata (Desk EndCommit ∷ []) answer d m = (s.root_written, record { results = FaultThere (record { landed = false; more = false; settled = λ b o. false }) ∷ []; may = (tt, tt, tt); quiet = (tt, tt); shared = refl; at = record { buffer = buffer; is = refl } })
+  on_metadata (Device WriteRoot ∷ later) answer d m = (true, (λ e. refl), record { results = FaultThere (record { landed = true; more = false; settled = λ b o. false }) ∷ []; may = (tt, tt, tt); quiet = (tt, tt); shared = refl; at = record { buffer = buffer; is = refl } })
+  on_metadata (Desk EndCommit ∷ []) answer d m = (s.root_written, (λ e. e), record { results = FaultThere (record { landed = false; more = false; settled = λ b o. false }) ∷ []; may = (tt, tt, tt); quiet = (tt, tt); shared = refl; at = record { buffer = buffer; is = refl } })
   on_metadata steps answer d m = absurd m
 
   fails_on : (step : DeviceStep) (later : List Want) (answer : Answer) → IsOnMetadata (Device step ∷ later) →
-      (written : Bool) × Leads size content actors a s (flusher (Device step ∷ later) answer true) (record s { root_written = written }) (after (flushing most (Device step ∷ later) answer) Fault) true
+      (written : Bool) × IsWrittenAfter step s.root_written written × Leads size content actors a s (flusher (Device step ∷ later) answer true) (record s { root_written = written }) (after (flushing most (Device step ∷ later) answer) Fault) true
   fails_on (WriteNode number) later answer m = on_metadata later (answer_for (FlushingFor None) answer) Metadata m
   fails_on (Sync Metadata) later answer m = on_metadata later (answer_for (FlushingFor None) answer) Metadata m
-  fails_on WriteRoot later answer m = on_metadata (Device WriteRoot ∷ later) (answer_for (FlushingFor None) answer) Metadata m
+  fails_on WriteRoot later answer m = (true, refl, record { results = FaultThere (record { landed = true; more = false; settled = λ b o. false }) ∷ []; may = (tt, tt, tt); quiet = (tt, tt); shared = refl; at = record { buffer = buffer; is = refl } })
   fails_on step later answer m = absurd m
 
   looks_at : (word : ℕ) (answer : Answer) → s.fail ≡ flag word →
@@ -85,6 +85,6 @@ flush_steps_followed = record {
   ends = λ size most content actors a s y answer is. moved is.is (record { results = DoneThere ∷ DoneThere ∷ []; may = (tt, tt, (tt, tt, tt)); quiet = (tt, (tt, tt)); shared = refl; at = record { buffer = is.buffer; is = refl } });
   fails_cache = λ size most content actors a s y later answer settled is. moved is.is (record { results = FaultThere (record { landed = false; more = false; settled = settled }) ∷ []; may = (tt, tt, tt); quiet = (tt, tt); shared = refl; at = record { buffer = is.buffer; is = refl } });
   fails_origin = λ size most content actors a s y later answer settled is. moved is.is (record { results = FaultThere (record { landed = false; more = false; settled = settled }) ∷ []; may = (tt, tt, tt); quiet = (tt, tt); shared = refl; at = record { buffer = is.buffer; is = refl } });
-  fails_metadata = λ size most step content actors a s y later answer m is. let one = fails_on size most content actors a s is.buffer step later answer m in (one.0, subst (λ (v : Actor). Leads size content actors a s v (record s { root_written = one.0 }) (after (flushing most (Device step ∷ later) answer) Fault) true) (sym is.is) one.1);
+  fails_metadata = λ size most step content actors a s y later answer m is. let one = fails_on size most content actors a s is.buffer step later answer m in (one.0, one.1, subst (λ (v : Actor). Leads size content actors a s v (record s { root_written = one.0 }) (after (flushing most (Device step ∷ later) answer) Fault) true) (sym is.is) one.2);
   fails = λ size most content actors a s y answer is. moved is.is (record { results = DoneThere ∷ DoneThere ∷ []; may = (tt, tt, (tt, tt, tt)); quiet = (tt, (tt, tt)); shared = refl; at = record { buffer = is.buffer; is = refl } });
 }

@@ -13,7 +13,7 @@ use Rattle.wb_link.specs.Tables.{Share, Own, Done}
 use Rattle.wb_link.specs.World.{Nothing, Shares, Owns, Actor}
 use Rattle.wb_refines.proofs.Holding.{is_one, owns_there, shares_there}
 use Rattle.wb_refines.specs.Going.{WinsBeside}
-use Rattle.wb_refines.specs.Models.{BelowBeside, held_of, held_for}
+use Rattle.wb_refines.specs.Models.{BelowBeside, IsBelow, held_of, held_for}
 use Rattle.wb_refines.specs.Laws.{HasNoMore}
 use Rattle.wb_words.specs.declared.word.Word.TheVariants.{Seal as SealWord, Number}
 use Rattle.wb_words.specs.declared.step.CellStep.TheVariants.{Look}
@@ -21,7 +21,7 @@ use Rattle.wb_tasks.specs.declared.step.Want.{Want}
 use Rattle.wb_tasks.specs.declared.step.Want.TheVariants.{Cell}
 
 -- two cards are both in a sum
-total_two : {A : Type 0} (f : A → ℕ) (xs : List A) (i j : ℕ) (x y : A) → i ≢ j → slice_get xs i ≡ Some x → slice_get xs j ≡ Some y → f x + f y ≤ total f xs
+pub total_two : {A : Type 0} (f : A → ℕ) (xs : List A) (i j : ℕ) (x y : A) → i ≢ j → slice_get xs i ≡ Some x → slice_get xs j ≡ Some y → f x + f y ≤ total f xs
 total_two f [] i j x y n e g = absurd (cc)
 total_two f (z ∷ xs) zero zero x y n e g = absurd (n refl)
 total_two f (z ∷ xs) zero (suc j) x y n e g = let same : z ≡ x = cc in let is : f z ≡ f x = ap f same in let l = total_at f xs j y (at_slice xs j y g) in omega (arith, is, l)
@@ -70,14 +70,18 @@ held_cases (Cell (Look (SealWord block)) ∷ ws) card = inl refl
 held_cases (Cell (Look (Number block)) ∷ ws) card = inl refl
 held_cases ws card = inr refl
 
-pub has_no_more : HasNoMore
-has_no_more size content plan card y is = record {
-  owned = λ block k. elim (held_cases plan.steps card) [
-    | inl n ↦ let bad : Nothing ≡ Owns block = sym n ∙ ap (λ (v : Actor). v.held) (sym is.is) ∙ k in absurd (cc)
-    | inr h ↦ let one = owns_there card.hold block (sym h ∙ ap (λ (v : Actor). v.held) (sym is.is) ∙ k) in omega (arith, one)
+-- what it has is counted
+pub held_below : (ws : List Want) (card : Card) (y : Actor) → y.held ≡ held_for ws card → IsBelow y card
+held_below ws card y e = record {
+  owned = λ block k. elim (held_cases ws card) [
+    | inl n ↦ let bad : Nothing ≡ Owns block = sym n ∙ sym e ∙ k in absurd (cc)
+    | inr h ↦ let one = owns_there card.hold block (sym h ∙ sym e ∙ k) in omega (arith, one)
   ];
-  shared = λ block k. elim (held_cases plan.steps card) [
-    | inl n ↦ let bad : Nothing ≡ Shares block = sym n ∙ ap (λ (v : Actor). v.held) (sym is.is) ∙ k in absurd (cc)
-    | inr h ↦ let one = shares_there card.hold block (sym h ∙ ap (λ (v : Actor). v.held) (sym is.is) ∙ k) in omega (arith, one)
+  shared = λ block k. elim (held_cases ws card) [
+    | inl n ↦ let bad : Nothing ≡ Shares block = sym n ∙ sym e ∙ k in absurd (cc)
+    | inr h ↦ let one = shares_there card.hold block (sym h ∙ sym e ∙ k) in omega (arith, one)
   ];
 }
+
+pub has_no_more : HasNoMore
+has_no_more size content plan card y is = held_below plan.steps card y (ap (λ (v : Actor). v.held) is.is)

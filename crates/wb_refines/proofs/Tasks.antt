@@ -20,7 +20,7 @@ within_rising : (size first count : ℕ) (rest : List ℕ) → first + count ≤
 within_rising size first zero rest l w = w
 within_rising size first (suc count) rest l w = (omega (arith, l), within_rising size (first + 1) count rest (omega (arith, l)) w)
 
-within_offsets : (size : ℕ) (es : List Extent) → AllInBlocks size es → Within size (offsets size es)
+pub within_offsets : (size : ℕ) (es : List Extent) → AllInBlocks size es → Within size (offsets size es)
 within_offsets size [] all = tt
 within_offsets size (e ∷ es) all = within_rising size (e.first % size) e.count (offsets size es) (all e (Contains-first e es)) (within_offsets size es (λ f m. all f (Contains-behind e es f m)))
 

@@ -1,8 +1,8 @@
 -- How each step of a migration on the shared words is followed, so that words and cards agree with the abstract world after it.
-use Rattle.std.specs.Prelude.{false, ◌⊎◌, ◌≡◌, ◌≢◌, ◌<◌, ℕ, List, [], ◌∷◌, Option, Some, slice_get}
+use Rattle.std.specs.Prelude.{true, false, ◌⊎◌, ◌≡◌, ◌≢◌, ◌<◌, ℕ, List, [], ◌∷◌, Option, Some, slice_get}
 use Rattle.wb_types.specs.declared.number.CBlock.{CBlock}
 use Rattle.wb_disk.specs.Device.{Content}
-use Rattle.wb_words.specs.SharedWords.{Words, place_in}
+use Rattle.wb_words.specs.SharedWords.{Words, flag, place_in}
 use Rattle.wb_words.specs.Rule.{LockRule}
 use Rattle.wb_words.specs.Effects.{result_of, words_after, card_after}
 use Rattle.wb_words.specs.declared.card.Card.{Card}
@@ -19,7 +19,7 @@ use Rattle.wb_link.specs.Tables.{Order, Script, Got, Answer as AbstractAnswer, F
 use Rattle.wb_link.specs.World.{Shared, Actor}
 use Rattle.wb_refines.specs.Translation.{offsets}
 use Rattle.wb_refines.specs.Going.{AreQuiet, shared_after, gone, MayGo}
-use Rattle.wb_refines.specs.Models.{BelowBeside, IsBelow, SameElse, SawSeal, TellsPlace, WordsAgree, held_for, plan_of}
+use Rattle.wb_refines.specs.Models.{TakesBeside, IsBelow, SameElse, SawSeal, TellsPlace, WordsAgree, held_for, plan_of}
 use Rattle.wb_refines.specs.Migrations.{job_under, migration_wants, order_on, Fills, IsWhere}
 
 -- both are done, or neither is
@@ -58,18 +58,19 @@ pub record HasKept (part : BlockRange) (c : CBlock) (next : Option ℕ) (migrati
   pub leads : y.leads ≡ false
   pub below : IsBelow y card
 
--- What an actor did on the words, which are these now, the abstract actor can do too, and both are at the same then.
+-- What an actor did on the words, which are these now, the abstract actor can do too, and both are at the same then; what is kept is kept by
+-- a target that has failed.
 pub record FollowsMigration (actors : List Actor) (there : ℕ) (s : Shared) (y : Actor) (words : Words) (part : BlockRange) (c : CBlock) (next : Option ℕ) (migration : Migration) (kept : Option Order) (plan : Plan) (card : Card) : Type 0 where
   pub results : List Got
   pub may : MayGo actors there s y y.task results
   pub quiet : AreQuiet y.task results
   pub words_agree : WordsAgree words (shared_after s y y.task results)
   pub same : SameElse s (shared_after s y y.task results)
-  pub at : IsMigrationAt part c next migration kept plan card (gone y y.task results) ⊎ HasKept part c next migration kept plan card (gone y y.task results)
+  pub at : IsMigrationAt part c next migration kept plan card (gone y y.task results) ⊎ ((flag words.fail ≡ true) × HasKept part c next migration kept plan card (gone y y.task results))
 
 -- A step of a migration on the shared words, which keep their rule. A demotion or write-back finds its block where its order says.
 abbrev pub MigrationCellsFollowed : Type 0
 MigrationCellsFollowed = (blocks : ℕ) (words : Words) (cards : List Card) (actors : List Actor) (there a : ℕ) (card : Card) (s : Shared) (y : Actor) (part : BlockRange) (c : CBlock) (next : Option ℕ) (migration : Migration) (kept : Option Order) (step : CellStep) (later : List Want) (answer : Answer) →
-    0 < part.block_sectors → LockRule blocks words cards → slice_get cards a ≡ Some card → BelowBeside actors cards there a → WordsAgree words s → TellsPlace step → Fills migration c → ((seal : ℕ) → card.seal ≡ Some seal → IsWhere migration c (place_in seal)) →
+    0 < part.block_sectors → LockRule blocks words cards → slice_get cards a ≡ Some card → TakesBeside step actors cards there a → WordsAgree words s → TellsPlace step → Fills migration c → ((seal : ℕ) → card.seal ≡ Some seal → IsWhere migration c (place_in seal)) →
     Suits blocks (plan_of (Migrating migration part) (Cell step ∷ later) answer) card → IsMigrationAt part c next migration kept (plan_of (Migrating migration part) (Cell step ∷ later) answer) card y →
     FollowsMigration actors there s y (words_after words step) part c next migration kept (after (plan_of (Migrating migration part) (Cell step ∷ later) answer) (got_of (result_of words step))) (card_after words step card)

@@ -54,6 +54,11 @@ IsNoBegin Memory = Unit {0}
 IsNoBegin GenerationEnd = Unit {0}
 IsNoBegin refusal = ⊥
 
+-- Whether a root has been written after a step on the metadata that fails: after the root's it may have been, and where it was before it is.
+abbrev pub IsWrittenAfter : DeviceStep → (before after : Bool) → Type 0
+IsWrittenAfter WriteRoot before after = after ≡ true
+IsWrittenAfter step before after = before ≡ true → after ≡ true
+
 -- Each step of a flush, with each result that it may have.
 pub record FlushStepsFollowed : Type 0 where
   pub looks : (size most word : ℕ) (content : Content) (actors : List Actor) (a : ℕ) (s : Shared) (y : Actor) (answer : Answer) → s.fail ≡ flag word → IsFlushing size content (flushing most (Cell (Look Fail) ∷ Desk (BeginCommit false most) ∷ []) answer) false y →
@@ -82,7 +87,7 @@ pub record FlushStepsFollowed : Type 0 where
       Leads size content actors a s y (record s { origin = partly_synced settled s.origin }) (after (flushing most (Device (Sync Origin) ∷ later) answer) Fault) true
   -- a step on the metadata that fails may be the root's there
   pub fails_metadata : (size most : ℕ) (step : DeviceStep) (content : Content) (actors : List Actor) (a : ℕ) (s : Shared) (y : Actor) (later : List Want) (answer : Answer) → IsOnMetadata (Device step ∷ later) → IsFlushing size content (flushing most (Device step ∷ later) answer) true y →
-      (written : Bool) × Leads size content actors a s y (record s { root_written = written }) (after (flushing most (Device step ∷ later) answer) Fault) true
+      (written : Bool) × IsWrittenAfter step s.root_written written × Leads size content actors a s y (record s { root_written = written }) (after (flushing most (Device step ∷ later) answer) Fault) true
   -- the failed bit breaks the commit for those who wait for it
   pub fails : (size most : ℕ) (content : Content) (actors : List Actor) (a : ℕ) (s : Shared) (y : Actor) (answer : Answer) → IsFlushing size content (flushing most (Cell SetFailed ∷ []) answer) true y →
       Leads size content actors a s y (record s { fail = true; broken = true }) (after (flushing most (Cell SetFailed ∷ []) answer) Done) true

@@ -21,7 +21,7 @@ use Rattle.wb_words.specs.declared.card.Card.{Card}
 use Rattle.wb_words.specs.declared.step.CellStep.{CellStep}
 use Rattle.wb_link.specs.Tables.{Done as DoneThere, Gave, table as table_there}
 use Rattle.wb_link.specs.World.{Shared, Actor}
-use Rattle.wb_refines.specs.Models.{WordsAgree, IsAt, IsBelow, BelowBeside, TellsPlace, Follows, IsRequest, plan_of}
+use Rattle.wb_refines.specs.Models.{WordsAgree, IsAt, IsBelow, TakesBeside, TellsPlace, Follows, IsRequest, plan_of}
 use Rattle.wb_refines.specs.Translation.{script_for, job_for, location_at}
 use Rattle.wb_refines.specs.Data.{IsSide, IsInBlock, Moves, faults, read_fault}
 
@@ -36,7 +36,7 @@ TablesAgree = (size most : ℕ) (content : Content) (part : BlockRange) (serves 
 -- there, the actor, and what the others have agree with the words and the cards before it, they do so after it.
 abbrev pub CellStepsFollowed : Type 0
 CellStepsFollowed = (size blocks : ℕ) (content : Content) (words : Words) (cards : List Card) (actors : List Actor) (there a : ℕ) (card : Card) (s : Shared) (y : Actor) (job : BlockJob) (step : CellStep) (later : List Want) (answer : Answer) →
-    IsRequest job → 0 < size → size ≡ (range_of job).block_sectors → LockRule blocks words cards → slice_get cards a ≡ Some card → BelowBeside actors cards there a → WordsAgree words s → TellsPlace step →
+    IsRequest job → 0 < size → size ≡ (range_of job).block_sectors → LockRule blocks words cards → slice_get cards a ≡ Some card → TakesBeside step actors cards there a → WordsAgree words s → TellsPlace step →
     Suits blocks (plan_of job (Cell step ∷ later) answer) card → IsAt size content (plan_of job (Cell step ∷ later) answer) card y →
     Follows size content actors there s y (words_after words step) (after (plan_of job (Cell step ∷ later) answer) (got_of (result_of words step))) (card_after words step card)
 

@@ -139,3 +139,8 @@ BelowBeside actors cards there a = (c : ℕ) (y : Actor) → c ≢ there → sli
 abbrev pub TellsPlace : CellStep → Type 0
 TellsPlace (SealBlock block place dirty) = place_in (seal_word place dirty) ≡ place
 TellsPlace step = Unit {0}
+
+-- That holds where a step looks at a number: there the block is taken.
+abbrev pub TakesBeside : CellStep → List Actor → List Card → (there a : ℕ) → Type 0
+TakesBeside (Look (Number block)) actors cards there a = BelowBeside actors cards there a
+TakesBeside step actors cards there a = Unit {0}

@@ -8,7 +8,7 @@ use wb_types::Content;
 pub(crate) enum Given {
     Read,
     Open,
-    /// A write or a flush.
+    /// A write, a flush or a promotion.
     Other,
 }
 

@@ -6,8 +6,8 @@ use std::fmt::Write;
 use wb_disk::{Base, CrashChoice};
 use wb_lines::{ACTORS, Line, Setup, Task};
 use wb_runs::{Event, Job, What};
-use wb_tasks::{Answer, DeviceStep, Want};
-use wb_types::{Extent, Geometry, Mode, Refusal, SECTOR_BYTES, Sector};
+use wb_tasks::{Answer, DeviceStep, Migration, Want};
+use wb_types::{CBlock, Extent, Geometry, Mode, OBlock, Refusal, SECTOR_BYTES, Sector};
 use wb_world::World;
 
 /// A world that is played, and what its actors were told.
@@ -211,6 +211,11 @@ fn job_of(task: Task) -> (Given, u64, Job) {
             Job::Write(Extent { first, count }, [fill; SECTOR_BYTES]),
         ),
         Task::Flush => (Given::Other, 0, Job::Flush),
+        Task::Promote { block, cache } => (
+            Given::Other,
+            0,
+            Job::Migrate(Migration::Promote(CBlock(cache)), OBlock(block)),
+        ),
     }
 }
 

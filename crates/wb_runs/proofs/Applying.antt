@@ -1,5 +1,5 @@
--- Whether an event applies is decided.
-use Rattle.std.proofs.Common.{◌≡◌, ◌≤◌, ◌<◌, ◌+◌, inl, inr, ℕ, zero, suc, List, [], ◌∷◌, Some, refl, sym, subst, arith, length, slice_get}
+-- Whether an event applies is decided, and so is whether a promotion may be given its order.
+use Rattle.std.proofs.Common.{◌≡◌, ◌≢◌, ◌∙◌, ◌≤◌, ◌<◌, ◌+◌, ◌^◌, inl, inr, ℕ, zero, suc, Bool, true, false, List, [], ◌∷◌, Option, Some, None, Contains, refl, sym, ap, subst, arith, length, slice_get}
 use Rattle.std.specs.Prelude.{All}
 use Rattle.std.proofs.lemmas.Bool.{cases_eq, cases_lt}
 use Rattle.std.proofs.lemmas.List.Elements.{All-cons, All-nil, All-from_recursion, recursion_from_All}
@@ -11,16 +11,31 @@ use Rattle.wb_disk.specs.Device.{History, entries}
 use Rattle.wb_disk.specs.Crash.{Choice, Applies, named_position, chosen_position}
 use Rattle.wb_disk.specs.Failing.{MayFail}
 use Rattle.wb_disk.specs.declared.crash_choice.NamedContent.{NamedContent}
+use Rattle.wb_types.specs.declared.number.CBlock.{CBlock}
+use Rattle.wb_types.specs.declared.number.OBlock.{OBlock}
+use Rattle.wb_types.proofs.Lists.{Contains-first, Contains-behind}
+use Rattle.wb_policy.specs.declared.order.Order.{Order}
+use Rattle.wb_policy.specs.declared.order.Order.TheVariants.{Promote as PromoteOrder}
+use Rattle.wb_policy.specs.Law.{Holdings, IsUnmapped}
+use Rattle.wb_space.specs.declared.block.Block.{Block}
+use Rattle.wb_space.specs.declared.block.Block.TheVariants.{Free, Mapped, Reserved, Quarantined}
+use Rattle.wb_orders.specs.declared.live_order.LiveOrder.{LiveOrder}
+use Rattle.wb_orders.specs.Named.{first_of, second_of}
+use Rattle.wb_orders.specs.Orders.{cost_of}
+use Rattle.wb_desk.specs.Desks.{DeskState, holdings, sectors_asked}
+use Rattle.wb_tasks.specs.declared.step.Migration.TheVariants.{Promote, Demote, Clean}
 use Rattle.wb_tasks.specs.Plan.{device_of}
 use Rattle.wb_tasks.specs.declared.step.Want.{Want}
 use Rattle.wb_tasks.specs.declared.step.Want.TheVariants.{Cell, Device, Desk, End}
 use Rattle.wb_devices.specs.declared.devices.Devices.{Devices}
 use Rattle.wb_devices.specs.Moving.{device_in}
 use Rattle.wb_runs.specs.declared.job.Job.{Job}
-use Rattle.wb_runs.specs.declared.job.Job.TheVariants.{Read, Write, Flush, Open}
+use Rattle.wb_runs.specs.declared.job.Job.TheVariants.{Read, Write, Flush, Open, Migrate}
 use Rattle.wb_runs.specs.States.{Phase, Stands, Gone, Opens}
-use Rattle.wb_runs.specs.Happenings.{MayFailAt, MayStop, IsOutOfPlace}
+use Rattle.wb_runs.specs.Happenings.{MayFailAt, MayStop, MayOrder, IsOutOfPlace}
 use Rattle.wb_runs.proofs.Spelling.{Decided, two_of, at_most}
+use Rattle.wb_runs.proofs.Lists.{first_or}
+use Rattle.wb_runs.proofs.Desks.{one_order}
 
 one_device : (a b : Dev) → Decided (a ≡ b)
 one_device Metadata Metadata = inl refl
@@ -128,9 +143,82 @@ out_of_place (Opens m r) (Open mode) = elim (is_writeback mode) [
 out_of_place (Stands t) (Read extent) = inr (λ o. o tt)
 out_of_place (Stands t) (Write extent content) = inr (λ o. o tt)
 out_of_place (Stands t) Flush = inr (λ o. o tt)
+out_of_place (Stands t) (Migrate (Promote c) block) = inr (λ o. elim o [ inl f ↦ f tt | inr n ↦ n tt ])
+out_of_place (Stands t) (Migrate Demote block) = inl (inr (λ f. f))
+out_of_place (Stands t) (Migrate Clean block) = inl (inr (λ f. f))
+out_of_place Gone (Migrate migration block) = inl (inl (λ f. f))
+out_of_place (Opens m r) (Migrate migration block) = inl (inl (λ f. f))
 out_of_place Gone (Read extent) = inl (λ f. f)
 out_of_place Gone (Write extent content) = inl (λ f. f)
 out_of_place Gone Flush = inl (λ f. f)
 out_of_place (Opens m r) (Read extent) = inl (λ f. f)
 out_of_place (Opens m r) (Write extent content) = inl (λ f. f)
 out_of_place (Opens m r) Flush = inl (λ f. f)
+
+-- ---- orders
+
+-- whether an actor has an order
+pub has_order : (orders : List Order) (order : Order) → Decided (Contains orders order)
+has_order [] order = inr (λ c. omega (arith, c.1))
+has_order (o ∷ os) order = elim (one_order order o) [
+  | inl e ↦ inl (subst (λ (p : Order). Contains (o ∷ os) p) (sym e) (Contains-first o os))
+  | inr n ↦ elim (has_order os order) [
+    | inl c ↦ inl (Contains-behind o os order c)
+    | inr m ↦ inr (λ c. first_or o order os ⊥ c (λ e. n e) m)
+  ]
+]
+
+not_passthrough : (mode : Mode) → Decided (mode ≢ Passthrough)
+not_passthrough Writeback = inl (λ e. cc)
+not_passthrough Writethrough = inl (λ e. cc)
+not_passthrough Passthrough = inr (λ n. n refl)
+
+is_free_block : (o : Option Block) → Decided (o ≡ Some Free)
+is_free_block None = inr (λ e. cc)
+is_free_block (Some Free) = inl refl
+is_free_block (Some Mapped) = inr (λ e. cc)
+is_free_block (Some Reserved) = inr (λ e. cc)
+is_free_block (Some (Quarantined claimed early)) = inr (λ e. cc)
+
+is_vacant : (o : Option (Option LiveOrder)) → Decided (o ≡ Some None)
+is_vacant None = inr (λ e. cc)
+is_vacant (Some None) = inl refl
+is_vacant (Some (Some order)) = inr (λ e. cc)
+
+is_idle : (o : Option Bool) → Decided (o ≡ Some false)
+is_idle None = inr (λ e. cc)
+is_idle (Some true) = inr (λ e. cc)
+is_idle (Some false) = inl refl
+
+is_other : (o : Option ℕ) (block : ℕ) → Decided (Some o ≢ Some (Some block))
+is_other None block = inl (λ e. cc)
+is_other (Some b) block = elim (cases_eq b block) [
+  | inl e ↦ inr (λ n. n (ap (λ (k : ℕ). Some (Some k)) e))
+  | inr n ↦ inl (λ e. n (let same : Some b ≡ Some block = cc in cc))
+]
+
+is_unmapped : (mapping : Holdings) (block : ℕ) → Decided (IsUnmapped mapping block)
+is_unmapped [] block = inl (λ at e. cc)
+is_unmapped (o ∷ os) block = elim (two_of (is_other o block) (is_unmapped os block)) [
+  | inl both ↦ inl (each both.0 both.1)
+  | inr none ↦ inr (λ u. none (u 0, λ at. u (suc at)))
+]
+  where
+    each : (Some o ≢ Some (Some block)) → IsUnmapped os block → IsUnmapped (o ∷ os) block
+    each here rest zero = here
+    each here rest (suc at) = rest at
+
+-- whether a promotion's order may be given
+pub may_promote : {P : Type 0} (desk : DeskState P) (block : OBlock) (c : CBlock) → Decided (MayOrder desk (PromoteOrder block c))
+may_promote {P} desk block c = elim (two_of (two_of (not_passthrough desk.mode) (two_of (is_free_block (slice_get desk.space.blocks c.0)) (is_unmapped (holdings desk) block.0)))
+    (two_of (two_of (is_vacant (slice_get desk.orders.slots c.0)) (two_of (is_idle (slice_get desk.orders.busy (first_of order).0)) (is_idle (slice_get desk.orders.busy (second_of order).0))))
+    (two_of (at_most (cost_of desk.orders.slots + sectors_asked desk.geometry order) desk.threshold) (below (desk.orders.given + 1) (2 ^ 64))))) [
+      | inl d ↦ inl (c, record { mode = d.0.0; lawful = (refl, d.0.1.0, d.0.1.1); give = record { vacant = d.1.0.0; idle = (d.1.0.1.0, d.1.0.1.1); room = d.1.1.0; countable = d.1.1.1 } })
+      | inr none ↦ inr (λ may. none (
+        (may.1.mode, (may.1.lawful.1, may.1.lawful.2)),
+        ((ap (λ (k : CBlock). slice_get desk.orders.slots k.0) (sym may.1.lawful.0) ∙ may.1.give.vacant, may.1.give.idle), (may.1.give.room, may.1.give.countable)),
+      ))
+    ]
+  where
+    order : Order
+    order = PromoteOrder block c

@@ -1,15 +1,24 @@
 -- A tree in which nothing is cached has no node, so none of its images has one.
-use Rattle.std.proofs.Common.{◌≡◌, ◌∙◌, ◌*◌, ◌^◌, ℕ, zero, suc, false, List, [], ◌∷◌, Option, None, refl, sym, subst, map, replicate, take, drop, is_some}
+use Rattle.std.proofs.Common.{◌≡◌, ◌*◌, ◌^◌, ℕ, zero, suc, false, List, [], Option, None, refl, sym, subst, replicate, take, drop, is_some}
 use Rattle.std.specs.List.{list_any}
 use Rattle.wb_types.specs.declared.entry.Entry.{Entry}
 use Rattle.wb_types.specs.declared.geometry.Geometry.{Geometry}
-use Rattle.wb_types.specs.declared.number.Place.{Place}
-use Rattle.wb_format.specs.declared.node.Node.{Node}
-use Rattle.wb_tree.specs.declared.image.Image.{Image}
 use Rattle.wb_tree.specs.Mapping.{Mapping, exists, changed}
-use Rattle.wb_tree.specs.Images.{ImagePlan, IsImage, levels_of, name_of}
 use Rattle.wb_tree.proofs.Images.PlanSteps.{shut_below}
-use Rattle.wb_runs.proofs.Underway.{no_entries}
+use Rattle.wb_disk.specs.Device.{History}
+use Rattle.wb_desk.specs.Desks.{DeskState}
+use Rattle.wb_runs.proofs.Images.{Images}
+use Rattle.wb_runs.proofs.Metadata.{AtDesk}
+
+-- no cache block has an entry
+abbrev pub no_entries : Geometry → List (Option Entry)
+no_entries g = replicate g.cache_blocks None
+
+-- a desk without entries, where no commit runs
+pub record BareDesk (P : Type 0) (g : Geometry) (desk : DeskState P) (device : List History) : Type 0 where
+  pub images : Images
+  pub known : AtDesk g images desk None device
+  pub entries : desk.tree.entries ≡ no_entries g
 
 abbrev blanks : ℕ → List (Option Entry)
 blanks n = replicate n None
@@ -29,12 +38,5 @@ pub nothing_exists : (n level index : ℕ) → exists (replicate n None) level i
 unfolding exists
 nothing_exists n level index = none_left n (index * 32 ^ level) (32 ^ level)
 
-empty_map : {X Y : Type 0} (f : X → Y) (xs : List X) → map f xs ≡ [] → xs ≡ []
-empty_map f [] e = refl
-empty_map f (x ∷ xs) e = absurd (cc)
-
 pub nothing_changed : (g : Geometry) (m : Mapping) (depth : ℕ) → m.entries ≡ no_entries g → changed m depth ≡ []
 nothing_changed g m depth e = shut_below m depth 0 (subst (λ (es : List (Option Entry)). exists es depth 0 ≡ false) (sym e) (nothing_exists g.cache_blocks depth 0))
-
-pub no_changes : (g : Geometry) (m n : Mapping) (plan : ImagePlan) (image : Image) → m.entries ≡ no_entries g → IsImage m n plan image → image.nodes.items ≡ []
-no_changes g m n plan image e i = empty_map (λ (node : Place × Node). name_of node.1) image.nodes.items (i.nodes_are ∙ nothing_changed g m (levels_of plan) e)

@@ -1,6 +1,6 @@
 -- Where a desk may begin a commit there is an image to begin it with: the tree has no node, and the image none to write.
-use Rattle.std.proofs.Common.{Global, ◌≡◌, ◌∙◌, ◌≤◌, ◌+◌, inl, inr, ℕ, zero, suc, false, List, [], ◌∷◌, Option, Some, None, refl, sym, ap, subst, arith, length, map, slice_index_or, slice_get, replicate}
-use Rattle.std.proofs.lemmas.List.{length-map, length-replicate}
+use Rattle.std.proofs.Common.{Global, ◌≡◌, ◌∙◌, ◌≤◌, ◌+◌, inl, ℕ, zero, suc, false, List, [], ◌∷◌, Option, Some, None, refl, sym, ap, subst, arith, length, map, slice_index_or, slice_get, replicate}
+use Rattle.std.proofs.lemmas.List.{length-map}
 use Rattle.std.proofs.lemmas.List.Elements.{All-nil}
 use Rattle.wb_types.specs.declared.entry.Entry.{Entry}
 use Rattle.wb_types.specs.declared.geometry.Geometry.{Geometry}
@@ -11,25 +11,20 @@ use Rattle.wb_format.specs.declared.root.Root.{Root}
 use Rattle.wb_format.specs.declared.version.Version.TheVariants.{One}
 use Rattle.wb_format.specs.Sizes.{IsTop}
 use Rattle.wb_meta.specs.Placing.{HavePlaces}
-use Rattle.wb_space.specs.Places.{noted, unused, place_count}
 use Rattle.wb_tree.specs.declared.image.Image.{Image}
 use Rattle.wb_tree.specs.declared.placed.PlacedNode.{PlacedNode}
 use Rattle.wb_tree.specs.Mapping.{Mapping, IsMapping, IsSound, place_in, place_of, used_places}
 use Rattle.wb_tree.specs.Images.{AreUsed, ImagePlan, IsImage, levels_of}
 use Rattle.wb_meta.specs.declared.commit_steps.CommitSteps.TheVariants.{NodesWritten}
-use Rattle.wb_types.specs.Limits.{node_count}
-use Rattle.wb_desk.specs.InUse.{AreFlagged}
 use Rattle.wb_desk.specs.Desks.{DeskState}
-use Rattle.wb_desk.specs.Commits.{MayBegin, IsOnUnused, next_plan}
-use Rattle.wb_desk.proofs.FreePlaces.{unused_places}
+use Rattle.wb_desk.specs.Commits.{MayBegin, next_plan}
 use Rattle.wb_devices.specs.declared.running.RunningCommit.{RunningCommit}
 use Rattle.wb_tasks.specs.declared.step.Got.TheVariants.{Began}
 use denote.RawPtr.{null_ptr}
 use Rattle.wb_runs.specs.Happenings.{Commits, DoesBegin}
-use Rattle.wb_runs.specs.Progress.{CanBegin}
-use Rattle.wb_runs.proofs.Underway.{no_entries}
-use Rattle.wb_runs.proofs.Bare.{nothing_exists, nothing_changed}
-use Rattle.wb_runs.proofs.Metadata.{AtDesk, Quiet}
+use Rattle.wb_desk.proofs.Committing.{on_unused}
+use Rattle.wb_runs.proofs.Bare.{BareDesk, no_entries, nothing_exists, nothing_changed}
+use Rattle.wb_runs.proofs.Metadata.{unknowing}
 
 pub no_entry : (n block : ℕ) (entry : Entry) → slice_index_or (replicate n None) block None ≡ Some entry → ⊥
 no_entry zero block entry e = absurd (cc)
@@ -101,46 +96,21 @@ module _ (heap : Global) where
       by_top None h = sym h
       by_top (Some p) h = absurd (no_place g m e sound (levels_of plan) 0 p h)
 
-  module _ (P A : Type 0) (g : Geometry) (desk : DeskState P) (device : List History) (known : AtDesk g desk None device) (q : Quiet g desk device) where
+  module _ (P A : Type 0) (g : Geometry) (desk : DeskState P) (device : List History) (bare : BareDesk P g desk device) where
     planned : IsImage desk.tree desk.tree (next_plan desk desk.tree false) (bare_image (bare_root g (desk.generation + 1)))
-    planned = is_image g desk.tree (next_plan desk desk.tree false) known.entries q.stores.sound known.geometry refl
-
-    on_unused : IsOnUnused desk desk.tree desk.tree false (bare_image (bare_root g (desk.generation + 1)))
-    on_unused = λ used are. record {
-      mapping = mapping;
-      free_are = unused_places desk.tree desk.geometry desk.space.places (length q.used) used mapping.size flags
-          (q.none_running ∙ ap (λ (x : Geometry). unused (place_count x.cache_blocks)) (sym known.geometry)) desk.geometry.within.meta_from are;
-      image_is = planned;
-      sound = q.stores.sound;
-      inside = λ place at. absurd (no_place g desk.tree known.entries q.stores.sound at.level at.index place at.known);
-    }
-      where
-        blocks : g.cache_blocks ≡ desk.geometry.cache_blocks
-        blocks = ap (λ (x : Geometry). x.cache_blocks) (sym known.geometry)
-
-        mapping : IsMapping desk.geometry.cache_blocks desk.geometry.origin_blocks desk.tree.entries
-        mapping = subst (λ (es : List (Option Entry)). IsMapping desk.geometry.cache_blocks desk.geometry.origin_blocks es) (sym known.entries) (record {
-          size = length-replicate g.cache_blocks None ∙ blocks;
-          within = λ block entry e. absurd (no_entry g.cache_blocks block entry e);
-          once = λ block other entry same e f h. absurd (no_entry g.cache_blocks block entry e);
-        })
-
-        flags : AreFlagged desk.geometry.cache_blocks (length q.used) desk.space.places.committed
-        flags = record {
-          used = q.used;
-          are = q.places ∙ ap (λ (n : ℕ). noted q.used (unused (place_count n))) blocks;
-          many = refl;
-          few = subst (λ (n : ℕ). length q.used ≤ node_count n) (ap (λ (x : Geometry). x.cache_blocks) q.same ∙ blocks) q.stores.used_few;
-        }
+    planned = is_image g desk.tree (next_plan desk desk.tree false) bare.entries bare.known.is.sound bare.known.is.geometry refl
 
     -- a commit that may begin can begin
     pub begins_bare : (most : ℕ) → MayBegin desk → DoesBegin {P = P} {A = A} most desk (Began 0) (Commits (bare_commit g (desk.generation + 1)) desk.tree)
-    begins_bare most may = (omega arith, refl, refl, record { may = may; state = refl; image_is = planned; unused = on_unused })
-
-  -- so it is of the desk of every target
-  pub desk_begins : (P A : Type 0) (g : Geometry) (desk : DeskState P) (commit : Option RunningCommit) (device : List History) → AtDesk g desk commit device → (most : ℕ) → MayBegin desk → CanBegin P A most desk
-  desk_begins P A g desk (Some c) device k most may = absurd (let busy = k.stands.busy in let idle = may.idle in cc)
-  desk_begins P A g desk None device k most may = elim k.stands [
-    | inl q ↦ (0, (Commits (bare_commit g (desk.generation + 1)) desk.tree, begins_bare P A g desk device k q most may))
-    | inr broken ↦ absurd (let busy = broken.busy in let idle = may.idle in cc)
-  ]
+    begins_bare most may = (
+      omega arith,
+      refl,
+      refl,
+      record {
+        may = may;
+        state = refl;
+        image_is = planned;
+        unused = on_unused unknowing desk (λ (b : ℕ). 0) None false desk.tree (bare_image (bare_root g (desk.generation + 1))) bare.known.is.kept may.idle planned bare.known.is.kept.mapping bare.known.is.sound bare.known.is.kept.places.inside;
+      },
+      All-nil _,
+    )

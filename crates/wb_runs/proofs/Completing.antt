@@ -1,19 +1,16 @@
 -- A reading of metadata whose root names no tree, as that of formatted ones does, can be completed: nothing is cached.
-use Rattle.std.proofs.Common.{Global, ◌≡◌, ◌∙◌, ◌<◌, ◌+◌, ◌^◌, ℕ, List, [], Option, Some, None, Ok, refl, sym, ap, subst, arith, length, map, inl, replicate}
+use Rattle.std.proofs.Common.{Global, ◌≡◌, ◌∙◌, ℕ, List, [], Option, Some, None, Ok, refl, sym, ap, subst, arith, length, map, inl}
 use Rattle.std.specs.List.{IsDistinct}
 use Rattle.std.proofs.lemmas.List.{length-replicate}
 use Rattle.wb_types.specs.declared.geometry.Geometry.{Geometry}
 use Rattle.wb_types.specs.declared.number.Place.{Place}
-use Rattle.wb_disk.specs.Device.{Content as Bytes, History, newest, synced}
-use Rattle.wb_disk.specs.Crashes.{AfterEveryCrash}
-use Rattle.wb_disk.proofs.Leaving.{read-left, left-synced}
+use Rattle.wb_disk.specs.Device.{Content as Bytes, History, newest}
+use Rattle.wb_disk.proofs.Leaving.{read-left}
 use Rattle.wb_format.specs.declared.root.Root.{Root}
 use Rattle.wb_tree.specs.Mapping.{IsSound, empty_mapping}
 use Rattle.wb_tree.specs.Reading.{Nodes, IsNewestRoot, nothing_found, tree_read, top_read}
 use Rattle.wb_tree.specs.Loaded.{IsLoaded}
-use Rattle.wb_meta.specs.Formats.{IsFormatted}
 use Rattle.wb_meta.specs.Openings.{reopened}
-use Rattle.wb_meta.specs.Representing.{Represents}
 use Rattle.wb_meta.specs.Slots.{IsInSlot}
 use Rattle.wb_meta.specs.States.{RepresentsState}
 use Rattle.wb_meta.specs.Reads.{FitsDevice, ReadingGoesOn}
@@ -26,40 +23,8 @@ use Rattle.wb_runs.specs.Happenings.{Reaches, DoesRead}
 use Rattle.wb_runs.proofs.Bare.{nothing_changed}
 use Rattle.wb_runs.proofs.Beginning.{no_entry, no_node}
 use Rattle.wb_runs.proofs.Readings.{same_newest}
-use Rattle.wb_runs.proofs.Underway.{Readable}
+use Rattle.wb_runs.proofs.Formatted.{HasNoTree}
 use denote.RawPtr.{null_ptr}
-
--- whatever a crash leaves of them, metadata represent this root of no tree, behind which there are two generations more
-pub record HasNoTree (g : Geometry) (device : List History) : Type 0 where
-  pub root : Root
-  pub geometry_is : root.geometry ≡ g
-  pub top : root.top ≡ None
-  pub more : root.generation + 2 < 2 ^ 64
-  pub represents : AfterEveryCrash (λ sectors. Represents sectors root (nothing_found root)) device
-
--- formatted metadata do
-abbrev pub formatted_none : (g : Geometry) (device : List History) → IsFormatted g device → HasNoTree g device
-formatted_none g device f = record { root = f.root; geometry_is = f.first.geometry_is; top = f.first.top; more = omega (arith, f.first.generation); represents = f.represents }
-
--- and so do they once they were synced
-abbrev pub synced_none : (g : Geometry) (device : List History) → HasNoTree g device → HasNoTree g (synced device)
-synced_none g device b = record {
-  root = b.root;
-  geometry_is = b.geometry_is;
-  top = b.top;
-  more = b.more;
-  represents = λ sectors left. subst (λ (s : List Bytes). Represents s b.root (nothing_found b.root)) (sym (left-synced device sectors left)) (b.represents (map newest device) (read-left device));
-}
-
--- what is known of them where no target stands
-pub none_readable : (g : Geometry) (device : List History) → HasNoTree g device → length device ≡ g.meta_sectors → Readable g device
-none_readable g device b size = record {
-  committed = record { root = b.root; found = nothing_found b.root };
-  later = None;
-  read = record { size = size; same_geometry = b.geometry_is; later_geometry = tt; represents = b.represents };
-  bare = ap (λ (g : Geometry). replicate g.cache_blocks None) b.geometry_is;
-  bare_later = tt;
-}
 
 -- a tree with no entry that knows no node
 empty_sound : (n : ℕ) → IsSound (empty_mapping n)

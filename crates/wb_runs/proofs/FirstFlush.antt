@@ -29,10 +29,10 @@ use Rattle.wb_runs.specs.declared.event.What.TheVariants.{Started, Stepped}
 use Rattle.wb_runs.specs.States.{Shape, State, Actor, Target, Stands}
 use Rattle.wb_runs.specs.Happenings.{Chosen, Plain, Puts, Commits, Happening, AtWork}
 use Rattle.wb_runs.specs.Effects.{after_all, IsRun}
-use Rattle.wb_runs.proofs.Standing.{length-grown}
-use Rattle.wb_runs.proofs.Metadata.{AtDesk, Quiet}
+use Rattle.wb_runs.proofs.Rooted.{length-grown, Fits, rooted, comes_next, root_does}
+use Rattle.wb_runs.proofs.Metadata.{Quiet}
+use Rattle.wb_runs.proofs.Bare.{BareDesk}
 use Rattle.wb_runs.proofs.Beginning.{bare_commit, begins_bare}
-use Rattle.wb_runs.proofs.Giving.{Fits, rooted, comes_next, root_does}
 use denote.RawPtr.{null_ptr}
 
 -- a happening that read nothing
@@ -42,7 +42,7 @@ happened global event what chosen = record {
   chosen = chosen;
 }
 
-module _ (P A : Type 0) (global : Global) (shape : Shape) (t : Target P) (calm : t.words.fail ≡ 0) (devices : Devices (List History)) (card : Card) (rest : List Actor) (known : AtDesk shape.geometry t.desk None devices.metadata) (q : Quiet shape.geometry t.desk devices.metadata) (may : MayBegin t.desk) where
+module _ (P A : Type 0) (global : Global) (shape : Shape) (t : Target P) (calm : t.words.fail ≡ 0) (devices : Devices (List History)) (card : Card) (rest : List Actor) (known : BareDesk P shape.geometry t.desk devices.metadata) (q : Quiet shape.geometry known.images t.desk devices.metadata) (may : MayBegin t.desk) where
   abbrev commit : RunningCommit
   commit = bare_commit global shape.geometry (t.desk.generation + 1)
 
@@ -66,7 +66,7 @@ module _ (P A : Type 0) (global : Global) (shape : Shape) (t : Target P) (calm :
       ∷ []
 
   abbrev pub before : State P A
-  before = record { devices = devices; commit = None; phase = Stands t; actors = record { task = None; card = card } ∷ rest }
+  before = record { devices = devices; commit = None; phase = Stands t; actors = record { task = None; card = card; orders = []; buffer = [] } ∷ rest }
 
   fits : Fits commit m
   fits = q.stores.size ∙ ap (λ (x : Geometry). x.meta_sectors) q.same
@@ -83,7 +83,7 @@ module _ (P A : Type 0) (global : Global) (shape : Shape) (t : Target P) (calm :
     (
       (refl, ((refl, refl), ap Word (sym calm))),
       (
-        (refl, (refl, refl, begins_bare global P A shape.geometry t.desk m known q (node_count shape.geometry.cache_blocks) may)),
+        (refl, (refl, refl, begins_bare global P A shape.geometry t.desk m known (node_count shape.geometry.cache_blocks) may)),
         (
           (refl, ((refl, refl), refl)),
           (
@@ -91,7 +91,7 @@ module _ (P A : Type 0) (global : Global) (shape : Shape) (t : Target P) (calm :
             (
               (refl, (refl, refl, (comes_next commit m (NodesWritten 0) (Sync Metadata) fits refl refl, refl))),
               (
-                (refl, (refl, refl, (comes_next (record commit { steps = NodesSynced }) (synced m) NodesSynced WriteRoot fits_synced refl refl, root_does (record commit { steps = NodesSynced }) (synced m) (refl, may.next, refl)))),
+                (refl, (refl, refl, (comes_next (record commit { steps = NodesSynced }) (synced m) NodesSynced WriteRoot fits_synced refl refl, root_does (record commit { steps = NodesSynced }) (synced m) may.next refl))),
                 (
                   (refl, (refl, refl, (comes_next (record commit { steps = RootWritten }) (rooted commit (synced m)) RootWritten (Sync Metadata) fits_rooted refl refl, refl))),
                   (

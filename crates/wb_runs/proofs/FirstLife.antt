@@ -44,8 +44,9 @@ use Rattle.wb_runs.specs.Headline.{noted, note_happening}
 use Rattle.wb_runs.specs.Possible.{one_block, first_sector, AboutToAnswer, FirstDoes}
 use denote.RawPtr.{null_ptr}
 use Rattle.wb_runs.proofs.FirstFlush.{happened, flushing, flush_run, flush_done}
-use Rattle.wb_runs.proofs.Metadata.{AtDesk, Quiet}
-use Rattle.wb_runs.proofs.MetadataRuns.{known_after, known_always}
+use Rattle.wb_runs.proofs.Metadata.{Quiet}
+use Rattle.wb_runs.proofs.Bare.{BareDesk}
+use Rattle.wb_runs.proofs.MetadataRuns.{IsKnown, known_after, known_always}
 
 -- one that was given a sector
 abbrev pub was_given : {P A : Type 0} → Global → Bytes → Event → What → Happening P A
@@ -91,7 +92,7 @@ rested P A metadata cache origin desk card rest = record {
   devices = record { metadata = metadata; cache = cache; origin = origin };
   commit = None;
   phase = Stands (record { words = numbered; desk = desk });
-  actors = record { task = None; card = card } ∷ rest;
+  actors = record { task = None; card = card; orders = []; buffer = [] } ∷ rest;
 }
 
 module _ (P A : Type 0) (global : Global) (cache_blocks meta_sectors : ℕ) (within : IsWithinLimits 64 cache_blocks 1 meta_sectors) (threshold others : ℕ) where
@@ -114,7 +115,7 @@ module _ (P A : Type 0) (global : Global) (cache_blocks meta_sectors : ℕ) (wit
       devices = record { metadata = metadata; cache = cache; origin = only first ∷ sectors };
       commit = None;
       phase = Stands (record { words = fresh_words 1; desk = desk });
-      actors = record { task = None; card = blank_card } ∷ rest;
+      actors = record { task = None; card = blank_card; orders = []; buffer = [] } ∷ rest;
     }
 
     abbrev pub started : Notes
@@ -245,7 +246,7 @@ module _ (P A : Type 0) (global : Global) (cache_blocks meta_sectors : ℕ) (wit
       devices = record { metadata = metadata; cache = cache; origin = origin };
       commit = None;
       phase = Stands (record { words = words; desk = desk });
-      actors = record { task = task; card = card } ∷ rest;
+      actors = record { task = task; card = card; orders = []; buffer = [] } ∷ rest;
     }
 
     module _ (job : Job) (origin : List History) (To : Card → State P A) where
@@ -310,7 +311,7 @@ module _ (P A : Type 0) (global : Global) (cache_blocks meta_sectors : ℕ) (wit
   -- ---- a flush
 
   module _ (desk : DeskState P) (metadata cache : List History) (rest : List Actor) (card : Card) (history : History) (sectors histories : List History) (finished floors : List ℕ) (doings : List (Option Doing))
-      (known : AtDesk shape.geometry desk None metadata) (quiet : Quiet shape.geometry desk metadata) (may : MayBegin desk) where
+      (known : BareDesk P shape.geometry desk metadata) (quiet : Quiet shape.geometry known.images desk metadata) (may : MayBegin desk) where
     abbrev pub idle_state : State P A
     idle_state = rested P A metadata cache (history ∷ sectors) desk card rest
 
@@ -342,11 +343,11 @@ module _ (P A : Type 0) (global : Global) (cache_blocks meta_sectors : ℕ) (wit
     durable_is = (card_in durable.actors, refl)
 
     -- what is known of the metadata then
-    pub durable_known : AtDesk shape.geometry (target_in durable.phase desk).desk None durable.devices.metadata
-    durable_known = known_after P A shape (after_all shape idle_state flushes) (does (End Finished) Done) (known_always P A shape idle_state flushes known flushes_run) flush_answer
+    pub durable_known : IsKnown P A shape durable
+    durable_known = known_after P A shape (after_all shape idle_state flushes) (does (End Finished) Done) (known_always P A shape idle_state flushes (record { images = known.images; known = known.known }) flushes_run) flush_answer
 
-    pub durable_quiet : Quiet shape.geometry (target_in durable.phase desk).desk durable.devices.metadata
-    durable_quiet = elim durable_known.stands [ inl q ↦ q | inr broken ↦ absurd (let busy = broken.busy in cc) ]
+    pub durable_quiet : Quiet shape.geometry durable_known.images (target_in durable.phase desk).desk durable.devices.metadata
+    durable_quiet = elim durable_known.known.stands [ inl q ↦ q | inr broken ↦ absurd (let busy = broken.busy in cc) ]
 
     pub durable_noted : note_happening shape (after_all shape idle_state flushes) (noted shape idle_state idle_notes flushes) (happened global (Step 0) (Stepped (End Finished) Done) Plain)
         ≡ record { histories = history ∷ histories; finished = 1 ∷ finished; floors = 1 ∷ greater_of floors finished; doings = None ∷ doings }

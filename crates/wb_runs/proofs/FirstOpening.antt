@@ -25,14 +25,15 @@ use Rattle.wb_runs.specs.States.{Shape, State, Actor, Gone, OfTarget, resting, s
 use Rattle.wb_runs.specs.Happenings.{Chosen, Plain, Begins, Reaches, Puts, Opened, Happening}
 use Rattle.wb_runs.specs.Effects.{after_all, IsRun}
 use Rattle.wb_runs.specs.Possible.{Opens, CanOpen, Flushes, CanFlush}
-use Rattle.wb_runs.proofs.Standing.{length-grown}
 use Rattle.wb_runs.proofs.Readings.{first_read, some_slot}
-use Rattle.wb_runs.proofs.Completing.{HasNoTree, formatted_none, synced_none, none_readable, stored, next_commit, all_read}
-use Rattle.wb_runs.proofs.Giving.{Fits, rooted, comes_next, root_does}
+use Rattle.wb_runs.proofs.Formatted.{HasNoTree, formatted_none, synced_none, none_images, none_readable}
+use Rattle.wb_runs.proofs.Completing.{stored, next_commit, all_read}
+use Rattle.wb_runs.proofs.Rooted.{length-grown, Fits, rooted, comes_next, root_does}
+use Rattle.wb_runs.proofs.Bare.{BareDesk}
 use Rattle.wb_runs.proofs.FirstFlush.{happened, flushing, flush_run, flush_done}
-use Rattle.wb_runs.proofs.Metadata.{AtDesk, Quiet}
-use Rattle.wb_runs.proofs.MetadataRuns.{known_always}
-use Rattle.wb_runs.proofs.Opened.{no_seals}
+use Rattle.wb_runs.proofs.Metadata.{Quiet}
+use Rattle.wb_runs.proofs.MetadataRuns.{IsKnown, known_always}
+use Rattle.wb_runs.proofs.Shown.{no_seals}
 use Rattle.wb_words.specs.SharedWords.{fresh_words}
 use Rattle.wb_words.specs.Cards.{blank_card}
 use Rattle.wb_words.specs.declared.step.CellStep.{CellStep}
@@ -107,7 +108,7 @@ module _ (P A : Type 0) (policy : P) (alloc : A) (global : Global) (shape : Shap
             (
               (refl, (refl, refl, all_read A global shape.geometry durable none_then same_size P (n - 1) alloc global slot.0 slot.1)),
               (
-                (refl, (refl, refl, (comes_next commit durable NodesSynced WriteRoot fits refl refl, root_does commit durable (refl, omega (arith, none_then.more), refl)))),
+                (refl, (refl, refl, (comes_next commit durable NodesSynced WriteRoot fits refl refl, root_does commit durable (omega (arith, none_then.more)) refl))),
                 (
                   (refl, (refl, refl, (comes_next (record commit { steps = RootWritten }) (rooted commit durable) RootWritten (Sync Metadata) fits_then refl refl, refl))),
                   (
@@ -141,23 +142,26 @@ module _ (P A : Type 0) (policy : P) (alloc : A) (global : Global) (shape : Shap
     devices = record { metadata = synced (rooted commit durable); cache = synced cache; origin = synced origin };
     commit = None;
     phase = Stands (record { words = fresh_words shape.geometry.origin_blocks; desk = target.desk });
-    actors = record { task = None; card = blank_card } ∷ all_resting rest;
+    actors = record { task = None; card = blank_card; orders = []; buffer = [] } ∷ all_resting rest;
   }
   opened_is = ap (λ (steps : List CellStep). record {
     devices = record { metadata = synced (rooted commit durable); cache = synced cache; origin = synced origin };
     commit = None;
     phase = Stands (record { words = words_by (fresh_words shape.geometry.origin_blocks) steps; desk = target.desk });
-    actors = record { task = None; card = card_by (fresh_words shape.geometry.origin_blocks) blank_card steps } ∷ all_resting rest;
+    actors = record { task = None; card = card_by (fresh_words shape.geometry.origin_blocks) blank_card steps; orders = []; buffer = [] } ∷ all_resting rest;
   }) (no_seals none_then.root.clean 0 none_then.root.geometry.cache_blocks)
 
-  pub known : AtDesk shape.geometry target.desk None opened.devices.metadata
-  known = known_always P A shape first happenings (none_readable shape.geometry metadata none size) is_run
+  opened_known : IsKnown P A shape opened
+  opened_known = known_always P A shape first happenings (record { images = none_images shape.geometry metadata none; known = none_readable shape.geometry metadata none size }) is_run
+
+  pub known : BareDesk P shape.geometry target.desk opened.devices.metadata
+  known = record { images = opened_known.images; known = opened_known.known; entries = ap (λ (x : Geometry). replicate x.cache_blocks None) none_then.geometry_is }
 
   calm : target.words.fail ≡ 0
   calm = ap (λ (steps : List CellStep). (words_by (fresh_words shape.geometry.origin_blocks) steps).fail) (no_seals none_then.root.clean 0 none_then.root.geometry.cache_blocks)
 
-  pub quiet : Quiet shape.geometry target.desk opened.devices.metadata
-  quiet = elim known.stands [ inl q ↦ q | inr broken ↦ absurd (let busy = broken.busy in cc) ]
+  pub quiet : Quiet shape.geometry known.images target.desk opened.devices.metadata
+  quiet = elim known.known.stands [ inl q ↦ q | inr broken ↦ absurd (let busy = broken.busy in cc) ]
 
   pub may : MayBegin target.desk
   may = record { idle = refl; next = omega (arith, none_then.more) }

@@ -1,6 +1,10 @@
 -- After every run every event has a happening, and whoever has a task may do its next step.
 use Rattle.std.proofs.Common.{Global, ◌≡◌, ◌∙◌, ◌⊎◌, inl, inr, ℕ, List, [], Option, Some, None, refl, sym, subst, arith, length, slice_get}
+use Rattle.wb_types.specs.declared.mode.Mode.{Mode}
+use Rattle.wb_types.specs.declared.mode.Dev.{Dev}
+use Rattle.wb_types.specs.declared.mode.Dev.TheVariants.{Metadata, Cache, Origin}
 use Rattle.wb_types.specs.declared.refusal.Refusal.{Refusal}
+use Rattle.wb_types.specs.declared.refusal.Refusal.TheVariants.{Busy}
 use Rattle.wb_types.proofs.Cutting.{pieces_cut}
 use Rattle.wb_types.specs.Extents.{pieces}
 use Rattle.wb_disk.specs.Device.{History}
@@ -9,29 +13,34 @@ use Rattle.wb_meta.specs.Formats.{IsFormatted}
 use Rattle.wb_meta.specs.Reads.{sectors_read}
 use Rattle.wb_meta.specs.declared.read_steps.ReadSteps.{ReadSteps}
 use Rattle.wb_meta.specs.declared.read_steps.ReadSteps.TheVariants.{Begun, FirstSlotRead, RootFound, Done as AllRead}
+use Rattle.wb_policy.specs.declared.order.Order.TheVariants.{Promote as PromoteOrder}
 use Rattle.wb_tasks.specs.Plan.{Plan, want}
+use Rattle.wb_tasks.specs.Ready.{HoldsBlocks, IsOwnStep}
+use Rattle.wb_tasks.specs.Tables.{BlockJob, Reading, Writing, Migrating, OnBlock, whole_block}
+use Rattle.wb_tasks.specs.declared.step.Migration.TheVariants.{Promote, Demote, Clean}
 use Rattle.wb_tasks.specs.declared.step.Got.TheVariants.{Fault}
-use Rattle.wb_devices.specs.declared.devices.Devices.{Devices}
-use Rattle.wb_devices.specs.declared.running.RunningCommit.{RunningCommit}
+use Rattle.wb_devices.specs.Moving.{device_in}
 use Rattle.wb_runs.specs.declared.job.Job.{Job}
-use Rattle.wb_runs.specs.declared.job.Job.TheVariants.{Read, Write, Flush, Open}
+use Rattle.wb_runs.specs.declared.job.Job.TheVariants.{Read, Write, Flush, Open, Migrate}
 use Rattle.wb_runs.specs.declared.event.Event.{Event}
 use Rattle.wb_runs.specs.declared.event.Event.TheVariants.{Start, Step, FaultStep, Stop}
 use Rattle.wb_runs.specs.declared.event.What.TheVariants.{Skipped, Refused, Started, Stepped, Stopped}
-use Rattle.wb_runs.specs.States.{Shape, State, Actor, Phase, Stands, Gone, Opens, start}
-use Rattle.wb_runs.specs.Happenings.{Plain, Cut, Happening, OfSome, AtWork, MayFailAt, DoesNotApply, Gives, Falters, extent_refusal}
+use Rattle.wb_runs.specs.States.{Shape, State, Actor, Target, Phase, Stands, Gone, Opens, OfTarget, block_size, start}
+use Rattle.wb_runs.specs.Happenings.{Plain, Cut, Orders, Happening, OfSome, AtWork, MayFailAt, DoesNotApply, Gives, Falters, MigrationStarts, extent_refusal, block_range, orders_in}
 use Rattle.wb_runs.specs.Effects.{after_all, IsRun}
 use Rattle.wb_runs.specs.Headline.{GivesSomething}
+use Rattle.wb_runs.specs.Holding.{TaskSuits}
+use Rattle.wb_runs.specs.Inside.{StepInside, TaskInside, StaysInside, size_on}
 use Rattle.wb_runs.specs.Progress.{HasHappening, IsFree}
-use Rattle.wb_runs.proofs.Contents.{Working, Acting, Linked}
-use Rattle.wb_runs.proofs.Metadata.{MetadataKept}
-use Rattle.wb_runs.proofs.MetadataRuns.{Known}
-use Rattle.wb_runs.proofs.Beginning.{desk_begins}
-use Rattle.wb_runs.proofs.Applying.{may_stop, may_fail_at, out_of_place}
-use Rattle.wb_runs.proofs.Serving.{read_next, write_next}
-use Rattle.wb_runs.proofs.Points.{FlushAt, FlushTask, OpenAt, OpenTask, Going}
-use Rattle.wb_runs.proofs.Giving.{CanGive, CanFalter, read_gives, write_gives, read_falters, write_falters, flush_gives, flush_falters, open_gives, open_falters}
-use Rattle.wb_runs.proofs.Progressing.{Kept, run_kept}
+use Rattle.wb_runs.proofs.Metadata.{AtDesk, AtOpening, MetadataKept}
+use Rattle.wb_runs.proofs.Claims.{JobClaim, TaskClaim, Noted, noted_of}
+use Rattle.wb_runs.proofs.Linking.{IsOpeningJob, IsServed, InPhase, TaskHere}
+use Rattle.wb_runs.proofs.InsideRuns.{run_inside}
+use Rattle.wb_runs.proofs.Making.{desk_begins}
+use Rattle.wb_runs.proofs.Applying.{may_stop, may_fail_at, out_of_place, has_order, may_promote}
+use Rattle.wb_runs.proofs.Points.{FlushJob, FlushTask, OpenJob, OpenTask, Going}
+use Rattle.wb_runs.proofs.Giving.{CanGive, CanFalter, read_gives, write_gives, promotion_gives, block_falters, flush_gives, flush_falters, open_gives, open_falters}
+use Rattle.wb_runs.proofs.Progressing.{Kept, run_kept, own_step}
 
 -- ---- who has a task
 
@@ -71,57 +80,79 @@ module _ (P A : Type 0) (w : State P A) (a : ℕ) where
 module _ (P A : Type 0) (shape : Shape) (policy : P) (first : ReadSteps A) (begins : sectors_read first ≡ 0) where
   -- ---- what is left of a task can go on
 
-  steps_on : (w : State P A) → Kept P A shape w → (a : ℕ) (k : Tasked w a) → CanGive shape w k.job (want k.plan)
-  steps_on w kept a k = cases w.devices w.commit w.phase w.actors kept.known kept.linked kept.goes k.there
-    where
-      cases : (devices : Devices (List History)) (commit : Option RunningCommit) (phase : Phase P A) (actors : List Actor) → Known P A shape (record { devices = devices; commit = commit; phase = phase; actors = actors }) → Linked {P = P} {A = A} shape phase devices.origin actors kept.notes → Going phase commit actors →
-          slice_get actors a ≡ Some k.actor → CanGive {P = P} {A = A} shape (record { devices = devices; commit = commit; phase = phase; actors = actors }) k.job (want k.plan)
-      cases devices commit phase actors known l goes e = by_job phase known l goes k.job (subst (λ (t : Option (Job × Plan)). Acting {P = P} {A = A} shape phase devices.origin l.low l.top t (slice_get kept.notes.doings a)) k.task (l.acting a k.actor e)) k.task
-        where
-          by_job : (phase : Phase P A) → Known P A shape (record { devices = devices; commit = commit; phase = phase; actors = actors }) → (l : Linked {P = P} {A = A} shape phase devices.origin actors kept.notes) → Going phase commit actors → (job : Job) →
-              Working {P = P} {A = A} shape phase devices.origin l.low l.top job k.plan (slice_get kept.notes.doings a) → k.actor.task ≡ Some (job, k.plan) →
-              CanGive {P = P} {A = A} shape (record { devices = devices; commit = commit; phase = phase; actors = actors }) job (want k.plan)
-          by_job (Stands t) known l goes (Read extent) u xt = read_gives P A shape devices commit actors t extent (want k.plan) (read_next shape extent k.plan (want k.plan) u.kept refl) l.device_size
-          by_job (Stands t) known l goes (Write extent content) u xt = write_gives P A shape devices commit actors t extent content (want k.plan) (write_next shape extent k.plan u.doing l.top (want k.plan) u.kept refl) l.device_size
-          by_job (Stands t) known l goes Flush u xt =
-              let f : FlushAt commit (a ≡ goes.0) k.plan = subst (λ (q : Option (Job × Plan)). FlushTask commit (a ≡ goes.0) q) xt (goes.1 a k.actor e) in
-              subst (λ (s : Plan). CanGive {P = P} {A = A} shape (record { devices = devices; commit = commit; phase = Stands t; actors = actors }) Flush (want s)) (sym f.is)
-              (flush_gives P A shape devices commit actors t known f.most f.answer f.point f.at)
-          by_job (Stands t) known l goes (Open mode) u xt = absurd (u.here tt)
-          by_job Gone known l goes job u xt = absurd u.here
-          by_job (Opens mode reading) known l goes (Open m') u xt =
-              let o : OpenAt reading commit k.plan = subst (λ (q : Option (Job × Plan)). OpenTask reading commit q) xt (goes a k.actor e) in
-              subst (λ (s : Plan). CanGive {P = P} {A = A} shape (record { devices = devices; commit = commit; phase = Opens mode reading; actors = actors }) (Open m') (want s)) (sym o.is)
-              (open_gives P A shape devices commit actors mode m' reading known o.sectors policy first begins o.point o.at)
-          by_job (Opens mode reading) known l goes (Read extent) u xt = absurd u.here
-          by_job (Opens mode reading) known l goes (Write extent content) u xt = absurd u.here
-          by_job (Opens mode reading) known l goes Flush u xt = absurd u.here
+  module _ (w : State P A) (kept : Kept P A shape w) (stays : StaysInside shape w) (a : ℕ) (k : Tasked w a) where
+    sizes : (d : Dev) → HoldsBlocks d → length (device_in d w.devices) ≡ size_on shape d
+    sizes Metadata h = absurd h
+    sizes Cache h = stays.cache
+    sizes Origin h = stays.origin
 
-  fails_on : (w : State P A) → Kept P A shape w → (a : ℕ) (k : Tasked w a) (choice : Choice) → MayFailAt w.devices choice (want k.plan) → CanFalter w choice (want k.plan)
-  fails_on w kept a k choice m = cases w.devices w.commit w.phase w.actors kept.known kept.linked kept.goes k.there m
-    where
-      cases : (devices : Devices (List History)) (commit : Option RunningCommit) (phase : Phase P A) (actors : List Actor) → Known P A shape (record { devices = devices; commit = commit; phase = phase; actors = actors }) → Linked {P = P} {A = A} shape phase devices.origin actors kept.notes → Going phase commit actors →
-          slice_get actors a ≡ Some k.actor → MayFailAt devices choice (want k.plan) → CanFalter {P = P} {A = A} (record { devices = devices; commit = commit; phase = phase; actors = actors }) choice (want k.plan)
-      cases devices commit phase actors known l goes e m = by_job phase known l goes k.job (subst (λ (t : Option (Job × Plan)). Acting {P = P} {A = A} shape phase devices.origin l.low l.top t (slice_get kept.notes.doings a)) k.task (l.acting a k.actor e)) k.task
-        where
-          by_job : (phase : Phase P A) → Known P A shape (record { devices = devices; commit = commit; phase = phase; actors = actors }) → (l : Linked {P = P} {A = A} shape phase devices.origin actors kept.notes) → Going phase commit actors → (job : Job) →
-              Working {P = P} {A = A} shape phase devices.origin l.low l.top job k.plan (slice_get kept.notes.doings a) → k.actor.task ≡ Some (job, k.plan) →
-              CanFalter {P = P} {A = A} (record { devices = devices; commit = commit; phase = phase; actors = actors }) choice (want k.plan)
-          by_job (Stands t) known l goes (Read extent) u xt = read_falters P A shape devices commit actors t extent choice (want k.plan) (read_next shape extent k.plan (want k.plan) u.kept refl) m
-          by_job (Stands t) known l goes (Write extent content) u xt = write_falters P A shape devices commit actors t extent choice (want k.plan) (write_next shape extent k.plan u.doing l.top (want k.plan) u.kept refl) m
-          by_job (Stands t) known l goes Flush u xt =
-              let f : FlushAt commit (a ≡ goes.0) k.plan = subst (λ (q : Option (Job × Plan)). FlushTask commit (a ≡ goes.0) q) xt (goes.1 a k.actor e) in
-              subst (λ (s : Plan). CanFalter {P = P} {A = A} (record { devices = devices; commit = commit; phase = Stands t; actors = actors }) choice (want s)) (sym f.is)
-              (flush_falters P A shape devices commit actors t known f.most f.answer choice f.point f.at (subst (λ (s : Plan). MayFailAt devices choice (want s)) f.is m))
-          by_job (Stands t) known l goes (Open mode) u xt = absurd (u.here tt)
-          by_job Gone known l goes job u xt = absurd u.here
-          by_job (Opens mode reading) known l goes (Open m') u xt =
-              let o : OpenAt reading commit k.plan = subst (λ (q : Option (Job × Plan)). OpenTask reading commit q) xt (goes a k.actor e) in
-              subst (λ (s : Plan). CanFalter {P = P} {A = A} (record { devices = devices; commit = commit; phase = Opens mode reading; actors = actors }) choice (want s)) (sym o.is)
-              (open_falters P A shape devices commit actors mode m' reading known o.sectors policy first begins choice o.point o.at (subst (λ (s : Plan). MayFailAt devices choice (want s)) o.is m))
-          by_job (Opens mode reading) known l goes (Read extent) u xt = absurd u.here
-          by_job (Opens mode reading) known l goes (Write extent content) u xt = absurd u.here
-          by_job (Opens mode reading) known l goes Flush u xt = absurd u.here
+    -- it is at one of its own steps, on sectors that are there
+    own : (job : BlockJob) → k.plan.job ≡ OnBlock job → IsOwnStep (OnBlock job) (want k.plan)
+    own job j = own_step P A shape k.actor.card k.plan job j (subst (λ (t : Option (Job × Plan)). TaskSuits shape.geometry.origin_blocks k.actor.card t) k.task (kept.base.used.suited a k.actor k.there))
+
+    inside : StepInside shape (want k.plan)
+    inside = subst (λ (t : Option (Job × Plan)). TaskInside shape t) k.task (stays.tasks a k.actor k.there)
+
+    claim : Noted shape k.job k.plan (slice_get kept.notes.doings a)
+    claim = noted_of shape k.job k.plan (slice_get kept.notes.doings a) (subst (λ (t : Option (Job × Plan)). TaskClaim shape t (slice_get kept.notes.doings a)) k.task (kept.base.linked.claims a k.actor k.there))
+
+    here : InPhase w.phase k.job
+    here = subst (λ (t : Option (Job × Plan)). TaskHere w.phase t) k.task (kept.base.linked.here a k.actor k.there)
+
+    -- that phase, with what is known of it
+    abbrev At : Phase P A → State P A
+    At phase = record { devices = w.devices; commit = w.commit; phase = phase; actors = w.actors }
+
+    by_phase : (Can : Phase P A → Job → Plan → Type 0) →
+        ((t : Target P) → AtDesk shape.geometry kept.base.known.images t.desk w.commit w.devices.metadata → (leader : ℕ) → IsServed k.job → FlushJob w.commit (a ≡ leader) k.job k.plan → Can (Stands t) k.job k.plan) →
+        ((mode : Mode) (reading : Option (ReadSteps A)) → AtOpening shape.geometry kept.base.known.images reading w.commit w.devices.metadata → IsOpeningJob k.job → OpenJob reading w.commit k.job k.plan → Can (Opens mode reading) k.job k.plan) →
+        Can w.phase k.job k.plan
+    by_phase Can stands opens = cases w.phase kept.base.known.known kept.goes here
+      where
+        cases : (phase : Phase P A) → MetadataKept shape.geometry kept.base.known.images phase w.commit w.devices.metadata → Going phase w.commit w.actors → InPhase phase k.job → Can phase k.job k.plan
+        cases (Stands t) known goes h = stands t known goes.0 h (subst (λ (q : Option (Job × Plan)). FlushTask w.commit (a ≡ goes.0) q) k.task (goes.1 a k.actor k.there))
+        cases Gone known goes h = absurd h
+        cases (Opens mode reading) known goes h = opens mode reading known h (subst (λ (q : Option (Job × Plan)). OpenTask reading w.commit q) k.task (goes a k.actor k.there))
+
+    steps_on : CanGive shape w k.job (want k.plan)
+    steps_on = by_phase (λ phase job plan. CanGive {P = P} {A = A} shape (At phase) job (want plan)) (λ t known leader s f. stands t known leader k.job s f claim.claim) (λ mode reading known o f. opens mode reading known k.job o f)
+      where
+        stands : (t : Target P) → AtDesk shape.geometry kept.base.known.images t.desk w.commit w.devices.metadata → (leader : ℕ) → (job : Job) → IsServed job → FlushJob w.commit (a ≡ leader) job k.plan → JobClaim shape job k.plan claim.doing → CanGive {P = P} {A = A} shape (At (Stands t)) job (want k.plan)
+        stands t known leader (Read extent) s f c = read_gives P A shape w.devices w.commit w.actors t known.is.kept sizes extent (block_range shape extent c.cut) (want k.plan) (own (Reading (block_range shape extent c.cut)) c.is_job) inside
+        stands t known leader (Write extent content) s f c = write_gives P A shape w.devices w.commit w.actors t known.is.kept sizes extent content (block_range shape extent c.cut) (want k.plan) (own (Writing (block_range shape extent c.cut)) c.is_job) inside
+        stands t known leader (Migrate (Promote cache) block) s f c = promotion_gives P A shape w.devices w.commit w.actors t known.is.kept sizes cache block f.0 (want k.plan) (own (Migrating (Promote cache) f.0) f.1) inside
+        stands t known leader (Migrate Demote block) s f c = absurd s
+        stands t known leader (Migrate Clean block) s f c = absurd s
+        stands t known leader Flush s f c = subst (λ (p : Plan). CanGive {P = P} {A = A} shape (At (Stands t)) Flush (want p)) (sym f.is)
+            (flush_gives P A shape w.devices w.commit w.actors t kept.base.known.images known f.most f.answer f.point f.at)
+        stands t known leader (Open mode) s f c = absurd s
+
+        opens : (mode : Mode) (reading : Option (ReadSteps A)) → AtOpening shape.geometry kept.base.known.images reading w.commit w.devices.metadata → (job : Job) → IsOpeningJob job → OpenJob reading w.commit job k.plan → CanGive {P = P} {A = A} shape (At (Opens mode reading)) job (want k.plan)
+        opens mode reading known (Open m') o f = subst (λ (p : Plan). CanGive {P = P} {A = A} shape (At (Opens mode reading)) (Open m') (want p)) (sym f.is)
+            (open_gives P A shape w.devices w.commit w.actors mode m' reading kept.base.known.images known f.sectors policy first begins f.point f.at)
+        opens mode reading known (Read extent) o f = absurd o
+        opens mode reading known (Write extent content) o f = absurd o
+        opens mode reading known Flush o f = absurd o
+        opens mode reading known (Migrate migration block) o f = absurd o
+
+    fails_on : (choice : Choice) → MayFailAt w.devices choice (want k.plan) → CanFalter w choice (want k.plan)
+    fails_on choice m = by_phase (λ phase job plan. CanFalter {P = P} {A = A} (At phase) choice (want plan)) (λ t known leader s f. stands t known leader k.job s f claim.claim) (λ mode reading known o f. opens mode reading known k.job o f)
+      where
+        stands : (t : Target P) → AtDesk shape.geometry kept.base.known.images t.desk w.commit w.devices.metadata → (leader : ℕ) → (job : Job) → IsServed job → FlushJob w.commit (a ≡ leader) job k.plan → JobClaim shape job k.plan claim.doing → CanFalter {P = P} {A = A} (At (Stands t)) choice (want k.plan)
+        stands t known leader (Read extent) s f c = block_falters P A shape w.devices w.commit w.actors t (Reading (block_range shape extent c.cut)) choice (want k.plan) (own (Reading (block_range shape extent c.cut)) c.is_job) m
+        stands t known leader (Write extent content) s f c = block_falters P A shape w.devices w.commit w.actors t (Writing (block_range shape extent c.cut)) choice (want k.plan) (own (Writing (block_range shape extent c.cut)) c.is_job) m
+        stands t known leader (Migrate migration block) s f c = block_falters P A shape w.devices w.commit w.actors t (Migrating migration f.0) choice (want k.plan) (own (Migrating migration f.0) f.1) m
+        stands t known leader Flush s f c = subst (λ (p : Plan). CanFalter {P = P} {A = A} (At (Stands t)) choice (want p)) (sym f.is)
+            (flush_falters P A shape w.devices w.commit w.actors t kept.base.known.images known f.most f.answer choice f.point f.at (subst (λ (p : Plan). MayFailAt w.devices choice (want p)) f.is m))
+        stands t known leader (Open mode) s f c = absurd s
+
+        opens : (mode : Mode) (reading : Option (ReadSteps A)) → AtOpening shape.geometry kept.base.known.images reading w.commit w.devices.metadata → (job : Job) → IsOpeningJob job → OpenJob reading w.commit job k.plan → CanFalter {P = P} {A = A} (At (Opens mode reading)) choice (want k.plan)
+        opens mode reading known (Open m') o f = subst (λ (p : Plan). CanFalter {P = P} {A = A} (At (Opens mode reading)) choice (want p)) (sym f.is)
+            (open_falters P A shape w.devices w.commit w.actors mode m' reading kept.base.known.images known f.sectors policy first begins choice f.point f.at (subst (λ (p : Plan). MayFailAt w.devices choice (want p)) f.is m))
+        opens mode reading known (Read extent) o f = absurd o
+        opens mode reading known (Write extent content) o f = absurd o
+        opens mode reading known Flush o f = absurd o
+        opens mode reading known (Migrate migration block) o f = absurd o
 
   -- ---- every event
 
@@ -132,8 +163,8 @@ module _ (P A : Type 0) (shape : Shape) (policy : P) (first : ReadSteps A) (begi
   heap_of (RootFound global root loader) e = global
   heap_of (AllRead state) e = absurd (omega (arith, e))
 
-  steps : (w : State P A) → Kept P A shape w → (a : ℕ) → Tasked w a → GivesSomething shape w a
-  steps w kept a k = let g = steps_on w kept a k in record {
+  steps : (w : State P A) → Kept P A shape w → StaysInside shape w → (a : ℕ) → Tasked w a → GivesSomething shape w a
+  steps w kept stays a k = let g = steps_on w kept stays a k in record {
     next = want k.plan;
     got = g.got;
     read = g.read;
@@ -157,6 +188,20 @@ module _ (P A : Type 0) (shape : Shape) (policy : P) (first : ReadSteps A) (begi
       by_refusal None e = record { what = Started; read = []; chosen = Cut (pieces 1 extent); may = (refl, applies, (e, pieces_cut 1 extent (omega arith))) }
   starts w a Flush applies = record { what = Started; read = []; chosen = Plain; may = (refl, applies, tt) }
   starts w a (Open mode) applies = record { what = Started; read = []; chosen = Plain; may = (refl, applies, tt) }
+  starts w a (Migrate (Promote c) block) applies = by_phase w.phase refl
+    where
+      by_phase : (phase : Phase P A) → w.phase ≡ phase → HasHappening shape w (Start a (Migrate (Promote c) block))
+      by_phase (Stands t) e = elim (has_order (orders_in (slice_get w.actors a)) (PromoteOrder block c)) [
+        | inl kept ↦ record { what = Started; read = []; chosen = Cut (pieces 1 (whole_block (block_size shape) block)); may = (refl, applies, subst (λ (p : Phase P A). MigrationStarts (whole_block (block_size shape) block) p (orders_in (slice_get w.actors a)) (PromoteOrder block c) Started (Cut (pieces 1 (whole_block (block_size shape) block)))) (sym e) (pieces_cut 1 (whole_block (block_size shape) block) (omega arith), kept)) }
+        | inr none ↦ elim (may_promote t.desk block c) [
+          | inl may ↦ record { what = Started; read = []; chosen = Orders (pieces 1 (whole_block (block_size shape) block)) may.0; may = (refl, applies, subst (λ (p : Phase P A). MigrationStarts (whole_block (block_size shape) block) p (orders_in (slice_get w.actors a)) (PromoteOrder block c) Started (Orders (pieces 1 (whole_block (block_size shape) block)) may.0)) (sym e) (pieces_cut 1 (whole_block (block_size shape) block) (omega arith), may.1)) }
+          | inr never ↦ record { what = Refused Busy; read = []; chosen = Plain; may = (refl, applies, subst (λ (p : Phase P A). MigrationStarts (whole_block (block_size shape) block) p (orders_in (slice_get w.actors a)) (PromoteOrder block c) (Refused Busy) Plain) (sym e) (none, never)) }
+        ]
+      ]
+      by_phase Gone e = absurd (applies (inr (inr (inl (λ o. subst (λ (p : Phase P A). OfTarget p (λ t. Unit {0})) e o)))))
+      by_phase (Opens mode reading) e = absurd (applies (inr (inr (inl (λ o. subst (λ (p : Phase P A). OfTarget p (λ t. Unit {0})) e o)))))
+  starts w a (Migrate Demote block) applies = absurd (applies (inr (inr (inr (λ f. f)))))
+  starts w a (Migrate Clean block) applies = absurd (applies (inr (inr (inr (λ f. f)))))
 
   start_happens : (w : State P A) (a : ℕ) (job : Job) → HasHappening shape w (Start a job)
   start_happens w a job = by_actor (slice_get w.actors a) refl
@@ -174,16 +219,16 @@ module _ (P A : Type 0) (shape : Shape) (policy : P) (first : ReadSteps A) (begi
         ]
       ]
 
-  step_happens : (w : State P A) → Kept P A shape w → (a : ℕ) → HasHappening shape w (Step a)
-  step_happens w kept a = elim (tasked P A w a) [
-    | inl k ↦ let g = steps w kept a k in record { what = Stepped g.next g.got; read = g.read; chosen = g.chosen; may = g.may }
+  step_happens : (w : State P A) → Kept P A shape w → StaysInside shape w → (a : ℕ) → HasHappening shape w (Step a)
+  step_happens w kept stays a = elim (tasked P A w a) [
+    | inl k ↦ let g = steps w kept stays a k in record { what = Stepped g.next g.got; read = g.read; chosen = g.chosen; may = g.may }
     | inr none ↦ skipped w (Step a) (none (λ job s. Unit {0}))
   ]
 
-  fault_happens : (w : State P A) → Kept P A shape w → (a : ℕ) (choice : Choice) → HasHappening shape w (FaultStep a choice)
-  fault_happens w kept a choice = elim (tasked P A w a) [
+  fault_happens : (w : State P A) → Kept P A shape w → StaysInside shape w → (a : ℕ) (choice : Choice) → HasHappening shape w (FaultStep a choice)
+  fault_happens w kept stays a choice = elim (tasked P A w a) [
     | inl k ↦ elim (may_fail_at w.devices choice (want k.plan)) [
-      | inl m ↦ let f = fails_on w kept a k choice m in record {
+      | inl m ↦ let f = fails_on w kept stays a k choice m in record {
         what = Stepped (want k.plan) Fault;
         read = [];
         chosen = f.chosen;
@@ -194,22 +239,26 @@ module _ (P A : Type 0) (shape : Shape) (policy : P) (first : ReadSteps A) (begi
     | inr none ↦ skipped w (FaultStep a choice) (none (λ job s. MayFailAt w.devices choice (want s)))
   ]
 
-  happens : (w : State P A) → Kept P A shape w → (event : Event) → HasHappening shape w event
-  happens w kept (Start a job) = start_happens w a job
-  happens w kept (Step a) = step_happens w kept a
-  happens w kept (FaultStep a choice) = fault_happens w kept a choice
-  happens w kept (Stop choice) = elim (may_stop choice w.devices) [
+  happens : (w : State P A) → Kept P A shape w → StaysInside shape w → (event : Event) → HasHappening shape w event
+  happens w kept stays (Start a job) = start_happens w a job
+  happens w kept stays (Step a) = step_happens w kept stays a
+  happens w kept stays (FaultStep a choice) = fault_happens w kept stays a choice
+  happens w kept stays (Stop choice) = elim (may_stop choice w.devices) [
     | inl m ↦ record { what = Stopped; read = []; chosen = Plain; may = ((refl, refl), m) }
     | inr n ↦ skipped w (Stop choice) n
   ]
 
   pub run_free : (metadata : List History) (hs : List (Happening P A)) → IsFormatted shape.geometry metadata → length metadata ≡ shape.geometry.meta_sectors → IsRun shape (start shape metadata) hs → IsFree shape (after_all shape (start shape metadata) hs)
-  run_free metadata hs f size run = let w = after_all shape (start shape metadata) hs in let kept = run_kept P A shape metadata hs f size run in record {
-    events = happens w kept;
-    steps = λ a h. elim (tasked P A w a) [
-      | inl k ↦ steps w kept a k
-      | inr none ↦ absurd (none (λ job s. Unit {0}) h)
-    ];
-    commits = λ t most is may. desk_begins (heap_of first begins) P A shape.geometry t.desk w.commit w.devices.metadata
-        (subst (λ (phase : Phase P A). MetadataKept shape.geometry phase w.commit w.devices.metadata) is kept.known) most may;
-  }
+  run_free metadata hs f size run =
+      let w = after_all shape (start shape metadata) hs in
+      let kept = run_kept P A shape metadata hs f size run in
+      let stays = run_inside P A shape metadata hs f size run in
+      record {
+        events = happens w kept stays;
+        steps = λ a h. elim (tasked P A w a) [
+          | inl k ↦ steps w kept stays a k
+          | inr none ↦ absurd (none (λ job s. Unit {0}) h)
+        ];
+        commits = λ t most is once enough may. desk_begins (heap_of first begins) P A shape.geometry kept.base.known.images t.desk w.commit w.devices.metadata
+            (subst (λ (phase : Phase P A). MetadataKept shape.geometry kept.base.known.images phase w.commit w.devices.metadata) is kept.base.known.known) once most enough may;
+      }

@@ -1,11 +1,15 @@
 -- Whoever has a task can do its next step, and every event has a happening.
-use Rattle.std.proofs.Common.{◌≡◌, ◌∙◌, ◌≤◌, ◌<◌, ◌+◌, ◌^◌, ◌&&◌, ◌==◌, inl, inr, ℕ, zero, suc, Bool, true, false, List, [], ◌∷◌, Option, Some, None, refl, sym, ap, subst, arith, length, slice_get, is_none}
-use Rattle.std.proofs.lemmas.Bool.{cases_lt, cases_Bool, eq-eqb}
-use Rattle.std.proofs.lemmas.Option.{slice_get-get_or}
+use Rattle.std.proofs.Common.{◌≡◌, ◌∙◌, ◌⊎◌, ◌≤◌, ◌<◌, ◌+◌, ◌^◌, ◌&&◌, ◌==◌, inl, inr, ℕ, zero, suc, Bool, true, false, List, [], ◌∷◌, Option, Some, None, refl, sym, ap, subst, arith, length, slice_get, is_none, is_some}
+use Rattle.std.proofs.lemmas.Bool.{cases_lt, cases_Bool}
+use Rattle.std.proofs.lemmas.Option.{slice_get-get_or, slice_get_cases, slice_get_past}
+use Rattle.wb_types.proofs.Truth.{yes}
 use Rattle.wb_types.specs.declared.extent.Extent.{Extent}
 use Rattle.wb_types.specs.declared.geometry.Geometry.{Geometry}
 use Rattle.wb_types.specs.declared.mode.Mode.{Mode}
-use Rattle.wb_types.specs.declared.mode.Dev.TheVariants.{Metadata, Origin}
+use Rattle.wb_types.specs.declared.mode.Dev.{Dev}
+use Rattle.wb_types.specs.declared.mode.Dev.TheVariants.{Metadata}
+use Rattle.wb_types.specs.declared.number.CBlock.{CBlock}
+use Rattle.wb_types.specs.declared.number.OBlock.{OBlock}
 use Rattle.wb_types.specs.declared.number.Place.{Place}
 use Rattle.wb_types.specs.declared.refusal.Refusal.TheVariants.{Busy, Memory, GenerationEnd}
 use Rattle.wb_disk.specs.Device.{Content as Bytes, History, newest, written}
@@ -18,35 +22,47 @@ use Rattle.wb_format.specs.declared.node.Node.{Node}
 use Rattle.wb_tree.specs.declared.image.Image.{Image}
 use Rattle.wb_meta.specs.Commits.{HasCome}
 use Rattle.wb_meta.specs.Reads.{IsDone, sectors_read}
-use Rattle.wb_meta.specs.Steps.{DoesStep, coming_step, slot_of}
+use Rattle.wb_meta.specs.Steps.{DoesStep, NodeOrSync, coming_step}
 use Rattle.wb_meta.specs.declared.read_steps.ReadSteps.{ReadSteps}
 use Rattle.wb_meta.specs.declared.commit_steps.CommitSteps.{CommitSteps}
 use Rattle.wb_meta.specs.declared.commit_steps.CommitSteps.TheVariants.{NodesWritten, NodesSynced, RootWritten, Done as Committed}
-use Rattle.wb_desk.specs.Desks.{DeskState}
+use Rattle.wb_policy.specs.declared.order.Order.{Order}
+use Rattle.wb_desk.specs.Calls.{released}
+use Rattle.wb_desk.specs.Desks.{DeskState, DeskInvariant}
+use Rattle.wb_desk.proofs.Kept.{found_at, takes_there}
+use Rattle.wb_stage.specs.Asking.{IsGivenUp}
 use Rattle.wb_words.specs.Effects.{result_of}
-use Rattle.wb_tasks.specs.Tables.{Flushing, Opening}
+use Rattle.wb_tasks.specs.Ready.{HoldsBlocks, IsOwnStep, source_of, target_of}
+use Rattle.wb_tasks.specs.Tables.{BlockRange, BlockJob, Reading, Writing, Migrating, OnBlock, Flushing, Opening}
 use Rattle.wb_tasks.specs.Plan.{Plan, want, got_of}
 use Rattle.wb_tasks.specs.declared.step.Answer.{Answer}
+use Rattle.wb_tasks.specs.declared.step.DeskStep.TheVariants.{Map, Unmap, ReleaseOrder, BeginCommit, EndCommit}
 use Rattle.wb_tasks.specs.declared.step.DeviceStep.{DeviceStep}
-use Rattle.wb_tasks.specs.declared.step.DeviceStep.TheVariants.{Read as ReadExtent, Write as WriteExtent, Sync, ReadMetadata, WriteRoot}
+use Rattle.wb_tasks.specs.declared.step.DeviceStep.TheVariants.{Read as ReadExtent, Write as WriteExtent, Sync, ReadMetadata, WriteNode, WriteRoot}
+use Rattle.wb_tasks.specs.declared.step.Migration.{Migration}
+use Rattle.wb_tasks.specs.declared.step.Migration.TheVariants.{Promote, Demote, Clean}
 use Rattle.wb_tasks.specs.declared.step.Want.{Want}
-use Rattle.wb_tasks.specs.declared.step.Want.TheVariants.{Cell, Device, End}
+use Rattle.wb_tasks.specs.declared.step.Want.TheVariants.{Cell, Device, Desk, End}
 use Rattle.wb_tasks.specs.declared.step.Got.{Got}
 use Rattle.wb_tasks.specs.declared.step.Got.TheVariants.{Done, Refused as GotRefused}
 use Rattle.wb_devices.specs.declared.devices.Devices.{Devices}
 use Rattle.wb_devices.specs.declared.running.RunningCommit.{RunningCommit}
 use Rattle.wb_devices.specs.Committing.{goes_on, is_coming}
+use Rattle.wb_devices.specs.Moving.{device_in}
 use Rattle.wb_runs.specs.declared.job.Job.{Job}
-use Rattle.wb_runs.specs.declared.job.Job.TheVariants.{Read, Write, Flush, Open}
-use Rattle.wb_runs.specs.States.{Shape, State, Actor, Target, Stands, Opens, OfReading, sector_count}
-use Rattle.wb_runs.specs.Happenings.{Chosen, Plain, Begins, Puts, Opened, OfSome, LandedOr, sector_put, DoesBegin, DoesPut, FailsPut, Gives, Falters}
-use Rattle.wb_runs.proofs.Spelling.{spelling, spelled_root}
+use Rattle.wb_runs.specs.declared.job.Job.TheVariants.{Read, Write, Flush, Open, Migrate}
+use Rattle.wb_runs.specs.States.{Shape, State, Actor, Target, Stands, Opens, OfReading}
+use Rattle.wb_runs.specs.Happenings.{Chosen, Plain, Begins, Puts, Asks, Opened, OfSome, LandedOr, sector_put, DoesBegin, DoesPut, FailsPut, Gives, Falters, order_for}
+use Rattle.wb_runs.specs.Inside.{StepInside, size_on}
+use Rattle.wb_runs.proofs.Images.{Images}
+use Rattle.wb_runs.proofs.Spelled.{IsSmall, node_spelling, spelled_node}
+use Rattle.wb_runs.proofs.Rooted.{Fits, comes_next, rooted, root_does}
 use Rattle.wb_runs.proofs.Underway.{Underway}
-use Rattle.wb_runs.proofs.Metadata.{AtDesk, AtOpening}
+use Rattle.wb_runs.proofs.Metadata.{AtDesk, AtOpening, unknowing}
+use Rattle.wb_runs.proofs.Desks.{is_live}
 use Rattle.wb_runs.proofs.Plans.{plan_of}
-use Rattle.wb_runs.proofs.Serving.{IsReadNext, IsWriteNext}
 use Rattle.wb_runs.proofs.Readings.{generation_fits, can_read}
-use Rattle.wb_runs.proofs.Points.{Runs, FlushPoint, ToLook, ToBegin, ToSyncCache, ToSyncOrigin, ToSyncNodes, ToWriteRoot, ToSyncRoot, ToEnd, ToSetFailed, ToAnswer, flush_left, AtFlush, OpenPoint, AtFirst, AtCache, AtOrigin, AtRead, AtRoot, AtRootSync, AtEnd, AtRefusal, open_left, open_answer, AtOpen}
+use Rattle.wb_runs.proofs.Points.{Runs, FlushPoint, ToLook, ToBegin, ToSyncCache, ToSyncOrigin, ToWriteNodes, ToWriteRoot, ToSyncRoot, ToEnd, ToSetFailed, ToAnswer, flush_left, AtFlush, OpenPoint, AtFirst, AtCache, AtOrigin, AtRead, AtRoot, AtRootSync, AtEnd, AtRefusal, open_left, open_answer, AtOpen}
 
 -- ---- reads
 
@@ -67,63 +83,100 @@ come_size image before RootWritten now come = come.safe.grew.size
 come_size image before Committed now come = come.safe.grew.size
 
 -- the device has the size that the image is for
-same_size : (g : Geometry) (c : RunningCommit) (of : _) (device : List History) → Underway g c of device → length device ≡ c.image.root.geometry.meta_sectors
-same_size g c of device u = come_size of.image of.before c.steps device u.come ∙ u.can.size ∙ ap (λ (x : Geometry). x.meta_sectors) (sym u.can.same_geometry ∙ ap (λ r. r.geometry) u.can.root_is) ∙ ap (λ (i : Image). i.root.geometry.meta_sectors) u.image
-
-abbrev pub Fits : RunningCommit → List History → Type 0
-Fits c device = length device ≡ c.image.root.geometry.meta_sectors
+same_size : (g : Geometry) (images : Images) (c : RunningCommit) (of : _) (device : List History) → Underway g images c of device → length device ≡ c.image.root.geometry.meta_sectors
+same_size g images c of device u = come_size of.image of.before c.steps device u.come ∙ u.can.size ∙ ap (λ (x : Geometry). x.meta_sectors) (sym u.can.same_geometry ∙ ap (λ r. r.geometry) u.can.root_is) ∙ ap (λ (i : Image). i.root.geometry.meta_sectors) u.image
 
 -- so does the commit that runs, if any does
 abbrev AllFit : Option RunningCommit → List History → Type 0
 AllFit None device = Unit {0}
 AllFit (Some c) device = Fits c device
 
-pub comes_next : (c : RunningCommit) (device : List History) (steps : CommitSteps) (step : DeviceStep) → Fits c device → c.steps ≡ steps → is_coming c.image steps step ≡ true → goes_on (length device) c.image c.steps step ≡ true
-comes_next c device steps step fits e coming = ap (λ (s : CommitSteps). goes_on (length device) c.image s step) e ∙ ap (λ (b : Bool). b && (length device == c.image.root.geometry.meta_sectors)) coming ∙ eq-eqb (length device) c.image.root.geometry.meta_sectors fits
+-- all nodes are written
+none_coming : (from : ℕ) (image : Image) → length image.nodes.items ≡ from → is_coming image (NodesWritten from) (Sync Metadata) ≡ true
+none_coming from image e = ap (λ (o : Option (Place × Node)). is_none o) (slice_get_past image.nodes.items from (omega (arith, e)))
 
-none_coming : (image : Image) → image.nodes.items ≡ [] → is_coming image (NodesWritten 0) (Sync Metadata) ≡ true
-none_coming image e = ap (λ (nodes : List (Place × Node)). is_none (slice_get nodes 0)) e
+-- a node that is there
+record NodeAt (image : Image) (k : ℕ) : Type 0 where
+  node : Place × Node
+  there : slice_get image.nodes.items k ≡ Some node
 
--- the device with the commit's root
-abbrev pub rooted : RunningCommit → List History → List History
-rooted c device = written device (slot_of c.image.root).0 (spelling c.image.root)
+node_at : (image : Image) (k : ℕ) → k < length image.nodes.items → NodeAt image k
+node_at image k l = by_case (slice_get_cases image.nodes.items k).1
+  where
+    by_case : ((x : Place × Node) × (k < length image.nodes.items) × (slice_get image.nodes.items k ≡ Some x) × (Rattle.std.proofs.Common.get_or image.nodes.items k x ≡ x)) ⊎ ((length image.nodes.items ≤ k) × (slice_get image.nodes.items k ≡ None)) → NodeAt image k
+    by_case (inl h) = record { node = h.0; there = h.2 }
+    by_case (inr h) = absurd (omega (arith, l, h.0))
 
-pub root_does : (c : RunningCommit) (device : List History) → Runs NodesSynced (Some c) → DoesStep c.image c.steps device (rooted c device)
-root_does c device r = subst (λ (s : CommitSteps). DoesStep c.image s device (rooted c device)) (sym r.2) (record { content = spelling c.image.root; spelled = spelled_root c.image.root r.1; wrote = refl })
+node_coming : (image : Image) (k : ℕ) → NodeAt image k → is_coming image (NodesWritten k) (WriteNode k) ≡ true
+node_coming image k n = ap (λ (o : Option (Place × Node)). (k == k) && is_some o) n.there ∙ ap (λ (b : Bool). b && true) (yes k)
+
+-- the device with a node
+abbrev noded : Place × Node → List History → List History
+noded node device = written device node.0.0 (node_spelling node.1)
+
+node_does : (image : Image) (k : ℕ) (device : List History) (n : NodeAt image k) → IsSmall image → DoesStep image (NodesWritten k) device (noded n.node device)
+node_does image k device n small = subst (λ (o : Option (Place × Node)). NodeOrSync o device (noded n.node device)) (sym n.there) (record { content = node_spelling n.node.1; spelled = spelled_node n.node.1 (small.nodes k n.node n.there); wrote = refl })
 
 module _ (P A : Type 0) where
-  puts_root : (commit : Option RunningCommit) (device : List History) → Runs NodesSynced commit → AllFit commit device → (chosen : Chosen P A) × DoesPut commit WriteRoot device chosen
-  puts_root None device r f = absurd r
-  puts_root (Some c) device r f = (Puts (rooted c device), (comes_next c device NodesSynced WriteRoot f r.2 refl, root_does c device r))
+  -- a step of the commit puts this, done or failed
+  module _ (c : RunningCommit) (device now : List History) (step : DeviceStep) (comes : goes_on (length device) c.image c.steps step ≡ true) (does : DoesStep c.image c.steps device now) where
+    puts : DoesPut {P = P} {A = A} (Some c) step device (Puts now)
+    puts = (comes, does)
 
-  fails_root : (commit : Option RunningCommit) (choice : Choice) (device : List History) → Runs NodesSynced commit → AllFit commit device → (chosen : Chosen P A) × FailsPut commit choice WriteRoot device chosen
-  fails_root None choice device r f = absurd r
-  fails_root (Some c) choice device r f = by_landed (lands Metadata choice (sector_put (coming_step c.image c.steps))) refl
-    where
-      by_landed : (b : Bool) → lands Metadata choice (sector_put (coming_step c.image c.steps)) ≡ b → (chosen : Chosen P A) × FailsPut (Some c) choice WriteRoot device chosen
-      by_landed true e = (Puts (rooted c device), (comes_next c device NodesSynced WriteRoot f r.2 refl, subst (λ (b : Bool). LandedOr b (DoesStep c.image c.steps device (rooted c device)) (rooted c device ≡ device)) (sym e) (root_does c device r)))
-      by_landed false e = (Puts device, (comes_next c device NodesSynced WriteRoot f r.2 refl, subst (λ (b : Bool). LandedOr b (DoesStep c.image c.steps device device) (device ≡ device)) (sym e) refl))
+    fails : (choice : Choice) → (chosen : Chosen P A) × FailsPut (Some c) choice step device chosen
+    fails choice = by_landed (lands Metadata choice (sector_put (coming_step c.image c.steps))) refl
+      where
+        by_landed : (b : Bool) → lands Metadata choice (sector_put (coming_step c.image c.steps)) ≡ b → (chosen : Chosen P A) × FailsPut (Some c) choice step device chosen
+        by_landed true e = (Puts now, (comes, subst (λ (b : Bool). LandedOr b (DoesStep c.image c.steps device now) (now ≡ device)) (sym e) does))
+        by_landed false e = (Puts device, (comes, subst (λ (b : Bool). LandedOr b (DoesStep c.image c.steps device device) (device ≡ device)) (sym e) refl))
 
-  syncs_next : (commit : Option RunningCommit) (device : List History) (steps : CommitSteps) → Runs steps commit → AllFit commit device → ((image : Image) → image.nodes.items ≡ [] → is_coming image steps (Sync Metadata) ≡ true) →
+  puts_root : (nodes : ℕ) (commit : Option RunningCommit) (device : List History) → Runs nodes NodesSynced commit → AllFit commit device → (chosen : Chosen P A) × DoesPut commit WriteRoot device chosen
+  puts_root nodes None device r f = absurd r
+  puts_root nodes (Some c) device r f = (Puts (rooted c device), puts c device (rooted c device) WriteRoot (comes_next c device NodesSynced WriteRoot f r.2 refl) (root_does c device r.1.root r.2))
+
+  fails_root : (nodes : ℕ) (commit : Option RunningCommit) (choice : Choice) (device : List History) → Runs nodes NodesSynced commit → AllFit commit device → (chosen : Chosen P A) × FailsPut commit choice WriteRoot device chosen
+  fails_root nodes None choice device r f = absurd r
+  fails_root nodes (Some c) choice device r f = fails c device (rooted c device) WriteRoot (comes_next c device NodesSynced WriteRoot f r.2 refl) (root_does c device r.1.root r.2) choice
+
+  -- the node that comes next
+  module _ (left from : ℕ) (c : RunningCommit) (device : List History) (r : Runs (from + suc left) (NodesWritten from) (Some c)) (f : Fits c device) where
+    next_node : NodeAt c.image from
+    next_node = node_at c.image from (omega (arith, r.0))
+
+    node_next : goes_on (length device) c.image c.steps (WriteNode from) ≡ true
+    node_next = comes_next c device (NodesWritten from) (WriteNode from) f r.2 (node_coming c.image from next_node)
+
+    node_done : DoesStep c.image c.steps device (noded next_node.node device)
+    node_done = subst (λ (s : CommitSteps). DoesStep c.image s device (noded next_node.node device)) (sym r.2) (node_does c.image from device next_node r.1)
+
+  puts_node : (left from : ℕ) (commit : Option RunningCommit) (device : List History) → Runs (from + suc left) (NodesWritten from) commit → AllFit commit device → (chosen : Chosen P A) × DoesPut commit (WriteNode from) device chosen
+  puts_node left from None device r f = absurd r
+  puts_node left from (Some c) device r f = (Puts (noded (next_node left from c device r f).node device), puts c device _ (WriteNode from) (node_next left from c device r f) (node_done left from c device r f))
+
+  fails_node : (left from : ℕ) (commit : Option RunningCommit) (choice : Choice) (device : List History) → Runs (from + suc left) (NodesWritten from) commit → AllFit commit device → (chosen : Chosen P A) × FailsPut commit choice (WriteNode from) device chosen
+  fails_node left from None choice device r f = absurd r
+  fails_node left from (Some c) choice device r f = fails c device (noded (next_node left from c device r f).node device) (WriteNode from) (node_next left from c device r f) (node_done left from c device r f) choice
+
+  syncs_next : (nodes : ℕ) (commit : Option RunningCommit) (device : List History) (steps : CommitSteps) → Runs nodes steps commit → AllFit commit device → ((image : Image) → length image.nodes.items ≡ nodes → is_coming image steps (Sync Metadata) ≡ true) →
       (c : RunningCommit) × (commit ≡ Some c) × (goes_on (length device) c.image c.steps (Sync Metadata) ≡ true)
-  syncs_next None device steps r f coming = absurd r
-  syncs_next (Some c) device steps r f coming = (c, refl, comes_next c device steps (Sync Metadata) f r.2 (coming c.image r.0))
+  syncs_next nodes None device steps r f coming = absurd r
+  syncs_next nodes (Some c) device steps r f coming = (c, refl, comes_next c device steps (Sync Metadata) f r.2 (coming c.image r.0))
 
   -- ---- flushes
 
   -- the commit that stands at a desk fits the device
-  desk_fits : (g : Geometry) (desk : DeskState P) (commit : Option RunningCommit) (device : List History) → AtDesk g desk commit device → AllFit commit device
-  desk_fits g desk None device k = tt
-  desk_fits g desk (Some d) device k = same_size g d k.stands.of device k.stands.under
+  desk_fits : (g : Geometry) (images : Images) (desk : DeskState P) (commit : Option RunningCommit) (device : List History) → AtDesk g images desk commit device → AllFit commit device
+  desk_fits g images desk None device k = tt
+  desk_fits g images desk (Some d) device k = same_size g images d k.stands.of device k.stands.under
 
-  opening_fits : (g : Geometry) (reading : Option (ReadSteps A)) (commit : Option RunningCommit) (device : List History) → AtOpening g reading commit device → AllFit commit device
-  opening_fits g reading None device k = tt
-  opening_fits g None (Some d) device k = absurd k
-  opening_fits g (Some reading) (Some d) device k = same_size g d k.of device k.under
+  opening_fits : (g : Geometry) (images : Images) (reading : Option (ReadSteps A)) (commit : Option RunningCommit) (device : List History) → AtOpening g images reading commit device → AllFit commit device
+  opening_fits g images reading None device k = tt
+  opening_fits g images None (Some d) device k = absurd k
+  opening_fits g images (Some reading) (Some d) device k = same_size g images d k.of device k.under
 
   -- the desk begins a commit or refuses it
-  begins_or : (g : Geometry) (desk : DeskState P) (commit : Option RunningCommit) (device : List History) (most : ℕ) → AtDesk g desk commit device → (got : Got) × ((chosen : Chosen P A) × DoesBegin most desk got chosen)
-  begins_or g desk commit device most k = elim (cases_Bool desk.space.committing) [
+  begins_or : (g : Geometry) (images : Images) (desk : DeskState P) (commit : Option RunningCommit) (device : List History) (most : ℕ) → AtDesk g images desk commit device → (got : Got) × ((chosen : Chosen P A) × DoesBegin most desk got chosen)
+  begins_or g images desk commit device most k = elim (cases_Bool desk.space.committing) [
     | inl busy ↦ (GotRefused Busy, (Plain, busy))
     | inr idle ↦ elim (cases_lt (desk.generation + 1) (2 ^ 64)) [
       | inl more ↦ (GotRefused Memory, (Plain, record { idle = idle; next = more }))
@@ -131,13 +184,31 @@ module _ (P A : Type 0) where
     ]
   ]
     where
-      bound : (commit : Option RunningCommit) → AtDesk g desk commit device → desk.space.committing ≡ false → desk.generation < 2 ^ 64
+      bound : (commit : Option RunningCommit) → AtDesk g images desk commit device → desk.space.committing ≡ false → desk.generation < 2 ^ 64
       bound (Some c) k idle = absurd (let busy = k.stands.busy in cc)
       bound None k idle = elim k.stands [
         | inl q ↦ let n = (q.stores.represents (Rattle.std.specs.Prelude.map newest device) (read-left device)).newest in
             let b = generation_fits n.sector q.stored.root n.valid.spelled in omega (arith, b, q.generation)
         | inr broken ↦ absurd (let busy = broken.busy in cc)
       ]
+
+-- blocks stand where a migration copies from, and where it copies to
+source_holds : (migration : Migration) → HoldsBlocks (source_of migration)
+source_holds (Promote c) = tt
+source_holds Demote = tt
+source_holds Clean = tt
+
+target_holds : (migration : Migration) → HoldsBlocks (target_of migration)
+target_holds (Promote c) = tt
+target_holds Demote = tt
+target_holds Clean = tt
+
+-- an order can be given up, whether it lives or not
+gives_up : {P : Type 0} (desk : DeskState P) (order : Order) → DeskInvariant unknowing desk → (new : DeskState P) × IsGivenUp (Some order) desk new
+gives_up desk order kept = elim (is_live desk order) [
+  | inl live ↦ (released desk live.cache, ((λ other. ap (released desk) (found_at unknowing desk order live.cache kept other (takes_there unknowing desk order kept live))), (λ none. absurd (none live))))
+  | inr none ↦ (desk, ((λ live. absurd (none live)), (λ n. refl)))
+]
 
 -- what an actor's step may give, and what was free where it fails
 pub record CanGive {P A : Type 0} (shape : Shape) (w : State P A) (job : Job) (next : Want) : Type 0 where
@@ -160,57 +231,101 @@ module _ (P A : Type 0) (shape : Shape) (devices : Devices (List History)) (comm
     cell_gives : (job : Job) (step : _) → CanGive shape w job (Cell step)
     cell_gives job step = record { got = got_of (result_of t.words step); read = []; chosen = Plain; gives = ((refl, refl), refl) }
 
-    pub read_gives : (extent : Extent) (next : Want) → IsReadNext shape extent next → length devices.origin ≡ sector_count shape → CanGive shape w (Read extent) next
-    read_gives extent (Cell step) i size = cell_gives (Read extent) step
-    read_gives extent (Device (ReadExtent Origin e)) i size = let r = contents_from devices.origin e.count e.first (omega (arith, i.1, size)) in
-        record { got = Done; read = r.0; chosen = Plain; gives = (tt, refl, refl, r.1, r.2) }
-    read_gives extent (End answer) i size = record { got = Done; read = []; chosen = Plain; gives = ((refl, refl), refl) }
-    read_gives extent next i size = absurd i
+    -- a step on sectors of a device on which blocks stand
+    module _ (kept : DeskInvariant unknowing t.desk) (sizes : (d : Dev) → HoldsBlocks d → length (device_in d devices) ≡ size_on shape d) where
+      pub read_gives : (extent : Extent) (part : BlockRange) (next : Want) → IsOwnStep (OnBlock (Reading part)) next → StepInside shape next → CanGive shape w (Read extent) next
+      read_gives extent part (Cell step) i s = cell_gives (Read extent) step
+      read_gives extent part (Device (ReadExtent d e)) i s = let r = contents_from (device_in d devices) e.count e.first (omega (arith, s, sizes d i)) in
+          record { got = Done; read = r.0; chosen = Plain; gives = (i, refl, refl, r.1, r.2) }
+      read_gives extent part (End answer) i s = record { got = Done; read = []; chosen = Plain; gives = ((refl, refl), refl) }
+      read_gives extent part (Device (WriteExtent d e)) i s = absurd i
+      read_gives extent part (Device (Sync d)) i s = absurd i
+      read_gives extent part (Device (ReadMetadata k)) i s = absurd i
+      read_gives extent part (Device (WriteNode k)) i s = absurd i
+      read_gives extent part (Device WriteRoot) i s = absurd i
+      read_gives extent part (Desk step) i s = absurd i
 
-    pub write_gives : (extent : Extent) (content : Bytes) (next : Want) → IsWriteNext shape extent next → length devices.origin ≡ sector_count shape → CanGive shape w (Write extent content) next
-    write_gives extent content (Cell step) i size = cell_gives (Write extent content) step
-    write_gives extent content (Device (WriteExtent Origin e)) i size = record { got = Done; read = []; chosen = Plain; gives = (tt, (refl, refl), refl, omega (arith, i.1, size)) }
-    write_gives extent content (End answer) i size = record { got = Done; read = []; chosen = Plain; gives = ((refl, refl), refl) }
-    write_gives extent content next i size = absurd i
+      pub write_gives : (extent : Extent) (content : Bytes) (part : BlockRange) (next : Want) → IsOwnStep (OnBlock (Writing part)) next → StepInside shape next → CanGive shape w (Write extent content) next
+      write_gives extent content part (Cell step) i s = cell_gives (Write extent content) step
+      write_gives extent content part (Device (WriteExtent d e)) i s = record { got = Done; read = []; chosen = Plain; gives = (i, (refl, refl), refl, omega (arith, s, sizes d i)) }
+      write_gives extent content part (End answer) i s = record { got = Done; read = []; chosen = Plain; gives = ((refl, refl), refl) }
+      write_gives extent content part (Device (ReadExtent d e)) i s = absurd i
+      write_gives extent content part (Device (Sync d)) i s = absurd i
+      write_gives extent content part (Device (ReadMetadata k)) i s = absurd i
+      write_gives extent content part (Device (WriteNode k)) i s = absurd i
+      write_gives extent content part (Device WriteRoot) i s = absurd i
+      write_gives extent content part (Desk step) i s = absurd i
 
-    pub read_falters : (extent : Extent) (choice : Choice) (next : Want) → IsReadNext shape extent next → Rattle.wb_runs.specs.Happenings.MayFailAt devices choice next → CanFalter w choice next
-    read_falters extent choice (Device (ReadExtent Origin e)) i m = record { chosen = Plain; falters = (refl, tt) }
-    read_falters extent choice (Cell step) i m = absurd m
-    read_falters extent choice (End answer) i m = absurd m
-    read_falters extent choice next i m = absurd i
+      -- a promotion's step; where it asks for its entry there may be no memory for that
+      pub promotion_gives : (c : CBlock) (block : OBlock) (part : BlockRange) (next : Want) → IsOwnStep (OnBlock (Migrating (Promote c) part)) next → StepInside shape next → CanGive shape w (Migrate (Promote c) block) next
+      promotion_gives c block part (Cell step) i s = cell_gives (Migrate (Promote c) block) step
+      promotion_gives c block part (Device (ReadExtent d e)) i s = let h = subst HoldsBlocks (sym i) tt in record { got = Done; read = []; chosen = Plain; gives = (h, (refl, refl), refl, omega (arith, s, sizes d h)) }
+      promotion_gives c block part (Device (WriteExtent d e)) i s = let h = subst HoldsBlocks (sym i) tt in record { got = Done; read = []; chosen = Plain; gives = (h, (refl, refl), refl, omega (arith, s, sizes d h)) }
+      promotion_gives c block part (Desk (Map b place)) i s = record { got = GotRefused Memory; read = []; chosen = Plain; gives = (refl, refl) }
+      promotion_gives c block part (Desk (ReleaseOrder b)) i s = let r = gives_up t.desk (order_for (Promote c) block) kept in record { got = Done; read = []; chosen = Asks r.0; gives = (refl, refl, r.1) }
+      promotion_gives c block part (End answer) i s = record { got = Done; read = []; chosen = Plain; gives = ((refl, refl), refl) }
+      promotion_gives c block part (Desk (Unmap b)) i s = absurd (no_demotion i.1)
+        where
+          no_demotion : Promote c ≡ Demote → ⊥
+          no_demotion e = cc
+      promotion_gives c block part (Desk (BeginCommit clean most)) i s = absurd i
+      promotion_gives c block part (Desk EndCommit) i s = absurd i
+      promotion_gives c block part (Device (Sync d)) i s = absurd i
+      promotion_gives c block part (Device (ReadMetadata k)) i s = absurd i
+      promotion_gives c block part (Device (WriteNode k)) i s = absurd i
+      promotion_gives c block part (Device WriteRoot) i s = absurd i
 
-    pub write_falters : (extent : Extent) (choice : Choice) (next : Want) → IsWriteNext shape extent next → Rattle.wb_runs.specs.Happenings.MayFailAt devices choice next → CanFalter w choice next
-    write_falters extent choice (Device (WriteExtent Origin e)) i m = record { chosen = Plain; falters = (refl, tt) }
-    write_falters extent choice (Cell step) i m = absurd m
-    write_falters extent choice (End answer) i m = absurd m
-    write_falters extent choice next i m = absurd i
+    -- where a step of a job of a block fails
+    pub block_falters : (job : BlockJob) (choice : Choice) (next : Want) → IsOwnStep (OnBlock job) next → Rattle.wb_runs.specs.Happenings.MayFailAt devices choice next → CanFalter w choice next
+    block_falters (Reading part) choice (Device (ReadExtent d e)) i m = record { chosen = Plain; falters = (refl, i) }
+    block_falters (Writing part) choice (Device (WriteExtent d e)) i m = record { chosen = Plain; falters = (refl, i) }
+    block_falters (Migrating migration part) choice (Device (ReadExtent d e)) i m = record { chosen = Plain; falters = (refl, subst HoldsBlocks (sym i) (source_holds migration)) }
+    block_falters (Migrating migration part) choice (Device (WriteExtent d e)) i m = record { chosen = Plain; falters = (refl, subst HoldsBlocks (sym i) (target_holds migration)) }
+    block_falters (Reading part) choice (Device (WriteExtent d e)) i m = absurd i
+    block_falters (Writing part) choice (Device (ReadExtent d e)) i m = absurd i
+    block_falters (Reading part) choice (Device (Sync d)) i m = absurd i
+    block_falters (Reading part) choice (Device (ReadMetadata k)) i m = absurd i
+    block_falters (Reading part) choice (Device (WriteNode k)) i m = absurd i
+    block_falters (Reading part) choice (Device WriteRoot) i m = absurd i
+    block_falters (Writing part) choice (Device (Sync d)) i m = absurd i
+    block_falters (Writing part) choice (Device (ReadMetadata k)) i m = absurd i
+    block_falters (Writing part) choice (Device (WriteNode k)) i m = absurd i
+    block_falters (Writing part) choice (Device WriteRoot) i m = absurd i
+    block_falters (Migrating migration part) choice (Device (Sync d)) i m = absurd i
+    block_falters (Migrating migration part) choice (Device (ReadMetadata k)) i m = absurd i
+    block_falters (Migrating migration part) choice (Device (WriteNode k)) i m = absurd i
+    block_falters (Migrating migration part) choice (Device WriteRoot) i m = absurd i
+    block_falters job choice (Cell step) i m = absurd m
+    block_falters job choice (Desk step) i m = absurd m
+    block_falters job choice (End answer) i m = absurd m
 
-    module _ (known : AtDesk shape.geometry t.desk commit devices.metadata) (most : ℕ) (answer : Answer) where
+    module _ (images : Images) (known : AtDesk shape.geometry images t.desk commit devices.metadata) (most : ℕ) (answer : Answer) where
       abbrev F : FlushPoint → Plan
       F point = plan_of (Flushing [] most) (flush_left most point) answer
 
       fits : AllFit commit devices.metadata
-      fits = desk_fits P A shape.geometry t.desk commit devices.metadata known
+      fits = desk_fits P A shape.geometry images t.desk commit devices.metadata known
 
-      sync_gives : (steps : CommitSteps) → Runs steps commit → ((image : Image) → image.nodes.items ≡ [] → is_coming image steps (Sync Metadata) ≡ true) → CanGive shape w Flush (Device (Sync Metadata))
-      sync_gives steps r coming = let s = syncs_next P A commit devices.metadata steps r fits coming in
+      sync_gives : (nodes : ℕ) (steps : CommitSteps) → Runs nodes steps commit → ((image : Image) → length image.nodes.items ≡ nodes → is_coming image steps (Sync Metadata) ≡ true) → CanGive shape w Flush (Device (Sync Metadata))
+      sync_gives nodes steps r coming = let s = syncs_next P A nodes commit devices.metadata steps r fits coming in
           record { got = Done; read = []; chosen = Plain; gives = (refl, refl, subst (λ (c : Option RunningCommit). Rattle.wb_runs.specs.Happenings.DoesSync {P = P} {A = A} (Stands t) c devices.metadata Plain) (sym s.1) (s.2, refl)) }
 
-      sync_falters : (choice : Choice) (steps : CommitSteps) → Runs steps commit → ((image : Image) → image.nodes.items ≡ [] → is_coming image steps (Sync Metadata) ≡ true) → CanFalter w choice (Device (Sync Metadata))
-      sync_falters choice steps r coming = let s = syncs_next P A commit devices.metadata steps r fits coming in
+      sync_falters : (choice : Choice) (nodes : ℕ) (steps : CommitSteps) → Runs nodes steps commit → ((image : Image) → length image.nodes.items ≡ nodes → is_coming image steps (Sync Metadata) ≡ true) → CanFalter w choice (Device (Sync Metadata))
+      sync_falters choice nodes steps r coming = let s = syncs_next P A nodes commit devices.metadata steps r fits coming in
           record { chosen = Plain; falters = (refl, subst (λ (c : Option RunningCommit). Rattle.wb_runs.specs.Happenings.FailsSync {P = P} {A = A} (Stands t) c devices.metadata) (sym s.1) (s.2, tt)) }
 
       pub flush_gives : (point : FlushPoint) → AtFlush point commit → CanGive shape w Flush (want (F point))
       flush_gives ToLook at = cell_gives Flush _
-      flush_gives ToBegin at = let b = begins_or P A shape.geometry t.desk commit devices.metadata most known in record { got = b.0; read = []; chosen = b.1.0; gives = (refl, refl, b.1.1) }
-      flush_gives ToSyncCache at = record { got = Done; read = []; chosen = Plain; gives = ((refl, refl), refl) }
-      flush_gives ToSyncOrigin at = record { got = Done; read = []; chosen = Plain; gives = ((refl, refl), refl) }
-      flush_gives ToSyncNodes at = sync_gives (NodesWritten 0) at none_coming
-      flush_gives ToWriteRoot at = let p = puts_root P A commit devices.metadata at fits in record { got = Done; read = []; chosen = p.0; gives = (refl, refl, p.1) }
-      flush_gives ToSyncRoot at = sync_gives RootWritten at (λ i e. refl)
-      flush_gives ToEnd at = record { got = Done; read = []; chosen = Plain; gives = ((refl, refl), refl, done commit at) }
+      flush_gives ToBegin at = let b = begins_or P A shape.geometry images t.desk commit devices.metadata most known in record { got = b.0; read = []; chosen = b.1.0; gives = (refl, refl, b.1.1) }
+      flush_gives (ToSyncCache nodes) at = record { got = Done; read = []; chosen = Plain; gives = ((refl, refl), refl) }
+      flush_gives (ToSyncOrigin nodes) at = record { got = Done; read = []; chosen = Plain; gives = ((refl, refl), refl) }
+      flush_gives (ToWriteNodes zero from) at = sync_gives (from + 0) (NodesWritten from) at (λ i e. none_coming from i (let all : from + 0 ≡ from = omega arith in e ∙ all))
+      flush_gives (ToWriteNodes (suc left) from) at = let p = puts_node P A left from commit devices.metadata at fits in record { got = Done; read = []; chosen = p.0; gives = (refl, refl, p.1) }
+      flush_gives (ToWriteRoot nodes) at = let p = puts_root P A nodes commit devices.metadata at fits in record { got = Done; read = []; chosen = p.0; gives = (refl, refl, p.1) }
+      flush_gives (ToSyncRoot nodes) at = sync_gives nodes RootWritten at (λ i e. refl)
+      flush_gives (ToEnd nodes) at = record { got = Done; read = []; chosen = Plain; gives = ((refl, refl), refl, done commit at) }
         where
-          done : (commit : Option RunningCommit) → Runs Committed commit → Rattle.wb_stage.specs.Stages.is_all_done commit ≡ true
+          done : (commit : Option RunningCommit) → Runs nodes Committed commit → Rattle.wb_stage.specs.Stages.is_all_done commit ≡ true
           done None r = absurd r
           done (Some c) r = ap (λ (s : CommitSteps). Rattle.wb_devices.specs.Committing.is_committed s) r.2
       flush_gives ToSetFailed at = cell_gives Flush _
@@ -219,18 +334,19 @@ module _ (P A : Type 0) (shape : Shape) (devices : Devices (List History)) (comm
       pub flush_falters : (choice : Choice) (point : FlushPoint) → AtFlush point commit → Rattle.wb_runs.specs.Happenings.MayFailAt devices choice (want (F point)) → CanFalter w choice (want (F point))
       flush_falters choice ToLook at m = absurd m
       flush_falters choice ToBegin at m = absurd m
-      flush_falters choice ToSyncCache at m = record { chosen = Plain; falters = refl }
-      flush_falters choice ToSyncOrigin at m = record { chosen = Plain; falters = refl }
-      flush_falters choice ToSyncNodes at m = sync_falters choice (NodesWritten 0) at none_coming
-      flush_falters choice ToWriteRoot at m = let p = fails_root P A commit choice devices.metadata at fits in record { chosen = p.0; falters = p.1 }
-      flush_falters choice ToSyncRoot at m = sync_falters choice RootWritten at (λ i e. refl)
-      flush_falters choice ToEnd at m = absurd m
+      flush_falters choice (ToSyncCache nodes) at m = record { chosen = Plain; falters = refl }
+      flush_falters choice (ToSyncOrigin nodes) at m = record { chosen = Plain; falters = refl }
+      flush_falters choice (ToWriteNodes zero from) at m = sync_falters choice (from + 0) (NodesWritten from) at (λ i e. none_coming from i (let all : from + 0 ≡ from = omega arith in e ∙ all))
+      flush_falters choice (ToWriteNodes (suc left) from) at m = let p = fails_node P A left from commit choice devices.metadata at fits in record { chosen = p.0; falters = p.1 }
+      flush_falters choice (ToWriteRoot nodes) at m = let p = fails_root P A nodes commit choice devices.metadata at fits in record { chosen = p.0; falters = p.1 }
+      flush_falters choice (ToSyncRoot nodes) at m = sync_falters choice nodes RootWritten at (λ i e. refl)
+      flush_falters choice (ToEnd nodes) at m = absurd m
       flush_falters choice ToSetFailed at m = absurd m
       flush_falters choice ToAnswer at m = absurd m
 
   -- ---- an opening
 
-  module _ (mode m' : Mode) (reading : Option (ReadSteps A)) (known : AtOpening shape.geometry reading commit devices.metadata) (n : ℕ) (policy : P) (first : ReadSteps A) (begins : sectors_read first ≡ 0) where
+  module _ (mode m' : Mode) (reading : Option (ReadSteps A)) (images : Images) (known : AtOpening shape.geometry images reading commit devices.metadata) (n : ℕ) (policy : P) (first : ReadSteps A) (begins : sectors_read first ≡ 0) where
     abbrev v : State P A
     v = record { devices = devices; commit = commit; phase = Opens mode reading; actors = actors }
 
@@ -238,16 +354,16 @@ module _ (P A : Type 0) (shape : Shape) (devices : Devices (List History)) (comm
     O point = plan_of (Opening n) (open_left n point) (open_answer point)
 
     opens_fit : AllFit commit devices.metadata
-    opens_fit = opening_fits P A shape.geometry reading commit devices.metadata known
+    opens_fit = opening_fits P A shape.geometry images reading commit devices.metadata known
 
-    reads_on : (left : ℕ) (r : Option (ReadSteps A)) (c : Option RunningCommit) → c ≡ None → AtOpening shape.geometry r c devices.metadata → OfSome r (λ was. sectors_read was ≡ 0 → 1 ≤ left) →
+    reads_on : (left : ℕ) (r : Option (ReadSteps A)) (c : Option RunningCommit) → c ≡ None → AtOpening shape.geometry images r c devices.metadata → OfSome r (λ was. sectors_read was ≡ 0 → 1 ≤ left) →
         CanGive {P = P} {A = A} shape (record { devices = devices; commit = c; phase = Opens mode r; actors = actors }) (Open m') (Device (ReadMetadata left))
     reads_on left (Some was) None e k o = let some : 1 ≤ length devices.metadata = omega (arith, k.found.read.size, shape.geometry.within.meta_from) in
-        let r = can_read P A shape.geometry devices.metadata left was k o some in record { got = r.got; read = []; chosen = r.chosen; gives = (refl, refl, r.does) }
+        let r = can_read P A shape.geometry devices.metadata images left was k o some in record { got = r.got; read = []; chosen = r.chosen; gives = (refl, refl, r.does) }
     reads_on left None c e k o = absurd o
     reads_on left r (Some c) e k o = absurd (cc)
 
-    answers : (r : Option (ReadSteps A)) (c : Option RunningCommit) → AtOpening shape.geometry r c devices.metadata → Runs Committed c →
+    answers : (r : Option (ReadSteps A)) (c : Option RunningCommit) → AtOpening shape.geometry images r c devices.metadata → Runs 0 Committed c →
         OfReading {P = P} {A = A} (Opens mode r) (λ mode reading. IsDone reading) × (Rattle.wb_stage.specs.Stages.is_all_done c ≡ true)
     answers r None k at = absurd at
     answers None (Some c) k at = absurd k
@@ -258,8 +374,8 @@ module _ (P A : Type 0) (shape : Shape) (devices : Devices (List History)) (comm
     open_gives AtCache at = record { got = Done; read = []; chosen = Plain; gives = ((refl, refl), refl) }
     open_gives AtOrigin at = record { got = Done; read = []; chosen = Plain; gives = ((refl, refl), refl) }
     open_gives (AtRead left) at = reads_on left reading commit at.0 known at.1
-    open_gives AtRoot at = let p = puts_root P A commit devices.metadata at opens_fit in record { got = Done; read = []; chosen = p.0; gives = (refl, refl, p.1) }
-    open_gives AtRootSync at = let s = syncs_next P A commit devices.metadata RootWritten at opens_fit (λ i e. refl) in
+    open_gives AtRoot at = let p = puts_root P A 0 commit devices.metadata at opens_fit in record { got = Done; read = []; chosen = p.0; gives = (refl, refl, p.1) }
+    open_gives AtRootSync at = let s = syncs_next P A 0 commit devices.metadata RootWritten at opens_fit (λ i e. refl) in
         record { got = Done; read = []; chosen = Plain; gives = (refl, refl, subst (λ (c : Option RunningCommit). Rattle.wb_runs.specs.Happenings.DoesSync {P = P} {A = A} (Opens mode reading) c devices.metadata Plain) (sym s.1) (s.2, refl)) }
     open_gives AtEnd at = record { got = Done; read = []; chosen = Opened policy; gives = (refl, refl, answers reading commit known at) }
     open_gives (AtRefusal refusal) at = record { got = Done; read = []; chosen = Plain; gives = ((refl, refl), refl) }
@@ -269,8 +385,8 @@ module _ (P A : Type 0) (shape : Shape) (devices : Devices (List History)) (comm
     open_falters choice AtCache at m = record { chosen = Plain; falters = refl }
     open_falters choice AtOrigin at m = record { chosen = Plain; falters = refl }
     open_falters choice (AtRead left) at m = record { chosen = Plain; falters = (refl, at.0) }
-    open_falters choice AtRoot at m = let p = fails_root P A commit choice devices.metadata at opens_fit in record { chosen = p.0; falters = p.1 }
-    open_falters choice AtRootSync at m = let s = syncs_next P A commit devices.metadata RootWritten at opens_fit (λ i e. refl) in
+    open_falters choice AtRoot at m = let p = fails_root P A 0 commit choice devices.metadata at opens_fit in record { chosen = p.0; falters = p.1 }
+    open_falters choice AtRootSync at m = let s = syncs_next P A 0 commit devices.metadata RootWritten at opens_fit (λ i e. refl) in
         record { chosen = Plain; falters = (refl, subst (λ (c : Option RunningCommit). Rattle.wb_runs.specs.Happenings.FailsSync {P = P} {A = A} (Opens mode reading) c devices.metadata) (sym s.1) (s.2, tt)) }
     open_falters choice AtEnd at m = absurd m
     open_falters choice (AtRefusal refusal) at m = absurd m

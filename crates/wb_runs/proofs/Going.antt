@@ -1,5 +1,6 @@
 -- Each step of a flush or an opening leads it to the next point of its table.
-use Rattle.std.proofs.Common.{◌≡◌, ◌≢◌, ◌∙◌, ◌≤◌, ◌<◌, ◌-◌, ◌^◌, ◌==◌, inl, inr, ℕ, Bool, true, false, if◌then◌else◌, List, [], ◌∷◌, Option, Some, None, refl, sym, ap, subst, arith, length, slice_get}
+use Rattle.std.proofs.Common.{◌≡◌, ◌≢◌, ◌∙◌, ◌⊎◌, ◌≤◌, ◌<◌, ◌+◌, ◌-◌, ◌==◌, inl, inr, ℕ, zero, suc, Bool, true, false, if◌then◌else◌, List, [], ◌∷◌, Option, Some, None, refl, sym, ap, subst, arith, length, slice_get, get_or}
+use Rattle.std.proofs.lemmas.Option.{slice_get_cases, slice_get_past}
 use Rattle.wb_types.specs.declared.mode.Mode.{Mode}
 use Rattle.wb_types.specs.declared.mode.Dev.TheVariants.{Metadata, Cache, Origin}
 use Rattle.wb_types.specs.declared.refusal.Refusal.{Refusal}
@@ -15,7 +16,7 @@ use Rattle.wb_meta.specs.declared.read_steps.ReadSteps.{ReadSteps}
 use Rattle.wb_meta.specs.declared.commit_steps.CommitSteps.{CommitSteps}
 use Rattle.wb_meta.specs.declared.commit_steps.CommitSteps.TheVariants.{NodesWritten, NodesSynced, RootWritten, Done as Committed}
 use Rattle.wb_tasks.specs.Tables.{Flushing, Opening}
-use Rattle.wb_tasks.specs.Plan.{Plan, want, after, commit_steps}
+use Rattle.wb_tasks.specs.Plan.{Plan, want, after}
 use Rattle.wb_tasks.specs.declared.step.Answer.{Answer}
 use Rattle.wb_tasks.specs.declared.step.Answer.TheVariants.{Refused as Refuses}
 use Rattle.wb_tasks.specs.declared.step.Want.{Want}
@@ -32,17 +33,27 @@ use Rattle.wb_runs.specs.Happenings.{Chosen, Plain, Begins, Reaches, Commits, Of
 use Rattle.wb_runs.specs.Effects.{commit_then, reading_then, task_then}
 use Rattle.wb_runs.proofs.Plans.{plan_of}
 use Rattle.wb_runs.proofs.Metadata.{AtDesk}
-use Rattle.wb_runs.proofs.Bare.{no_changes}
-use Rattle.wb_runs.proofs.Points.{Runs, FlushPoint, ToLook, ToBegin, ToSyncCache, ToSyncOrigin, ToSyncNodes, ToWriteRoot, ToSyncRoot, ToEnd, ToSetFailed, ToAnswer, flush_left, AtFlush, IsLeading, FlushAt, FlushJob, FlushTask, OpenPoint, AtFirst, AtCache, AtOrigin, AtRead, AtRoot, AtRootSync, AtEnd, AtRefusal, open_left, open_answer, AtOpen, OpenAt}
+use Rattle.wb_runs.proofs.Images.{Images}
+use Rattle.wb_runs.proofs.Making.{image_small, small_opening}
+use Rattle.wb_runs.proofs.Points.{Runs, FlushPoint, ToLook, ToBegin, ToSyncCache, ToSyncOrigin, ToWriteNodes, ToWriteRoot, ToSyncRoot, ToEnd, ToSetFailed, ToAnswer, flush_left, AtFlush, IsLeading, FlushAt, FlushJob, FlushTask, OpenPoint, AtFirst, AtCache, AtOrigin, AtRead, AtRoot, AtRootSync, AtEnd, AtRefusal, open_left, open_answer, AtOpen, OpenAt}
 
 -- ---- a commit goes on
 
-leads_on : (commit : Option RunningCommit) (steps : CommitSteps) → Runs steps commit → (steps' : CommitSteps) → ((image : Image) → image.nodes.items ≡ [] → steps_after image steps ≡ steps') → Runs steps' (Rattle.wb_runs.specs.Effects.led commit Done)
-leads_on None steps r steps' f = absurd r
-leads_on (Some c) steps r steps' f = (r.0, r.1, ap (λ (s : CommitSteps). steps_after c.image s) r.2 ∙ f c.image r.0)
+leads_on : (nodes : ℕ) (commit : Option RunningCommit) (steps : CommitSteps) → Runs nodes steps commit → (steps' : CommitSteps) → ((image : Image) → length image.nodes.items ≡ nodes → steps_after image steps ≡ steps') → Runs nodes steps' (Rattle.wb_runs.specs.Effects.led commit Done)
+leads_on nodes None steps r steps' f = absurd r
+leads_on nodes (Some c) steps r steps' f = (r.0, r.1, ap (λ (s : CommitSteps). steps_after c.image s) r.2 ∙ f c.image r.0)
 
-nodes_over : (image : Image) → image.nodes.items ≡ [] → steps_after image (NodesWritten 0) ≡ NodesSynced
-nodes_over image e = ap (λ (nodes : List (Place × Node)). Rattle.wb_meta.specs.Steps.after_node (slice_get nodes 0) 0) e
+-- another node is written
+node_over : (left from : ℕ) (image : Image) → length image.nodes.items ≡ from + suc left → steps_after image (NodesWritten from) ≡ NodesWritten (from + 1)
+node_over left from image e = by_case (slice_get_cases image.nodes.items from).1
+  where
+    by_case : ((x : Place × Node) × (from < length image.nodes.items) × (slice_get image.nodes.items from ≡ Some x) × (get_or image.nodes.items from x ≡ x)) ⊎ ((length image.nodes.items ≤ from) × (slice_get image.nodes.items from ≡ None)) → steps_after image (NodesWritten from) ≡ NodesWritten (from + 1)
+    by_case (inl h) = ap (λ (o : Option (Place × Node)). Rattle.wb_meta.specs.Steps.after_node o from) h.2
+    by_case (inr h) = absurd (omega (arith, e, h.0))
+
+-- all are
+nodes_over : (from : ℕ) (image : Image) → length image.nodes.items ≡ from → steps_after image (NodesWritten from) ≡ NodesSynced
+nodes_over from image e = ap (λ (o : Option (Place × Node)). Rattle.wb_meta.specs.Steps.after_node o from) (slice_get_past image.nodes.items from (omega (arith, e)))
 
 -- ---- a flush
 
@@ -53,12 +64,12 @@ stays commit commit' L L' plan k none = record { most = k.most; answer = k.answe
     by_point : (p : FlushPoint) → (IsLeading p → ⊥) → AtFlush p commit'
     by_point ToLook n = tt
     by_point ToBegin n = tt
-    by_point ToSyncCache n = absurd (n tt)
-    by_point ToSyncOrigin n = absurd (n tt)
-    by_point ToSyncNodes n = absurd (n tt)
-    by_point ToWriteRoot n = absurd (n tt)
-    by_point ToSyncRoot n = absurd (n tt)
-    by_point ToEnd n = absurd (n tt)
+    by_point (ToSyncCache nodes) n = absurd (n tt)
+    by_point (ToSyncOrigin nodes) n = absurd (n tt)
+    by_point (ToWriteNodes left from) n = absurd (n tt)
+    by_point (ToWriteRoot nodes) n = absurd (n tt)
+    by_point (ToSyncRoot nodes) n = absurd (n tt)
+    by_point (ToEnd nodes) n = absurd (n tt)
     by_point ToSetFailed n = tt
     by_point ToAnswer n = tt
 
@@ -68,7 +79,7 @@ pub record Moved (commit commit' : Option RunningCommit) (a leader : ℕ) (task 
   pub here : FlushTask commit' (a ≡ leader') task
   pub others : (b : ℕ) (plan : Plan) → b ≢ a → FlushAt commit (b ≡ leader) plan → FlushAt commit' (b ≡ leader') plan
 
-module _ (P A : Type 0) (shape : Shape) (t : Target P) (commit : Option RunningCommit) (m : List History) (known : AtDesk shape.geometry t.desk commit m) (a leader most : ℕ) (answer : Answer) where
+module _ (P A : Type 0) (shape : Shape) (t : Target P) (commit : Option RunningCommit) (m : List History) (images : Images) (known : AtDesk shape.geometry images t.desk commit m) (a leader most : ℕ) (answer : Answer) where
   abbrev F : List Want → Plan
   F ws = plan_of (Flushing [] most) ws answer
 
@@ -95,24 +106,20 @@ module _ (P A : Type 0) (shape : Shape) (t : Target P) (commit : Option RunningC
       by_test false = quietly (Refuses Failed) ToAnswer _ refl tt (λ i. absurd i)
 
   begins : (got : Got) (chosen : Chosen P A) → DoesBegin most t.desk got chosen → Then (Rattle.wb_runs.specs.Effects.begun_commit chosen commit) (after (F (flush_left most ToBegin)) got)
-  begins (Began nodes) (Commits c tree) s =
-      let empty : c.image.nodes.items ≡ [] = no_changes shape.geometry t.desk.tree tree (Rattle.wb_desk.specs.Commits.next_plan t.desk t.desk.tree false) c.image known.entries s.3.image_is in
-      let none : nodes ≡ 0 = s.1 ∙ ap (λ (xs : List (Place × Node)). length xs) empty in
-      let fits : c.image.root.generation < 2 ^ 64 = omega (arith, s.3.image_is.root_generation, s.3.may.next) in
-      record {
-        leader' = a;
-        here = record { most = most; answer = answer; point = ToSyncCache; is = ap (λ (n : ℕ). F (commit_steps n)) none; at = (empty, fits, s.2); leads = λ i. refl };
-        others = λ b p o k. stays commit (Some c) (b ≡ leader) (b ≡ a) p k (λ i. no_leader commit known k.point i k.at);
-      }
+  begins (Began nodes) (Commits c tree) s = record {
+    leader' = a;
+    here = record { most = most; answer = answer; point = ToSyncCache nodes; is = refl; at = (sym s.1, image_small shape.geometry t.desk tree c known.is.geometry known.is.kept.mapping s.3 s.4, s.2); leads = λ i. refl };
+    others = λ b p o k. stays commit (Some c) (b ≡ leader) (b ≡ a) p k (λ i. no_leader commit known k.point i k.at);
+  }
     where
-      no_leader : (commit : Option RunningCommit) → AtDesk shape.geometry t.desk commit m → (p : FlushPoint) → IsLeading p → AtFlush p commit → ⊥
+      no_leader : (commit : Option RunningCommit) → AtDesk shape.geometry images t.desk commit m → (p : FlushPoint) → IsLeading p → AtFlush p commit → ⊥
       no_leader (Some d) k p i at = absurd (let busy = k.stands.busy in let idle = s.3.may.idle in cc)
-      no_leader None k ToSyncCache i at = at
-      no_leader None k ToSyncOrigin i at = at
-      no_leader None k ToSyncNodes i at = at
-      no_leader None k ToWriteRoot i at = at
-      no_leader None k ToSyncRoot i at = at
-      no_leader None k ToEnd i at = at
+      no_leader None k (ToSyncCache nodes) i at = at
+      no_leader None k (ToSyncOrigin nodes) i at = at
+      no_leader None k (ToWriteNodes left from) i at = at
+      no_leader None k (ToWriteRoot nodes) i at = at
+      no_leader None k (ToSyncRoot nodes) i at = at
+      no_leader None k (ToEnd nodes) i at = at
       no_leader None k ToLook i at = i
       no_leader None k ToBegin i at = i
       no_leader None k ToSetFailed i at = i
@@ -131,18 +138,24 @@ module _ (P A : Type 0) (shape : Shape) (t : Target P) (commit : Option RunningC
     done : (next : Want) (ws : List Want) → got ≡ Done → (commit' : Option RunningCommit) → Then commit' (F ws) → Then commit' (after (F (next ∷ ws)) got)
     done next ws e commit' k = subst (λ (g : Got). Then commit' (after (F (next ∷ ws)) g)) (sym e) k
 
-    led_done : got ≡ Done → (steps steps' : CommitSteps) → Runs steps commit → ((image : Image) → image.nodes.items ≡ [] → steps_after image steps ≡ steps') → Runs steps' (Rattle.wb_runs.specs.Effects.led commit got)
-    led_done e steps steps' r f = subst (λ (g : Got). Runs steps' (Rattle.wb_runs.specs.Effects.led commit g)) (sym e) (leads_on commit steps r steps' f)
+    led_done : (nodes : ℕ) → got ≡ Done → (steps steps' : CommitSteps) → Runs nodes steps commit → ((image : Image) → length image.nodes.items ≡ nodes → steps_after image steps ≡ steps') → Runs nodes steps' (Rattle.wb_runs.specs.Effects.led commit got)
+    led_done nodes e steps steps' r f = subst (λ (g : Got). Runs nodes steps' (Rattle.wb_runs.specs.Effects.led commit g)) (sym e) (leads_on nodes commit steps r steps' f)
 
     pub flush_moves : (point : FlushPoint) → AtFlush point commit → (IsLeading point → a ≡ leader) → Gives shape (record { devices = w.devices; commit = commit; phase = Stands t; actors = w.actors }) Flush (want (F (flush_left most point))) got read chosen → After (want (F (flush_left most point))) (F (flush_left most point))
     flush_moves ToLook at l g = looks got g.1
     flush_moves ToBegin at l g = begins got chosen g.2
-    flush_moves ToSyncCache at l g = done _ _ g.1 commit (leading commit answer ToSyncOrigin _ refl at (l tt))
-    flush_moves ToSyncOrigin at l g = done _ _ g.1 commit (leading commit answer ToSyncNodes _ refl at (l tt))
-    flush_moves ToSyncNodes at l g = done _ _ g.1 _ (leading _ answer ToWriteRoot _ refl (led_done g.1 (NodesWritten 0) NodesSynced at nodes_over) (l tt))
-    flush_moves ToWriteRoot at l g = done _ _ g.1 _ (leading _ answer ToSyncRoot _ refl (led_done g.1 NodesSynced RootWritten at (λ i e. refl)) (l tt))
-    flush_moves ToSyncRoot at l g = done _ _ g.1 _ (leading _ answer ToEnd _ refl (led_done g.1 RootWritten Committed at (λ i e. refl)) (l tt))
-    flush_moves ToEnd at l g = done _ _ g.1 _ (leading None answer ToAnswer _ refl tt (l tt))
+    flush_moves (ToSyncCache nodes) at l g = done _ _ g.1 commit (leading commit answer (ToSyncOrigin nodes) _ refl at (l tt))
+    flush_moves (ToSyncOrigin nodes) at l g = done _ _ g.1 commit (leading commit answer (ToWriteNodes nodes 0) _ refl (let none : nodes ≡ 0 + nodes = omega arith in subst (λ (n : ℕ). Runs n (NodesWritten 0) commit) none at) (l tt))
+    flush_moves (ToWriteNodes zero from) at l g =
+        let all : from + 0 ≡ from = omega arith in
+        done _ _ g.1 _ (leading _ answer (ToWriteRoot (from + 0)) _ refl (led_done (from + 0) g.1 (NodesWritten from) NodesSynced at (λ i e. nodes_over from i (e ∙ all))) (l tt))
+    flush_moves (ToWriteNodes (suc left) from) at l g =
+        let more : from + suc left ≡ from + 1 + left = omega arith in
+        done _ _ g.1 _ (leading _ answer (ToWriteNodes left (from + 1)) _ refl
+        (subst (λ (n : ℕ). Runs n (NodesWritten (from + 1)) (Rattle.wb_runs.specs.Effects.led commit got)) more (led_done (from + suc left) g.1 (NodesWritten from) (NodesWritten (from + 1)) at (node_over left from))) (l tt))
+    flush_moves (ToWriteRoot nodes) at l g = done _ _ g.1 _ (leading _ answer (ToSyncRoot nodes) _ refl (led_done nodes g.1 NodesSynced RootWritten at (λ i e. refl)) (l tt))
+    flush_moves (ToSyncRoot nodes) at l g = done _ _ g.1 _ (leading _ answer (ToEnd nodes) _ refl (led_done nodes g.1 RootWritten Committed at (λ i e. refl)) (l tt))
+    flush_moves (ToEnd nodes) at l g = done _ _ g.1 _ (leading None answer ToAnswer _ refl tt (l tt))
     flush_moves ToSetFailed at l g = done _ _ g.1 commit (quietly answer ToAnswer _ refl tt (λ i. absurd i))
     flush_moves ToAnswer at l g = record { leader' = leader; here = tt; others = λ b p o k. k }
 
@@ -151,12 +164,13 @@ module _ (P A : Type 0) (shape : Shape) (t : Target P) (commit : Option RunningC
       Moved commit (commit_then {P = P} {A = A} (Stands t) commit (want (F (flush_left most point))) Fault chosen) a leader (task_then (Some (Flush, F (flush_left most point))) (want (F (flush_left most point))) Fault)
   flush_fails w choice chosen ToLook at l g = absurd g
   flush_fails w choice chosen ToBegin at l g = absurd g
-  flush_fails w choice chosen ToSyncCache at l g = leading commit (Refuses (Io Cache)) ToSetFailed _ refl tt (l tt)
-  flush_fails w choice chosen ToSyncOrigin at l g = leading commit (Refuses (Io Origin)) ToSetFailed _ refl tt (l tt)
-  flush_fails w choice chosen ToSyncNodes at l g = leading _ (Refuses (Io Metadata)) ToSetFailed _ refl tt (l tt)
-  flush_fails w choice chosen ToWriteRoot at l g = leading _ (Refuses (Io Metadata)) ToSetFailed _ refl tt (l tt)
-  flush_fails w choice chosen ToSyncRoot at l g = leading _ (Refuses (Io Metadata)) ToSetFailed _ refl tt (l tt)
-  flush_fails w choice chosen ToEnd at l g = absurd g
+  flush_fails w choice chosen (ToSyncCache nodes) at l g = leading commit (Refuses (Io Cache)) ToSetFailed _ refl tt (l tt)
+  flush_fails w choice chosen (ToSyncOrigin nodes) at l g = leading commit (Refuses (Io Origin)) ToSetFailed _ refl tt (l tt)
+  flush_fails w choice chosen (ToWriteNodes zero from) at l g = leading _ (Refuses (Io Metadata)) ToSetFailed _ refl tt (l tt)
+  flush_fails w choice chosen (ToWriteNodes (suc left) from) at l g = leading _ (Refuses (Io Metadata)) ToSetFailed _ refl tt (l tt)
+  flush_fails w choice chosen (ToWriteRoot nodes) at l g = leading _ (Refuses (Io Metadata)) ToSetFailed _ refl tt (l tt)
+  flush_fails w choice chosen (ToSyncRoot nodes) at l g = leading _ (Refuses (Io Metadata)) ToSetFailed _ refl tt (l tt)
+  flush_fails w choice chosen (ToEnd nodes) at l g = absurd g
   flush_fails w choice chosen ToSetFailed at l g = absurd g
   flush_fails w choice chosen ToAnswer at l g = absurd g
 
@@ -191,7 +205,7 @@ module _ (P A : Type 0) (shape : Shape) (mode m' : Mode) (reading : Option (Read
           is = refl;
           at = (h.3 ∙ e, subst (λ (x : Option (ReadSteps A)). OfSome x (λ now. sectors_read now ≡ 0 → 1 ≤ left - 1)) (sym h.1) (λ z. absurd (omega (arith, z, more.4))));
         }
-        by_got Done f h = record { sectors = n; point = AtRoot; is = refl; at = subst (λ (x : Option RunningCommit). Runs NodesSynced x) (sym h.2.commit_is) (h.2.opens.no_nodes, subst (λ (x : Option RunningCommit). HasGeneration x) h.2.commit_is more.5, h.2.steps) }
+        by_got Done f h = record { sectors = n; point = AtRoot; is = refl; at = subst (λ (x : Option RunningCommit). Runs 0 NodesSynced x) (sym h.2.commit_is) (ap (λ (xs : List (Place × Node)). length xs) h.2.opens.no_nodes, small_opening h.2.next.image h.2.opens.no_nodes (subst (λ (x : Option RunningCommit). HasGeneration x) h.2.commit_is more.5), h.2.steps) }
         by_got (GotRefused refusal) f h = refuses r c refusal _ refl
         by_got Fault f h = absurd (f refl)
         by_got got f h = absurd h
@@ -207,8 +221,8 @@ module _ (P A : Type 0) (shape : Shape) (mode m' : Mode) (reading : Option (Read
     on_reading left (Some was) e g = reads left was e chosen g
     on_reading left None e g = absurd g
 
-    led_on : got ≡ Done → (steps steps' : CommitSteps) → Runs steps commit → ((image : Image) → image.nodes.items ≡ [] → steps_after image steps ≡ steps') → Runs steps' (Rattle.wb_runs.specs.Effects.led commit got)
-    led_on e steps steps' r f = subst (λ (g : Got). Runs steps' (Rattle.wb_runs.specs.Effects.led commit g)) (sym e) (leads_on commit steps r steps' f)
+    led_on : got ≡ Done → (steps steps' : CommitSteps) → Runs 0 steps commit → ((image : Image) → length image.nodes.items ≡ 0 → steps_after image steps ≡ steps') → Runs 0 steps' (Rattle.wb_runs.specs.Effects.led commit got)
+    led_on e steps steps' r f = subst (λ (g : Got). Runs 0 steps' (Rattle.wb_runs.specs.Effects.led commit g)) (sym e) (leads_on 0 commit steps r steps' f)
 
     on_to : (p q : OpenPoint) (r' : Option (ReadSteps A)) (c' : Option RunningCommit) → got ≡ Done → after (O p) Done ≡ O q → AtOpen n q r' c' → OpenAt r' c' (after (O p) got)
     on_to p q r' c' e is at = subst (λ (x : Got). OpenAt r' c' (after (O p) x)) (sym e) (record { sectors = n; point = q; is = is; at = at })

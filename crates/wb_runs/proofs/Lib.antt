@@ -1,46 +1,46 @@
-mod Underway
-mod Metadata
-mod Stepping
-mod Faltering
-mod MetadataRuns
-mod Sectors
-mod Extents
-mod Plans
-mod Contents
-mod Standing
-mod Serving
-mod Serves
-mod Opened
-mod Refusing
-mod Opens
-mod Lives
-mod Begins
-mod Runs
+pub mod Images
+pub mod Underway
+pub mod Metadata
 mod Spelling
-mod Applying
+pub mod Desks
+pub mod Stepping
+pub mod Faltering
+pub mod Formatted
+pub mod MetadataRuns
+pub mod Lists
+pub mod Extents
+mod Ruling
+pub mod Suiting
+mod Sealing
+pub mod Ordering
+pub mod Owning
+pub mod Using
+mod Plans
+mod Refusing
+pub mod Covering
+pub mod SoFar
+pub mod Opening
+pub mod Claims
+pub mod Linking
+pub mod LinkedRuns
+mod Spelled
 mod Bare
 mod Beginning
+mod Readings
+mod Completing
+mod Rooted
+mod Shown
+mod FirstFlush
+mod FirstOpening
+mod FirstLife
+mod Surviving
+mod FirstPromotion
+mod Bounds
+pub mod InsideRuns
 mod Points
 mod Going
 mod Progressing
-mod Readings
 mod Giving
+mod Applying
+mod Making
 mod Free
-mod Causing
-mod Completing
-mod FirstFlush
-mod FirstLife
-mod FirstOpening
-mod Surviving
-mod Ruling
-mod Suiting
-mod Using
-mod Latest
-mod Keeping
-mod Reading
-mod LatestRuns
-mod Covering
-mod SoFar
-mod SoFarSteps
-mod SoFarNoted
-mod SoFarRuns

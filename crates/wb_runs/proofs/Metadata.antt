@@ -1,11 +1,16 @@
--- What the metadata of every run are read as: one state or, while a commit runs or after it failed, one of two, in which nothing is
--- cached yet; and what is known of them where no commit runs, while one does, and as far as an opening has read them.
+-- What the metadata of every run are read as: one state or, while a commit runs or after it failed, one of two. And what is known of
+-- them where no commit runs, while one does, and as far as an opening has read them: between commits they store the desk's tree.
 use Rattle.std.proofs.Common.{◌≡◌, ◌∙◌, ◌⊎◌, ◌+◌, inl, inr, ℕ, Bool, true, false, List, Option, Some, None, refl, sym, ap, subst, length, map, if◌then◌else◌}
+use Rattle.wb_types.specs.declared.entry.Entry.{Entry}
 use Rattle.wb_types.specs.declared.geometry.Geometry.{Geometry}
 use Rattle.wb_types.specs.declared.mode.Mode.{Mode}
 use Rattle.wb_types.specs.declared.number.Place.{Place}
 use Rattle.wb_disk.specs.Device.{History, newest}
-use Rattle.wb_tree.specs.Mapping.{Mapping, used_places}
+use Rattle.std.specs.List.{count_by}
+use Rattle.std.specs.Prelude.{is_some}
+use Rattle.wb_tree.specs.Mapping.{Mapping, IsMapping, IsSound, AreInside, used_places}
+use Rattle.wb_tree.specs.Edits.{IsEdited}
+use Rattle.wb_tree.proofs.Stored.Edited.{edited-none}
 use Rattle.wb_space.specs.Places.{noted, unused, place_count}
 use Rattle.wb_format.specs.declared.root.Root.{Root}
 use Rattle.wb_meta.specs.declared.read_steps.ReadSteps.{ReadSteps}
@@ -15,10 +20,16 @@ use Rattle.wb_meta.specs.declared.commit_steps.CommitSteps.{CommitSteps}
 use Rattle.wb_meta.specs.declared.commit_steps.CommitSteps.TheVariants.{NodesWritten}
 use Rattle.wb_meta.specs.Representing.{Stored}
 use Rattle.wb_meta.specs.Commits.{HasCome}
-use Rattle.wb_meta.specs.Reads.{HasRead, AreStepsOn}
+use Rattle.wb_meta.specs.Reads.{HasRead, AreStepsOn, FitsDevice}
+use Rattle.wb_meta.proofs.Round.{stored_edited}
+use Rattle.wb_orders.specs.Orders.{AreOrders}
+use Rattle.wb_orders.proofs.Kept.{none_kept}
 use Rattle.wb_meta.specs.Openings.{IsOpening}
 use Rattle.wb_meta.specs.Imaging.{DeviceStores}
-use Rattle.wb_desk.specs.Desks.{DeskState}
+use Rattle.wb_policy.specs.Law.{Holdings}
+use Rattle.wb_desk.specs.Desks.{DeskState, DeskInvariant}
+use Rattle.wb_desk.proofs.Committing.{begun_kept, ended_kept}
+use Rattle.wb_desk.proofs.Opened.{opened_kept}
 use Rattle.wb_desk.specs.Commits.{commit_begun, next_plan}
 use Rattle.wb_desk.specs.Opening.{opened}
 use Rattle.wb_devices.specs.declared.running.RunningCommit.{RunningCommit}
@@ -29,217 +40,283 @@ use Rattle.wb_roots.specs.Roots.{MayBeReadAs, Commit, commit_of, opening_of}
 use Rattle.wb_roots.proofs.Leading.{commit_begins, opening_begins}
 use Rattle.wb_roots.proofs.Deciding.{stored_is_read, read_is_committed}
 use Rattle.wb_runs.specs.States.{Phase, Stands, Gone, Opens}
-use Rattle.wb_runs.proofs.Underway.{no_entries, IsBare, Readable, Underway, Found, underway_readable, found_readable, all_done}
+use Rattle.wb_runs.proofs.Images.{Images, one_image, IsFit, Begins, Ends, Turns}
+use Rattle.wb_runs.proofs.Underway.{Readable, Underway, Found, underway_readable, found_readable, all_done}
+
+-- of the mapping a policy need know nothing here
+abbrev pub unknowing : {P : Type 0} → P → Holdings → Type 0
+unknowing policy mapping = Unit {0}
 
 -- No commit runs: the device stores the desk's tree by the root that stands, on the places that the desk has noted.
-pub record Quiet {P : Type 0} (g : Geometry) (desk : DeskState P) (device : List History) : Type 0 where
+pub record Quiet {P : Type 0} (g : Geometry) (images : Images) (desk : DeskState P) (device : List History) : Type 0 where
   pub stored : Stored
+  pub are : images ≡ one_image stored
   pub used : List Place
   pub stores : DeviceStores desk.tree device stored used
   pub places : desk.space.places.committed ≡ noted used (unused (place_count g.cache_blocks))
   pub generation : desk.generation ≡ stored.root.generation
   pub same : stored.root.geometry ≡ g
-  pub bare : IsBare g stored
+  pub fit : IsFit stored
   pub idle : desk.space.committing ≡ false
-  pub none_running : desk.space.places.running ≡ unused (place_count g.cache_blocks)
 
--- One runs, that leads to the desk's tree.
-pub record Leading {P : Type 0} (g : Geometry) (desk : DeskState P) (commit : RunningCommit) (device : List History) : Type 0 where
+-- One runs, that leads to a tree of which edits have made the desk's.
+pub record Leading {P : Type 0} (g : Geometry) (images : Images) (desk : DeskState P) (commit : RunningCommit) (device : List History) : Type 0 where
   pub of : Commit
-  pub under : Underway g commit of device
-  pub tree : of.tree ≡ desk.tree
+  pub under : Underway g images commit of device
+  pub edited : IsEdited of.tree desk.tree
+  pub entries : of.new.found.entries ≡ of.tree.entries
   pub places : desk.space.places.running ≡ noted of.used (unused (place_count g.cache_blocks))
   pub generation : of.new.root.generation ≡ desk.generation + 1
   pub busy : desk.space.committing ≡ true
 
 -- One was stopped by a fault, for good.
-pub record Broken {P : Type 0} (g : Geometry) (desk : DeskState P) (device : List History) : Type 0 where
-  pub readable : Readable g device
+pub record Broken {P : Type 0} (g : Geometry) (images : Images) (desk : DeskState P) (device : List History) : Type 0 where
+  pub readable : Readable g images device
   pub busy : desk.space.committing ≡ true
 
-abbrev pub Standing : {P : Type 0} → Geometry → DeskState P → Option RunningCommit → List History → Type 0
-Standing g desk None device = Quiet g desk device ⊎ Broken g desk device
-Standing g desk (Some commit) device = Leading g desk commit device
+abbrev pub Standing : {P : Type 0} → Geometry → Images → DeskState P → Option RunningCommit → List History → Type 0
+Standing g images desk None device = Quiet g images desk device ⊎ Broken g images desk device
+Standing g images desk (Some commit) device = Leading g images desk commit device
 
--- of a desk of this geometry, that has no entry
-pub record AtDesk {P : Type 0} (g : Geometry) (desk : DeskState P) (commit : Option RunningCommit) (device : List History) : Type 0 where
+-- what holds of a desk of this geometry, whatever its metadata are
+pub record IsDesk {P : Type 0} (g : Geometry) (desk : DeskState P) : Type 0 where
   pub geometry : desk.geometry ≡ g
-  pub entries : desk.tree.entries ≡ no_entries g
-  pub stands : Standing g desk commit device
+  pub kept : DeskInvariant unknowing desk
+  pub orders : AreOrders desk.orders
+  pub sound : IsSound desk.tree
+
+pub record AtDesk {P : Type 0} (g : Geometry) (images : Images) (desk : DeskState P) (commit : Option RunningCommit) (device : List History) : Type 0 where
+  pub is : IsDesk g desk
+  pub stands : Standing g images desk commit device
 
 -- An opening has read so much.
-pub record HasReached {A : Type 0} (g : Geometry) (reading : ReadSteps A) (device : List History) : Type 0 where
-  pub found : Found g device
+pub record HasReached {A : Type 0} (g : Geometry) (images : Images) (reading : ReadSteps A) (device : List History) : Type 0 where
+  pub found : Found g images device
   pub come : HasRead (map newest device) reading
   pub on : AreStepsOn (length device) reading
 
 -- It has read all, and its root is on its way.
-pub record Rooting {A : Type 0} (g : Geometry) (reading : ReadSteps A) (commit : RunningCommit) (device : List History) : Type 0 where
+pub record Rooting {A : Type 0} (g : Geometry) (images : Images) (reading : ReadSteps A) (commit : RunningCommit) (device : List History) : Type 0 where
   pub stored : Stored_there A
   pub all : reading ≡ AllRead stored
   pub of : Commit
-  pub under : Underway g commit of device
+  pub under : Underway g images commit of device
   pub tree : of.tree ≡ stored.tree
   pub used : of.used ≡ stored.used.items
   pub generation : of.new.root.generation ≡ stored.root.generation + 1
-  pub entries : stored.tree.entries ≡ no_entries g
+  pub entries : of.new.found.entries ≡ stored.tree.entries
+  pub fits : FitsDevice g.meta_sectors stored.root stored.tree stored.used.items
+  pub geometry : stored.root.geometry ≡ g
 
-abbrev pub AtOpening : {A : Type 0} → Geometry → Option (ReadSteps A) → Option RunningCommit → List History → Type 0
-AtOpening g None None device = Readable g device
-AtOpening g None (Some commit) device = ⊥
-AtOpening g (Some reading) None device = HasReached g reading device
-AtOpening g (Some reading) (Some commit) device = Rooting g reading commit device
+abbrev pub AtOpening : {A : Type 0} → Geometry → Images → Option (ReadSteps A) → Option RunningCommit → List History → Type 0
+AtOpening g images None None device = Readable g images device
+AtOpening g images None (Some commit) device = ⊥
+AtOpening g images (Some reading) None device = HasReached g images reading device
+AtOpening g images (Some reading) (Some commit) device = Rooting g images reading commit device
 
-abbrev pub AtGone : Geometry → Option RunningCommit → List History → Type 0
-AtGone g None device = Readable g device
-AtGone g (Some commit) device = ⊥
+abbrev pub AtGone : Geometry → Images → Option RunningCommit → List History → Type 0
+AtGone g images None device = Readable g images device
+AtGone g images (Some commit) device = ⊥
 
 -- what is known of the metadata
-abbrev pub MetadataKept : {P A : Type 0} → Geometry → Phase P A → Option RunningCommit → List History → Type 0
-MetadataKept g (Stands t) commit device = AtDesk g t.desk commit device
-MetadataKept g Gone commit device = AtGone g commit device
-MetadataKept g (Opens mode reading) commit device = AtOpening g reading commit device
+abbrev pub MetadataKept : {P A : Type 0} → Geometry → Images → Phase P A → Option RunningCommit → List History → Type 0
+MetadataKept g images (Stands t) commit device = AtDesk g images t.desk commit device
+MetadataKept g images Gone commit device = AtGone g images commit device
+MetadataKept g images (Opens mode reading) commit device = AtOpening g images reading commit device
 
 -- ---- they can be read
 
-quiet_readable : (P : Type 0) (g : Geometry) (desk : DeskState P) (device : List History) → Quiet g desk device → Readable g device
-quiet_readable P g desk device q = record {
-  committed = q.stored;
-  later = None;
-  read = subst (λ (x : Geometry). MayBeReadAs x q.stored None device) q.same (stored_is_read desk.tree device q.stored q.used q.stores);
-  bare = q.bare;
-  bare_later = tt;
-}
+module _ (g : Geometry) (images : Images) (device : List History) where
+  quiet_readable : (P : Type 0) (desk : DeskState P) → Quiet g images desk device → Readable g images device
+  quiet_readable P desk q = subst (λ (i : Images). Readable g i device) (sym q.are) (record {
+    read = subst (λ (x : Geometry). MayBeReadAs x q.stored None device) q.same (stored_is_read desk.tree device q.stored q.used q.stores);
+    fit = q.fit;
+    fit_later = tt;
+  })
 
-standing_readable : (P : Type 0) (g : Geometry) (desk : DeskState P) (commit : Option RunningCommit) (device : List History) → Standing g desk commit device → Readable g device
-standing_readable P g desk None device (inl q) = quiet_readable P g desk device q
-standing_readable P g desk None device (inr b) = b.readable
-standing_readable P g desk (Some commit) device l = underway_readable g commit l.of device l.under
+  standing_readable : (P : Type 0) (desk : DeskState P) (commit : Option RunningCommit) → Standing g images desk commit device → Readable g images device
+  standing_readable P desk None (inl q) = quiet_readable P desk q
+  standing_readable P desk None (inr b) = b.readable
+  standing_readable P desk (Some commit) l = underway_readable g images commit l.of device l.under
 
-opening_readable : (A : Type 0) (g : Geometry) (reading : Option (ReadSteps A)) (commit : Option RunningCommit) (device : List History) → AtOpening g reading commit device → Readable g device
-opening_readable A g None None device k = k
-opening_readable A g None (Some commit) device k = absurd k
-opening_readable A g (Some reading) None device k = found_readable g device k.found
-opening_readable A g (Some reading) (Some commit) device k = underway_readable g commit k.of device k.under
+  opening_readable : (A : Type 0) (reading : Option (ReadSteps A)) (commit : Option RunningCommit) → AtOpening g images reading commit device → Readable g images device
+  opening_readable A None None k = k
+  opening_readable A None (Some commit) k = absurd k
+  opening_readable A (Some reading) None k = found_readable g images device k.found
+  opening_readable A (Some reading) (Some commit) k = underway_readable g images commit k.of device k.under
 
-pub kept_readable : (P A : Type 0) (g : Geometry) (phase : Phase P A) (commit : Option RunningCommit) (device : List History) → MetadataKept g phase commit device → Readable g device
-kept_readable P A g (Stands t) commit device k = standing_readable P g t.desk commit device k.stands
-kept_readable P A g Gone None device k = k
-kept_readable P A g Gone (Some commit) device k = absurd k
-kept_readable P A g (Opens mode reading) commit device k = opening_readable A g reading commit device k
+  pub kept_readable : (P A : Type 0) (phase : Phase P A) (commit : Option RunningCommit) → MetadataKept g images phase commit device → Readable g images device
+  kept_readable P A (Stands t) commit k = standing_readable P t.desk commit k.stands
+  kept_readable P A Gone None k = k
+  kept_readable P A Gone (Some commit) k = absurd k
+  kept_readable P A (Opens mode reading) commit k = opening_readable A reading commit k
 
 -- ---- a commit begins and ends
 
-module _ (P : Type 0) (g : Geometry) (desk : DeskState P) (device : List History) where
-  -- one begins over a device that stores the desk's tree
-  pub begins_over : (commit : RunningCommit) (tree : Mapping) → AtDesk g desk None device → Quiet g desk device → commit.steps ≡ NodesWritten 0
-      → HasBegun desk commit.image (commit_begun desk tree) → AtDesk g (commit_begun desk tree) (Some commit) device
+module _ (P : Type 0) (g : Geometry) (images : Images) (desk : DeskState P) (device : List History) where
+  -- One begins over a device that stores the desk's tree, and leads to a state of its entries.
+  pub begins_over : (commit : RunningCommit) (tree : Mapping) → IsDesk g desk → Quiet g images desk device → commit.steps ≡ NodesWritten 0
+      → HasBegun desk commit.image (commit_begun desk tree) → Turns (λ now. AtDesk g now (commit_begun desk tree) (Some commit) device × ((state : Stored) × (now.running ≡ Some state) × (state.found.entries ≡ desk.tree.entries))) images
   begins_over commit tree k q steps begun =
       let image = commit.image in
       let places = subst (λ (x : Geometry). desk.space.places.committed ≡ noted q.used (unused (place_count x.cache_blocks))) (sym k.geometry) q.places in
-      let both = commit_begins desk.tree tree (next_plan desk desk.tree false) image device q.stored q.used q.stores (begun.unused q.used places)
+      let planned = begun.unused q.used places in
+      let both = commit_begins desk.tree tree (next_plan desk desk.tree false) image device q.stored q.used q.stores planned
       (record { same_geometry = q.same ∙ sym k.geometry; next = ap (λ n. n + 1) q.generation }) in
-      let entries : tree.entries ≡ no_entries g = begun.image_is.same_entries ∙ k.entries in
+      let of = commit_of image tree q.stored device in
       record {
-        geometry = k.geometry;
-        entries = entries;
-        stands = record {
-          of = commit_of image tree q.stored device;
-          under = record {
-            can = both.0;
-            image = refl;
-            come = subst (λ (s : CommitSteps). HasCome image device s device) (sym steps) both.1;
-            same = q.same;
-            bare = q.bare;
-            bare_new = entries;
-          };
-          tree = refl;
-          places = ap (λ (x : Geometry). noted (used_places tree) (unused (place_count x.cache_blocks))) k.geometry;
-          generation = begun.image_is.root_generation;
-          busy = refl;
-        };
+        now = record { committed = of.old; running = Some of.new; written = false };
+        turn = Begins of.new;
+        turned = ap (λ (i : Images). record { committed = i.committed; running = Some of.new; written = false }) (sym q.are);
+        kept = (
+          record {
+            is = record {
+              geometry = k.geometry;
+              kept = begun_kept unknowing desk tree image k.kept begun.may
+                  (record { origins = ap (λ (es : List (Option Entry)). Rattle.wb_policy.specs.Law.origins es) begun.image_is.same_entries; used = begun.image_is.used })
+                  (subst (λ (es : List (Option Entry)). IsMapping desk.geometry.cache_blocks desk.geometry.origin_blocks es) (sym begun.image_is.same_entries) k.kept.mapping) planned.inside;
+              orders = k.orders;
+              sound = planned.sound;
+            };
+            stands = record {
+              of = of;
+              under = record {
+                are = ap (λ (s : CommitSteps). Rattle.wb_runs.proofs.Underway.images_of of (Rattle.wb_runs.proofs.Underway.is_written s)) (sym steps);
+                can = both.0;
+                image = refl;
+                come = subst (λ (s : CommitSteps). HasCome image device s device) (sym steps) both.1;
+                same = q.same;
+                fit = q.fit;
+                fit_new = λ c. absurd (let unclean = begun.image_is.root_clean in cc);
+              };
+              edited = edited-none tree;
+              entries = refl;
+              places = ap (λ (x : Geometry). noted (used_places tree) (unused (place_count x.cache_blocks))) k.geometry;
+              generation = begun.image_is.root_generation;
+              busy = refl;
+            };
+          },
+          (of.new, refl, begun.image_is.same_entries),
+        );
       }
 
-  -- one that was done ends
-  pub ends_over : (commit : RunningCommit) → AtDesk g desk (Some commit) device → is_committed commit.steps ≡ true → AtDesk g (ended desk) None device
+  -- one that was done ends, and its state is the one image
+  pub ends_over : (commit : RunningCommit) → AtDesk g images desk (Some commit) device → is_committed commit.steps ≡ true →
+      Turns (λ now. AtDesk g now (ended desk) None device × ((state : Stored) × (images.running ≡ Some state) × (now ≡ one_image state))) images
   ends_over commit k done =
       let l = k.stands in
-      let stores = all_done g commit l.of device l.under done in
+      let stores = all_done g images commit l.of device l.under done in
       let after = Rattle.wb_desk.specs.Commits.commit_ended desk in
       let is : ended desk ≡ after = ap (λ (t : Bool). if t then after else desk) l.busy in
-      subst (λ (d : DeskState P). AtDesk g d None device) (sym is) (record {
-        geometry = k.geometry;
-        entries = k.entries;
-        stands = inl (record {
-          stored = l.of.new;
-          used = l.of.used;
-          stores = subst (λ (t : Mapping). DeviceStores t device l.of.new l.of.used) l.tree stores;
-          places = l.places;
-          generation = sym l.generation;
-          same = l.under.can.same_geometry ∙ l.under.same;
-          bare = l.under.bare_new;
-          idle = refl;
-          none_running = ap (λ (x : Geometry). unused (place_count x.cache_blocks)) k.geometry;
-        });
-      })
+      record {
+        now = one_image l.of.new;
+        turn = Ends;
+        turned = (l.of.new, ap (λ (i : Images). i.running) l.under.are, refl);
+        kept = (
+          subst (λ (d : DeskState P). AtDesk g (one_image l.of.new) d None device) (sym is) (record {
+            is = record { geometry = k.is.geometry; kept = ended_kept unknowing desk k.is.kept l.busy; orders = k.is.orders; sound = k.is.sound };
+            stands = inl (record {
+              stored = l.of.new;
+              are = refl;
+              used = l.of.used;
+              stores = stored_edited l.of.tree desk.tree device l.of.new l.of.used stores l.edited k.is.sound;
+              places = l.places;
+              generation = sym l.generation;
+              same = l.under.can.same_geometry ∙ l.under.same;
+              fit = l.under.fit_new;
+              idle = refl;
+            });
+          }),
+          (l.of.new, ap (λ (i : Images). i.running) l.under.are, refl),
+        );
+      }
 
 -- ---- an opening reads all, and its target stands
 
-module _ (A : Type 0) (g : Geometry) (device : List History) where
-  pub root_begins : (now : ReadSteps A) (commit : Option RunningCommit) → HasReached g now device → HasNextRoot now commit → AtOpening g (Some now) commit device
+module _ (A : Type 0) (g : Geometry) (images : Images) (device : List History) where
+  pub root_begins : (now : ReadSteps A) (commit : Option RunningCommit) → HasReached g images now device → HasNextRoot now commit → Turns (λ i. AtOpening g i (Some now) commit device) images
   root_begins now commit k next = by_reading now k next
     where
-      over : (stored : Stored_there A) → HasReached g (AllRead stored) device → (next : HasNextRoot (AllRead stored) commit) → Rooting g (AllRead stored) next.next device
+      over : (stored : Stored_there A) → HasReached g images (AllRead stored) device → (next : HasNextRoot (AllRead stored) commit) → Turns (λ i. Rooting g i (AllRead stored) next.next device) images
       over stored k next =
           let committed = read_is_committed g k.found.committed device stored.root stored.tree stored.used.items k.found.read k.found.settled k.come k.on in
           let known : stored.root ≡ next.root = cc in
           let image = next.next.image in
           let opens : IsOpening image k.found.committed.root = subst (λ (r : Root). IsOpening image r) (sym known ∙ committed.0) next.opens in
           let both = opening_begins stored.tree image device k.found.committed stored.used.items committed.2 opens in
+          let of = opening_of image stored.tree stored.used.items k.found.committed device in
           record {
-            stored = stored;
-            all = refl;
-            of = opening_of image stored.tree stored.used.items k.found.committed device;
-            under = record {
-              can = both.0;
-              image = refl;
-              come = subst (λ (s : CommitSteps). HasCome image device s device) (sym next.steps) both.1;
-              same = k.found.read.same_geometry;
-              bare = k.found.bare;
-              bare_new = k.found.bare;
+            now = record { committed = of.old; running = Some of.new; written = false };
+            turn = Begins of.new;
+            turned = ap (λ (i : Images). record { committed = i.committed; running = Some of.new; written = false }) (sym k.found.are);
+            kept = record {
+              stored = stored;
+              all = refl;
+              of = of;
+              under = record {
+                are = ap (λ (s : CommitSteps). Rattle.wb_runs.proofs.Underway.images_of of (Rattle.wb_runs.proofs.Underway.is_written s)) (sym next.steps);
+                can = both.0;
+                image = refl;
+                come = subst (λ (s : CommitSteps). HasCome image device s device) (sym next.steps) both.1;
+                same = k.found.read.same_geometry;
+                fit = k.found.fit;
+                fit_new = λ c. absurd (let unclean = ap (λ (r : Root). r.clean) opens.root_is in cc);
+              };
+              tree = refl;
+              used = refl;
+              generation = ap (λ (r : Root). r.generation) opens.root_is ∙ ap (λ (r : Root). r.generation + 1) (sym committed.0);
+              entries = sym committed.1;
+              fits = subst (λ (n : ℕ). FitsDevice n stored.root stored.tree stored.used.items) k.found.read.size k.on;
+              geometry = ap (λ (r : Root). r.geometry) committed.0 ∙ k.found.read.same_geometry;
             };
-            tree = refl;
-            used = refl;
-            generation = ap (λ (r : Root). r.generation) opens.root_is ∙ ap (λ (r : Root). r.generation + 1) (sym committed.0);
-            entries = committed.1 ∙ k.found.bare;
           }
 
-      by_reading : (now : ReadSteps A) → HasReached g now device → HasNextRoot now commit → AtOpening g (Some now) commit device
+      by_reading : (now : ReadSteps A) → HasReached g images now device → HasNextRoot now commit → Turns (λ i. AtOpening g i (Some now) commit device) images
       by_reading (Begun alloc global) k next = absurd next.is_done
       by_reading (FirstSlotRead alloc global first) k next = absurd next.is_done
       by_reading (RootFound global root loader) k next = absurd next.is_done
-      by_reading (AllRead stored) k next = subst (λ (c : Option RunningCommit). AtOpening g (Some (AllRead stored)) c device) (sym next.commit_is) (over stored k next)
+      by_reading (AllRead stored) k next = subst (λ (c : Option RunningCommit). Turns (λ i. AtOpening g i (Some (AllRead stored)) c device) images) (sym next.commit_is) (over stored k next)
 
-  pub target_stands : (P : Type 0) (mode : Mode) (policy : P) (threshold mapped : ℕ) (stored : Stored_there A) (commit : RunningCommit) → Rooting g (AllRead stored) commit device → is_committed commit.steps ≡ true
-      → AtDesk g (opened g (stored.root.generation + 1) stored.tree stored.used.items mode policy threshold mapped) None device
-  target_stands P mode policy threshold mapped stored commit k done =
-      let stores = all_done g commit k.of device k.under done in
+  -- the images after it, whose committed state has the desk's entries
+  pub target_stands : (P : Type 0) (mode : Mode) (policy : P) (threshold : ℕ) (stored : Stored_there A) (commit : RunningCommit) → Rooting g images (AllRead stored) commit device → is_committed commit.steps ≡ true
+      → Turns (λ now. AtDesk g now (opened g (stored.root.generation + 1) stored.tree stored.used.items mode policy threshold (count_by is_some stored.tree.entries)) None device × (now.committed.found.entries ≡ stored.tree.entries)) images
+  target_stands P mode policy threshold stored commit k done =
+      let stores = all_done g images commit k.of device k.under done in
       let same : k.stored ≡ stored = by_done (k.all) in
+      let new_root : k.of.new.root.geometry ≡ g = k.under.can.same_geometry ∙ k.under.same in
+      let fits : FitsDevice g.meta_sectors stored.root stored.tree stored.used.items = subst (λ (s : Stored_there A). FitsDevice g.meta_sectors s.root s.tree s.used.items) same k.fits in
+      let geometry : stored.root.geometry ≡ g = ap (λ (s : Stored_there A). s.root.geometry) (sym same) ∙ k.geometry in
       record {
-        geometry = refl;
-        entries = ap (λ (s : Stored_there A). s.tree.entries) (sym same) ∙ k.entries;
-        stands = inl (record {
-          stored = k.of.new;
-          used = stored.used.items;
-          stores = subst (λ (s : Stored_there A). DeviceStores s.tree device k.of.new s.used.items) same
-              (subst (λ (us : List Place). DeviceStores k.stored.tree device k.of.new us) k.used (subst (λ (t : Mapping). DeviceStores t device k.of.new k.of.used) k.tree stores));
-          places = refl;
-          generation = ap (λ (s : Stored_there A). s.root.generation + 1) (sym same) ∙ sym k.generation;
-          same = k.under.can.same_geometry ∙ k.under.same;
-          bare = k.under.bare_new;
-          idle = refl;
-          none_running = refl;
-        });
+        now = one_image k.of.new;
+        turn = Ends;
+        turned = (k.of.new, ap (λ (i : Images). i.running) k.under.are, refl);
+        kept = (
+          record {
+            is = record {
+              geometry = refl;
+              kept = subst (λ (x : Geometry). DeskInvariant unknowing (opened x (stored.root.generation + 1) stored.tree stored.used.items mode policy threshold (count_by is_some stored.tree.entries))) geometry
+                  (opened_kept unknowing (record stored.root { generation = stored.root.generation + 1 }) stored.tree stored.used.items mode policy threshold (count_by is_some stored.tree.entries)
+                  (stored.root.geometry.within.meta_from)
+                  (record { size = refl; mapping = fits.mapping; sound = fits.sound; inside = subst (λ (n : ℕ). AreInside n stored.tree) (sym fits.size) fits.inside; known_used = fits.known_used; used_are = subst (λ (n : ℕ). Rattle.wb_meta.specs.Reads.AreApartPlaces n stored.used.items) (sym fits.size) fits.used_are; used_few = fits.used_few })
+                  tt refl);
+              orders = none_kept g.cache_blocks g.origin_blocks;
+              sound = fits.sound;
+            };
+            stands = inl (record {
+              stored = k.of.new;
+              are = refl;
+              used = stored.used.items;
+              stores = subst (λ (s : Stored_there A). DeviceStores s.tree device k.of.new s.used.items) same
+                  (subst (λ (us : List Place). DeviceStores k.stored.tree device k.of.new us) k.used (subst (λ (t : Mapping). DeviceStores t device k.of.new k.of.used) k.tree stores));
+              places = refl;
+              generation = ap (λ (s : Stored_there A). s.root.generation + 1) (sym same) ∙ sym k.generation;
+              same = new_root;
+              fit = k.under.fit_new;
+              idle = refl;
+            });
+          },
+          k.entries ∙ ap (λ (s : Stored_there A). s.tree.entries) same,
+        );
       }
     where
       stored_in : ReadSteps A → Stored_there A

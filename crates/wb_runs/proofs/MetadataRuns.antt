@@ -1,5 +1,5 @@
 -- Every run keeps what is known of the metadata.
-use Rattle.std.proofs.Common.{◌≡◌, inl, inr, ℕ, List, [], ◌∷◌, Option, Some, None, sym, subst, length, slice_get}
+use Rattle.std.proofs.Common.{◌≡◌, inl, inr, ℕ, Bool, true, false, if◌then◌else◌, List, [], ◌∷◌, Option, Some, None, sym, subst, length, slice_get, slice_set}
 use Rattle.wb_types.specs.declared.mode.Dev.TheVariants.{Metadata}
 use Rattle.wb_disk.specs.Device.{Content as Bytes, History}
 use Rattle.wb_disk.specs.Failing.{lands}
@@ -14,105 +14,156 @@ use Rattle.wb_tasks.specs.declared.step.Got.{Got}
 use Rattle.wb_tasks.specs.declared.step.Got.TheVariants.{Fault}
 use Rattle.wb_roots.specs.Roots.{AreOneOf}
 use Rattle.wb_runs.specs.declared.job.Job.{Job}
-use Rattle.wb_runs.specs.declared.job.Job.TheVariants.{Read, Write, Flush, Open}
+use Rattle.wb_runs.specs.declared.job.Job.TheVariants.{Read, Write, Flush, Open, Migrate}
 use Rattle.wb_runs.specs.declared.event.Event.{Event}
 use Rattle.wb_runs.specs.declared.event.Event.TheVariants.{Start, Step, FaultStep, Stop}
 use Rattle.wb_runs.specs.declared.event.What.{What}
 use Rattle.wb_runs.specs.declared.event.What.TheVariants.{Skipped, Refused, Started, Stepped, Stopped}
-use Rattle.wb_runs.specs.States.{Shape, State, Actor, start}
-use Rattle.wb_runs.specs.Happenings.{Chosen, Happening, OfSome, Gives, Falters, MayFailAt, MayBe}
-use Rattle.wb_runs.specs.Effects.{device_done, device_failed, devices_then, commit_then, phase_then, stepped, with_actor, job_of, cleared, given, after_what, after_happening, after_all, IsRun}
-use Rattle.wb_runs.specs.Headline.{IsEmpty}
-use Rattle.wb_runs.proofs.Completing.{formatted_none, none_readable}
-use Rattle.wb_runs.proofs.Underway.{Readable, IsBareToo, crash_readable}
+use Rattle.wb_devices.specs.declared.running.RunningCommit.{RunningCommit}
+use Rattle.wb_runs.specs.States.{Shape, State, Actor, Phase, Stands, Gone, Opens, start}
+use Rattle.wb_runs.specs.Happenings.{Chosen, Cut, Orders, Happening, OfSome, Gives, Falters, MayFailAt, StartGives, MayBe, order_for}
+use Rattle.wb_runs.specs.Effects.{device_done, device_failed, devices_then, commit_then, phase_then, stepped, with_actor, job_of, cleared, given, phase_given, started, after_what, after_happening, after_all, IsRun}
+use Rattle.wb_runs.specs.Headline.{CanBeRead}
+use Rattle.wb_runs.proofs.Images.{Images, Turns, stays, IsFitToo}
+use Rattle.wb_runs.proofs.Desks.{reserved_stands}
+use Rattle.wb_runs.proofs.Formatted.{formatted_none, none_images, none_readable}
+use Rattle.wb_runs.proofs.Underway.{Readable, crash_readable}
 use Rattle.wb_runs.proofs.Metadata.{MetadataKept, kept_readable}
 use Rattle.wb_runs.proofs.Stepping.{done_kept}
 use Rattle.wb_runs.proofs.Faltering.{failed_kept}
 
 module _ (P A : Type 0) (shape : Shape) where
   -- what is known of the metadata in a state
-  abbrev pub Known : State P A → Type 0
-  Known w = MetadataKept shape.geometry w.phase w.commit w.devices.metadata
+  abbrev pub Known : Images → State P A → Type 0
+  Known images w = MetadataKept shape.geometry images w.phase w.commit w.devices.metadata
 
-  by_step : (w : State P A) (a : ℕ) (next : Want) (got : Got) (read : List Bytes) (chosen : Chosen P A) (o : Option Actor) → Known w →
+  -- and after something has happened
+  abbrev pub Knows : Images → State P A → Type 0
+  Knows images w = Turns (λ now. Known now w) images
+
+  same : (i : Images) (w : State P A) → Known i w → Knows i w
+  same i w k = stays (λ now. Known now w) i k
+
+  by_step : (i : Images) (w : State P A) (a : ℕ) (next : Want) (got : Got) (read : List Bytes) (chosen : Chosen P A) (o : Option Actor) → Known i w →
       OfSome o (λ x. OfSome x.task (λ doing. (next ≡ want doing.1) × Gives shape w doing.0 next got read chosen)) →
-      Known (with_actor w o (λ x. stepped shape w a x next got chosen (λ step. device_done (job_of x.task) step chosen)))
-  by_step w a next got read chosen None k h = absurd h
-  by_step w a next got read chosen (Some x) k h = by_task x.task h
+      Knows i (with_actor w o (λ x. stepped shape w a x next got chosen (λ step. device_done (job_of x.task) x.buffer step chosen)))
+  by_step i w a next got read chosen None k h = absurd h
+  by_step i w a next got read chosen (Some x) k h = by_task x.task h
     where
       by_task : (t : Option (Job × Plan)) → OfSome t (λ doing. (next ≡ want doing.1) × Gives shape w doing.0 next got read chosen) →
-          MetadataKept shape.geometry (phase_then shape w.phase next got chosen) (commit_then w.phase w.commit next got chosen) (devices_then (λ step. device_done (job_of t) step chosen) w.devices next).metadata
+          Turns (λ now. MetadataKept shape.geometry now (phase_then shape w.phase next got chosen) (commit_then w.phase w.commit next got chosen) (devices_then (λ step. device_done (job_of t) x.buffer step chosen) w.devices next).metadata) i
       by_task None h = absurd h
-      by_task (Some doing) h = done_kept P A shape w got read chosen doing.0 next k h.1
+      by_task (Some doing) h = done_kept P A shape w got read chosen i x.buffer doing.0 next k h.1
 
-  by_fault : (w : State P A) (a : ℕ) (choice : Choice) (next : Want) (chosen : Chosen P A) (o : Option Actor) → Known w →
+  by_fault : (i : Images) (w : State P A) (a : ℕ) (choice : Choice) (next : Want) (chosen : Chosen P A) (o : Option Actor) → Known i w →
       OfSome o (λ x. OfSome x.task (λ doing. (next ≡ want doing.1) × MayFailAt w.devices choice next × Falters w choice next chosen)) →
-      Known (with_actor w o (λ x. stepped shape w a x next Fault chosen (λ step. device_failed (lands (device_of step) choice) (job_of x.task) step chosen)))
-  by_fault w a choice next chosen None k h = absurd h
-  by_fault w a choice next chosen (Some x) k h = by_task x.task h
+      Knows i (with_actor w o (λ x. stepped shape w a x next Fault chosen (λ step. device_failed (lands (device_of step) choice) (job_of x.task) x.buffer step chosen)))
+  by_fault i w a choice next chosen None k h = absurd h
+  by_fault i w a choice next chosen (Some x) k h = by_task x.task h
     where
       by_task : (t : Option (Job × Plan)) → OfSome t (λ doing. (next ≡ want doing.1) × MayFailAt w.devices choice next × Falters w choice next chosen) →
-          MetadataKept shape.geometry (phase_then shape w.phase next Fault chosen) (commit_then w.phase w.commit next Fault chosen) (devices_then (λ step. device_failed (lands (device_of step) choice) (job_of t) step chosen) w.devices next).metadata
+          Turns (λ now. MetadataKept shape.geometry now (phase_then shape w.phase next Fault chosen) (commit_then w.phase w.commit next Fault chosen) (devices_then (λ step. device_failed (lands (device_of step) choice) (job_of t) x.buffer step chosen) w.devices next).metadata) i
       by_task None h = absurd h
-      by_task (Some doing) h = failed_kept P A shape w choice chosen doing.0 next k h.2
+      by_task (Some doing) h = failed_kept P A shape w choice chosen i x.buffer doing.0 next k h.2
 
-  by_start : (w : State P A) (a : ℕ) (job : Job) (chosen : Chosen P A) (o : Option Actor) → Known (cleared w job) →
-      Known (with_actor (cleared w job) o (λ x. record (cleared w job) { actors = Rattle.std.specs.Prelude.slice_set (cleared w job).actors a (given shape x job chosen) }))
-  by_start w a job chosen None k = k
-  by_start w a job chosen (Some x) k = k
+  -- what an order that is given with a job leaves
+  ordered : (i : Images) (phase : Phase P A) (commit : Option RunningCommit) (m : List History) (actor : Option Actor) (job : Job) (chosen : Chosen P A) → MetadataKept shape.geometry i phase commit m → StartGives shape phase actor job Started chosen →
+      MetadataKept shape.geometry i (phase_given phase job chosen) commit m
+  ordered i (Stands t) commit m actor (Migrate migration block) (Orders cut cache) k g = reserved_stands P shape.geometry i t.desk commit m cache (order_for migration block) k g.1
+  ordered i (Stands t) commit m actor (Migrate migration block) (Cut cut) k g = k
+  ordered i (Stands t) commit m actor (Migrate migration block) chosen k g = absurd g
+  ordered i (Stands t) commit m actor (Read extent) chosen k g = k
+  ordered i (Stands t) commit m actor (Write extent content) chosen k g = k
+  ordered i (Stands t) commit m actor Flush chosen k g = k
+  ordered i (Stands t) commit m actor (Open mode) chosen k g = k
+  ordered i Gone commit m actor job chosen k g = k
+  ordered i (Opens mode reading) commit m actor job chosen k g = k
 
-  clear : (w : State P A) (job : Job) → Known w → Known (cleared w job)
-  clear w (Open mode) k = kept_readable P A shape.geometry w.phase w.commit w.devices.metadata k
-  clear w (Read extent) k = k
-  clear w (Write extent content) k = k
-  clear w Flush k = k
+  by_start : (i : Images) (w : State P A) (a : ℕ) (job : Job) (chosen : Chosen P A) → Known i w → StartGives shape w.phase (slice_get w.actors a) job Started chosen → Knows i (started shape w a job chosen)
+  by_start i w a (Open mode) chosen k g = by_actor (slice_get (cleared w (Open mode)).actors a)
+    where
+      by_actor : (o : Option Actor) → Knows i (with_actor (cleared w (Open mode)) o (λ x. record (cleared w (Open mode)) { phase = phase_given (cleared w (Open mode)).phase (Open mode) chosen; actors = slice_set (cleared w (Open mode)).actors a (given shape x (Open mode) chosen) }))
+      by_actor None = same i (cleared w (Open mode)) (kept_readable shape.geometry i w.devices.metadata P A w.phase w.commit k)
+      by_actor (Some x) = stays (λ now. Readable shape.geometry now w.devices.metadata) i (kept_readable shape.geometry i w.devices.metadata P A w.phase w.commit k)
+  by_start i w a (Read extent) chosen k g = started_over (Read extent) g (slice_get w.actors a)
+    where
+      started_over : (job : Job) → StartGives shape w.phase (slice_get w.actors a) job Started chosen → (o : Option Actor) → Knows i (with_actor w o (λ x. record w { phase = phase_given w.phase job chosen; actors = slice_set w.actors a (given shape x job chosen) }))
+      started_over job g None = same i w k
+      started_over job g (Some x) = stays (λ now. MetadataKept shape.geometry now (phase_given w.phase job chosen) w.commit w.devices.metadata) i (ordered i w.phase w.commit w.devices.metadata (slice_get w.actors a) job chosen k g)
+  by_start i w a (Write extent content) chosen k g = by_start_over (slice_get w.actors a)
+    where
+      by_start_over : (o : Option Actor) → Knows i (with_actor w o (λ x. record w { phase = phase_given w.phase (Write extent content) chosen; actors = slice_set w.actors a (given shape x (Write extent content) chosen) }))
+      by_start_over None = same i w k
+      by_start_over (Some x) = stays (λ now. MetadataKept shape.geometry now (phase_given w.phase (Write extent content) chosen) w.commit w.devices.metadata) i (ordered i w.phase w.commit w.devices.metadata (slice_get w.actors a) (Write extent content) chosen k g)
+  by_start i w a Flush chosen k g = by_start_over (slice_get w.actors a)
+    where
+      by_start_over : (o : Option Actor) → Knows i (with_actor w o (λ x. record w { phase = phase_given w.phase Flush chosen; actors = slice_set w.actors a (given shape x Flush chosen) }))
+      by_start_over None = same i w k
+      by_start_over (Some x) = stays (λ now. MetadataKept shape.geometry now (phase_given w.phase Flush chosen) w.commit w.devices.metadata) i (ordered i w.phase w.commit w.devices.metadata (slice_get w.actors a) Flush chosen k g)
+  by_start i w a (Migrate migration block) chosen k g = by_start_over (slice_get w.actors a)
+    where
+      by_start_over : (o : Option Actor) → Knows i (with_actor w o (λ x. record w { phase = phase_given w.phase (Migrate migration block) chosen; actors = slice_set w.actors a (given shape x (Migrate migration block) chosen) }))
+      by_start_over None = same i w k
+      by_start_over (Some x) = stays (λ now. MetadataKept shape.geometry now (phase_given w.phase (Migrate migration block) chosen) w.commit w.devices.metadata) i (ordered i w.phase w.commit w.devices.metadata (slice_get w.actors a) (Migrate migration block) chosen k g)
 
-  by_what : (w : State P A) (event : Event) (what : What) (read : List Bytes) (chosen : Chosen P A) → Known w → MayBe shape w event what read chosen → Known (after_what shape w event what chosen)
-  by_what w (Start a job) Skipped read chosen k h = k
-  by_what w (Start a job) (Refused refusal) read chosen k h = k
-  by_what w (Start a job) Started read chosen k h = by_start w a job chosen (slice_get (cleared w job).actors a) (clear w job k)
-  by_what w (Start a job) (Stepped next got) read chosen k h = k
-  by_what w (Start a job) Stopped read chosen k h = k
-  by_what w (Step a) Skipped read chosen k h = k
-  by_what w (Step a) (Refused refusal) read chosen k h = k
-  by_what w (Step a) Started read chosen k h = k
-  by_what w (Step a) (Stepped next got) read chosen k h = by_step w a next got read chosen (slice_get w.actors a) k h
-  by_what w (Step a) Stopped read chosen k h = k
-  by_what w (FaultStep a choice) Skipped read chosen k h = k
-  by_what w (FaultStep a choice) (Refused refusal) read chosen k h = k
-  by_what w (FaultStep a choice) Started read chosen k h = k
-  by_what w (FaultStep a choice) (Stepped next got) read chosen k h = subst (λ (g : Got). Known (after_what shape w (FaultStep a choice) (Stepped next g) chosen)) (sym h.1) (by_fault w a choice next chosen (slice_get w.actors a) k h.2)
-  by_what w (FaultStep a choice) Stopped read chosen k h = k
-  by_what w (Stop choice) Skipped read chosen k h = k
-  by_what w (Stop choice) (Refused refusal) read chosen k h = k
-  by_what w (Stop choice) Started read chosen k h = k
-  by_what w (Stop choice) (Stepped next got) read chosen k h = k
-  by_what w (Stop choice) Stopped read chosen k h = crash_readable shape.geometry w.devices.metadata (crashed Metadata choice w.devices.metadata)
-      (kept_readable P A shape.geometry w.phase w.commit w.devices.metadata k) (Crashed-crashed_from Metadata choice 0 w.devices.metadata)
+  by_what : (i : Images) (w : State P A) (event : Event) (what : What) (read : List Bytes) (chosen : Chosen P A) → Known i w → MayBe shape w event what read chosen → Knows i (after_what shape w event what chosen)
+  by_what i w (Start a job) Started read chosen k h = by_start i w a job chosen k h.2
+  by_what i w (Start a job) Skipped read chosen k h = same i w k
+  by_what i w (Start a job) (Refused refusal) read chosen k h = same i w k
+  by_what i w (Start a job) (Stepped next got) read chosen k h = same i w k
+  by_what i w (Start a job) Stopped read chosen k h = same i w k
+  by_what i w (Step a) (Stepped next got) read chosen k h = by_step i w a next got read chosen (slice_get w.actors a) k h
+  by_what i w (Step a) Skipped read chosen k h = same i w k
+  by_what i w (Step a) (Refused refusal) read chosen k h = same i w k
+  by_what i w (Step a) Started read chosen k h = same i w k
+  by_what i w (Step a) Stopped read chosen k h = same i w k
+  by_what i w (FaultStep a choice) (Stepped next got) read chosen k h = subst (λ (g : Got). Knows i (after_what shape w (FaultStep a choice) (Stepped next g) chosen)) (sym h.1) (by_fault i w a choice next chosen (slice_get w.actors a) k h.2)
+  by_what i w (FaultStep a choice) Skipped read chosen k h = same i w k
+  by_what i w (FaultStep a choice) (Refused refusal) read chosen k h = same i w k
+  by_what i w (FaultStep a choice) Started read chosen k h = same i w k
+  by_what i w (FaultStep a choice) Stopped read chosen k h = same i w k
+  by_what i w (Stop choice) Skipped read chosen k h = same i w k
+  by_what i w (Stop choice) (Refused refusal) read chosen k h = same i w k
+  by_what i w (Stop choice) Started read chosen k h = same i w k
+  by_what i w (Stop choice) (Stepped next got) read chosen k h = same i w k
+  by_what i w (Stop choice) Stopped read chosen k h =
+      let c = crash_readable shape.geometry i w.devices.metadata (crashed Metadata choice w.devices.metadata) (kept_readable shape.geometry i w.devices.metadata P A w.phase w.commit k) (Crashed-crashed_from Metadata choice 0 w.devices.metadata) in
+      record { now = c.now; turn = c.turn; turned = c.turned; kept = c.kept }
 
-  pub known_after : (w : State P A) (h : Happening P A) → Known w → MayBe shape w h.record_is.event h.record_is.what h.record_is.read.items h.chosen → Known (after_happening shape w h)
-  known_after w h k m = by_what w h.record_is.event h.record_is.what h.record_is.read.items h.chosen k m
+  -- whatever happens, it is known what the metadata are read as, and what became of that
+  pub known_turns : (i : Images) (w : State P A) (h : Happening P A) → Known i w → MayBe shape w h.record_is.event h.record_is.what h.record_is.read.items h.chosen → Knows i (after_happening shape w h)
+  known_turns i w h k m = by_what i w h.record_is.event h.record_is.what h.record_is.read.items h.chosen k m
 
-  pub known_always : (w : State P A) (hs : List (Happening P A)) → Known w → IsRun shape w hs → Known (after_all shape w hs)
+  -- so they are read as something
+  pub record IsKnown (w : State P A) : Type 0 where
+    pub images : Images
+    pub known : Known images w
+
+  pub known_after : (w : State P A) (h : Happening P A) → IsKnown w → MayBe shape w h.record_is.event h.record_is.what h.record_is.read.items h.chosen → IsKnown (after_happening shape w h)
+  known_after w h k m = let t = known_turns k.images w h k.known m in record { images = t.now; known = t.kept }
+
+  pub known_always : (w : State P A) (hs : List (Happening P A)) → IsKnown w → IsRun shape w hs → IsKnown (after_all shape w hs)
   known_always w [] k r = k
   known_always w (h ∷ hs) k r = known_always (after_happening shape w h) hs (known_after w h k r.0) r.1
 
-  pub known_at_start : (metadata : List History) → IsFormatted shape.geometry metadata → length metadata ≡ shape.geometry.meta_sectors → Known (start shape metadata)
-  known_at_start metadata f size = none_readable shape.geometry metadata (formatted_none shape.geometry metadata f) size
+  pub known_at_start : (metadata : List History) → IsFormatted shape.geometry metadata → length metadata ≡ shape.geometry.meta_sectors → IsKnown (start shape metadata)
+  known_at_start metadata f size = let n = formatted_none shape.geometry metadata f in record { images = none_images shape.geometry metadata n; known = none_readable shape.geometry metadata n size }
 
   -- what a crash leaves of readable metadata
-  pub empty_then : (device : List History) (sectors : List Bytes) → Readable shape.geometry device → MayLeave device sectors → IsEmpty shape sectors
-  empty_then device sectors r left = by_later r.later r.bare_later r.read.later_geometry (r.read.represents sectors left)
+  pub read_then : (i : Images) (device : List History) (sectors : List Bytes) → Readable shape.geometry i device → MayLeave device sectors → CanBeRead shape sectors
+  read_then i device sectors r left = by_written i.written i.running r.fit_later r.read.later_geometry (r.read.represents sectors left)
     where
-      old : Represents sectors r.committed.root r.committed.found → IsEmpty shape sectors
-      old represents = record { stored = r.committed; represents = represents; geometry = r.read.same_geometry; nothing = r.bare }
+      old : Represents sectors i.committed.root i.committed.found → CanBeRead shape sectors
+      old represents = record { stored = i.committed; represents = represents; geometry = r.read.same_geometry; clean = r.fit }
 
-      by_later : (later : Option Stored) → IsBareToo shape.geometry later → Rattle.wb_roots.specs.Roots.IsOf shape.geometry later → AreOneOf r.committed later sectors → IsEmpty shape sectors
-      by_later None b g are = old are
-      by_later (Some s) b g are = elim are [ inl o ↦ old o | inr n ↦ record { stored = s; represents = n; geometry = g; nothing = b } ]
+      by_written : (written : Bool) (running : Option Stored) → IsFitToo running → Rattle.wb_roots.specs.Roots.IsOf shape.geometry (if written then running else None) → AreOneOf i.committed (if written then running else None) sectors → CanBeRead shape sectors
+      by_written false running f g are = old are
+      by_written true None f g are = old are
+      by_written true (Some s) f g are = elim are [ inl o ↦ old o | inr n ↦ record { stored = s; represents = n; geometry = g; clean = f } ]
 
-  pub run_empty : (metadata : List History) (hs : List (Happening P A)) → IsFormatted shape.geometry metadata → length metadata ≡ shape.geometry.meta_sectors → IsRun shape (start shape metadata) hs →
-      (sectors : List Bytes) → MayLeave (after_all shape (start shape metadata) hs).devices.metadata sectors → IsEmpty shape sectors
-  run_empty metadata hs f size run sectors left =
+  pub run_read : (metadata : List History) (hs : List (Happening P A)) → IsFormatted shape.geometry metadata → length metadata ≡ shape.geometry.meta_sectors → IsRun shape (start shape metadata) hs →
+      (sectors : List Bytes) → MayLeave (after_all shape (start shape metadata) hs).devices.metadata sectors → CanBeRead shape sectors
+  run_read metadata hs f size run sectors left =
       let w = after_all shape (start shape metadata) hs in
-      empty_then w.devices.metadata sectors (kept_readable P A shape.geometry w.phase w.commit w.devices.metadata (known_always (start shape metadata) hs (known_at_start metadata f size) run)) left
+      let k = known_always (start shape metadata) hs (known_at_start metadata f size) run in
+      read_then k.images w.devices.metadata sectors (kept_readable shape.geometry k.images w.devices.metadata P A w.phase w.commit k.known) left

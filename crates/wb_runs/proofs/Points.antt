@@ -1,5 +1,5 @@
 -- Where a flush or an opening stands in its table, and how far the commit and the reading have come there.
-use Rattle.std.proofs.Common.{◌≡◌, ◌≤◌, ◌<◌, ◌^◌, ℕ, false, List, [], ◌∷◌, Option, Some, None, slice_get}
+use Rattle.std.proofs.Common.{◌≡◌, ◌≤◌, ◌+◌, ◌++◌, ℕ, false, List, [], ◌∷◌, Option, Some, None, length, slice_get}
 use Rattle.wb_types.specs.declared.mode.Dev.TheVariants.{Metadata, Cache, Origin}
 use Rattle.wb_types.specs.declared.refusal.Refusal.{Refusal}
 use Rattle.wb_words.specs.declared.step.CellStep.TheVariants.{SetFailed}
@@ -7,8 +7,9 @@ use Rattle.wb_meta.specs.Reads.{sectors_read}
 use Rattle.wb_meta.specs.declared.read_steps.ReadSteps.{ReadSteps}
 use Rattle.wb_meta.specs.declared.commit_steps.CommitSteps.{CommitSteps}
 use Rattle.wb_meta.specs.declared.commit_steps.CommitSteps.TheVariants.{NodesWritten, NodesSynced, RootWritten, Done as Committed}
-use Rattle.wb_tasks.specs.Tables.{Flushing, Opening}
-use Rattle.wb_tasks.specs.Plan.{Plan, commit_steps, root_steps, first_steps}
+use Rattle.wb_tasks.specs.Tables.{BlockRange, Migrating, OnBlock, Flushing, Opening}
+use Rattle.wb_tasks.specs.Plan.{Plan, node_writes, commit_steps, root_steps, first_steps}
+use Rattle.wb_tasks.specs.declared.step.Migration.{Migration}
 use Rattle.wb_tasks.specs.declared.step.Answer.{Answer}
 use Rattle.wb_tasks.specs.declared.step.Answer.TheVariants.{Done as Finished, Refused as Refuses}
 use Rattle.wb_tasks.specs.declared.step.DeviceStep.TheVariants.{Sync, ReadMetadata, WriteRoot}
@@ -17,59 +18,61 @@ use Rattle.wb_tasks.specs.declared.step.Want.{Want}
 use Rattle.wb_tasks.specs.declared.step.Want.TheVariants.{Cell, Device, Desk}
 use Rattle.wb_devices.specs.declared.running.RunningCommit.{RunningCommit}
 use Rattle.wb_runs.specs.declared.job.Job.{Job}
-use Rattle.wb_runs.specs.declared.job.Job.TheVariants.{Flush, Open}
+use Rattle.wb_runs.specs.declared.job.Job.TheVariants.{Flush, Open, Migrate}
 use Rattle.wb_runs.specs.States.{Actor, Phase, Stands, Gone, Opens}
 use Rattle.wb_runs.specs.Happenings.{OfSome}
 use Rattle.wb_runs.proofs.Plans.{plan_of}
+use Rattle.wb_runs.proofs.Spelled.{IsSmall}
 
--- a commit runs, of a tree that has no node, and has come so far
-abbrev pub Runs : CommitSteps → Option RunningCommit → Type 0
-Runs steps None = ⊥
-Runs steps (Some c) = (c.image.nodes.items ≡ []) × (c.image.root.generation < 2 ^ 64) × (c.steps ≡ steps)
+-- a commit runs whose image has so many nodes and can be spelled, and has come so far
+abbrev pub Runs : ℕ → CommitSteps → Option RunningCommit → Type 0
+Runs nodes steps None = ⊥
+Runs nodes steps (Some c) = (length c.image.nodes.items ≡ nodes) × IsSmall c.image × (c.steps ≡ steps)
 
 -- ---- flushes
 
+-- with each point of a commit go the nodes of its image; where they are written, those that are left and which one comes next
 pub data FlushPoint : Type 0 where
   ToLook : FlushPoint
   ToBegin : FlushPoint
-  ToSyncCache : FlushPoint
-  ToSyncOrigin : FlushPoint
-  ToSyncNodes : FlushPoint
-  ToWriteRoot : FlushPoint
-  ToSyncRoot : FlushPoint
-  ToEnd : FlushPoint
+  ToSyncCache : (nodes : ℕ) → FlushPoint
+  ToSyncOrigin : (nodes : ℕ) → FlushPoint
+  ToWriteNodes : (left from : ℕ) → FlushPoint
+  ToWriteRoot : (nodes : ℕ) → FlushPoint
+  ToSyncRoot : (nodes : ℕ) → FlushPoint
+  ToEnd : (nodes : ℕ) → FlushPoint
   ToSetFailed : FlushPoint
   ToAnswer : FlushPoint
 
 abbrev pub flush_left : ℕ → FlushPoint → List Want
 flush_left most ToLook = first_steps (Flushing [] most)
 flush_left most ToBegin = Desk (BeginCommit false most) ∷ []
-flush_left most ToSyncCache = commit_steps 0
-flush_left most ToSyncOrigin = Device (Sync Origin) ∷ root_steps
-flush_left most ToSyncNodes = root_steps
-flush_left most ToWriteRoot = Device WriteRoot ∷ Device (Sync Metadata) ∷ Desk EndCommit ∷ []
-flush_left most ToSyncRoot = Device (Sync Metadata) ∷ Desk EndCommit ∷ []
-flush_left most ToEnd = Desk EndCommit ∷ []
+flush_left most (ToSyncCache nodes) = commit_steps nodes
+flush_left most (ToSyncOrigin nodes) = Device (Sync Origin) ∷ (node_writes nodes 0 ++ root_steps)
+flush_left most (ToWriteNodes left from) = node_writes left from ++ root_steps
+flush_left most (ToWriteRoot nodes) = Device WriteRoot ∷ Device (Sync Metadata) ∷ Desk EndCommit ∷ []
+flush_left most (ToSyncRoot nodes) = Device (Sync Metadata) ∷ Desk EndCommit ∷ []
+flush_left most (ToEnd nodes) = Desk EndCommit ∷ []
 flush_left most ToSetFailed = Cell SetFailed ∷ []
 flush_left most ToAnswer = []
 
 abbrev pub AtFlush : FlushPoint → Option RunningCommit → Type 0
-AtFlush ToSyncCache commit = Runs (NodesWritten 0) commit
-AtFlush ToSyncOrigin commit = Runs (NodesWritten 0) commit
-AtFlush ToSyncNodes commit = Runs (NodesWritten 0) commit
-AtFlush ToWriteRoot commit = Runs NodesSynced commit
-AtFlush ToSyncRoot commit = Runs RootWritten commit
-AtFlush ToEnd commit = Runs Committed commit
+AtFlush (ToSyncCache nodes) commit = Runs nodes (NodesWritten 0) commit
+AtFlush (ToSyncOrigin nodes) commit = Runs nodes (NodesWritten 0) commit
+AtFlush (ToWriteNodes left from) commit = Runs (from + left) (NodesWritten from) commit
+AtFlush (ToWriteRoot nodes) commit = Runs nodes NodesSynced commit
+AtFlush (ToSyncRoot nodes) commit = Runs nodes RootWritten commit
+AtFlush (ToEnd nodes) commit = Runs nodes Committed commit
 AtFlush point commit = Unit {0}
 
 -- the flush leads the commit
 abbrev pub IsLeading : FlushPoint → Type 0
-IsLeading ToSyncCache = Unit {0}
-IsLeading ToSyncOrigin = Unit {0}
-IsLeading ToSyncNodes = Unit {0}
-IsLeading ToWriteRoot = Unit {0}
-IsLeading ToSyncRoot = Unit {0}
-IsLeading ToEnd = Unit {0}
+IsLeading (ToSyncCache nodes) = Unit {0}
+IsLeading (ToSyncOrigin nodes) = Unit {0}
+IsLeading (ToWriteNodes left from) = Unit {0}
+IsLeading (ToWriteRoot nodes) = Unit {0}
+IsLeading (ToSyncRoot nodes) = Unit {0}
+IsLeading (ToEnd nodes) = Unit {0}
 IsLeading point = ⊥
 
 -- A flush that leads is the leader's.
@@ -81,8 +84,13 @@ pub record FlushAt (commit : Option RunningCommit) (IsLeader : Type 0) (plan : P
   pub at : AtFlush point commit
   pub leads : IsLeading point → IsLeader
 
+-- a task migrates so
+abbrev pub Migrates : Migration → Plan → Type 0
+Migrates migration plan = (part : BlockRange) × (plan.job ≡ OnBlock (Migrating migration part))
+
 abbrev pub FlushJob : Option RunningCommit → Type 0 → Job → Plan → Type 0
 FlushJob commit IsLeader Flush plan = FlushAt commit IsLeader plan
+FlushJob commit IsLeader (Migrate migration block) plan = Migrates migration plan
 FlushJob commit IsLeader job plan = Unit {0}
 
 abbrev pub FlushTask : Option RunningCommit → Type 0 → Option (Job × Plan) → Type 0
@@ -121,9 +129,9 @@ AtOpen n AtFirst reading commit = (commit ≡ None) × (1 ≤ n)
 AtOpen n AtCache reading commit = (commit ≡ None) × OfSome reading (λ was. 1 ≤ n)
 AtOpen n AtOrigin reading commit = (commit ≡ None) × OfSome reading (λ was. 1 ≤ n)
 AtOpen n (AtRead left) reading commit = (commit ≡ None) × OfSome reading (λ was. sectors_read was ≡ 0 → 1 ≤ left)
-AtOpen n AtRoot reading commit = Runs NodesSynced commit
-AtOpen n AtRootSync reading commit = Runs RootWritten commit
-AtOpen n AtEnd reading commit = Runs Committed commit
+AtOpen n AtRoot reading commit = Runs 0 NodesSynced commit
+AtOpen n AtRootSync reading commit = Runs 0 RootWritten commit
+AtOpen n AtEnd reading commit = Runs 0 Committed commit
 AtOpen n (AtRefusal refusal) reading commit = Unit {0}
 
 pub record OpenAt {A : Type 0} (reading : Option (ReadSteps A)) (commit : Option RunningCommit) (plan : Plan) : Type 0 where
@@ -142,7 +150,7 @@ OpenTask reading commit (Some task) = OpenJob reading commit task.0 task.1
 
 -- ---- all of them
 
--- where every flush and opening stands; one flush alone leads the commit
+-- where every flush and opening stands, and that each migration's task migrates; one flush alone leads the commit
 abbrev pub Going : {P A : Type 0} → Phase P A → Option RunningCommit → List Actor → Type 0
 Going (Stands t) commit actors = (leader : ℕ) × ((b : ℕ) (x : Actor) → slice_get actors b ≡ Some x → FlushTask commit (b ≡ leader) x.task)
 Going Gone commit actors = Unit {0}

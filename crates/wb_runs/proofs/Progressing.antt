@@ -2,16 +2,20 @@
 use Rattle.std.proofs.Common.{◌≡◌, ◌≢◌, ◌∙◌, inl, inr, ℕ, List, [], ◌∷◌, Option, Some, None, refl, sym, ap, subst, arith, length, slice_get, slice_set, map}
 use Rattle.std.proofs.lemmas.Bool.{cases_eq}
 use Rattle.wb_types.specs.declared.mode.Mode.{Mode}
-use Rattle.wb_types.specs.declared.mode.Dev.TheVariants.{Origin}
 use Rattle.wb_types.specs.Limits.{node_count}
 use Rattle.wb_disk.specs.Device.{Content as Bytes, History}
 use Rattle.wb_disk.specs.Crash.{Choice}
 use Rattle.wb_disk.specs.Failing.{lands}
 use Rattle.wb_meta.specs.Formats.{IsFormatted}
 use Rattle.wb_meta.specs.declared.read_steps.ReadSteps.{ReadSteps}
+use Rattle.wb_words.specs.declared.card.Card.{Card}
 use Rattle.wb_tasks.specs.Plan.{Plan, want, table, device_of}
+use Rattle.wb_tasks.specs.Ready.{Suits, IsOwnStep}
+use Rattle.wb_tasks.specs.Tables.{BlockJob, Reading, Writing, Migrating, TaskJob, OnBlock}
+use Rattle.wb_tasks.proofs.Readiness.{is_own_step, job_stays}
 use Rattle.wb_tasks.specs.declared.step.Answer.TheVariants.{Done as Finished}
-use Rattle.wb_tasks.specs.declared.step.DeviceStep.TheVariants.{Read as ReadExtent, Write as WriteExtent}
+use Rattle.wb_tasks.specs.declared.step.DeskStep.TheVariants.{Map, Unmap, ReleaseOrder, BeginCommit, EndCommit}
+use Rattle.wb_tasks.specs.declared.step.DeviceStep.TheVariants.{Read as ReadExtent, Write as WriteExtent, Sync, ReadMetadata, WriteNode, WriteRoot}
 use Rattle.wb_tasks.specs.declared.step.Want.{Want}
 use Rattle.wb_tasks.specs.declared.step.Want.TheVariants.{Cell, Device, Desk, End}
 use Rattle.wb_tasks.specs.declared.step.Got.{Got}
@@ -19,25 +23,24 @@ use Rattle.wb_tasks.specs.declared.step.Got.TheVariants.{Fault}
 use Rattle.wb_devices.specs.declared.devices.Devices.{Devices}
 use Rattle.wb_devices.specs.declared.running.RunningCommit.{RunningCommit}
 use Rattle.wb_runs.specs.declared.job.Job.{Job}
-use Rattle.wb_runs.specs.declared.job.Job.TheVariants.{Read, Write, Flush, Open}
+use Rattle.wb_runs.specs.declared.job.Job.TheVariants.{Read, Write, Flush, Open, Migrate}
 use Rattle.wb_runs.specs.declared.event.Event.{Event}
 use Rattle.wb_runs.specs.declared.event.Event.TheVariants.{Start, Step, FaultStep, Stop}
 use Rattle.wb_runs.specs.declared.event.What.{What}
 use Rattle.wb_runs.specs.declared.event.What.TheVariants.{Skipped, Refused, Started, Stepped, Stopped}
 use Rattle.wb_runs.specs.States.{Shape, State, Actor, Target, Phase, Stands, Gone, Opens, OfTarget, resting, start}
-use Rattle.wb_runs.specs.Happenings.{Chosen, Happening, OfSome, Gives, Falters, MayFailAt, DoesNotApply, MayBe, task_job}
-use Rattle.wb_runs.specs.Effects.{device_done, device_failed, commit_then, reading_then, task_then, phase_then, phase_opened, actor_then, stepped, with_actor, cleared, given, job_of, cut_of, after_what, after_happening, after_all, IsRun}
+use Rattle.wb_runs.specs.Happenings.{Chosen, Plain, Cut, Orders, Begins, Reaches, Puts, Commits, Asks, Opened, Happening, OfSome, Gives, Falters, MayFailAt, DoesNotApply, MayBe, block_range, migrated_range, task_job}
+use Rattle.wb_runs.specs.Effects.{device_done, device_failed, commit_then, reading_then, task_then, phase_then, phase_opened, phase_given, actor_then, stepped, with_actor, cleared, given, started, job_of, cut_of, after_what, after_happening, after_all, IsRun}
 use Rattle.wb_runs.specs.Clerk.{Notes, formatted}
 use Rattle.wb_runs.specs.Headline.{note_happening}
-use Rattle.wb_runs.proofs.Sectors.{set_other}
+use Rattle.wb_runs.specs.Holding.{TaskSuits, AllSuited}
+use Rattle.wb_runs.proofs.Lists.{set_other, set_there, rests, free}
+use Rattle.wb_runs.proofs.Images.{Images}
+use Rattle.wb_runs.proofs.Metadata.{AtDesk, MetadataKept}
+use Rattle.wb_runs.proofs.Claims.{TaskClaim, Noted, noted_of}
+use Rattle.wb_runs.proofs.Linking.{IsOpeningJob, IsServed, TaskHere, IsTask, Linked}
+use Rattle.wb_runs.proofs.LinkedRuns.{Base, base_after, base_start}
 use Rattle.wb_runs.proofs.Plans.{plan_of}
-use Rattle.wb_runs.proofs.Contents.{IsTask, Working, Acting, Linked, set_there}
-use Rattle.wb_runs.proofs.Metadata.{AtDesk}
-use Rattle.wb_runs.proofs.MetadataRuns.{Known, known_after, known_at_start}
-use Rattle.wb_runs.proofs.Serving.{IsReadNext, IsWriteNext, read_next, write_next}
-use Rattle.wb_runs.proofs.Lives.{LinkedTo}
-use Rattle.wb_runs.proofs.Begins.{rests}
-use Rattle.wb_runs.proofs.Runs.{free, by_what, at_start}
 use Rattle.wb_runs.proofs.Points.{ToLook, FlushAt, FlushJob, FlushTask, AtFirst, OpenAt, OpenTask, Going}
 use Rattle.wb_runs.proofs.Going.{Moved, flush_moves, flush_fails, open_moves, open_fails}
 
@@ -49,6 +52,7 @@ lifted commit commit' L L' (Some (Flush, plan)) f k = f plan k
 lifted commit commit' L L' (Some (Read extent, plan)) f k = tt
 lifted commit commit' L L' (Some (Write extent content, plan)) f k = tt
 lifted commit commit' L L' (Some (Open mode, plan)) f k = tt
+lifted commit commit' L L' (Some (Migrate migration block, plan)) f k = k
 
 flushes_set : (actors : List Actor) (a : ℕ) (x y : Actor) (commit commit' : Option RunningCommit) (leader leader' : ℕ) → slice_get actors a ≡ Some x → ((b : ℕ) (z : Actor) → slice_get actors b ≡ Some z → FlushTask commit (b ≡ leader) z.task) →
     FlushTask commit' (a ≡ leader') y.task → ((b : ℕ) (plan : Plan) → b ≢ a → FlushAt commit (b ≡ leader) plan → FlushAt commit' (b ≡ leader') plan) →
@@ -96,18 +100,50 @@ module _ (P A : Type 0) (shape : Shape) where
 
   -- ---- where a target stands
 
-  module _ (t : Target P) (devices : Devices (List History)) (commit : Option RunningCommit) (actors : List Actor) (n : Notes) (known : AtDesk shape.geometry t.desk commit devices.metadata) (l : Linked {P = P} {A = A} shape (Stands t) devices.origin actors n)
-      (leader : ℕ) (each : (b : ℕ) (z : Actor) → slice_get actors b ≡ Some z → FlushTask commit (b ≡ leader) z.task) (a : ℕ) (x : Actor) (e : slice_get actors a ≡ Some x) where
+  -- a step of a job of a block is none of the commit's
+  same_commit : (t : Target P) (commit : Option RunningCommit) (job : BlockJob) (next : Want) (got : Got) (chosen : Chosen P A) → IsOwnStep (OnBlock job) next → commit_then {P = P} {A = A} (Stands t) commit next got chosen ≡ commit
+  same_commit t commit job (Cell step) got chosen i = refl
+  same_commit t commit job (End answer) got chosen i = refl
+  same_commit t commit job (Device (ReadExtent d e)) got chosen i = refl
+  same_commit t commit job (Device (WriteExtent d e)) got chosen i = refl
+  same_commit t commit job (Desk (Map b c)) got chosen i = refl
+  same_commit t commit job (Desk (Unmap b)) got chosen i = refl
+  same_commit t commit job (Desk (ReleaseOrder b)) got chosen i = refl
+  same_commit t commit (Reading part) (Device (Sync d)) got chosen i = absurd i
+  same_commit t commit (Writing part) (Device (Sync d)) got chosen i = absurd i
+  same_commit t commit (Migrating m part) (Device (Sync d)) got chosen i = absurd i
+  same_commit t commit (Reading part) (Device (ReadMetadata k)) got chosen i = absurd i
+  same_commit t commit (Writing part) (Device (ReadMetadata k)) got chosen i = absurd i
+  same_commit t commit (Migrating m part) (Device (ReadMetadata k)) got chosen i = absurd i
+  same_commit t commit (Reading part) (Device (WriteNode k)) got chosen i = absurd i
+  same_commit t commit (Writing part) (Device (WriteNode k)) got chosen i = absurd i
+  same_commit t commit (Migrating m part) (Device (WriteNode k)) got chosen i = absurd i
+  same_commit t commit (Reading part) (Device WriteRoot) got chosen i = absurd i
+  same_commit t commit (Writing part) (Device WriteRoot) got chosen i = absurd i
+  same_commit t commit (Migrating m part) (Device WriteRoot) got chosen i = absurd i
+  same_commit t commit (Reading part) (Desk (BeginCommit clean most)) got chosen i = absurd i
+  same_commit t commit (Writing part) (Desk (BeginCommit clean most)) got chosen i = absurd i
+  same_commit t commit (Migrating m part) (Desk (BeginCommit clean most)) got chosen i = absurd i
+  same_commit t commit (Reading part) (Desk EndCommit) got chosen i = absurd i
+  same_commit t commit (Writing part) (Desk EndCommit) got chosen i = absurd i
+  same_commit t commit (Migrating m part) (Desk EndCommit) got chosen i = absurd i
+
+  -- a task of a block is at its own step
+  pub own_step : (card : Card) (plan : Plan) (job : BlockJob) → plan.job ≡ OnBlock job → Suits shape.geometry.origin_blocks plan card → IsOwnStep (OnBlock job) (want plan)
+  own_step card plan job j suits = subst (λ (q : TaskJob). IsOwnStep q (want plan)) j (is_own_step shape.geometry.origin_blocks plan card suits)
+
+  module _ (t : Target P) (devices : Devices (List History)) (commit : Option RunningCommit) (actors : List Actor) (n : Notes) (images : Images) (known : AtDesk shape.geometry images t.desk commit devices.metadata) (l : Linked {P = P} {A = A} shape (Stands t) actors n)
+      (suited : AllSuited shape.geometry.origin_blocks actors) (leader : ℕ) (each : (b : ℕ) (z : Actor) → slice_get actors b ≡ Some z → FlushTask commit (b ≡ leader) z.task) (a : ℕ) (x : Actor) (e : slice_get actors a ≡ Some x) where
     abbrev w : State P A
     w = record { devices = devices; commit = commit; phase = Stands t; actors = actors }
 
     abbrev Then : Want → Got → Chosen P A → Type 0
-    Then next got chosen = Going {P = P} {A = A} (phase_then shape (Stands t) next got chosen) (commit_then {P = P} {A = A} (Stands t) commit next got chosen) (slice_set actors a (actor_then {P = P} {A = A} shape (Stands t) x next got))
+    Then next got chosen = Going {P = P} {A = A} (phase_then shape (Stands t) next got chosen) (commit_then {P = P} {A = A} (Stands t) commit next got chosen) (slice_set actors a (actor_then {P = P} {A = A} shape (Stands t) devices x next got))
 
     from_moved : (next : Want) (got : Got) (chosen : Chosen P A) (task : Option (Job × Plan)) → task_then x.task next got ≡ task → Moved commit (commit_then {P = P} {A = A} (Stands t) commit next got chosen) a leader task → Then next got chosen
     from_moved next got chosen task is m = (
       m.leader',
-      flushes_set actors a x (actor_then {P = P} {A = A} shape (Stands t) x next got) commit _ leader m.leader' e each
+      flushes_set actors a x (actor_then {P = P} {A = A} shape (Stands t) devices x next got) commit _ leader m.leader' e each
           (subst (λ (k : Option (Job × Plan)). FlushTask (commit_then {P = P} {A = A} (Stands t) commit next got chosen) (a ≡ m.leader') k) (sym is) m.here) m.others,
     )
 
@@ -115,29 +151,44 @@ module _ (P A : Type 0) (shape : Shape) where
     not_flush : (commit' : Option RunningCommit) (task : Option (Job × Plan)) → commit' ≡ commit → FlushTask commit (a ≡ leader) task → Moved commit commit' a leader task
     not_flush commit' task same here = subst (λ (c : Option RunningCommit). Moved commit c a leader task) (sym same) (record { leader' = leader; here = here; others = λ b p o k. k })
 
-    read_commit : (extent : _) (next : Want) (got : Got) (chosen : Chosen P A) → IsReadNext shape extent next → commit_then {P = P} {A = A} (Stands t) commit next got chosen ≡ commit
-    read_commit extent (Cell step) got chosen i = refl
-    read_commit extent (Device (ReadExtent Origin ex)) got chosen i = refl
-    read_commit extent (End answer) got chosen i = refl
-    read_commit extent next got chosen i = absurd i
+    mine : (job : Job) (plan : Plan) → x.task ≡ Some (job, plan) → FlushJob commit (a ≡ leader) job plan
+    mine job plan xt = subst (λ (k : Option (Job × Plan)). FlushTask commit (a ≡ leader) k) xt (each a x e)
 
-    write_commit : (extent : _) (next : Want) (got : Got) (chosen : Chosen P A) → IsWriteNext shape extent next → commit_then {P = P} {A = A} (Stands t) commit next got chosen ≡ commit
-    write_commit extent (Cell step) got chosen i = refl
-    write_commit extent (Device (WriteExtent Origin ex)) got chosen i = refl
-    write_commit extent (End answer) got chosen i = refl
-    write_commit extent next got chosen i = absurd i
+    -- the job of a block that a task is on
+    abbrev OnSome : Plan → Type 0
+    OnSome plan = (part : BlockJob) × (plan.job ≡ OnBlock part)
 
-    read_task : (extent : _) (plan : Plan) (next : Want) (got : Got) → FlushTask commit (a ≡ leader) (task_then (Some (Read extent, plan)) next got)
-    read_task extent plan (End answer) got = tt
-    read_task extent plan (Cell step) got = tt
-    read_task extent plan (Device step) got = tt
-    read_task extent plan (Desk step) got = tt
+    -- what is left of it
+    block_task : (job : Job) (plan : Plan) (next : Want) (got : Got) → OnSome plan → FlushJob commit (a ≡ leader) job plan → (job ≢ Flush) → FlushTask commit (a ≡ leader) (task_then (Some (job, plan)) next got)
+    block_task job plan (End answer) got o k f = tt
+    block_task (Read extent) plan (Cell step) got o k f = tt
+    block_task (Read extent) plan (Device step) got o k f = tt
+    block_task (Read extent) plan (Desk step) got o k f = tt
+    block_task (Write extent content) plan (Cell step) got o k f = tt
+    block_task (Write extent content) plan (Device step) got o k f = tt
+    block_task (Write extent content) plan (Desk step) got o k f = tt
+    block_task (Open mode) plan (Cell step) got o k f = tt
+    block_task (Open mode) plan (Device step) got o k f = tt
+    block_task (Open mode) plan (Desk step) got o k f = tt
+    block_task (Migrate migration block) plan (Cell step) got o k f = (k.0, job_stays plan got ∙ k.1)
+    block_task (Migrate migration block) plan (Device step) got o k f = (k.0, job_stays plan got ∙ k.1)
+    block_task (Migrate migration block) plan (Desk step) got o k f = (k.0, job_stays plan got ∙ k.1)
+    block_task Flush plan (Cell step) got o k f = absurd (f refl)
+    block_task Flush plan (Device step) got o k f = absurd (f refl)
+    block_task Flush plan (Desk step) got o k f = absurd (f refl)
 
-    write_task : (extent : _) (content : Bytes) (plan : Plan) (next : Want) (got : Got) → FlushTask commit (a ≡ leader) (task_then (Some (Write extent content, plan)) next got)
-    write_task extent content plan (End answer) got = tt
-    write_task extent content plan (Cell step) got = tt
-    write_task extent content plan (Device step) got = tt
-    write_task extent content plan (Desk step) got = tt
+    -- whatever a step of a job of a block gave
+    block_goes : (job : Job) (plan : Plan) (next : Want) (got : Got) (chosen : Chosen P A) → OnSome plan → (job ≢ Flush) → x.task ≡ Some (job, plan) → next ≡ want plan → Then next got chosen
+    block_goes job plan next got chosen o f xt h =
+        let suits = subst (λ (k : Option (Job × Plan)). TaskSuits shape.geometry.origin_blocks x.card k) xt (suited a x e) in
+        let own = subst (λ (v : Want). IsOwnStep (OnBlock o.0) v) (sym h) (own_step x.card plan o.0 o.1 suits) in
+        from_moved next got chosen _ (ap (λ k. task_then k next got) xt) (not_flush _ _ (same_commit t commit o.0 next got chosen own) (block_task job plan next got o (mine job plan xt) f))
+
+    claim : (job : Job) (plan : Plan) → x.task ≡ Some (job, plan) → Noted shape job plan (slice_get n.doings a)
+    claim job plan xt = noted_of shape job plan (slice_get n.doings a) (subst (λ (k : Option (Job × Plan)). TaskClaim shape k (slice_get n.doings a)) xt (l.claims a x e))
+
+    served : (job : Job) (plan : Plan) → x.task ≡ Some (job, plan) → IsServed job
+    served job plan xt = subst (λ (k : Option (Job × Plan)). TaskHere {P = P} {A = A} (Stands t) k) xt (l.here a x e)
 
     flush_done : (plan : Plan) (next : Want) (got : Got) (read : List Bytes) (chosen : Chosen P A) (k : FlushAt commit (a ≡ leader) plan) → next ≡ want plan → Gives shape w Flush next got read chosen →
         Moved commit (commit_then {P = P} {A = A} (Stands t) commit next got chosen) a leader (task_then (Some (Flush, plan)) next got)
@@ -145,7 +196,7 @@ module _ (P A : Type 0) (shape : Shape) where
         let F = plan_of (Rattle.wb_tasks.specs.Tables.Flushing [] k.most) (Rattle.wb_runs.proofs.Points.flush_left k.most k.point) k.answer in
         subst (λ (s : Plan). Moved commit (commit_then {P = P} {A = A} (Stands t) commit next got chosen) a leader (task_then (Some (Flush, s)) next got)) (sym k.is)
         (subst (λ (v : Want). Gives shape w Flush v got read chosen → Moved commit (commit_then {P = P} {A = A} (Stands t) commit v got chosen) a leader (task_then (Some (Flush, F)) v got)) (sym (h ∙ ap want k.is))
-        (λ g. flush_moves P A shape t commit devices.metadata known a leader k.most k.answer w refl refl got read chosen k.point k.at k.leads g) g)
+        (λ g. flush_moves P A shape t commit devices.metadata images known a leader k.most k.answer w refl refl got read chosen k.point k.at k.leads g) g)
 
     flush_failed : (plan : Plan) (next : Want) (choice : Choice) (chosen : Chosen P A) (k : FlushAt commit (a ≡ leader) plan) → next ≡ want plan → Falters w choice next chosen →
         Moved commit (commit_then {P = P} {A = A} (Stands t) commit next Fault chosen) a leader (task_then (Some (Flush, plan)) next Fault)
@@ -153,52 +204,34 @@ module _ (P A : Type 0) (shape : Shape) where
         let F = plan_of (Rattle.wb_tasks.specs.Tables.Flushing [] k.most) (Rattle.wb_runs.proofs.Points.flush_left k.most k.point) k.answer in
         subst (λ (s : Plan). Moved commit (commit_then {P = P} {A = A} (Stands t) commit next Fault chosen) a leader (task_then (Some (Flush, s)) next Fault)) (sym k.is)
         (subst (λ (v : Want). Falters w choice v chosen → Moved commit (commit_then {P = P} {A = A} (Stands t) commit v Fault chosen) a leader (task_then (Some (Flush, F)) v Fault)) (sym (h ∙ ap want k.is))
-        (λ g. flush_fails P A shape t commit devices.metadata known a leader k.most k.answer w choice chosen k.point k.at k.leads g) g)
-
-    at_work : (job : Job) (plan : Plan) → x.task ≡ Some (job, plan) → Working {P = P} {A = A} shape (Stands t) devices.origin l.low l.top job plan (slice_get n.doings a)
-    at_work job plan xt = subst (λ (k : Option (Job × Plan)). Acting {P = P} {A = A} shape (Stands t) devices.origin l.low l.top k (slice_get n.doings a)) xt (l.acting a x e)
-
-    mine : (job : Job) (plan : Plan) → x.task ≡ Some (job, plan) → FlushJob commit (a ≡ leader) job plan
-    mine job plan xt = subst (λ (k : Option (Job × Plan)). FlushTask commit (a ≡ leader) k) xt (each a x e)
+        (λ g. flush_fails P A shape t commit devices.metadata images known a leader k.most k.answer w choice chosen k.point k.at k.leads g) g)
 
     stands_done : (job : Job) (plan : Plan) (next : Want) (got : Got) (read : List Bytes) (chosen : Chosen P A) → x.task ≡ Some (job, plan) → next ≡ want plan → Gives shape w job next got read chosen → Then next got chosen
-    stands_done (Read extent) plan next got read chosen xt h g = from_moved next got chosen _ (ap (λ k. task_then k next got) xt)
-        (not_flush _ _ (read_commit extent next got chosen (read_next shape extent plan next (at_work (Read extent) plan xt).kept h)) (read_task extent plan next got))
-    stands_done (Write extent content) plan next got read chosen xt h g = from_moved next got chosen _ (ap (λ k. task_then k next got) xt)
-        (not_flush _ _ (write_commit extent next got chosen (let k = at_work (Write extent content) plan xt in write_next shape extent plan k.doing l.top next k.kept h)) (write_task extent content plan next got))
+    stands_done (Read extent) plan next got read chosen xt h g = let c = (claim (Read extent) plan xt).claim in block_goes (Read extent) plan next got chosen (Reading (block_range shape extent c.cut), c.is_job) (λ f. cc) xt h
+    stands_done (Write extent content) plan next got read chosen xt h g = let c = (claim (Write extent content) plan xt).claim in block_goes (Write extent content) plan next got chosen (Writing (block_range shape extent c.cut), c.is_job) (λ f. cc) xt h
+    stands_done (Migrate migration block) plan next got read chosen xt h g = let m = mine (Migrate migration block) plan xt in block_goes (Migrate migration block) plan next got chosen (Migrating migration m.0, m.1) (λ f. cc) xt h
     stands_done Flush plan next got read chosen xt h g = from_moved next got chosen _ (ap (λ k. task_then k next got) xt) (flush_done plan next got read chosen (mine Flush plan xt) h g)
-    stands_done (Open mode) plan next got read chosen xt h g = absurd ((at_work (Open mode) plan xt).here tt)
+    stands_done (Open mode) plan next got read chosen xt h g = absurd (served (Open mode) plan xt)
 
     stands_failed : (job : Job) (plan : Plan) (next : Want) (choice : Choice) (chosen : Chosen P A) → x.task ≡ Some (job, plan) → next ≡ want plan → Falters w choice next chosen → Then next Fault chosen
-    stands_failed (Read extent) plan next choice chosen xt h g = from_moved next Fault chosen _ (ap (λ k. task_then k next Fault) xt)
-        (not_flush _ _ (read_commit extent next Fault chosen (read_next shape extent plan next (at_work (Read extent) plan xt).kept h)) (read_task extent plan next Fault))
-    stands_failed (Write extent content) plan next choice chosen xt h g = from_moved next Fault chosen _ (ap (λ k. task_then k next Fault) xt)
-        (not_flush _ _ (write_commit extent next Fault chosen (let k = at_work (Write extent content) plan xt in write_next shape extent plan k.doing l.top next k.kept h)) (write_task extent content plan next Fault))
+    stands_failed (Read extent) plan next choice chosen xt h g = let c = (claim (Read extent) plan xt).claim in block_goes (Read extent) plan next Fault chosen (Reading (block_range shape extent c.cut), c.is_job) (λ f. cc) xt h
+    stands_failed (Write extent content) plan next choice chosen xt h g = let c = (claim (Write extent content) plan xt).claim in block_goes (Write extent content) plan next Fault chosen (Writing (block_range shape extent c.cut), c.is_job) (λ f. cc) xt h
+    stands_failed (Migrate migration block) plan next choice chosen xt h g = let m = mine (Migrate migration block) plan xt in block_goes (Migrate migration block) plan next Fault chosen (Migrating migration m.0, m.1) (λ f. cc) xt h
     stands_failed Flush plan next choice chosen xt h g = from_moved next Fault chosen _ (ap (λ k. task_then k next Fault) xt) (flush_failed plan next choice chosen (mine Flush plan xt) h g)
-    stands_failed (Open mode) plan next choice chosen xt h g = absurd ((at_work (Open mode) plan xt).here tt)
-
-    -- another task starts
-    task_starts : (job : Job) (chosen : Chosen P A) → Going {P = P} {A = A} (Stands t) commit (slice_set actors a (given shape x job chosen))
-    task_starts job chosen = (leader, flushes_set actors a x (given shape x job chosen) commit commit leader leader e each (by_job job) (λ b p o k. k))
-      where
-        by_job : (job : Job) → FlushJob commit (a ≡ leader) job (table (task_job shape job (cut_of chosen)))
-        by_job Flush = record { most = node_count shape.geometry.cache_blocks; answer = Finished; point = ToLook; is = refl; at = tt; leads = λ i. absurd i }
-        by_job (Read extent) = tt
-        by_job (Write extent content) = tt
-        by_job (Open mode) = tt
+    stands_failed (Open mode) plan next choice chosen xt h g = absurd (served (Open mode) plan xt)
 
   -- ---- an opening
 
-  module _ (mode : Mode) (reading : Option (ReadSteps A)) (devices : Devices (List History)) (commit : Option RunningCommit) (actors : List Actor) (n : Notes) (l : Linked {P = P} {A = A} shape (Opens mode reading) devices.origin actors n)
+  module _ (mode : Mode) (reading : Option (ReadSteps A)) (devices : Devices (List History)) (commit : Option RunningCommit) (actors : List Actor) (n : Notes) (l : Linked {P = P} {A = A} shape (Opens mode reading) actors n)
       (each : (b : ℕ) (z : Actor) → slice_get actors b ≡ Some z → OpenTask reading commit z.task) (a : ℕ) (x : Actor) (e : slice_get actors a ≡ Some x) where
     abbrev v : State P A
     v = record { devices = devices; commit = commit; phase = Opens mode reading; actors = actors }
 
-    opening_work : (job : Job) (plan : Plan) → x.task ≡ Some (job, plan) → Working {P = P} {A = A} shape (Opens mode reading) devices.origin l.low l.top job plan (slice_get n.doings a)
-    opening_work job plan xt = subst (λ (k : Option (Job × Plan)). Acting {P = P} {A = A} shape (Opens mode reading) devices.origin l.low l.top k (slice_get n.doings a)) xt (l.acting a x e)
+    opening_work : (job : Job) (plan : Plan) → x.task ≡ Some (job, plan) → IsOpeningJob job
+    opening_work job plan xt = subst (λ (k : Option (Job × Plan)). TaskHere {P = P} {A = A} (Opens mode reading) k) xt (l.here a x e)
 
-    opener : (job : Job) (plan : Plan) → x.task ≡ Some (job, plan) → a ≡ l.standing.0
-    opener job plan xt = l.standing.1 a x e (subst (λ (k : Option (Job × Plan)). IsTask k) (sym xt) tt)
+    opener : (job : Job) (plan : Plan) → x.task ≡ Some (job, plan) → a ≡ l.alone.0
+    opener job plan xt = l.alone.1 a x e (subst (λ (k : Option (Job × Plan)). IsTask k) (sym xt) tt)
 
     task_left : (m' : Mode) (plan : Plan) (next : Want) (got : Got) (chosen : Chosen P A) (k : OpenAt reading commit plan) → next ≡ want plan → (Goes : Want → Type 0) → Goes next →
         ((Goes (want (plan_of (Rattle.wb_tasks.specs.Tables.Opening k.sectors) (Rattle.wb_runs.proofs.Points.open_left k.sectors k.point) (Rattle.wb_runs.proofs.Points.open_answer k.point)))) →
@@ -212,13 +245,13 @@ module _ (P A : Type 0) (shape : Shape) where
         (subst (λ (u : Want). Goes u → OpenTask (reading_then reading u got chosen) (commit_then {P = P} {A = A} (Opens mode reading) commit u got chosen) (task_then (Some (Open m', O)) u got)) (sym (h ∙ ap want k.is)) f g)
 
     abbrev Later : Want → Got → Chosen P A → Type 0
-    Later next got chosen = Going {P = P} {A = A} (phase_then shape (Opens mode reading) next got chosen) (commit_then {P = P} {A = A} (Opens mode reading) commit next got chosen) (slice_set actors a (actor_then {P = P} {A = A} shape (Opens mode reading) x next got))
+    Later next got chosen = Going {P = P} {A = A} (phase_then shape (Opens mode reading) next got chosen) (commit_then {P = P} {A = A} (Opens mode reading) commit next got chosen) (slice_set actors a (actor_then {P = P} {A = A} shape (Opens mode reading) devices x next got))
 
     goes_later : (job : Job) (plan : Plan) (next : Want) (got : Got) (chosen : Chosen P A) → x.task ≡ Some (job, plan) → OpenTask (reading_then reading next got chosen) (commit_then {P = P} {A = A} (Opens mode reading) commit next got chosen) (task_then x.task next got) → Later next got chosen
-    goes_later job plan (Cell step) got chosen xt k = opens_set actors a x (actor_then {P = P} {A = A} shape (Opens mode reading) x (Cell step) got) l.standing.0 _ _ e l.standing.1 (opener job plan xt) k
-    goes_later job plan (Device step) got chosen xt k = opens_set actors a x (actor_then {P = P} {A = A} shape (Opens mode reading) x (Device step) got) l.standing.0 _ _ e l.standing.1 (opener job plan xt) k
-    goes_later job plan (Desk step) got chosen xt k = opens_set actors a x (actor_then {P = P} {A = A} shape (Opens mode reading) x (Desk step) got) l.standing.0 _ _ e l.standing.1 (opener job plan xt) k
-    goes_later job plan (End answer) got chosen xt k = idle (phase_opened shape mode reading chosen) _ _ (all_idle actors a x (actor_then {P = P} {A = A} shape (Opens mode reading) x (End answer) got) l.standing.0 e l.standing.1 (opener job plan xt) (ap (λ k. task_then k (End answer) got) xt))
+    goes_later job plan (Cell step) got chosen xt k = opens_set actors a x (actor_then {P = P} {A = A} shape (Opens mode reading) devices x (Cell step) got) l.alone.0 _ _ e l.alone.1 (opener job plan xt) k
+    goes_later job plan (Device step) got chosen xt k = opens_set actors a x (actor_then {P = P} {A = A} shape (Opens mode reading) devices x (Device step) got) l.alone.0 _ _ e l.alone.1 (opener job plan xt) k
+    goes_later job plan (Desk step) got chosen xt k = opens_set actors a x (actor_then {P = P} {A = A} shape (Opens mode reading) devices x (Desk step) got) l.alone.0 _ _ e l.alone.1 (opener job plan xt) k
+    goes_later job plan (End answer) got chosen xt k = idle (phase_opened shape mode reading chosen) _ _ (all_idle actors a x (actor_then {P = P} {A = A} shape (Opens mode reading) devices x (End answer) got) l.alone.0 e l.alone.1 (opener job plan xt) (ap (λ k. task_then k (End answer) got) xt))
 
     my_opening : (m' : Mode) (plan : Plan) → x.task ≡ Some (Open m', plan) → OpenAt reading commit plan
     my_opening m' plan xt = subst (λ (k : Option (Job × Plan)). OpenTask reading commit k) xt (each a x e)
@@ -227,59 +260,69 @@ module _ (P A : Type 0) (shape : Shape) where
     opens_done (Open m') plan next got read chosen xt h g = let k = my_opening m' plan xt in goes_later (Open m') plan next got chosen xt
         (subst (λ (q : Option (Job × Plan)). OpenTask (reading_then reading next got chosen) (commit_then {P = P} {A = A} (Opens mode reading) commit next got chosen) (task_then q next got)) (sym xt)
         (task_left m' plan next got chosen k h (λ u. Gives shape v (Open m') u got read chosen) g (λ g. open_moves P A shape mode m' reading commit v k.sectors got read chosen k.point k.at g)))
-    opens_done (Read extent) plan next got read chosen xt h g = absurd (opening_work (Read extent) plan xt).here
-    opens_done (Write extent content) plan next got read chosen xt h g = absurd (opening_work (Write extent content) plan xt).here
-    opens_done Flush plan next got read chosen xt h g = absurd (opening_work Flush plan xt).here
+    opens_done (Read extent) plan next got read chosen xt h g = absurd (opening_work (Read extent) plan xt)
+    opens_done (Write extent content) plan next got read chosen xt h g = absurd (opening_work (Write extent content) plan xt)
+    opens_done Flush plan next got read chosen xt h g = absurd (opening_work Flush plan xt)
+    opens_done (Migrate migration block) plan next got read chosen xt h g = absurd (opening_work (Migrate migration block) plan xt)
 
     opens_failed : (job : Job) (plan : Plan) (next : Want) (choice : Choice) (chosen : Chosen P A) → x.task ≡ Some (job, plan) → next ≡ want plan → Falters v choice next chosen → Later next Fault chosen
     opens_failed (Open m') plan next choice chosen xt h g = let k = my_opening m' plan xt in goes_later (Open m') plan next Fault chosen xt
         (subst (λ (q : Option (Job × Plan)). OpenTask (reading_then reading next Fault chosen) (commit_then {P = P} {A = A} (Opens mode reading) commit next Fault chosen) (task_then q next Fault)) (sym xt)
         (task_left m' plan next Fault chosen k h (λ u. Falters v choice u chosen) g (λ g. open_fails P A shape mode m' reading commit v k.sectors choice chosen k.point g)))
-    opens_failed (Read extent) plan next choice chosen xt h g = absurd (opening_work (Read extent) plan xt).here
-    opens_failed (Write extent content) plan next choice chosen xt h g = absurd (opening_work (Write extent content) plan xt).here
-    opens_failed Flush plan next choice chosen xt h g = absurd (opening_work Flush plan xt).here
+    opens_failed (Read extent) plan next choice chosen xt h g = absurd (opening_work (Read extent) plan xt)
+    opens_failed (Write extent content) plan next choice chosen xt h g = absurd (opening_work (Write extent content) plan xt)
+    opens_failed Flush plan next choice chosen xt h g = absurd (opening_work Flush plan xt)
+    opens_failed (Migrate migration block) plan next choice chosen xt h g = absurd (opening_work (Migrate migration block) plan xt)
 
   -- ---- events
 
-  step_by_phase : (w : State P A) (n : Notes) (a : ℕ) (x : Actor) (job : Job) (plan : Plan) (next : Want) (got : Got) (read : List Bytes) (chosen : Chosen P A) → Known P A shape w → LinkedTo P A shape w n → GoesOn w → slice_get w.actors a ≡ Some x → x.task ≡ Some (job, plan) →
-      next ≡ want plan → Gives shape w job next got read chosen → Going {P = P} {A = A} (phase_then shape w.phase next got chosen) (commit_then w.phase w.commit next got chosen) (slice_set w.actors a (actor_then shape w.phase x next got))
-  step_by_phase w n a x job plan next got read chosen known l k e xt h g = cases w.devices w.commit w.phase w.actors known l k e g
-    where
-      cases : (devices : Devices (List History)) (commit : Option RunningCommit) (phase : Phase P A) (actors : List Actor) → Known P A shape (record { devices = devices; commit = commit; phase = phase; actors = actors }) → Linked {P = P} {A = A} shape phase devices.origin actors n → Going phase commit actors →
-          slice_get actors a ≡ Some x → Gives shape (record { devices = devices; commit = commit; phase = phase; actors = actors }) job next got read chosen → Going {P = P} {A = A} (phase_then shape phase next got chosen) (commit_then phase commit next got chosen) (slice_set actors a (actor_then shape phase x next got))
-      cases devices commit (Stands t) actors known l k e g = stands_done t devices commit actors n known l k.0 k.1 a x e job plan next got read chosen xt h g
-      cases devices commit Gone actors known l k e g = tt
-      cases devices commit (Opens mode reading) actors known l k e g = opens_done mode reading devices commit actors n l k a x e job plan next got read chosen xt h g
+  module _ (w : State P A) (n : Notes) (base : Base P A shape w n) (k : GoesOn w) (a : ℕ) (x : Actor) (e : slice_get w.actors a ≡ Some x) (job : Job) (plan : Plan) (xt : x.task ≡ Some (job, plan)) where
+    -- by a step that this phase lets it do
+    by_phase : (next : Want) (got : Got) (chosen : Chosen P A) (Does : State P A → Type 0) → Does w →
+        ((t : Target P) → Does (record { devices = w.devices; commit = w.commit; phase = Stands t; actors = w.actors }) → (known : AtDesk shape.geometry base.known.images t.desk w.commit w.devices.metadata) → Linked {P = P} {A = A} shape (Stands t) w.actors n → Going {P = P} {A = A} (Stands t) w.commit w.actors →
+        Going {P = P} {A = A} (phase_then shape (Stands t) next got chosen) (commit_then {P = P} {A = A} (Stands t) w.commit next got chosen) (slice_set w.actors a (actor_then {P = P} {A = A} shape (Stands t) w.devices x next got))) →
+        ((mode : Mode) (reading : Option (ReadSteps A)) → Does (record { devices = w.devices; commit = w.commit; phase = Opens mode reading; actors = w.actors }) → Linked {P = P} {A = A} shape (Opens mode reading) w.actors n → Going {P = P} {A = A} (Opens mode reading) w.commit w.actors →
+        Going {P = P} {A = A} (phase_then shape (Opens mode reading) next got chosen) (commit_then {P = P} {A = A} (Opens mode reading) w.commit next got chosen) (slice_set w.actors a (actor_then {P = P} {A = A} shape (Opens mode reading) w.devices x next got))) →
+        Going {P = P} {A = A} (phase_then shape w.phase next got chosen) (commit_then w.phase w.commit next got chosen) (slice_set w.actors a (actor_then shape w.phase w.devices x next got))
+    by_phase next got chosen Does d stands opens = cases w.phase base.known.known base.linked k d
+      where
+        cases : (phase : Phase P A) → MetadataKept shape.geometry base.known.images phase w.commit w.devices.metadata → Linked {P = P} {A = A} shape phase w.actors n → Going phase w.commit w.actors → Does (record { devices = w.devices; commit = w.commit; phase = phase; actors = w.actors }) →
+            Going {P = P} {A = A} (phase_then shape phase next got chosen) (commit_then phase w.commit next got chosen) (slice_set w.actors a (actor_then shape phase w.devices x next got))
+        cases (Stands t) known l k d = stands t d known l k
+        cases Gone known l k d = tt
+        cases (Opens mode reading) known l k d = opens mode reading d l k
 
-  fault_by_phase : (w : State P A) (n : Notes) (a : ℕ) (x : Actor) (job : Job) (plan : Plan) (next : Want) (choice : Choice) (chosen : Chosen P A) → Known P A shape w → LinkedTo P A shape w n → GoesOn w → slice_get w.actors a ≡ Some x → x.task ≡ Some (job, plan) →
-      next ≡ want plan → Falters w choice next chosen → Going {P = P} {A = A} (phase_then shape w.phase next Fault chosen) (commit_then w.phase w.commit next Fault chosen) (slice_set w.actors a (actor_then shape w.phase x next Fault))
-  fault_by_phase w n a x job plan next choice chosen known l k e xt h g = cases w.devices w.commit w.phase w.actors known l k e g
-    where
-      cases : (devices : Devices (List History)) (commit : Option RunningCommit) (phase : Phase P A) (actors : List Actor) → Known P A shape (record { devices = devices; commit = commit; phase = phase; actors = actors }) → Linked {P = P} {A = A} shape phase devices.origin actors n → Going phase commit actors →
-          slice_get actors a ≡ Some x → Falters (record { devices = devices; commit = commit; phase = phase; actors = actors }) choice next chosen → Going {P = P} {A = A} (phase_then shape phase next Fault chosen) (commit_then phase commit next Fault chosen) (slice_set actors a (actor_then shape phase x next Fault))
-      cases devices commit (Stands t) actors known l k e g = stands_failed t devices commit actors n known l k.0 k.1 a x e job plan next choice chosen xt h g
-      cases devices commit Gone actors known l k e g = tt
-      cases devices commit (Opens mode reading) actors known l k e g = opens_failed mode reading devices commit actors n l k a x e job plan next choice chosen xt h g
+    steps_on : (next : Want) (got : Got) (read : List Bytes) (chosen : Chosen P A) → next ≡ want plan → Gives shape w job next got read chosen →
+        Going {P = P} {A = A} (phase_then shape w.phase next got chosen) (commit_then w.phase w.commit next got chosen) (slice_set w.actors a (actor_then shape w.phase w.devices x next got))
+    steps_on next got read chosen h g = by_phase next got chosen (λ v. Gives shape v job next got read chosen) g
+        (λ t d known l k. stands_done t w.devices w.commit w.actors n base.known.images known l base.used.suited k.0 k.1 a x e job plan next got read chosen xt h d)
+        (λ mode reading d l k. opens_done mode reading w.devices w.commit w.actors n l k a x e job plan next got read chosen xt h d)
 
-  by_step : (w : State P A) (n : Notes) (a : ℕ) (next : Want) (got : Got) (read : List Bytes) (chosen : Chosen P A) (o : Option Actor) → slice_get w.actors a ≡ o → Known P A shape w → LinkedTo P A shape w n → GoesOn w →
-      OfSome o (λ x. OfSome x.task (λ doing. (next ≡ want doing.1) × Gives shape w doing.0 next got read chosen)) → GoesOn (with_actor w o (λ x. stepped shape w a x next got chosen (λ step. device_done (job_of x.task) step chosen)))
-  by_step w n a next got read chosen None e known l k h = absurd h
-  by_step w n a next got read chosen (Some x) e known l k h = by_task x.task refl h
+    faults_on : (choice : Choice) (next : Want) (chosen : Chosen P A) → next ≡ want plan → Falters w choice next chosen →
+        Going {P = P} {A = A} (phase_then shape w.phase next Fault chosen) (commit_then w.phase w.commit next Fault chosen) (slice_set w.actors a (actor_then shape w.phase w.devices x next Fault))
+    faults_on choice next chosen h g = by_phase next Fault chosen (λ v. Falters v choice next chosen) g
+        (λ t d known l k. stands_failed t w.devices w.commit w.actors n base.known.images known l base.used.suited k.0 k.1 a x e job plan next choice chosen xt h d)
+        (λ mode reading d l k. opens_failed mode reading w.devices w.commit w.actors n l k a x e job plan next choice chosen xt h d)
+
+  by_step : (w : State P A) (n : Notes) (a : ℕ) (next : Want) (got : Got) (read : List Bytes) (chosen : Chosen P A) (o : Option Actor) → slice_get w.actors a ≡ o → Base P A shape w n → GoesOn w →
+      OfSome o (λ x. OfSome x.task (λ doing. (next ≡ want doing.1) × Gives shape w doing.0 next got read chosen)) → GoesOn (with_actor w o (λ x. stepped shape w a x next got chosen (λ step. device_done (job_of x.task) x.buffer step chosen)))
+  by_step w n a next got read chosen None e b k h = absurd h
+  by_step w n a next got read chosen (Some x) e b k h = by_task x.task refl h
     where
-      by_task : (task : Option (Job × Plan)) → x.task ≡ task → OfSome task (λ doing. (next ≡ want doing.1) × Gives shape w doing.0 next got read chosen) → GoesOn (stepped shape w a x next got chosen (λ step. device_done (job_of x.task) step chosen))
+      by_task : (task : Option (Job × Plan)) → x.task ≡ task → OfSome task (λ doing. (next ≡ want doing.1) × Gives shape w doing.0 next got read chosen) → GoesOn (stepped shape w a x next got chosen (λ step. device_done (job_of x.task) x.buffer step chosen))
       by_task None xt h = absurd h
-      by_task (Some doing) xt h = step_by_phase w n a x doing.0 doing.1 next got read chosen known l k e xt h.0 h.1
+      by_task (Some doing) xt h = steps_on w n b k a x e doing.0 doing.1 xt next got read chosen h.0 h.1
 
-  by_fault : (w : State P A) (n : Notes) (a : ℕ) (choice : Choice) (next : Want) (chosen : Chosen P A) (o : Option Actor) → slice_get w.actors a ≡ o → Known P A shape w → LinkedTo P A shape w n → GoesOn w →
+  by_fault : (w : State P A) (n : Notes) (a : ℕ) (choice : Choice) (next : Want) (chosen : Chosen P A) (o : Option Actor) → slice_get w.actors a ≡ o → Base P A shape w n → GoesOn w →
       OfSome o (λ x. OfSome x.task (λ doing. (next ≡ want doing.1) × MayFailAt w.devices choice next × Falters w choice next chosen)) →
-      GoesOn (with_actor w o (λ x. stepped shape w a x next Fault chosen (λ step. device_failed (lands (device_of step) choice) (job_of x.task) step chosen)))
-  by_fault w n a choice next chosen None e known l k h = absurd h
-  by_fault w n a choice next chosen (Some x) e known l k h = by_task x.task refl h
+      GoesOn (with_actor w o (λ x. stepped shape w a x next Fault chosen (λ step. device_failed (lands (device_of step) choice) (job_of x.task) x.buffer step chosen)))
+  by_fault w n a choice next chosen None e b k h = absurd h
+  by_fault w n a choice next chosen (Some x) e b k h = by_task x.task refl h
     where
       by_task : (task : Option (Job × Plan)) → x.task ≡ task → OfSome task (λ doing. (next ≡ want doing.1) × MayFailAt w.devices choice next × Falters w choice next chosen) →
-          GoesOn (stepped shape w a x next Fault chosen (λ step. device_failed (lands (device_of step) choice) (job_of x.task) step chosen))
+          GoesOn (stepped shape w a x next Fault chosen (λ step. device_failed (lands (device_of step) choice) (job_of x.task) x.buffer step chosen))
       by_task None xt h = absurd h
-      by_task (Some doing) xt h = fault_by_phase w n a x doing.0 doing.1 next choice chosen known l k e xt h.0 h.2
+      by_task (Some doing) xt h = faults_on w n b k a x e doing.0 doing.1 xt choice next chosen h.0 h.2
 
   -- an opening starts, alone
   opening_starts : (mode : Mode) (actors : List Actor) (a : ℕ) (chosen : Chosen P A) (x : Actor) → slice_get (map (λ (x : Actor). resting) actors) a ≡ Some x →
@@ -300,65 +343,87 @@ module _ (P A : Type 0) (shape : Shape) where
       first : OpenAt {A = A} None None (table (task_job shape (Open mode) (cut_of chosen)))
       first = record { sectors = shape.geometry.meta_sectors; point = AtFirst; is = refl; at = (refl, omega (arith, shape.geometry.within.meta_from)) }
 
-  task_by_phase : (w : State P A) (n : Notes) (a : ℕ) (x : Actor) (job : Job) (chosen : Chosen P A) → Known P A shape w → LinkedTo P A shape w n → GoesOn w → slice_get w.actors a ≡ Some x → (¬ (¬ OfTarget w.phase (λ t. Unit {0}))) →
-      Going w.phase w.commit (slice_set w.actors a (given shape x job chosen))
-  task_by_phase w n a x job chosen known l k e p = cases w.devices w.commit w.phase w.actors known l k e p
-    where
-      cases : (devices : Devices (List History)) (commit : Option RunningCommit) (phase : Phase P A) (actors : List Actor) → Known P A shape (record { devices = devices; commit = commit; phase = phase; actors = actors }) → Linked {P = P} {A = A} shape phase devices.origin actors n → Going phase commit actors →
-          slice_get actors a ≡ Some x → (¬ (¬ OfTarget phase (λ t. Unit {0}))) → Going phase commit (slice_set actors a (given shape x job chosen))
-      cases devices commit (Stands t) actors known l k e p = task_starts t devices commit actors n known l k.0 k.1 a x e job chosen
-      cases devices commit Gone actors known l k e p = tt
-      cases devices commit (Opens mode reading) actors known l k e p = absurd (p (λ z. z))
+  -- an order that is given leaves where everybody stands
+  given_goes : (phase : Phase P A) (commit : Option RunningCommit) (actors : List Actor) (job : Job) (chosen : Chosen P A) → Going phase commit actors → Going (phase_given phase job chosen) commit actors
+  given_goes (Stands t) commit actors (Migrate migration block) (Orders cut cache) k = k
+  given_goes (Stands t) commit actors (Migrate migration block) Plain k = k
+  given_goes (Stands t) commit actors (Migrate migration block) (Cut cut) k = k
+  given_goes (Stands t) commit actors (Migrate migration block) (Begins now) k = k
+  given_goes (Stands t) commit actors (Migrate migration block) (Reaches now c) k = k
+  given_goes (Stands t) commit actors (Migrate migration block) (Puts new) k = k
+  given_goes (Stands t) commit actors (Migrate migration block) (Commits c tree) k = k
+  given_goes (Stands t) commit actors (Migrate migration block) (Asks new) k = k
+  given_goes (Stands t) commit actors (Migrate migration block) (Opened policy) k = k
+  given_goes (Stands t) commit actors (Read extent) chosen k = k
+  given_goes (Stands t) commit actors (Write extent content) chosen k = k
+  given_goes (Stands t) commit actors Flush chosen k = k
+  given_goes (Stands t) commit actors (Open mode) chosen k = k
+  given_goes Gone commit actors job chosen k = k
+  given_goes (Opens mode reading) commit actors job chosen k = k
 
-  starts : (w : State P A) (n : Notes) (a : ℕ) (job : Job) (chosen : Chosen P A) → Known P A shape w → LinkedTo P A shape w n → GoesOn w → (¬ DoesNotApply w (Start a job)) →
-      GoesOn (with_actor (cleared w job) (slice_get (cleared w job).actors a) (λ x. record (cleared w job) { actors = slice_set (cleared w job).actors a (given shape x job chosen) }))
-  starts w n a (Open mode) chosen known l k applies = by_actor (slice_get (map (λ (x : Actor). resting) w.actors) a) refl
+  -- a task starts where a target stands
+  task_by_phase : (phase : Phase P A) (commit : Option RunningCommit) (actors : List Actor) (a : ℕ) (x : Actor) (job : Job) (chosen : Chosen P A) → slice_get actors a ≡ Some x → (¬ (¬ OfTarget phase (λ t. Unit {0}))) → Going phase commit actors →
+      Going (phase_given phase job chosen) commit (slice_set actors a (given {P = P} {A = A} shape x job chosen))
+  task_by_phase (Stands t) commit actors a x job chosen e p k = given_goes (Stands t) commit _ job chosen
+      (k.0, flushes_set actors a x (given {P = P} {A = A} shape x job chosen) commit commit k.0 k.0 e k.1 (by_job job) (λ b p o f. f))
+    where
+      by_job : (job : Job) → FlushJob commit (a ≡ k.0) job (table (task_job shape job (cut_of chosen)))
+      by_job Flush = record { most = node_count shape.geometry.cache_blocks; answer = Finished; point = ToLook; is = refl; at = tt; leads = λ i. absurd i }
+      by_job (Read extent) = tt
+      by_job (Write extent content) = tt
+      by_job (Open mode) = tt
+      by_job (Migrate migration block) = (migrated_range shape block (cut_of chosen), refl)
+  task_by_phase Gone commit actors a x job chosen e p k = tt
+  task_by_phase (Opens mode reading) commit actors a x job chosen e p k = absurd (p (λ z. z))
+
+  starts : (w : State P A) (a : ℕ) (job : Job) (chosen : Chosen P A) → GoesOn w → (¬ DoesNotApply w (Start a job)) → GoesOn (started shape w a job chosen)
+  starts w a (Open mode) chosen k applies = by_actor (slice_get (map (λ (x : Actor). resting) w.actors) a) refl
     where
       by_actor : (o : Option Actor) → slice_get (map (λ (x : Actor). resting) w.actors) a ≡ o →
-          GoesOn (with_actor (cleared w (Open mode)) o (λ x. record (cleared w (Open mode)) { actors = slice_set (cleared w (Open mode)).actors a (given shape x (Open mode) chosen) }))
+          GoesOn (with_actor (cleared w (Open mode)) o (λ x. record (cleared w (Open mode)) { phase = phase_given (cleared w (Open mode)).phase (Open mode) chosen; actors = slice_set (cleared w (Open mode)).actors a (given shape x (Open mode) chosen) }))
       by_actor None e = λ b z f. subst (λ (k : Option (Job × Plan)). OpenTask {A = A} None None k) (sym (rests w.actors b z f).0) tt
       by_actor (Some x) e = opening_starts mode w.actors a chosen x e
-  starts w n a (Read extent) chosen known l k applies = let f = free P A shape w n a (Read extent) applies in
-      subst (λ (o : Option Actor). GoesOn (with_actor w o (λ x. record w { actors = slice_set w.actors a (given shape x (Read extent) chosen) }))) (sym f.1) (task_by_phase w n a f.0 (Read extent) chosen known l k f.1 (λ p. applies (inr (inr p))))
-  starts w n a (Write extent content) chosen known l k applies = let f = free P A shape w n a (Write extent content) applies in
-      subst (λ (o : Option Actor). GoesOn (with_actor w o (λ x. record w { actors = slice_set w.actors a (given shape x (Write extent content) chosen) }))) (sym f.1) (task_by_phase w n a f.0 (Write extent content) chosen known l k f.1 (λ p. applies (inr (inr p))))
-  starts w n a Flush chosen known l k applies = let f = free P A shape w n a Flush applies in
-      subst (λ (o : Option Actor). GoesOn (with_actor w o (λ x. record w { actors = slice_set w.actors a (given shape x Flush chosen) }))) (sym f.1) (task_by_phase w n a f.0 Flush chosen known l k f.1 (λ p. applies (inr (inr p))))
+  starts w a (Read extent) chosen k applies = let f = free P A w a (Read extent) applies in
+      subst (λ (o : Option Actor). GoesOn (with_actor w o (λ x. record w { phase = phase_given w.phase (Read extent) chosen; actors = slice_set w.actors a (given shape x (Read extent) chosen) }))) (sym f.1) (task_by_phase w.phase w.commit w.actors a f.0 (Read extent) chosen f.1 (λ p. applies (inr (inr p))) k)
+  starts w a (Write extent content) chosen k applies = let f = free P A w a (Write extent content) applies in
+      subst (λ (o : Option Actor). GoesOn (with_actor w o (λ x. record w { phase = phase_given w.phase (Write extent content) chosen; actors = slice_set w.actors a (given shape x (Write extent content) chosen) }))) (sym f.1) (task_by_phase w.phase w.commit w.actors a f.0 (Write extent content) chosen f.1 (λ p. applies (inr (inr p))) k)
+  starts w a Flush chosen k applies = let f = free P A w a Flush applies in
+      subst (λ (o : Option Actor). GoesOn (with_actor w o (λ x. record w { phase = phase_given w.phase Flush chosen; actors = slice_set w.actors a (given shape x Flush chosen) }))) (sym f.1) (task_by_phase w.phase w.commit w.actors a f.0 Flush chosen f.1 (λ p. applies (inr (inr p))) k)
+  starts w a (Migrate migration block) chosen k applies = let f = free P A w a (Migrate migration block) applies in
+      subst (λ (o : Option Actor). GoesOn (with_actor w o (λ x. record w { phase = phase_given w.phase (Migrate migration block) chosen; actors = slice_set w.actors a (given shape x (Migrate migration block) chosen) }))) (sym f.1) (task_by_phase w.phase w.commit w.actors a f.0 (Migrate migration block) chosen f.1 (λ p. applies (inr (inr (inl p)))) k)
 
-  by_event : (w : State P A) (n : Notes) (event : Event) (what : What) (read : List Bytes) (chosen : Chosen P A) → Known P A shape w → LinkedTo P A shape w n → GoesOn w → MayBe shape w event what read chosen → GoesOn (after_what shape w event what chosen)
-  by_event w n (Start a job) Started read chosen known l k h = starts w n a job chosen known l k h.1
-  by_event w n (Start a job) Skipped read chosen known l k h = k
-  by_event w n (Start a job) (Refused refusal) read chosen known l k h = k
-  by_event w n (Start a job) (Stepped next got) read chosen known l k h = k
-  by_event w n (Start a job) Stopped read chosen known l k h = k
-  by_event w n (Step a) (Stepped next got) read chosen known l k h = by_step w n a next got read chosen (slice_get w.actors a) refl known l k h
-  by_event w n (Step a) Skipped read chosen known l k h = k
-  by_event w n (Step a) (Refused refusal) read chosen known l k h = k
-  by_event w n (Step a) Started read chosen known l k h = k
-  by_event w n (Step a) Stopped read chosen known l k h = k
-  by_event w n (FaultStep a choice) (Stepped next got) read chosen known l k h =
-      subst (λ (g : Got). GoesOn (after_what shape w (FaultStep a choice) (Stepped next g) chosen)) (sym h.1) (by_fault w n a choice next chosen (slice_get w.actors a) refl known l k h.2)
-  by_event w n (FaultStep a choice) Skipped read chosen known l k h = k
-  by_event w n (FaultStep a choice) (Refused refusal) read chosen known l k h = k
-  by_event w n (FaultStep a choice) Started read chosen known l k h = k
-  by_event w n (FaultStep a choice) Stopped read chosen known l k h = k
-  by_event w n (Stop choice) Stopped read chosen known l k h = tt
-  by_event w n (Stop choice) Skipped read chosen known l k h = k
-  by_event w n (Stop choice) (Refused refusal) read chosen known l k h = k
-  by_event w n (Stop choice) Started read chosen known l k h = k
-  by_event w n (Stop choice) (Stepped next got) read chosen known l k h = k
+  by_event : (w : State P A) (n : Notes) (event : Event) (what : What) (read : List Bytes) (chosen : Chosen P A) → Base P A shape w n → GoesOn w → MayBe shape w event what read chosen → GoesOn (after_what shape w event what chosen)
+  by_event w n (Start a job) Started read chosen b k h = starts w a job chosen k h.1
+  by_event w n (Start a job) Skipped read chosen b k h = k
+  by_event w n (Start a job) (Refused refusal) read chosen b k h = k
+  by_event w n (Start a job) (Stepped next got) read chosen b k h = k
+  by_event w n (Start a job) Stopped read chosen b k h = k
+  by_event w n (Step a) (Stepped next got) read chosen b k h = by_step w n a next got read chosen (slice_get w.actors a) refl b k h
+  by_event w n (Step a) Skipped read chosen b k h = k
+  by_event w n (Step a) (Refused refusal) read chosen b k h = k
+  by_event w n (Step a) Started read chosen b k h = k
+  by_event w n (Step a) Stopped read chosen b k h = k
+  by_event w n (FaultStep a choice) (Stepped next got) read chosen b k h =
+      subst (λ (g : Got). GoesOn (after_what shape w (FaultStep a choice) (Stepped next g) chosen)) (sym h.1) (by_fault w n a choice next chosen (slice_get w.actors a) refl b k h.2)
+  by_event w n (FaultStep a choice) Skipped read chosen b k h = k
+  by_event w n (FaultStep a choice) (Refused refusal) read chosen b k h = k
+  by_event w n (FaultStep a choice) Started read chosen b k h = k
+  by_event w n (FaultStep a choice) Stopped read chosen b k h = k
+  by_event w n (Stop choice) Stopped read chosen b k h = tt
+  by_event w n (Stop choice) Skipped read chosen b k h = k
+  by_event w n (Stop choice) (Refused refusal) read chosen b k h = k
+  by_event w n (Stop choice) Started read chosen b k h = k
+  by_event w n (Stop choice) (Stepped next got) read chosen b k h = k
 
   -- what every run keeps
   pub record Kept (w : State P A) : Type 0 where
     pub notes : Notes
-    pub known : Known P A shape w
-    pub linked : LinkedTo P A shape w notes
+    pub base : Base P A shape w notes
     pub goes : GoesOn w
 
-  always_kept : (w : State P A) (n : Notes) (hs : List (Happening P A)) → Known P A shape w → LinkedTo P A shape w n → GoesOn w → IsRun shape w hs → Kept (after_all shape w hs)
-  always_kept w n [] known l k r = record { notes = n; known = known; linked = l; goes = k }
-  always_kept w n (h ∷ hs) known l k r = always_kept (after_happening shape w h) (note_happening shape w n h) hs (known_after P A shape w h known r.0)
-      (by_what P A shape w n h.record_is.event h.record_is.what h.record_is.read.items h.chosen known l r.0) (by_event w n h.record_is.event h.record_is.what h.record_is.read.items h.chosen known l k r.0) r.1
+  always_kept : (w : State P A) (n : Notes) (hs : List (Happening P A)) → Base P A shape w n → GoesOn w → IsRun shape w hs → Kept (after_all shape w hs)
+  always_kept w n [] b k r = record { notes = n; base = b; goes = k }
+  always_kept w n (h ∷ hs) b k r = always_kept (after_happening shape w h) (note_happening shape w n h) hs (base_after P A shape w n h b r.0) (by_event w n h.record_is.event h.record_is.what h.record_is.read.items h.chosen b k r.0) r.1
 
   pub run_kept : (metadata : List History) (hs : List (Happening P A)) → IsFormatted shape.geometry metadata → length metadata ≡ shape.geometry.meta_sectors → IsRun shape (start shape metadata) hs → Kept (after_all shape (start shape metadata) hs)
-  run_kept metadata hs f size run = always_kept (start shape metadata) (formatted shape) hs (known_at_start P A shape metadata f size) (at_start P A shape metadata) tt run
+  run_kept metadata hs f size run = always_kept (start shape metadata) (formatted shape) hs (base_start P A shape metadata f size) tt run

@@ -21,6 +21,7 @@ use Rattle.wb_tasks.specs.declared.step.Got.{Got}
 use Rattle.wb_tasks.specs.declared.step.Got.TheVariants.{Refused as GotRefused, More}
 use Rattle.wb_runs.specs.Happenings.{Chosen, Reaches, DoesRead}
 use Rattle.wb_runs.proofs.Spelling.{root_or_none}
+use Rattle.wb_runs.proofs.Images.{Images}
 use Rattle.wb_runs.proofs.Metadata.{HasReached}
 
 -- ---- a generation that is spelled
@@ -116,8 +117,8 @@ module _ (P A : Type 0) (g : Geometry) (device : List History) where
   no_memory : (left : ℕ) (was : ReadSteps A) → StopsBy was device Memory → CanRead P A g left was device
   no_memory left was stops = record { got = GotRefused Memory; chosen = Reaches None None; does = (λ e. absurd (cc), inr (Memory, tt, stops, refl, refl, refl)) }
 
-  first_stops : (alloc : _) (global : _) (first : Option Root) → HasReached {A = A} g (FirstSlotRead alloc global first) device → StopsBy {A = A} (FirstSlotRead alloc global first) device Memory
-  first_stops alloc global first k = λ sectors agree has.
+  first_stops : (i : Images) (alloc : _) (global : _) (first : Option Root) → HasReached {A = A} g i (FirstSlotRead alloc global first) device → StopsBy {A = A} (FirstSlotRead alloc global first) device Memory
+  first_stops i alloc global first k = λ sectors agree has.
       let n = (k.found.read.represents (map newest device) (read-left device)).newest in
       record {
         root = k.found.committed.root;
@@ -145,8 +146,8 @@ module _ (P A : Type 0) (g : Geometry) (device : List History) where
   begins : (alloc : A) (global : Global) (left : ℕ) → 1 ≤ left → 1 ≤ length device → CanRead P A g left (Begun alloc global) device
   begins alloc global left more some = let slot = some_slot some in record { got = More; chosen = Reaches (Some (FirstSlotRead alloc global slot.0)) None; does = first_read alloc global left slot.0 slot.1 more }
 
-  pub can_read : (left : ℕ) (was : ReadSteps A) → HasReached g was device → (sectors_read was ≡ 0 → 1 ≤ left) → 1 ≤ length device → CanRead P A g left was device
-  can_read left (Begun alloc global) k more some = begins alloc global left (more refl) some
-  can_read left (FirstSlotRead alloc global first) k more some = no_memory left (FirstSlotRead alloc global first) (first_stops alloc global first k)
-  can_read left (RootFound global root loader) k more some = no_memory left (RootFound global root loader) (λ sectors agree has. record { root = root; newest = has.newest; size = k.on.0.size ∙ sym agree.size })
-  can_read left (AllRead state) k more some = no_memory left (AllRead state) (λ sectors agree has. record { root = state.root; newest = has.represents.newest; size = has.size })
+  pub can_read : (i : Images) (left : ℕ) (was : ReadSteps A) → HasReached g i was device → (sectors_read was ≡ 0 → 1 ≤ left) → 1 ≤ length device → CanRead P A g left was device
+  can_read i left (Begun alloc global) k more some = begins alloc global left (more refl) some
+  can_read i left (FirstSlotRead alloc global first) k more some = no_memory left (FirstSlotRead alloc global first) (first_stops i alloc global first k)
+  can_read i left (RootFound global root loader) k more some = no_memory left (RootFound global root loader) (λ sectors agree has. record { root = root; newest = has.newest; size = k.on.0.size ∙ sym agree.size })
+  can_read i left (AllRead state) k more some = no_memory left (AllRead state) (λ sectors agree has. record { root = state.root; newest = has.represents.newest; size = has.size })

@@ -16,20 +16,21 @@ use Rattle.wb_meta.proofs.OneReading.{one_newest, not_refused}
 use Rattle.wb_tasks.specs.declared.step.Got.TheVariants.{Refused as GotRefused}
 use Rattle.wb_devices.specs.Opened.{got_of_refusal}
 use Rattle.wb_runs.specs.Happenings.{Chosen, Reaches, DoesRead}
+use Rattle.wb_runs.proofs.Images.{Images}
 use Rattle.wb_runs.proofs.Metadata.{HasReached}
 
-module _ (P A : Type 0) (g : Geometry) (device : List History) (was : ReadSteps A) where
+module _ (P A : Type 0) (g : Geometry) (i : Images) (device : List History) (was : ReadSteps A) where
   abbrev Cause : Refusal → Type 0
   Cause refusal = (refusal ≡ Memory) ⊎ (refusal ≡ GenerationEnd)
 
   agrees : (at : Option ℕ) → AgreeThere at device (map newest device)
   agrees at = record { size = length-map device newest; here = λ place e. refl }
 
-  represents : (k : HasReached g was device) → Represents (map newest device) k.found.committed.root k.found.committed.found
+  represents : (k : HasReached g i was device) → Represents (map newest device) k.found.committed.root k.found.committed.found
   represents k = k.found.read.represents (map newest device) (read-left device)
 
   -- the root that was found is of this geometry
-  known_fits : HasReached g was device → (now : ReadSteps A) → HasRead (map newest device) now → (root : Root) → known_root now ≡ Some root → root.geometry ≡ g
+  known_fits : HasReached g i was device → (now : ReadSteps A) → HasRead (map newest device) now → (root : Root) → known_root now ≡ Some root → root.geometry ≡ g
   known_fits k (Begun alloc global) come root e = absurd (cc)
   known_fits k (FirstSlotRead alloc global first) come root e = absurd (cc)
   known_fits k (RootFound global found loader) come root e =
@@ -39,11 +40,11 @@ module _ (P A : Type 0) (g : Geometry) (device : List History) (was : ReadSteps 
       let same : state.root ≡ root = cc in
       ap (λ (r : Root). r.geometry) (sym same ∙ one_newest (map newest device) state.root k.found.committed.root come.represents.newest (represents k).newest) ∙ k.found.read.same_geometry
 
-  never : (k : HasReached g was device) (refusal : Refusal) → SpeaksOfSectors refusal → IsRefusedBy (map newest device) refusal → ⊥
+  never : (k : HasReached g i was device) (refusal : Refusal) → SpeaksOfSectors refusal → IsRefusedBy (map newest device) refusal → ⊥
   never k refusal speaks is = not_refused (map newest device) k.found.committed.root k.found.committed.found refusal (represents k)
       (ap (λ (x : Geometry). x.meta_sectors) k.found.read.same_geometry ∙ sym k.found.read.size ∙ sym (length-map device newest)) speaks is
 
-  pub refused_for : (left : ℕ) (refusal : Refusal) (chosen : Chosen P A) → HasReached g was device → DoesRead g left was device None (GotRefused refusal) chosen → Cause refusal
+  pub refused_for : (left : ℕ) (refusal : Refusal) (chosen : Chosen P A) → HasReached g i was device → DoesRead g left was device None (GotRefused refusal) chosen → Cause refusal
   refused_for left refusal (Reaches r c) k (fine, inl more) = elim more.3.2 [
     | inl other ↦ absurd (other.1.2 (known_fits k more.0 (more.1 (map newest device) (agrees (coming_sector was)) k.come) other.1.0 other.1.1))
     | inr last ↦ inr last.0

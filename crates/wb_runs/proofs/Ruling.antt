@@ -13,15 +13,14 @@ use Rattle.wb_words.specs.Ready.{IsReady}
 use Rattle.wb_words.proofs.RuleKept.{step_keeps, fresh_rule}
 use Rattle.wb_runs.specs.States.{Actor, resting}
 use Rattle.wb_runs.specs.Holding.{cards_of}
-use Rattle.wb_runs.proofs.Sectors.{set_other}
-use Rattle.wb_runs.proofs.Contents.{set_there}
+use Rattle.wb_runs.proofs.Lists.{set_other, set_there}
 
-cards_set : (xs : List Actor) (i : ℕ) (y : Actor) → cards_of (slice_set xs i y) ≡ slice_set (cards_of xs) i y.card
+pub cards_set : (xs : List Actor) (i : ℕ) (y : Actor) → cards_of (slice_set xs i y) ≡ slice_set (cards_of xs) i y.card
 cards_set [] i y = refl
 cards_set (x ∷ xs) zero y = refl
 cards_set (x ∷ xs) (suc i) y = ap (λ cs. x.card ∷ cs) (cards_set xs i y)
 
-card_at : (xs : List Actor) (i : ℕ) (x : Actor) → slice_get xs i ≡ Some x → get_elem? (cards_of xs) i ≡ some x.card
+pub card_at : (xs : List Actor) (i : ℕ) (x : Actor) → slice_get xs i ≡ Some x → get_elem? (cards_of xs) i ≡ some x.card
 card_at [] i x e = absurd (cc)
 card_at (z ∷ xs) zero x e = let same : z ≡ x = cc in ap (λ (v : Actor). some v.card) same
 card_at (z ∷ xs) (suc i) x e = card_at xs i x e
@@ -47,7 +46,7 @@ rule_same blocks words actors a x y r e is =
 abbrev pub AllBlank : List Actor → Type 0
 AllBlank actors = (a : ℕ) (x : Actor) → slice_get actors a ≡ Some x → x.card ≡ blank_card
 
-blank_cards : (actors : List Actor) → AllBlank actors → cards_of actors ≡ replicate (length actors) blank_card
+pub blank_cards : (actors : List Actor) → AllBlank actors → cards_of actors ≡ replicate (length actors) blank_card
 blank_cards [] b = refl
 blank_cards (x ∷ xs) b =
     let rest = blank_cards xs (λ a z e. b (suc a) z e) in

@@ -18,7 +18,8 @@ use Rattle.wb_format.proofs.Numbers.{number_at-written, zero-from_bytes, zeros_a
 
 -- ---- a root is spelled
 
-below_append : (xs ys : List ℕ) → ((k : ℕ) → slice_index xs k < 256) → ((k : ℕ) → slice_index ys k < 256) → (k : ℕ) → slice_index (xs ++ ys) k < 256
+-- bytes behind bytes are bytes
+pub below_append : (xs ys : List ℕ) → ((k : ℕ) → slice_index xs k < 256) → ((k : ℕ) → slice_index ys k < 256) → (k : ℕ) → slice_index (xs ++ ys) k < 256
 below_append [] ys f g k = g k
 below_append (x ∷ xs) ys f g zero = f 0
 below_append (x ∷ xs) ys f g (suc k) = below_append xs ys (λ j. f (suc j)) g k
@@ -27,10 +28,11 @@ small_top : (sectors : ℕ) (top : Option Place) → IsTop sectors top → secto
 small_top sectors None i l = omega arith
 small_top sectors (Some p) i l = let b = i p refl in omega (arith, b.1, l)
 
-abbrev eight : ℕ → List ℕ
+-- a number's eight bytes, and its four
+abbrev pub eight : ℕ → List ℕ
 eight n = bytes_low_first 0 8 n
 
-abbrev four : ℕ → List ℕ
+abbrev pub four : ℕ → List ℕ
 four n = bytes_low_first 0 4 n
 
 abbrev zeros : List ℕ

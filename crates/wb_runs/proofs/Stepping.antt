@@ -19,13 +19,19 @@ use Rattle.wb_tasks.specs.declared.step.Got.TheVariants.{Done, Fault, Refused as
 use Rattle.wb_tasks.specs.Ready.{HoldsBlocks}
 use Rattle.wb_devices.specs.declared.running.RunningCommit.{RunningCommit}
 use Rattle.wb_devices.specs.declared.devices.Devices.{Devices}
+use Rattle.wb_tasks.specs.declared.step.DeviceStep.{DeviceStep}
+use Rattle.wb_tasks.specs.Plan.{device_of}
+use Rattle.wb_policy.specs.declared.order.Order.{Order}
+use Rattle.wb_desk.specs.Desks.{DeskState}
 use Rattle.wb_stage.specs.Stages.{is_all_done}
 use Rattle.wb_devices.specs.Opened.{HasCome}
 use Rattle.wb_runs.specs.declared.job.Job.{Job}
-use Rattle.wb_runs.specs.declared.job.Job.TheVariants.{Read, Write, Flush, Open}
+use Rattle.wb_runs.specs.declared.job.Job.TheVariants.{Read, Write, Flush, Open, Migrate}
 use Rattle.wb_runs.specs.States.{Shape, State, Target, Phase, Stands, Gone, Opens, OfTarget, OfReading, with_device}
-use Rattle.wb_runs.specs.Happenings.{Chosen, Plain, Cut, Begins, Reaches, Puts, Commits, Opened, DoesPut, DoesSync, DoesRead, DoesBegin, DoesOpen, Gives}
+use Rattle.wb_runs.specs.Happenings.{Chosen, Plain, Cut, Orders, Begins, Reaches, Puts, Commits, Asks, Opened, DoesPut, DoesSync, DoesRead, DoesBegin, DoesMap, DoesRelease, DoesOpen, Gives, order_for}
 use Rattle.wb_runs.specs.Effects.{device_done, devices_then, commit_then, phase_then}
+use Rattle.wb_runs.proofs.Images.{Images, Turns, stays}
+use Rattle.wb_runs.proofs.Desks.{mapped_stands, given_up_stands}
 use Rattle.wb_runs.proofs.Underway.{Readable, Found, led_on, sync_does, sync_found, found_readable}
 use Rattle.wb_runs.proofs.Metadata.{AtDesk, HasReached, Rooting, AtOpening, MetadataKept, begins_over, ends_over, root_begins, target_stands, kept_readable}
 
@@ -36,176 +42,217 @@ data_device Cache h devices new = refl
 data_device Origin h devices new = refl
 
 module _ (P A : Type 0) (shape : Shape) where
-  abbrev K : Phase P A → Option RunningCommit → List History → Type 0
-  K phase commit device = MetadataKept shape.geometry phase commit device
+  abbrev K : Images → Phase P A → Option RunningCommit → List History → Type 0
+  K images phase commit device = MetadataKept shape.geometry images phase commit device
+
+  -- what is known after a step
+  abbrev T : Images → Phase P A → Option RunningCommit → List History → Type 0
+  T images phase commit device = Turns (λ now. K now phase commit device) images
+
+  same : (images : Images) (phase : Phase P A) (commit : Option RunningCommit) (device : List History) → K images phase commit device → T images phase commit device
+  same images phase commit device k = stays (λ now. K now phase commit device) images k
 
   -- ---- steps that touch neither metadata nor desk nor reading
 
-  cell_same : (phase : Phase P A) (commit : Option RunningCommit) (m : List History) (step : _) (got : Got) (chosen : Chosen P A) → K phase commit m → K (phase_then shape phase (Cell step) got chosen) (commit_then phase commit (Cell step) got chosen) m
-  cell_same (Stands t) commit m step got chosen k = k
-  cell_same Gone commit m step got chosen k = k
-  cell_same (Opens mode reading) commit m step got chosen k = k
+  cell_same : (i : Images) (phase : Phase P A) (commit : Option RunningCommit) (m : List History) (step : _) (got : Got) (chosen : Chosen P A) → K i phase commit m → T i (phase_then shape phase (Cell step) got chosen) (commit_then phase commit (Cell step) got chosen) m
+  cell_same i (Stands t) commit m step got chosen k = same i (phase_then shape (Stands t) (Cell step) got chosen) commit m (record { is = k.is; stands = k.stands })
+  cell_same i Gone commit m step got chosen k = same i Gone commit m k
+  cell_same i (Opens mode reading) commit m step got chosen k = same i (Opens mode reading) commit m k
 
-  read_same : (phase : Phase P A) (commit : Option RunningCommit) (m : List History) (d : Dev) (e : _) (got : Got) (chosen : Chosen P A) → K phase commit m → K (phase_then shape phase (Device (ReadExtent d e)) got chosen) (commit_then phase commit (Device (ReadExtent d e)) got chosen) m
-  read_same (Stands t) commit m d e got chosen k = k
-  read_same Gone commit m d e got chosen k = k
-  read_same (Opens mode reading) commit m d e got chosen k = k
+  -- on a device of data
+  abbrev pub IsData : DeviceStep → Type 0
+  IsData (ReadExtent d e) = Unit {0}
+  IsData (WriteExtent d e) = Unit {0}
+  IsData (Sync Cache) = Unit {0}
+  IsData (Sync Origin) = Unit {0}
+  IsData step = ⊥
 
-  write_same : (phase : Phase P A) (commit : Option RunningCommit) (m : List History) (d : Dev) (e : _) (got : Got) (chosen : Chosen P A) → K phase commit m → K (phase_then shape phase (Device (WriteExtent d e)) got chosen) (commit_then phase commit (Device (WriteExtent d e)) got chosen) m
-  write_same (Stands t) commit m d e got chosen k = k
-  write_same Gone commit m d e got chosen k = k
-  write_same (Opens mode reading) commit m d e got chosen k = k
-
-  cache_same : (phase : Phase P A) (commit : Option RunningCommit) (m : List History) (got : Got) (chosen : Chosen P A) → K phase commit m → K (phase_then shape phase (Device (Sync Cache)) got chosen) (commit_then phase commit (Device (Sync Cache)) got chosen) m
-  cache_same (Stands t) commit m got chosen k = k
-  cache_same Gone commit m got chosen k = k
-  cache_same (Opens mode reading) commit m got chosen k = k
-
-  origin_same : (phase : Phase P A) (commit : Option RunningCommit) (m : List History) (got : Got) (chosen : Chosen P A) → K phase commit m → K (phase_then shape phase (Device (Sync Origin)) got chosen) (commit_then phase commit (Device (Sync Origin)) got chosen) m
-  origin_same (Stands t) commit m got chosen k = k
-  origin_same Gone commit m got chosen k = k
-  origin_same (Opens mode reading) commit m got chosen k = k
+  pub data_same : (i : Images) (phase : Phase P A) (commit : Option RunningCommit) (m : List History) (step : DeviceStep) (got : Got) (chosen : Chosen P A) → IsData step → K i phase commit m → T i (phase_then shape phase (Device step) got chosen) (commit_then phase commit (Device step) got chosen) m
+  data_same i (Stands t) commit m (ReadExtent d e) got chosen x k = same i (Stands t) commit m k
+  data_same i Gone commit m (ReadExtent d e) got chosen x k = same i Gone commit m k
+  data_same i (Opens mode reading) commit m (ReadExtent d e) got chosen x k = same i (Opens mode reading) commit m k
+  data_same i (Stands t) commit m (WriteExtent d e) got chosen x k = same i (Stands t) commit m k
+  data_same i Gone commit m (WriteExtent d e) got chosen x k = same i Gone commit m k
+  data_same i (Opens mode reading) commit m (WriteExtent d e) got chosen x k = same i (Opens mode reading) commit m k
+  data_same i (Stands t) commit m (Sync Cache) got chosen x k = same i (Stands t) commit m k
+  data_same i Gone commit m (Sync Cache) got chosen x k = same i Gone commit m k
+  data_same i (Opens mode reading) commit m (Sync Cache) got chosen x k = same i (Opens mode reading) commit m k
+  data_same i (Stands t) commit m (Sync Origin) got chosen x k = same i (Stands t) commit m k
+  data_same i Gone commit m (Sync Origin) got chosen x k = same i Gone commit m k
+  data_same i (Opens mode reading) commit m (Sync Origin) got chosen x k = same i (Opens mode reading) commit m k
+  data_same i phase commit m (Sync Metadata) got chosen x k = absurd x
+  data_same i phase commit m (ReadMetadata left) got chosen x k = absurd x
+  data_same i phase commit m (WriteNode number) got chosen x k = absurd x
+  data_same i phase commit m WriteRoot got chosen x k = absurd x
 
   -- ---- steps of a commit
 
-  leading_on : (t : Target P) (c : RunningCommit) (old new : List History) → AtDesk shape.geometry t.desk (Some c) old → DoesStep c.image c.steps old new → AtDesk shape.geometry t.desk (Some (record c { steps = steps_after c.image c.steps })) new
-  leading_on t c old new k does = let l = k.stands in record {
-    geometry = k.geometry;
-    entries = k.entries;
-    stands = record {
-      of = l.of;
-      under = led_on shape.geometry c l.of old new l.under does;
-      tree = l.tree;
-      places = l.places;
-      generation = l.generation;
-      busy = l.busy;
+  pub leading_on : (i : Images) (t : Target P) (c : RunningCommit) (old new : List History) → AtDesk shape.geometry i t.desk (Some c) old → DoesStep c.image c.steps old new → Turns (λ now. AtDesk shape.geometry now t.desk (Some (record c { steps = steps_after c.image c.steps })) new) i
+  leading_on i t c old new k does = let l = k.stands in let u = led_on shape.geometry i c l.of old new l.under does in record {
+    now = u.now;
+    turn = u.turn;
+    turned = u.turned;
+    kept = record {
+      is = k.is;
+      stands = record { of = l.of; under = u.kept; edited = l.edited; entries = l.entries; places = l.places; generation = l.generation; busy = l.busy };
     };
   }
 
-  rooting_on : (reading : ReadSteps A) (c : RunningCommit) (old new : List History) → Rooting shape.geometry reading c old → DoesStep c.image c.steps old new → Rooting shape.geometry reading (record c { steps = steps_after c.image c.steps }) new
-  rooting_on reading c old new k does = record {
-    stored = k.stored;
-    all = k.all;
-    of = k.of;
-    under = led_on shape.geometry c k.of old new k.under does;
-    tree = k.tree;
-    used = k.used;
-    generation = k.generation;
-    entries = k.entries;
+  pub rooting_on : (i : Images) (reading : ReadSteps A) (c : RunningCommit) (old new : List History) → Rooting shape.geometry i reading c old → DoesStep c.image c.steps old new → Turns (λ now. Rooting shape.geometry now reading (record c { steps = steps_after c.image c.steps }) new) i
+  rooting_on i reading c old new k does = let u = led_on shape.geometry i c k.of old new k.under does in record {
+    now = u.now;
+    turn = u.turn;
+    turned = u.turned;
+    kept = record {
+      stored = k.stored;
+      all = k.all;
+      of = k.of;
+      under = u.kept;
+      tree = k.tree;
+      used = k.used;
+      generation = k.generation;
+      entries = k.entries;
+      fits = k.fits;
+      geometry = k.geometry;
+    };
   }
 
   -- ---- done steps
 
-  sync_metadata : (phase : Phase P A) (commit : Option RunningCommit) (m : List History) (chosen : Chosen P A) → K phase commit m → DoesSync phase commit m chosen →
-      K (phase_then shape phase (Device (Sync Metadata)) Done chosen) (commit_then phase commit (Device (Sync Metadata)) Done chosen) (synced m)
-  sync_metadata (Stands t) (Some c) m chosen k s = leading_on t c m (synced m) k (sync_does c.image c.steps m s.0)
-  sync_metadata (Stands t) None m chosen k s = absurd s
-  sync_metadata Gone (Some c) m chosen k s = absurd k
-  sync_metadata Gone None m chosen k s = absurd s
-  sync_metadata (Opens mode None) (Some c) m chosen k s = absurd k
-  sync_metadata (Opens mode (Some reading)) (Some c) m chosen k s =
-      subst (λ (ch : Chosen P A). K (phase_then shape (Opens mode (Some reading)) (Device (Sync Metadata)) Done ch) (Some (record c { steps = steps_after c.image c.steps })) (synced m)) (sym s.1)
-      (rooting_on reading c m (synced m) k (sync_does c.image c.steps m s.0))
-  sync_metadata (Opens mode reading) None m (Begins now) k s = begun now s
+  sync_metadata : (i : Images) (phase : Phase P A) (commit : Option RunningCommit) (m : List History) (chosen : Chosen P A) → K i phase commit m → DoesSync phase commit m chosen →
+      T i (phase_then shape phase (Device (Sync Metadata)) Done chosen) (commit_then phase commit (Device (Sync Metadata)) Done chosen) (synced m)
+  sync_metadata i (Stands t) (Some c) m chosen k s = leading_on i t c m (synced m) k (sync_does c.image c.steps m s.0)
+  sync_metadata i (Stands t) None m chosen k s = absurd s
+  sync_metadata i Gone (Some c) m chosen k s = absurd k
+  sync_metadata i Gone None m chosen k s = absurd s
+  sync_metadata i (Opens mode None) (Some c) m chosen k s = absurd k
+  sync_metadata i (Opens mode (Some reading)) (Some c) m chosen k s =
+      subst (λ (ch : Chosen P A). T i (phase_then shape (Opens mode (Some reading)) (Device (Sync Metadata)) Done ch) (Some (record c { steps = steps_after c.image c.steps })) (synced m)) (sym s.1)
+      (rooting_on i reading c m (synced m) k (sync_does c.image c.steps m s.0))
+  sync_metadata i (Opens mode reading) None m (Begins now) k s = begun now s
     where
-      base : Found shape.geometry (synced m)
-      base = sync_found shape.geometry m (kept_readable P A shape.geometry (Opens mode reading) None m k)
+      base : Turns (λ j. Found shape.geometry j (synced m)) i
+      base = sync_found shape.geometry i m (kept_readable shape.geometry i m P A (Opens mode reading) None k)
 
-      begun : (now : ReadSteps A) → sectors_read now ≡ 0 → HasReached shape.geometry now (synced m)
-      begun (Begun alloc global) e = record { found = base; come = tt; on = tt }
+      by : (now : ReadSteps A) → HasReached shape.geometry base.now now (synced m) → Turns (λ j. HasReached shape.geometry j now (synced m)) i
+      by now k = record { now = base.now; turn = base.turn; turned = base.turned; kept = k }
+
+      begun : (now : ReadSteps A) → sectors_read now ≡ 0 → Turns (λ j. HasReached shape.geometry j now (synced m)) i
+      begun (Begun alloc global) e = by (Begun alloc global) (record { found = base.kept; come = tt; on = tt })
       begun (FirstSlotRead alloc global first) e = absurd (omega (arith, e))
       begun (RootFound global root loader) e = absurd (omega (arith, e))
       begun (AllRead state) e = absurd (omega (arith, e))
-  sync_metadata (Opens mode reading) None m chosen k s = absurd s
+  sync_metadata i (Opens mode reading) None m chosen k s = absurd s
 
-  put_node : (phase : Phase P A) (commit : Option RunningCommit) (m : List History) (number : ℕ) (job : Job) (chosen : Chosen P A) → K phase commit m → DoesPut commit (WriteNode number) m chosen →
-      K (phase_then shape phase (Device (WriteNode number)) Done chosen) (commit_then phase commit (Device (WriteNode number)) Done chosen) (device_done job (WriteNode number) chosen m)
-  put_node (Stands t) (Some c) m number job (Puts new) k s = leading_on t c m new k s.1
-  put_node Gone (Some c) m number job (Puts new) k s = absurd k
-  put_node (Opens mode None) (Some c) m number job (Puts new) k s = absurd k
-  put_node (Opens mode (Some reading)) (Some c) m number job (Puts new) k s = rooting_on reading c m new k s.1
-  put_node phase None m number job (Puts new) k s = absurd s
-  put_node phase commit m number job chosen k s = absurd s
+  put_node : (i : Images) (phase : Phase P A) (commit : Option RunningCommit) (m : List History) (number : ℕ) (job : Job) (buffer : List Bytes) (chosen : Chosen P A) → K i phase commit m → DoesPut commit (WriteNode number) m chosen →
+      T i (phase_then shape phase (Device (WriteNode number)) Done chosen) (commit_then phase commit (Device (WriteNode number)) Done chosen) (device_done job buffer (WriteNode number) chosen m)
+  put_node i (Stands t) (Some c) m number job buffer (Puts new) k s = leading_on i t c m new k s.1
+  put_node i Gone (Some c) m number job buffer (Puts new) k s = absurd k
+  put_node i (Opens mode None) (Some c) m number job buffer (Puts new) k s = absurd k
+  put_node i (Opens mode (Some reading)) (Some c) m number job buffer (Puts new) k s = rooting_on i reading c m new k s.1
+  put_node i phase None m number job buffer (Puts new) k s = absurd s
+  put_node i phase commit m number job buffer chosen k s = absurd s
 
-  put_root : (phase : Phase P A) (commit : Option RunningCommit) (m : List History) (job : Job) (chosen : Chosen P A) → K phase commit m → DoesPut commit WriteRoot m chosen →
-      K (phase_then shape phase (Device WriteRoot) Done chosen) (commit_then phase commit (Device WriteRoot) Done chosen) (device_done job WriteRoot chosen m)
-  put_root (Stands t) (Some c) m job (Puts new) k s = leading_on t c m new k s.1
-  put_root Gone (Some c) m job (Puts new) k s = absurd k
-  put_root (Opens mode None) (Some c) m job (Puts new) k s = absurd k
-  put_root (Opens mode (Some reading)) (Some c) m job (Puts new) k s = rooting_on reading c m new k s.1
-  put_root phase None m job (Puts new) k s = absurd s
-  put_root phase commit m job chosen k s = absurd s
+  put_root : (i : Images) (phase : Phase P A) (commit : Option RunningCommit) (m : List History) (job : Job) (buffer : List Bytes) (chosen : Chosen P A) → K i phase commit m → DoesPut commit WriteRoot m chosen →
+      T i (phase_then shape phase (Device WriteRoot) Done chosen) (commit_then phase commit (Device WriteRoot) Done chosen) (device_done job buffer WriteRoot chosen m)
+  put_root i (Stands t) (Some c) m job buffer (Puts new) k s = leading_on i t c m new k s.1
+  put_root i Gone (Some c) m job buffer (Puts new) k s = absurd k
+  put_root i (Opens mode None) (Some c) m job buffer (Puts new) k s = absurd k
+  put_root i (Opens mode (Some reading)) (Some c) m job buffer (Puts new) k s = rooting_on i reading c m new k s.1
+  put_root i phase None m job buffer (Puts new) k s = absurd s
+  put_root i phase commit m job buffer chosen k s = absurd s
 
-  read_nothing : (m : List History) → Readable shape.geometry m → (after : Option (ReadSteps A)) (commit : Option RunningCommit) → after ≡ None → commit ≡ None → AtOpening shape.geometry after commit m
-  read_nothing m r None None e f = r
-  read_nothing m r None (Some c) e f = absurd (cc)
-  read_nothing m r (Some x) commit e f = absurd (cc)
+  read_nothing : (i : Images) (mode : _) (m : List History) → Readable shape.geometry i m → (after : Option (ReadSteps A)) (commit : Option RunningCommit) → after ≡ None → commit ≡ None → T i (Opens mode after) commit m
+  read_nothing i mode m r None None e f = same i (Opens mode None) None m r
+  read_nothing i mode m r None (Some c) e f = absurd (cc)
+  read_nothing i mode m r (Some x) commit e f = absurd (cc)
 
-  read_metadata : (phase : Phase P A) (m : List History) (left : ℕ) (got : Got) (chosen : Chosen P A) → K phase None m → OfReading phase (λ mode was. DoesRead shape.geometry left was m None got chosen) →
-      K (phase_then shape phase (Device (ReadMetadata left)) got chosen) (commit_then phase None (Device (ReadMetadata left)) got chosen) m
-  read_metadata (Stands t) m left got chosen k s = absurd s
-  read_metadata Gone m left got chosen k s = absurd s
-  read_metadata (Opens mode None) m left got chosen k s = absurd s
-  read_metadata (Opens mode (Some was)) m left got (Reaches after commit) k (no_fault, inr more) =
-      read_nothing m (found_readable shape.geometry m k.found) after commit more.4 more.5
-  read_metadata (Opens mode (Some was)) m left got (Reaches after commit) k (no_fault, inl more) = by_got got no_fault more.3
+  read_metadata : (i : Images) (phase : Phase P A) (m : List History) (left : ℕ) (got : Got) (chosen : Chosen P A) → K i phase None m → OfReading phase (λ mode was. DoesRead shape.geometry left was m None got chosen) →
+      T i (phase_then shape phase (Device (ReadMetadata left)) got chosen) (commit_then phase None (Device (ReadMetadata left)) got chosen) m
+  read_metadata i (Stands t) m left got chosen k s = absurd s
+  read_metadata i Gone m left got chosen k s = absurd s
+  read_metadata i (Opens mode None) m left got chosen k s = absurd s
+  read_metadata i (Opens mode (Some was)) m left got (Reaches after commit) k (no_fault, inr more) =
+      read_nothing i mode m (found_readable shape.geometry i m k.found) after commit more.4 more.5
+  read_metadata i (Opens mode (Some was)) m left got (Reaches after commit) k (no_fault, inl more) = by_got got no_fault more.3
     where
       now : ReadSteps A
       now = more.0
 
-      reached : HasReached shape.geometry now m
+      reached : HasReached shape.geometry i now m
       reached = record { found = k.found; come = more.1 (map newest m) (record { size = length-map m newest; here = λ place e. refl }) k.come; on = more.2 }
 
-      by_got : (got : Got) → (got ≢ Fault) → HasCome shape.geometry left now None got after commit → AtOpening shape.geometry after commit m
-      by_got More n h = subst (λ (r : Option (ReadSteps A)). AtOpening shape.geometry r commit m) (sym h.1) (subst (λ (c : Option RunningCommit). AtOpening shape.geometry (Some now) c m) (sym h.3) reached)
-      by_got Done n h = subst (λ (r : Option (ReadSteps A)). AtOpening shape.geometry r commit m) (sym h.0) (root_begins A shape.geometry m now commit reached h.2)
-      by_got (GotRefused refusal) n h = read_nothing m (found_readable shape.geometry m k.found) after commit h.0 h.1
+      by_got : (got : Got) → (got ≢ Fault) → HasCome shape.geometry left now None got after commit → Turns (λ j. AtOpening shape.geometry j after commit m) i
+      by_got More n h = stays (λ j. AtOpening shape.geometry j after commit m) i
+          (subst (λ (r : Option (ReadSteps A)). AtOpening shape.geometry i r commit m) (sym h.1) (subst (λ (c : Option RunningCommit). AtOpening shape.geometry i (Some now) c m) (sym h.3) reached))
+      by_got Done n h = subst (λ (r : Option (ReadSteps A)). Turns (λ j. AtOpening shape.geometry j r commit m) i) (sym h.0) (root_begins A shape.geometry i m now commit reached h.2)
+      by_got (GotRefused refusal) n h = read_nothing i mode m (found_readable shape.geometry i m k.found) after commit h.0 h.1
       by_got Fault n h = absurd (n refl)
       by_got got n h = absurd h
-  read_metadata (Opens mode (Some was)) m left got chosen k s = absurd s
+  read_metadata i (Opens mode (Some was)) m left got chosen k s = absurd s
 
-  begin_commit : (phase : Phase P A) (commit : Option RunningCommit) (m : List History) (clean : Bool) (most : ℕ) (got : Got) (chosen : Chosen P A) → K phase commit m → OfTarget phase (λ t. DoesBegin most t.desk got chosen) →
-      K (phase_then shape phase (Desk (BeginCommit clean most)) got chosen) (commit_then phase commit (Desk (BeginCommit clean most)) got chosen) m
-  begin_commit (Stands t) commit m clean most (Began nodes) (Commits c tree) k s = by_commit commit k
+  begin_commit : (i : Images) (phase : Phase P A) (commit : Option RunningCommit) (m : List History) (clean : Bool) (most : ℕ) (got : Got) (chosen : Chosen P A) → K i phase commit m → OfTarget phase (λ t. DoesBegin most t.desk got chosen) →
+      T i (phase_then shape phase (Desk (BeginCommit clean most)) got chosen) (commit_then phase commit (Desk (BeginCommit clean most)) got chosen) m
+  begin_commit i (Stands t) commit m clean most (Began nodes) (Commits c tree) k s = by_commit commit k
     where
-      by_commit : (commit : Option RunningCommit) → AtDesk shape.geometry t.desk commit m → AtDesk shape.geometry (Rattle.wb_desk.specs.Commits.commit_begun t.desk tree) (Some c) m
+      by_commit : (commit : Option RunningCommit) → AtDesk shape.geometry i t.desk commit m → Turns (λ j. AtDesk shape.geometry j (Rattle.wb_desk.specs.Commits.commit_begun t.desk tree) (Some c) m) i
       by_commit (Some d) k = absurd (let a = k.stands.busy in let b = s.3.may.idle in cc)
       by_commit None k = elim k.stands [
-        | inl q ↦ begins_over P shape.geometry t.desk m c tree k q s.2 s.3
+        | inl q ↦ let b = begins_over P shape.geometry i t.desk m c tree k.is q s.2 s.3 in record { now = b.now; turn = b.turn; turned = b.turned; kept = b.kept.0 }
         | inr b ↦ absurd (let a = b.busy in let e = s.3.may.idle in cc)
       ]
-  begin_commit (Stands t) commit m clean most (GotRefused refusal) Plain k s = k
-  begin_commit (Stands t) commit m clean most got chosen k s = absurd s
-  begin_commit Gone commit m clean most got chosen k s = absurd s
-  begin_commit (Opens mode reading) commit m clean most got chosen k s = absurd s
+  begin_commit i (Stands t) commit m clean most (GotRefused refusal) Plain k s = same i (Stands t) commit m k
+  begin_commit i (Stands t) commit m clean most got chosen k s = absurd s
+  begin_commit i Gone commit m clean most got chosen k s = absurd s
+  begin_commit i (Opens mode reading) commit m clean most got chosen k s = absurd s
 
-  end_commit : (phase : Phase P A) (commit : Option RunningCommit) (m : List History) (got : Got) (chosen : Chosen P A) → K phase commit m → OfTarget phase (λ t. is_all_done commit ≡ true) →
-      K (phase_then shape phase (Desk EndCommit) got chosen) (commit_then phase commit (Desk EndCommit) got chosen) m
-  end_commit (Stands t) (Some c) m got chosen k s = ends_over P shape.geometry t.desk m c k s
-  end_commit (Stands t) None m got chosen k s = absurd (cc)
-  end_commit Gone commit m got chosen k s = absurd s
-  end_commit (Opens mode reading) commit m got chosen k s = absurd s
+  end_commit : (i : Images) (phase : Phase P A) (commit : Option RunningCommit) (m : List History) (got : Got) (chosen : Chosen P A) → K i phase commit m → OfTarget phase (λ t. is_all_done commit ≡ true) →
+      T i (phase_then shape phase (Desk EndCommit) got chosen) (commit_then phase commit (Desk EndCommit) got chosen) m
+  end_commit i (Stands t) (Some c) m got chosen k s = let e = ends_over P shape.geometry i t.desk m c k s in record { now = e.now; turn = e.turn; turned = e.turned; kept = e.kept.0 }
+  end_commit i (Stands t) None m got chosen k s = absurd (cc)
+  end_commit i Gone commit m got chosen k s = absurd s
+  end_commit i (Opens mode reading) commit m got chosen k s = absurd s
 
-  answer_plain : (phase : Phase P A) (commit : Option RunningCommit) (m : List History) (answer : Answer) (got : Got) → K phase commit m →
-      K (phase_then shape phase (End answer) got Plain) (commit_then phase commit (End answer) got Plain) m
-  answer_plain (Stands t) commit m answer got k = k
-  answer_plain Gone commit m answer got k = k
-  answer_plain (Opens mode reading) commit m answer got k = kept_readable P A shape.geometry (Opens mode reading) commit m k
+  -- ---- a migration's steps on the desk
 
-  answer_opens : (phase : Phase P A) (commit : Option RunningCommit) (m : List History) (got : Got) (chosen : Chosen P A) → K phase commit m → DoesOpen phase commit chosen →
-      K (phase_then shape phase (End Finished) got chosen) (commit_then phase commit (End Finished) got chosen) m
-  answer_opens (Opens mode (Some reading)) (Some c) m got (Opened policy) k s = by_reading reading k s.0
+  pub map_keeps : (i : Images) (phase : Phase P A) (commit : Option RunningCommit) (m : List History) (b : _) (c : _) (got : Got) (chosen : Chosen P A) → K i phase commit m → OfTarget phase (λ t. DoesMap b c t.desk got chosen) →
+      T i (phase_then shape phase (Desk (Map b c)) got chosen) (commit_then phase commit (Desk (Map b c)) got chosen) m
+  map_keeps i (Stands t) commit m b c Done (Asks new) k s = same i (phase_then shape (Stands t) (Desk (Map b c)) Done (Asks new)) commit m
+      (subst (λ (d : DeskState P). AtDesk shape.geometry i d commit m) (sym s.2) (mapped_stands P shape.geometry i t.desk commit m b c new.tree new.policy k s.0 s.1))
+  map_keeps i (Stands t) commit m b c (GotRefused refusal) Plain k s = same i (Stands t) commit m k
+  map_keeps i (Stands t) commit m b c got chosen k s = absurd s
+  map_keeps i Gone commit m b c got chosen k s = absurd s
+  map_keeps i (Opens mode reading) commit m b c got chosen k s = absurd s
+
+  pub release_keeps : (i : Images) (phase : Phase P A) (commit : Option RunningCommit) (m : List History) (b : _) (order : Order) (got : Got) (chosen : Chosen P A) → K i phase commit m → OfTarget phase (λ t. DoesRelease order t.desk chosen) →
+      T i (phase_then shape phase (Desk (ReleaseOrder b)) got chosen) (commit_then phase commit (Desk (ReleaseOrder b)) got chosen) m
+  release_keeps i (Stands t) commit m b order got (Asks new) k s = same i (phase_then shape (Stands t) (Desk (ReleaseOrder b)) got (Asks new)) commit m (given_up_stands P shape.geometry i t.desk commit m new order k s)
+  release_keeps i (Stands t) commit m b order got chosen k s = absurd s
+  release_keeps i Gone commit m b order got chosen k s = absurd s
+  release_keeps i (Opens mode reading) commit m b order got chosen k s = absurd s
+
+  -- ---- answers
+
+  answer_plain : (i : Images) (phase : Phase P A) (commit : Option RunningCommit) (m : List History) (answer : Answer) (got : Got) → K i phase commit m →
+      T i (phase_then shape phase (End answer) got Plain) (commit_then phase commit (End answer) got Plain) m
+  answer_plain i (Stands t) commit m answer got k = same i (Stands t) commit m k
+  answer_plain i Gone commit m answer got k = same i Gone commit m k
+  answer_plain i (Opens mode reading) commit m answer got k = same i Gone None m (kept_readable shape.geometry i m P A (Opens mode reading) commit k)
+
+  answer_opens : (i : Images) (phase : Phase P A) (commit : Option RunningCommit) (m : List History) (got : Got) (chosen : Chosen P A) → K i phase commit m → DoesOpen phase commit chosen →
+      T i (phase_then shape phase (End Finished) got chosen) (commit_then phase commit (End Finished) got chosen) m
+  answer_opens i (Opens mode (Some reading)) (Some c) m got (Opened policy) k s = by_reading reading k s.0
     where
-      by_reading : (reading : ReadSteps A) → Rooting shape.geometry reading c m → IsDone reading → K (phase_then shape (Opens mode (Some reading)) (End Finished) got (Opened policy)) None m
+      by_reading : (reading : ReadSteps A) → Rooting shape.geometry i reading c m → IsDone reading → T i (phase_then shape (Opens mode (Some reading)) (End Finished) got (Opened policy)) None m
       by_reading (Begun alloc global) k d = absurd d
       by_reading (FirstSlotRead alloc global first) k d = absurd d
       by_reading (RootFound global root loader) k d = absurd d
-      by_reading (AllRead stored) k d = target_stands A shape.geometry m P mode policy shape.threshold _ stored c k s.1
-  answer_opens (Opens mode (Some reading)) None m got (Opened policy) k s = absurd (let e = s.1 in cc)
-  answer_opens (Opens mode None) commit m got (Opened policy) k s = absurd s.0
-  answer_opens (Stands t) commit m got (Opened policy) k s = absurd s.0
-  answer_opens Gone commit m got (Opened policy) k s = absurd s.0
-  answer_opens phase commit m got chosen k s = absurd s
+      by_reading (AllRead stored) k d = let t = target_stands A shape.geometry i m P mode policy shape.threshold stored c k s.1 in record { now = t.now; turn = t.turn; turned = t.turned; kept = t.kept.0 }
+  answer_opens i (Opens mode (Some reading)) None m got (Opened policy) k s = absurd (let e = s.1 in cc)
+  answer_opens i (Opens mode None) commit m got (Opened policy) k s = absurd s.0
+  answer_opens i (Stands t) commit m got (Opened policy) k s = absurd s.0
+  answer_opens i Gone commit m got (Opened policy) k s = absurd s.0
+  answer_opens i phase commit m got chosen k s = absurd s
 
   -- ---- a step of any kind that is done
 
@@ -217,74 +264,85 @@ module _ (P A : Type 0) (shape : Shape) where
     G job next = Gives shape w job next got read chosen
 
     -- what is known of the metadata after it
-    abbrev After : Job → Want → Type 0
-    After job next = K (phase_then shape w.phase next got chosen) (commit_then w.phase w.commit next got chosen) (devices_then (λ step. device_done job step chosen) w.devices next).metadata
+    abbrev After : Images → List Bytes → Job → Want → Type 0
+    After i buffer job next = T i (phase_then shape w.phase next got chosen) (commit_then w.phase w.commit next got chosen) (devices_then (λ step. device_done job buffer step chosen) w.devices next).metadata
 
     read_fact : (job : Job) (d : Dev) (e : _) → G job (Device (ReadExtent d e)) → HoldsBlocks d
     read_fact (Read x) d e g = g.0
     read_fact (Write x c) d e g = absurd g
     read_fact Flush d e g = absurd g
     read_fact (Open mode) d e g = absurd g
+    read_fact (Migrate migration block) d e g = g.0
 
     write_fact : (job : Job) (d : Dev) (e : _) → G job (Device (WriteExtent d e)) → HoldsBlocks d
     write_fact (Read x) d e g = absurd g
     write_fact (Write x c) d e g = g.0
     write_fact Flush d e g = absurd g
     write_fact (Open mode) d e g = absurd g
+    write_fact (Migrate migration block) d e g = g.0
 
     pub sync_fact : (job : Job) → G job (Device (Sync Metadata)) → (got ≡ Done) × DoesSync w.phase w.commit m chosen
     sync_fact (Read x) g = (g.1, g.2)
     sync_fact (Write x c) g = (g.1, g.2)
     sync_fact Flush g = (g.1, g.2)
     sync_fact (Open mode) g = (g.1, g.2)
+    sync_fact (Migrate migration block) g = (g.1, g.2)
 
     pub node_fact : (job : Job) (number : ℕ) → G job (Device (WriteNode number)) → (got ≡ Done) × DoesPut w.commit (WriteNode number) m chosen
     node_fact (Read x) number g = (g.1, g.2)
     node_fact (Write x c) number g = (g.1, g.2)
     node_fact Flush number g = (g.1, g.2)
     node_fact (Open mode) number g = (g.1, g.2)
+    node_fact (Migrate migration block) number g = (g.1, g.2)
 
     pub root_fact : (job : Job) → G job (Device WriteRoot) → (got ≡ Done) × DoesPut w.commit WriteRoot m chosen
     root_fact (Read x) g = (g.1, g.2)
     root_fact (Write x c) g = (g.1, g.2)
     root_fact Flush g = (g.1, g.2)
     root_fact (Open mode) g = (g.1, g.2)
+    root_fact (Migrate migration block) g = (g.1, g.2)
 
     pub metadata_fact : (job : Job) (left : ℕ) → G job (Device (ReadMetadata left)) → (w.commit ≡ None) × OfReading w.phase (λ mode was. DoesRead shape.geometry left was m w.commit got chosen)
     metadata_fact (Read x) left g = (g.1, g.2)
     metadata_fact (Write x c) left g = (g.1, g.2)
     metadata_fact Flush left g = (g.1, g.2)
     metadata_fact (Open mode) left g = (g.1, g.2)
+    metadata_fact (Migrate migration block) left g = (g.1, g.2)
 
     pub begin_fact : (job : Job) (clean : Bool) (most : ℕ) → G job (Desk (BeginCommit clean most)) → OfTarget w.phase (λ t. DoesBegin most t.desk got chosen)
     begin_fact (Read x) clean most g = g.2
     begin_fact (Write x c) clean most g = g.2
     begin_fact Flush clean most g = g.2
     begin_fact (Open mode) clean most g = g.2
+    begin_fact (Migrate migration block) clean most g = g.2
 
     pub end_fact : (job : Job) → G job (Desk EndCommit) → OfTarget w.phase (λ t. is_all_done w.commit ≡ true)
     end_fact (Read x) g = g.2
     end_fact (Write x c) g = g.2
     end_fact Flush g = g.2
     end_fact (Open mode) g = g.2
+    end_fact (Migrate migration block) g = g.2
 
-    pub no_map : (job : Job) (b c : _) → G job (Desk (Map b c)) → ⊥
-    no_map (Read x) b c g = g
-    no_map (Write x y) b c g = g
-    no_map Flush b c g = g
-    no_map (Open mode) b c g = g
+    pub map_fact : (job : Job) (b c : _) → G job (Desk (Map b c)) → OfTarget w.phase (λ t. DoesMap b c t.desk got chosen)
+    map_fact (Read x) b c g = absurd g
+    map_fact (Write x y) b c g = absurd g
+    map_fact Flush b c g = absurd g
+    map_fact (Open mode) b c g = absurd g
+    map_fact (Migrate migration block) b c g = g.1
 
     pub no_unmap : (job : Job) (b : _) → G job (Desk (Unmap b)) → ⊥
     no_unmap (Read x) b g = g
     no_unmap (Write x y) b g = g
     no_unmap Flush b g = g
     no_unmap (Open mode) b g = g
+    no_unmap (Migrate migration block) b g = g
 
-    pub no_release : (job : Job) (b : _) → G job (Desk (ReleaseOrder b)) → ⊥
-    no_release (Read x) b g = g
-    no_release (Write x y) b g = g
-    no_release Flush b g = g
-    no_release (Open mode) b g = g
+    pub release_fact : (job : Job) (b : _) → G job (Desk (ReleaseOrder b)) → (order : Order) × OfTarget w.phase (λ t. DoesRelease order t.desk chosen)
+    release_fact (Read x) b g = absurd g
+    release_fact (Write x y) b g = absurd g
+    release_fact Flush b g = absurd g
+    release_fact (Open mode) b g = absurd g
+    release_fact (Migrate migration block) b g = (order_for migration block, g.2)
 
     pub answer_fact : (job : Job) (answer : Answer) → G job (End answer) → (chosen ≡ Plain) ⊎ ((answer ≡ Finished) × DoesOpen w.phase w.commit chosen)
     answer_fact (Read x) answer g = inl g.0.1
@@ -292,33 +350,33 @@ module _ (P A : Type 0) (shape : Shape) where
     answer_fact Flush answer g = inl g.0.1
     answer_fact (Open mode) Finished g = inr (refl, g.2)
     answer_fact (Open mode) (Refuses refusal) g = inl g.0.1
+    answer_fact (Migrate migration block) answer g = inl g.0.1
 
-    pub done_kept : (job : Job) (next : Want) → K w.phase w.commit m → G job next → After job next
-    done_kept job (Cell step) k g = cell_same w.phase w.commit m step got chosen k
-    done_kept job (Device (ReadExtent d e)) k g =
-        subst (λ (n : List History). K (phase_then shape w.phase (Device (ReadExtent d e)) got chosen) (commit_then w.phase w.commit (Device (ReadExtent d e)) got chosen) n) (sym (data_device d (read_fact job d e g) w.devices _))
-        (read_same w.phase w.commit m d e got chosen k)
-    done_kept job (Device (WriteExtent d e)) k g =
-        subst (λ (n : List History). K (phase_then shape w.phase (Device (WriteExtent d e)) got chosen) (commit_then w.phase w.commit (Device (WriteExtent d e)) got chosen) n) (sym (data_device d (write_fact job d e g) w.devices _))
-        (write_same w.phase w.commit m d e got chosen k)
-    done_kept job (Device (Sync Cache)) k g = cache_same w.phase w.commit m got chosen k
-    done_kept job (Device (Sync Origin)) k g = origin_same w.phase w.commit m got chosen k
-    done_kept job (Device (Sync Metadata)) k g = let f = sync_fact job g in
-        subst (λ (x : Got). K (phase_then shape w.phase (Device (Sync Metadata)) x chosen) (commit_then w.phase w.commit (Device (Sync Metadata)) x chosen) (synced m)) (sym f.0) (sync_metadata w.phase w.commit m chosen k f.1)
-    done_kept job (Device (WriteNode number)) k g = let f = node_fact job number g in
-        subst (λ (x : Got). K (phase_then shape w.phase (Device (WriteNode number)) x chosen) (commit_then w.phase w.commit (Device (WriteNode number)) x chosen) (device_done job (WriteNode number) chosen m)) (sym f.0) (put_node w.phase w.commit m number job chosen k f.1)
-    done_kept job (Device WriteRoot) k g = let f = root_fact job g in
-        subst (λ (x : Got). K (phase_then shape w.phase (Device WriteRoot) x chosen) (commit_then w.phase w.commit (Device WriteRoot) x chosen) (device_done job WriteRoot chosen m)) (sym f.0) (put_root w.phase w.commit m job chosen k f.1)
-    done_kept job (Device (ReadMetadata left)) k g = let f = metadata_fact job left g in by_commit w.commit f.0 k f.1
+    -- its device is not that of the metadata
+    moves_data : (i : Images) (buffer : List Bytes) (job : Job) (step : DeviceStep) (d : Dev) → HoldsBlocks d → device_of step ≡ d → IsData step → K i w.phase w.commit m → After i buffer job (Device step)
+    moves_data i buffer job step d h e x k =
+        subst (λ (n : List History). T i (phase_then shape w.phase (Device step) got chosen) (commit_then w.phase w.commit (Device step) got chosen) n)
+        (sym (data_device (device_of step) (subst (λ (v : Dev). HoldsBlocks v) (sym e) h) w.devices _)) (data_same i w.phase w.commit m step got chosen x k)
+
+    pub done_kept : (i : Images) (buffer : List Bytes) (job : Job) (next : Want) → K i w.phase w.commit m → G job next → After i buffer job next
+    done_kept i buffer job (Cell step) k g = cell_same i w.phase w.commit m step got chosen k
+    done_kept i buffer job (Device (ReadExtent d e)) k g = moves_data i buffer job (ReadExtent d e) d (read_fact job d e g) refl tt k
+    done_kept i buffer job (Device (WriteExtent d e)) k g = moves_data i buffer job (WriteExtent d e) d (write_fact job d e g) refl tt k
+    done_kept i buffer job (Device (Sync Cache)) k g = moves_data i buffer job (Sync Cache) Cache tt refl tt k
+    done_kept i buffer job (Device (Sync Origin)) k g = moves_data i buffer job (Sync Origin) Origin tt refl tt k
+    done_kept i buffer job (Device (Sync Metadata)) k g = let f = sync_fact job g in
+        subst (λ (x : Got). T i (phase_then shape w.phase (Device (Sync Metadata)) x chosen) (commit_then w.phase w.commit (Device (Sync Metadata)) x chosen) (synced m)) (sym f.0) (sync_metadata i w.phase w.commit m chosen k f.1)
+    done_kept i buffer job (Device (WriteNode number)) k g = let f = node_fact job number g in
+        subst (λ (x : Got). T i (phase_then shape w.phase (Device (WriteNode number)) x chosen) (commit_then w.phase w.commit (Device (WriteNode number)) x chosen) (device_done job buffer (WriteNode number) chosen m)) (sym f.0)
+        (put_node i w.phase w.commit m number job buffer chosen k f.1)
+    done_kept i buffer job (Device WriteRoot) k g = let f = root_fact job g in
+        subst (λ (x : Got). T i (phase_then shape w.phase (Device WriteRoot) x chosen) (commit_then w.phase w.commit (Device WriteRoot) x chosen) (device_done job buffer WriteRoot chosen m)) (sym f.0) (put_root i w.phase w.commit m job buffer chosen k f.1)
+    done_kept i buffer job (Device (ReadMetadata left)) k g = let f = metadata_fact job left g in by_commit w.commit f.0 k f.1
       where
-        same : device_done job (ReadMetadata left) chosen m ≡ m
-        same = by_chosen chosen (metadata_fact job left g).1
+        still : device_done job buffer (ReadMetadata left) chosen m ≡ m
+        still = by_chosen chosen (metadata_fact job left g).1
           where
-            by_chosen : (ch : Chosen P A) → OfReading w.phase (λ mode was. DoesRead shape.geometry left was m w.commit got ch) → device_done job (ReadMetadata left) ch m ≡ m
-            by_chosen Plain h = refl
-            by_chosen (Cut es) h = refl
-            by_chosen (Begins r) h = refl
-            by_chosen (Reaches r c) h = refl
+            by_chosen : (ch : Chosen P A) → OfReading w.phase (λ mode was. DoesRead shape.geometry left was m w.commit got ch) → device_done job buffer (ReadMetadata left) ch m ≡ m
             by_chosen (Puts new) h = by_phase w.phase h
               where
                 by_phase : (p : Phase P A) → OfReading p (λ mode was. ⊥) → new ≡ m
@@ -326,20 +384,26 @@ module _ (P A : Type 0) (shape : Shape) where
                 by_phase Gone h = absurd h
                 by_phase (Opens mode None) h = absurd h
                 by_phase (Opens mode (Some was)) h = absurd h
+            by_chosen Plain h = refl
+            by_chosen (Cut es) h = refl
+            by_chosen (Orders es c) h = refl
+            by_chosen (Begins r) h = refl
+            by_chosen (Reaches r c) h = refl
             by_chosen (Commits c t) h = refl
+            by_chosen (Asks d) h = refl
             by_chosen (Opened p) h = refl
 
-        by_commit : (commit : Option RunningCommit) → commit ≡ None → K w.phase commit m → OfReading w.phase (λ mode was. DoesRead shape.geometry left was m commit got chosen) →
-            K (phase_then shape w.phase (Device (ReadMetadata left)) got chosen) (commit_then w.phase commit (Device (ReadMetadata left)) got chosen) (device_done job (ReadMetadata left) chosen m)
-        by_commit None e k h = subst (λ (n : List History). K (phase_then shape w.phase (Device (ReadMetadata left)) got chosen) (commit_then w.phase None (Device (ReadMetadata left)) got chosen) n) (sym same)
-            (read_metadata w.phase m left got chosen k h)
+        by_commit : (commit : Option RunningCommit) → commit ≡ None → K i w.phase commit m → OfReading w.phase (λ mode was. DoesRead shape.geometry left was m commit got chosen) →
+            T i (phase_then shape w.phase (Device (ReadMetadata left)) got chosen) (commit_then w.phase commit (Device (ReadMetadata left)) got chosen) (device_done job buffer (ReadMetadata left) chosen m)
+        by_commit None e k h = subst (λ (n : List History). T i (phase_then shape w.phase (Device (ReadMetadata left)) got chosen) (commit_then w.phase None (Device (ReadMetadata left)) got chosen) n) (sym still)
+            (read_metadata i w.phase m left got chosen k h)
         by_commit (Some c) e k h = absurd (cc)
-    done_kept job (Desk (BeginCommit clean most)) k g = begin_commit w.phase w.commit m clean most got chosen k (begin_fact job clean most g)
-    done_kept job (Desk EndCommit) k g = end_commit w.phase w.commit m got chosen k (end_fact job g)
-    done_kept job (Desk (Map b c)) k g = absurd (no_map job b c g)
-    done_kept job (Desk (Unmap b)) k g = absurd (no_unmap job b g)
-    done_kept job (Desk (ReleaseOrder b)) k g = absurd (no_release job b g)
-    done_kept job (End answer) k g = elim (answer_fact job answer g) [
-      | inl e ↦ subst (λ (ch : Chosen P A). K (phase_then shape w.phase (End answer) got ch) (commit_then w.phase w.commit (End answer) got ch) m) (sym e) (answer_plain w.phase w.commit m answer got k)
-      | inr h ↦ subst (λ (x : Answer). K (phase_then shape w.phase (End x) got chosen) (commit_then w.phase w.commit (End x) got chosen) m) (sym h.0) (answer_opens w.phase w.commit m got chosen k h.1)
+    done_kept i buffer job (Desk (BeginCommit clean most)) k g = begin_commit i w.phase w.commit m clean most got chosen k (begin_fact job clean most g)
+    done_kept i buffer job (Desk EndCommit) k g = end_commit i w.phase w.commit m got chosen k (end_fact job g)
+    done_kept i buffer job (Desk (Map b c)) k g = map_keeps i w.phase w.commit m b c got chosen k (map_fact job b c g)
+    done_kept i buffer job (Desk (Unmap b)) k g = absurd (no_unmap job b g)
+    done_kept i buffer job (Desk (ReleaseOrder b)) k g = let f = release_fact job b g in release_keeps i w.phase w.commit m b f.0 got chosen k f.1
+    done_kept i buffer job (End answer) k g = elim (answer_fact job answer g) [
+      | inl e ↦ subst (λ (ch : Chosen P A). T i (phase_then shape w.phase (End answer) got ch) (commit_then w.phase w.commit (End answer) got ch) m) (sym e) (answer_plain i w.phase w.commit m answer got k)
+      | inr h ↦ subst (λ (x : Answer). T i (phase_then shape w.phase (End x) got chosen) (commit_then w.phase w.commit (End x) got chosen) m) (sym h.0) (answer_opens i w.phase w.commit m got chosen k h.1)
     ]

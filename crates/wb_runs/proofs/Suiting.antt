@@ -24,15 +24,15 @@ use Rattle.wb_tasks.specs.declared.step.Got.TheVariants.{Done, Fault, Refused as
 use Rattle.wb_devices.specs.declared.running.RunningCommit.{RunningCommit}
 use Rattle.wb_devices.specs.Opened.{HasCome, got_of_refusal}
 use Rattle.wb_runs.specs.declared.job.Job.{Job}
-use Rattle.wb_runs.specs.declared.job.Job.TheVariants.{Read, Write, Flush, Open}
+use Rattle.wb_runs.specs.declared.job.Job.TheVariants.{Read, Write, Flush, Open, Migrate}
 use Rattle.wb_runs.specs.States.{Shape, State, Phase, Stands, Gone, Opens, OfTarget, OfReading}
-use Rattle.wb_runs.specs.Happenings.{Chosen, Plain, Cut, Begins, Reaches, Puts, Commits, Opened, DoesRead, DoesBegin, Gives}
-use Rattle.wb_runs.proofs.Stepping.{metadata_fact, begin_fact, no_map, no_unmap, no_release, sync_fact, node_fact, root_fact}
+use Rattle.wb_runs.specs.Happenings.{Chosen, Plain, Cut, Orders, Begins, Reaches, Puts, Commits, Asks, Opened, DoesRead, DoesBegin, DoesMap, Gives}
+use Rattle.wb_runs.proofs.Stepping.{metadata_fact, begin_fact, map_fact, no_unmap, sync_fact, node_fact, root_fact}
 
 -- ---- results
 
 -- of a step on the words
-cell_fits : (words : Words) (step : CellStep) → Fits (Cell step) (got_of (result_of words step))
+pub cell_fits : (words : Words) (step : CellStep) → Fits (Cell step) (got_of (result_of words step))
 cell_fits words (Look word) = tt
 cell_fits words (Take access b seen) = by_test (eqb (word_at words.cells b) seen)
   where
@@ -87,6 +87,8 @@ read_fits shape left was device commit got (Reaches left' commit') d = elim d.1 
 ]
 read_fits shape left was device commit got Plain d = absurd d
 read_fits shape left was device commit got (Cut es) d = absurd d
+read_fits shape left was device commit got (Orders es c) d = absurd d
+read_fits shape left was device commit got (Asks new) d = absurd d
 read_fits shape left was device commit got (Begins now) d = absurd d
 read_fits shape left was device commit got (Puts new) d = absurd d
 read_fits shape left was device commit got (Commits c tree) d = absurd d
@@ -115,22 +117,43 @@ module _ (P A : Type 0) (shape : Shape) (w : State P A) (got : Got) (read : List
   data_sync (Write x c) Cache g = g.1
   data_sync Flush Cache g = g.1
   data_sync (Open mode) Cache g = g.1
+  data_sync (Migrate migration block) Cache g = g.1
   data_sync (Read x) Origin g = g.1
   data_sync (Write x c) Origin g = g.1
   data_sync Flush Origin g = g.1
   data_sync (Open mode) Origin g = g.1
+  data_sync (Migrate migration block) Origin g = g.1
 
   word_given : (job : Job) (step : CellStep) → Gives shape w job (Cell step) got read chosen → OfTarget w.phase (λ t. got ≡ got_of (result_of t.words step))
   word_given (Read x) step g = g.1
   word_given (Write x c) step g = g.1
   word_given Flush step g = g.1
   word_given (Open mode) step g = g.1
+  word_given (Migrate migration block) step g = g.1
 
   end_given : (job : Job) → Gives shape w job (Desk EndCommit) got read chosen → got ≡ Done
   end_given (Read x) g = g.1
   end_given (Write x c) g = g.1
   end_given Flush g = g.1
   end_given (Open mode) g = g.1
+  end_given (Migrate migration block) g = g.1
+
+  map_fits : (desk : DeskState P) (b c : _) (got : Got) (ch : Chosen P A) → DoesMap b c desk got ch → Fits (Desk (Map b c)) got
+  map_fits desk b c Done (Asks new) d = tt
+  map_fits desk b c (GotRefused refusal) Plain d = subst (λ (r : Refusal). Fits (Desk (Map b c)) (GotRefused r)) (sym d) tt
+  map_fits desk b c got ch d = absurd d
+
+  map_given : (phase : Phase P A) (b c : _) → OfTarget phase (λ t. DoesMap b c t.desk got chosen) → Fits (Desk (Map b c)) got
+  map_given (Stands t) b c d = map_fits t.desk b c got chosen d
+  map_given Gone b c d = absurd d
+  map_given (Opens mode reading) b c d = absurd d
+
+  released_done : (job : Job) (b : _) → Gives shape w job (Desk (ReleaseOrder b)) got read chosen → got ≡ Done
+  released_done (Read x) b g = absurd g
+  released_done (Write x c) b g = absurd g
+  released_done Flush b g = absurd g
+  released_done (Open mode) b g = absurd g
+  released_done (Migrate migration block) b g = g.1
 
   -- each result fits the step that gave it
   pub gives_fits : (job : Job) (next : Want) → IsStep next → Gives shape w job next got read chosen → Fits next got
@@ -139,17 +162,19 @@ module _ (P A : Type 0) (shape : Shape) (w : State P A) (got : Got) (read : List
   gives_fits (Write x c) (Device (ReadExtent d e)) i g = absurd g
   gives_fits Flush (Device (ReadExtent d e)) i g = absurd g
   gives_fits (Open mode) (Device (ReadExtent d e)) i g = absurd g
+  gives_fits (Migrate migration block) (Device (ReadExtent d e)) i g = done_fits (Device (ReadExtent d e)) got tt g.2
   gives_fits (Read x) (Device (WriteExtent d e)) i g = absurd g
   gives_fits (Write x c) (Device (WriteExtent d e)) i g = done_fits (Device (WriteExtent d e)) got tt g.2
   gives_fits Flush (Device (WriteExtent d e)) i g = absurd g
   gives_fits (Open mode) (Device (WriteExtent d e)) i g = absurd g
+  gives_fits (Migrate migration block) (Device (WriteExtent d e)) i g = done_fits (Device (WriteExtent d e)) got tt g.2
   gives_fits job (Device (Sync d)) i g = done_fits (Device (Sync d)) got tt (data_sync job d g)
   gives_fits job (Device (WriteNode number)) i g = done_fits (Device (WriteNode number)) got tt (node_fact P A shape w got read chosen job number g).0
   gives_fits job (Device WriteRoot) i g = done_fits (Device WriteRoot) got tt (root_fact P A shape w got read chosen job g).0
   gives_fits job (Device (ReadMetadata left)) i g = on_metadata w.phase left (metadata_fact P A shape w got read chosen job left g).1
   gives_fits job (Desk (BeginCommit clean most)) i g = on_desk w.phase clean most (begin_fact P A shape w got read chosen job clean most g)
   gives_fits job (Desk EndCommit) i g = done_fits (Desk EndCommit) got tt (end_given job g)
-  gives_fits job (Desk (Map b c)) i g = absurd (no_map P A shape w got read chosen job b c g)
+  gives_fits job (Desk (Map b c)) i g = map_given w.phase b c (map_fact P A shape w got read chosen job b c g)
   gives_fits job (Desk (Unmap b)) i g = absurd (no_unmap P A shape w got read chosen job b g)
-  gives_fits job (Desk (ReleaseOrder b)) i g = absurd (no_release P A shape w got read chosen job b g)
+  gives_fits job (Desk (ReleaseOrder b)) i g = done_fits (Desk (ReleaseOrder b)) got tt (released_done job b g)
   gives_fits job (End answer) i g = absurd i

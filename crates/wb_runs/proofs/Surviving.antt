@@ -12,7 +12,7 @@ use Rattle.wb_format.specs.declared.root.Root.{Root}
 use Rattle.wb_format.specs.Layout.{SpellsRoot}
 use Rattle.wb_format.proofs.Values.{one_root}
 use Rattle.wb_tree.specs.Reading.{IsNewestRoot}
-use Rattle.wb_runs.proofs.Sectors.{written_same}
+use Rattle.wb_runs.proofs.Shown.{written_same, origin_shown}
 use Rattle.wb_runs.proofs.Spelling.{spelling, spelled_root}
 use Rattle.std.specs.Prelude.{option_map}
 use Rattle.wb_types.specs.declared.geometry.Geometry.{Geometry}
@@ -41,12 +41,14 @@ use Rattle.wb_runs.specs.Clerk.{greater_of}
 use Rattle.wb_meta.specs.Reads.{sectors_read}
 use Rattle.wb_meta.specs.declared.read_steps.ReadSteps.{ReadSteps}
 use Rattle.wb_meta.specs.declared.read_steps.ReadSteps.TheVariants.{Begun, FirstSlotRead, RootFound, Done as AllRead}
-use Rattle.wb_runs.proofs.Metadata.{AtDesk, Quiet}
-use Rattle.wb_runs.proofs.Completing.{HasNoTree, formatted_none}
+use Rattle.wb_runs.proofs.Images.{Images}
+use Rattle.wb_runs.proofs.Metadata.{Quiet}
+use Rattle.wb_runs.proofs.MetadataRuns.{IsKnown}
+use Rattle.wb_runs.proofs.Bare.{BareDesk}
+use Rattle.wb_runs.proofs.Formatted.{HasNoTree, formatted_none}
 use Rattle.wb_runs.specs.Clerk.{formatted as formatted_notes}
-use Rattle.wb_runs.proofs.Opened.{origin_shown}
 use Rattle.wb_runs.proofs.FirstOpening.{happenings as first_opening, is_run as opens_run, target as opened_target, rooted_metadata as opened_metadata, opened_is, known as opened_known, quiet as opened_quiet, may as opened_may, stands as opens_stands, run_append, after_append}
-use Rattle.wb_runs.proofs.FirstLife.{Leads, does, rested, nothing_lands, idle_state, idle_notes, durable_state, durable_notes, target_in, flushes, flushes_run, flushes_answer, flushes_then, flush_answer, durable, durable_is, durable_quiet, durable_noted, fails, fails_run, fails_then, crash, crash_run, crashed_is, writes_run, writes_then, reads_run, reads_then, read_answer, idle_noted, before, started, writes, reads, idle_is}
+use Rattle.wb_runs.proofs.FirstLife.{Leads, does, rested, nothing_lands, idle_state, idle_notes, durable_state, durable_notes, target_in, flushes, flushes_run, flushes_answer, flushes_then, flush_answer, durable, durable_is, durable_known, durable_quiet, durable_noted, fails, fails_run, fails_then, crash, crash_run, crashed_is, writes_run, writes_then, reads_run, reads_then, read_answer, idle_noted, before, started, writes, reads, idle_is}
 use Rattle.wb_tasks.specs.declared.step.Answer.TheVariants.{Done as Finished}
 use Rattle.wb_tasks.specs.declared.step.Want.TheVariants.{End}
 use Rattle.wb_tasks.specs.declared.step.Got.TheVariants.{Done}
@@ -66,8 +68,8 @@ root_there m r q some fits same n =
     one_root (spelling r) q r (subst (λ (s : Bytes). SpellsRoot s q) is n.valid.spelled) (spelled_root r fits)
 
 -- metadata that stand quietly by a root without a tree, once a crash has left of them what it will
-none_after : (P : Type 0) (g : Geometry) (desk : DeskState P) (m m' : List History) (q : Quiet g desk m) → q.stored.root.top ≡ None → q.stored.root.generation + 2 < 2 ^ 64 → Crashed m m' → HasNoTree g m'
-none_after P g desk m m' q top more crash = record {
+none_after : (P : Type 0) (g : Geometry) (i : Images) (desk : DeskState P) (m m' : List History) (q : Quiet g i desk m) → q.stored.root.top ≡ None → q.stored.root.generation + 2 < 2 ^ 64 → Crashed m m' → HasNoTree g m'
+none_after P g i desk m m' q top more crash = record {
   root = q.stored.root;
   geometry_is = q.same;
   top = top;
@@ -161,10 +163,10 @@ module _ (P A : Type 0) (policy : P) (alloc : A) (global : Global) (cache_blocks
   abbrev doings : List (Option Doing)
   doings = replicate (length (nobody (replicate others None))) None
 
-  known : AtDesk shape.geometry desk None m1
+  abbrev known : BareDesk P shape.geometry desk m1
   known = opened_known P A policy alloc global shape metadata zeros (replicate 64 blank) none size rest
 
-  quiet : Quiet shape.geometry desk m1
+  quiet : Quiet shape.geometry known.images desk m1
   quiet = opened_quiet P A policy alloc global shape metadata zeros (replicate 64 blank) none size rest
 
   may : MayBegin desk
@@ -179,7 +181,10 @@ module _ (P A : Type 0) (policy : P) (alloc : A) (global : Global) (cache_blocks
   abbrev desk2 : DeskState P
   desk2 = (target_in settled.phase desk).desk
 
-  settled_quiet : Quiet shape.geometry desk2 settled.devices.metadata
+  abbrev settled_known : IsKnown P A shape settled
+  settled_known = durable_known P A global cache_blocks meta_sectors within threshold others desk m1 (synced zeros) (all_resting rest) leads.card history sectors sectors (replicate 63 0) (replicate 63 0) doings known quiet may
+
+  settled_quiet : Quiet shape.geometry settled_known.images desk2 settled.devices.metadata
   settled_quiet = durable_quiet P A global cache_blocks meta_sectors within threshold others desk m1 (synced zeros) (all_resting rest) leads.card history sectors sectors (replicate 63 0) (replicate 63 0) doings known quiet may
 
   settled_is : (card : Card) × (settled ≡ rested P A settled.devices.metadata settled.devices.cache (only content ∷ synced sectors) desk2 card (all_resting rest))
@@ -202,7 +207,7 @@ module _ (P A : Type 0) (policy : P) (alloc : A) (global : Global) (cache_blocks
   crash_of = Crashed-crashed_from Metadata nothing_lands 0 settled.devices.metadata
 
   none3 : HasNoTree shape.geometry m3
-  none3 = none_after P shape.geometry desk2 settled.devices.metadata m3 settled_quiet (ap (λ (r : Root). r.top) settled_root) (omega (arith, ap (λ (r : Root). r.generation) settled_root, generation, formatted.first.generation)) crash_of
+  none3 = none_after P shape.geometry settled_known.images desk2 settled.devices.metadata m3 settled_quiet (ap (λ (r : Root). r.top) settled_root) (omega (arith, ap (λ (r : Root). r.generation) settled_root, generation, formatted.first.generation)) crash_of
 
   size3 : length m3 ≡ meta_sectors
   size3 = crash_of.size ∙ settled_quiet.stores.size ∙ ap (λ (g : Geometry). g.meta_sectors) settled_quiet.same

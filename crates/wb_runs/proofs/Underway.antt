@@ -1,6 +1,5 @@
--- A commit on its way to metadata in which nothing is cached: how it goes on, fails and ends.
-use Rattle.std.proofs.Common.{◌≡◌, ◌⊎◌, ◌&&◌, ◌==◌, inl, inr, ℕ, Bool, true, false, List, Option, Some, None, refl, sym, subst, slice_get, replicate, length, is_some, is_none}
-use Rattle.wb_types.specs.declared.entry.Entry.{Entry}
+-- A commit on its way: which states the metadata are read as while it goes on, and once it failed or ended.
+use Rattle.std.proofs.Common.{◌≡◌, ◌⊎◌, ◌&&◌, ◌==◌, inl, inr, ℕ, Bool, true, false, if◌then◌else◌, List, Option, Some, None, refl, sym, ap, subst, slice_get, length, is_some, is_none}
 use Rattle.wb_types.specs.declared.geometry.Geometry.{Geometry}
 use Rattle.wb_types.specs.declared.number.Place.{Place}
 use Rattle.wb_types.specs.declared.mode.Dev.TheVariants.{Metadata}
@@ -12,7 +11,7 @@ use Rattle.wb_tree.specs.declared.image.Image.{Image}
 use Rattle.wb_meta.specs.declared.commit_steps.CommitSteps.{CommitSteps}
 use Rattle.wb_meta.specs.declared.commit_steps.CommitSteps.TheVariants.{NodesWritten, NodesSynced, RootWritten, Done as Committed}
 use Rattle.wb_meta.specs.Representing.{Stored}
-use Rattle.wb_meta.specs.Commits.{HasCome}
+use Rattle.wb_meta.specs.Commits.{HasCome, HasFailed}
 use Rattle.wb_meta.specs.Steps.{DoesStep, FailsStep, steps_after}
 use Rattle.wb_meta.specs.Imaging.{DeviceStores}
 use Rattle.wb_meta.proofs.Stepping.{goes_on as step_goes_on, fails as step_fails}
@@ -22,70 +21,94 @@ use Rattle.wb_devices.specs.declared.running.RunningCommit.{RunningCommit}
 use Rattle.wb_devices.specs.Committing.{goes_on, is_coming, is_committed}
 use Rattle.wb_roots.specs.Roots.{MayBeReadAs, IsSettled, Commit, CanBeMade}
 use Rattle.wb_roots.specs.Laws.{IsDecided}
-use Rattle.wb_roots.proofs.Leading.{during, after_failure, when_done}
+use Rattle.wb_roots.proofs.Leading.{during, early, after_failure, after_failed_node, when_done}
 use Rattle.wb_roots.proofs.Deciding.{crash_decides, sync_decides, failed_sync_leaves}
+use Rattle.wb_runs.proofs.Images.{Images, later_of, one_image, Turn, Stays, Puts, Settles, Turned, IsFit, IsFitToo, Turns}
 
--- no cache block has an entry
-abbrev pub no_entries : Geometry → List (Option Entry)
-no_entries g = replicate g.cache_blocks None
+-- A device of this geometry is read as these images. A root that is marked clean has no entry.
+pub record Readable (g : Geometry) (images : Images) (device : List History) : Type 0 where
+  pub read : MayBeReadAs g images.committed (later_of images) device
+  pub fit : IsFit images.committed
+  pub fit_later : IsFitToo images.running
 
-abbrev pub IsBare : Geometry → Stored → Type 0
-IsBare g s = s.found.entries ≡ no_entries g
+-- the root of a commit may have been written
+abbrev pub is_written : CommitSteps → Bool
+is_written (NodesWritten count) = false
+is_written NodesSynced = false
+is_written RootWritten = true
+is_written Committed = true
 
-abbrev pub IsBareToo : Geometry → Option Stored → Type 0
-IsBareToo g None = Unit {0}
-IsBareToo g (Some s) = IsBare g s
-
--- a device of this geometry is read as one state, or as one of two, in which nothing is cached
-pub record Readable (g : Geometry) (device : List History) : Type 0 where
-  pub committed : Stored
-  pub later : Option Stored
-  pub read : MayBeReadAs g committed later device
-  pub bare : IsBare g committed
-  pub bare_later : IsBareToo g later
+-- the images while a commit runs
+abbrev pub images_of : Commit → Bool → Images
+images_of of written = record { committed = of.old; running = Some of.new; written = written }
 
 -- a commit has come so far
-pub record Underway (g : Geometry) (commit : RunningCommit) (of : Commit) (device : List History) : Type 0 where
+pub record Underway (g : Geometry) (images : Images) (commit : RunningCommit) (of : Commit) (device : List History) : Type 0 where
+  pub are : images ≡ images_of of (is_written commit.steps)
   pub can : CanBeMade of
   pub image : of.image ≡ commit.image
   pub come : HasCome of.image of.before commit.steps device
   pub same : of.old.root.geometry ≡ g
-  pub bare : IsBare g of.old
-  pub bare_new : IsBare g of.new
+  pub fit : IsFit of.old
+  pub fit_new : IsFit of.new
 
-one_of_two : (g : Geometry) (commit : RunningCommit) (of : Commit) (device now : List History) → Underway g commit of device → MayBeReadAs of.old.root.geometry of.old (Some of.new) now → Readable g now
-one_of_two g commit of device now u may = record {
-  committed = of.old;
-  later = Some of.new;
-  read = subst (λ (x : Geometry). MayBeReadAs x of.old (Some of.new) now) u.same may;
-  bare = u.bare;
-  bare_later = u.bare_new;
-}
+-- the device is read as the old state, or perhaps as the new one
+read_as : (g : Geometry) (of : Commit) (now : List History) (written : Bool) → of.old.root.geometry ≡ g → IsFit of.old → IsFit of.new → MayBeReadAs of.old.root.geometry of.old (later_of (images_of of written)) now → Readable g (images_of of written) now
+read_as g of now written same fit fit_new may = record { read = subst (λ (x : Geometry). MayBeReadAs x of.old (later_of (images_of of written)) now) same may; fit = fit; fit_later = fit_new }
 
-pub underway_readable : (g : Geometry) (commit : RunningCommit) (of : Commit) (device : List History) → Underway g commit of device → Readable g device
-underway_readable g commit of device u = one_of_two g commit of device device u (during of u.can commit.steps device u.come)
+pub underway_readable : (g : Geometry) (images : Images) (commit : RunningCommit) (of : Commit) (device : List History) → Underway g images commit of device → Readable g images device
+underway_readable g images commit of device u = subst (λ (i : Images). Readable g i device) (sym u.are) (by_steps commit.steps u.come)
+  where
+    by_steps : (steps : CommitSteps) → HasCome of.image of.before steps device → Readable g (images_of of (is_written steps)) device
+    by_steps (NodesWritten count) come = read_as g of device false u.same u.fit u.fit_new (early of u.can (NodesWritten count) device tt come)
+    by_steps NodesSynced come = read_as g of device false u.same u.fit u.fit_new (early of u.can NodesSynced device tt come)
+    by_steps RootWritten come = read_as g of device true u.same u.fit u.fit_new (during of u.can RootWritten device come)
+    by_steps Committed come = read_as g of device true u.same u.fit u.fit_new (during of u.can Committed device come)
 
-pub led_on : (g : Geometry) (commit : RunningCommit) (of : Commit) (old new : List History) → Underway g commit of old → DoesStep commit.image commit.steps old new
-    → Underway g (record commit { steps = steps_after commit.image commit.steps }) of new
-led_on g commit of old new u does = record {
-  can = u.can;
-  image = u.image;
-  come = subst (λ (i : Image). HasCome of.image of.before (steps_after i commit.steps) new) u.image
-      (step_goes_on of.image of.old.root.geometry.meta_sectors of.before old new commit.steps u.can.places u.come
-      (subst (λ (i : Image). DoesStep i commit.steps old new) (sym u.image) does));
-  same = u.same;
-  bare = u.bare;
-  bare_new = u.bare_new;
-}
+-- what a step makes of the images
+writes : (of : Commit) (steps : CommitSteps) (images : Images) → images ≡ images_of of (is_written steps) → (turn : Turn) × Turned turn images (images_of of (is_written (steps_after of.image steps)))
+writes of (NodesWritten count) images are = by_node (slice_get of.image.nodes.items count)
+  where
+    by_node : (o : Option (Place × Node)) → (turn : Turn) × Turned turn images (images_of of (is_written (Rattle.wb_meta.specs.Steps.after_node o count)))
+    by_node None = (Stays, sym are)
+    by_node (Some node) = (Stays, sym are)
+writes of NodesSynced images are = (Puts, sym (ap (λ (i : Images). record i { written = true }) are))
+writes of RootWritten images are = (Stays, sym are)
+writes of Committed images are = (Stays, sym are)
 
-pub stopped : (g : Geometry) (commit : RunningCommit) (of : Commit) (old new : List History) → Underway g commit of old → FailsStep commit.image commit.steps old new → Readable g new
-stopped g commit of old new u failing = one_of_two g commit of old new u (after_failure of u.can commit.steps new
-    (step_fails of.image of.old.root.geometry.meta_sectors of.before old new commit.steps u.can.places u.come
-    (subst (λ (i : Image). FailsStep i commit.steps old new) (sym u.image) failing)))
+pub led_on : (g : Geometry) (images : Images) (commit : RunningCommit) (of : Commit) (old new : List History) → Underway g images commit of old → DoesStep commit.image commit.steps old new
+    → Turns (λ now. Underway g now (record commit { steps = steps_after commit.image commit.steps }) of new) images
+led_on g images commit of old new u does =
+    let w = writes of commit.steps images u.are in record {
+      now = images_of of (is_written (steps_after of.image commit.steps));
+      turn = w.0;
+      turned = w.1;
+      kept = record {
+        are = ap (λ (i : Image). images_of of (is_written (steps_after i commit.steps))) u.image;
+        can = u.can;
+        image = u.image;
+        come = subst (λ (i : Image). HasCome of.image of.before (steps_after i commit.steps) new) u.image
+            (step_goes_on of.image of.old.root.geometry.meta_sectors of.before old new commit.steps u.can.places u.come
+            (subst (λ (i : Image). DoesStep i commit.steps old new) (sym u.image) does));
+        same = u.same;
+        fit = u.fit;
+        fit_new = u.fit_new;
+      };
+    }
+
+pub stopped : (g : Geometry) (images : Images) (commit : RunningCommit) (of : Commit) (old new : List History) → Underway g images commit of old → FailsStep commit.image commit.steps old new → Turns (λ now. Readable g now new) images
+stopped g images commit of old new u failing = by_steps commit.steps u.are
+    (step_fails of.image of.old.root.geometry.meta_sectors of.before old new commit.steps u.can.places u.come (subst (λ (i : Image). FailsStep i commit.steps old new) (sym u.image) failing))
+  where
+    by_steps : (steps : CommitSteps) → images ≡ images_of of (is_written steps) → HasFailed of.image of.before steps new → Turns (λ now. Readable g now new) images
+    by_steps (NodesWritten count) are failed = record { now = images_of of false; turn = Stays; turned = sym are; kept = read_as g of new false u.same u.fit u.fit_new (after_failed_node of u.can count new failed) }
+    by_steps NodesSynced are failed = record { now = images_of of true; turn = Puts; turned = sym (ap (λ (i : Images). record i { written = true }) are); kept = read_as g of new true u.same u.fit u.fit_new (after_failure of u.can NodesSynced new failed) }
+    by_steps RootWritten are failed = record { now = images_of of true; turn = Stays; turned = sym are; kept = read_as g of new true u.same u.fit u.fit_new (after_failure of u.can RootWritten new failed) }
+    by_steps Committed are failed = absurd failed
 
 -- all of it was done
-pub all_done : (g : Geometry) (commit : RunningCommit) (of : Commit) (device : List History) → Underway g commit of device → is_committed commit.steps ≡ true → DeviceStores of.tree device of.new of.used
-all_done g commit of device u done = by_steps commit.steps done u.come
+pub all_done : (g : Geometry) (images : Images) (commit : RunningCommit) (of : Commit) (device : List History) → Underway g images commit of device → is_committed commit.steps ≡ true → DeviceStores of.tree device of.new of.used
+all_done g images commit of device u done = by_steps commit.steps done u.come
   where
     by_steps : (steps : CommitSteps) → is_committed steps ≡ true → HasCome of.image of.before steps device → DeviceStores of.tree device of.new of.used
     by_steps (NodesWritten count) e come = absurd (cc)
@@ -157,49 +180,51 @@ put_fails image steps step old new p e r = put_coming image steps step old new p
 
 -- ---- crashes and syncs
 
-decided : (g : Geometry) (old : List History) (r : Readable g old) (new : List History) → IsDecided g r.committed r.later new → Readable g new
-decided g old r new (settled, inl may) = record { committed = r.committed; later = None; read = may; bare = r.bare; bare_later = tt }
-decided g old r new (settled, inr more) = record {
-  committed = more.0;
-  later = None;
-  read = more.2;
-  bare = bare_of r.later more.1 r.bare_later;
-  bare_later = tt;
-}
-  where
-    bare_of : (later : Option Stored) → later ≡ Some more.0 → IsBareToo g later → IsBare g more.0
-    bare_of None e b = absurd (cc)
-    bare_of (Some s) e b = let same : s ≡ more.0 = cc in subst (λ (x : Stored). IsBare g x) same b
-
-pub crash_readable : (g : Geometry) (old new : List History) → Readable g old → Crashed old new → Readable g new
-crash_readable g old new r crash = decided g old r new (crash_decides g r.committed r.later old new r.read crash)
-
 -- one state alone, and a crash leaves what reads give
-pub record Found (g : Geometry) (device : List History) : Type 0 where
+pub record Found (g : Geometry) (images : Images) (device : List History) : Type 0 where
   pub committed : Stored
+  pub are : images ≡ one_image committed
   pub read : MayBeReadAs g committed None device
   pub settled : IsSettled device
-  pub bare : IsBare g committed
+  pub fit : IsFit committed
 
-found_of : (g : Geometry) (old : List History) (r : Readable g old) (new : List History) → IsDecided g r.committed r.later new → Found g new
-found_of g old r new (settled, inl may) = record { committed = r.committed; read = may; settled = settled; bare = r.bare }
-found_of g old r new (settled, inr more) = record { committed = more.0; read = more.2; settled = settled; bare = bare_of r.later more.1 r.bare_later }
+-- the root that may have been written is the one that is found
+settles : (images : Images) (state : Stored) → later_of images ≡ Some state → Turned (Settles true) images (one_image state) × (images.running ≡ Some state)
+settles images state e = by_written images.written refl e
   where
-    bare_of : (later : Option Stored) → later ≡ Some more.0 → IsBareToo g later → IsBare g more.0
-    bare_of None e b = absurd (cc)
-    bare_of (Some s) e b = let same : s ≡ more.0 = cc in subst (λ (x : Stored). IsBare g x) same b
+    by_written : (b : Bool) → images.written ≡ b → (if b then images.running else None) ≡ Some state → Turned (Settles true) images (one_image state) × (images.running ≡ Some state)
+    by_written true w e = ((state, e, w, refl), e)
+    by_written false w e = absurd (cc)
 
-pub sync_found : (g : Geometry) (old : List History) → Readable g old → Found g (synced old)
-sync_found g old r = found_of g old r (synced old) (sync_decides g r.committed r.later old r.read)
+found_by : (g : Geometry) (images : Images) (old : List History) → Readable g images old → (new : List History) → IsDecided g images.committed (later_of images) new → Turns (λ now. Found g now new) images
+found_by g images old r new (settled, inl may) = record {
+  now = one_image images.committed;
+  turn = Settles false;
+  turned = refl;
+  kept = record { committed = images.committed; are = refl; read = may; settled = settled; fit = r.fit };
+}
+found_by g images old r new (settled, inr more) =
+    let s = settles images more.0 more.1 in record {
+      now = one_image more.0;
+      turn = Settles true;
+      turned = s.0;
+      kept = record { committed = more.0; are = refl; read = more.2; settled = settled; fit = subst (λ (o : Option Stored). IsFitToo o) s.1 r.fit_later };
+    }
 
-pub found_readable : (g : Geometry) (device : List History) → Found g device → Readable g device
-found_readable g device f = record { committed = f.committed; later = None; read = f.read; bare = f.bare; bare_later = tt }
+pub found_readable : (g : Geometry) (images : Images) (device : List History) → Found g images device → Readable g images device
+found_readable g images device f = subst (λ (i : Images). Readable g i device) (sym f.are) (record { read = f.read; fit = f.fit; fit_later = tt })
 
-pub partly_readable : (g : Geometry) (landed : ℕ → Bool) (old : List History) → Readable g old → Readable g (synced_where landed old)
-partly_readable g landed old r = record {
-  committed = r.committed;
-  later = r.later;
-  read = failed_sync_leaves g r.committed r.later old (synced_where landed old) r.read (partly_synced landed old);
-  bare = r.bare;
-  bare_later = r.bare_later;
+pub sync_found : (g : Geometry) (images : Images) (old : List History) → Readable g images old → Turns (λ now. Found g now (synced old)) images
+sync_found g images old r = found_by g images old r (synced old) (sync_decides g images.committed (later_of images) old r.read)
+
+pub crash_readable : (g : Geometry) (images : Images) (old new : List History) → Readable g images old → Crashed old new → Turns (λ now. Readable g now new) images
+crash_readable g images old new r crash =
+    let f = found_by g images old r new (crash_decides g images.committed (later_of images) old new r.read crash) in
+    record { now = f.now; turn = f.turn; turned = f.turned; kept = found_readable g f.now new f.kept }
+
+pub partly_readable : (g : Geometry) (images : Images) (landed : ℕ → Bool) (old : List History) → Readable g images old → Readable g images (synced_where landed old)
+partly_readable g images landed old r = record {
+  read = failed_sync_leaves g images.committed (later_of images) old (synced_where landed old) r.read (partly_synced landed old);
+  fit = r.fit;
+  fit_later = r.fit_later;
 }

@@ -1,8 +1,9 @@
 -- In every run each actor has what its task needs, and the words of the target that stands keep their rule.
-use Rattle.std.proofs.Common.{◌≡◌, ◌∙◌, ◌<◌, ◌*◌, ◌/◌, inr, ℕ, List, [], ◌∷◌, Option, Some, None, refl, sym, ap, subst, slice_get, slice_set, replicate, arith, mul_comm}
+use Rattle.std.proofs.Common.{◌≡◌, ◌<◌, ◌*◌, ◌/◌, inl, inr, ℕ, List, [], ◌∷◌, Option, Some, None, refl, sym, ap, subst, slice_get, slice_set, arith, mul_comm}
+use mathlib.Core.Option.{some}
+use lib.ListN.{get_elem?}
 use Rattle.wb_types.specs.declared.mode.Mode.{Mode}
 use Rattle.wb_types.specs.declared.extent.Extent.{Extent}
-use Rattle.wb_types.specs.declared.entry.Entry.{Entry}
 use Rattle.std.proofs.lemmas.Nat.{div_below}
 use Rattle.wb_disk.specs.Device.{Content as Bytes, History}
 use Rattle.wb_disk.specs.Crash.{Choice}
@@ -10,7 +11,7 @@ use Rattle.wb_disk.specs.Failing.{lands}
 use Rattle.wb_words.specs.declared.card.Card.{Card}
 use Rattle.wb_words.specs.declared.card.Hold.TheVariants.{Nothing}
 use Rattle.wb_words.specs.declared.step.CellStep.{CellStep}
-use Rattle.wb_words.specs.SharedWords.{Words, fresh_words}
+use Rattle.wb_words.specs.SharedWords.{fresh_words}
 use Rattle.wb_words.specs.Cards.{blank_card}
 use Rattle.wb_words.specs.Rule.{LockRule}
 use Rattle.wb_words.specs.Effects.{result_of, card_after}
@@ -30,21 +31,28 @@ use Rattle.wb_tasks.specs.declared.step.Want.TheVariants.{Cell, Device, Desk, En
 use Rattle.wb_tasks.specs.declared.step.Got.{Got}
 use Rattle.wb_tasks.specs.declared.step.Got.TheVariants.{Fault}
 use Rattle.wb_runs.specs.declared.job.Job.{Job}
-use Rattle.wb_runs.specs.declared.job.Job.TheVariants.{Read, Write, Flush, Open}
+use Rattle.wb_runs.specs.declared.job.Job.TheVariants.{Read, Write, Flush, Open, Migrate}
 use Rattle.wb_runs.specs.declared.event.Event.{Event}
 use Rattle.wb_runs.specs.declared.event.Event.TheVariants.{Start, Step, FaultStep, Stop}
 use Rattle.wb_runs.specs.declared.event.What.{What}
 use Rattle.wb_runs.specs.declared.event.What.TheVariants.{Skipped, Refused, Started, Stepped, Stopped}
 use Rattle.wb_runs.specs.States.{Shape, State, Actor, Target, Phase, Stands, Gone, Opens, OfTarget, resting, start}
-use Rattle.wb_runs.specs.Happenings.{Chosen, Plain, Cut, Opened, Happening, OfSome, DoesNotApply, DoesOpen, MayFailAt, Falters, StartGives, Gives, MayBe}
-use Rattle.wb_runs.specs.Effects.{task_then, card_then, actor_then, card_over, card_by, words_by, seals_of, sealing_steps, words_then, desk_then, phase_then, phase_opened, target_over, stepped, with_actor, cleared, given, job_of, device_done, device_failed, all_resting, after_what, after_happening, after_all, IsRun}
+use Rattle.wb_runs.specs.Happenings.{Chosen, Plain, Cut, Orders, order_for, Opened, Happening, OfSome, DoesNotApply, DoesOpen, MayFailAt, Falters, StartGives, Gives, MayBe}
+use Rattle.wb_runs.specs.Effects.{task_then, card_then, actor_then, card_over, card_by, words_by, seals_of, sealing_steps, words_then, desk_then, phase_then, phase_opened, target_over, stepped, with_actor, cleared, given, phase_given, started, job_of, device_done, device_failed, all_resting, after_what, after_happening, after_all, IsRun}
 use Rattle.wb_runs.specs.Holding.{cards_of, TaskSuits, AllSuited, AreUsedRightly}
 use Rattle.wb_runs.proofs.Extents.{MayStart, may_start, some_sectors}
-use Rattle.wb_runs.proofs.Opened.{no_seals, replicated}
-use Rattle.wb_runs.proofs.MetadataRuns.{Known, known_after, known_at_start}
+use Rattle.wb_types.specs.declared.number.OBlock.{OBlock}
+use Rattle.wb_tasks.specs.declared.step.Migration.{Migration}
+use Rattle.wb_tasks.specs.declared.step.Migration.TheVariants.{Promote, Demote, Clean}
+use Rattle.wb_policy.specs.declared.order.Order.{Order}
+use Rattle.wb_devices.specs.declared.devices.Devices.{Devices}
+use Rattle.wb_runs.proofs.Lists.{replicated, free, first_or}
+use Rattle.wb_runs.proofs.Images.{Turns}
+use Rattle.wb_runs.proofs.Ordering.{OrderInside, OrdersInside, AllOrdersInside, orders_left, order_given}
+use Rattle.wb_runs.proofs.Sealing.{EntriesInside, fresh_taken, all_sealed, Sealed}
+use Rattle.wb_runs.proofs.MetadataRuns.{IsKnown, known_after, known_at_start}
 use Rattle.wb_runs.proofs.Stepping.{done_kept}
-use Rattle.wb_runs.proofs.Runs.{free}
-use Rattle.wb_runs.proofs.Ruling.{rule_after, rule_same, AllBlank, fresh_ruled, each_set, all_rest}
+use Rattle.wb_runs.proofs.Ruling.{rule_after, rule_same, AllBlank, fresh_ruled, each_set, all_rest, cards_set, card_at}
 use Rattle.wb_runs.proofs.Suiting.{gives_fits}
 
 -- an actor that has a task opens
@@ -75,15 +83,22 @@ module _ (P A : Type 0) (shape : Shape) where
   pub record UsedRightly (phase : Phase P A) (actors : List Actor) : Type 0 where
     pub suited : AllSuited blocks actors
     pub here : InPhase phase actors
+    pub orders : AllOrdersInside shape.geometry actors
 
   -- ---- one actor goes on
 
-  module _ (actors : List Actor) (a : ℕ) (x : Actor) (e : slice_get actors a ≡ Some x) (job : Job) (plan : Plan) (xt : x.task ≡ Some (job, plan)) (all : AllSuited blocks actors) where
+  module _ (devices : Devices (List History)) (actors : List Actor) (a : ℕ) (x : Actor) (e : slice_get actors a ≡ Some x) (job : Job) (plan : Plan) (xt : x.task ≡ Some (job, plan)) (all : AllSuited blocks actors) (ords : AllOrdersInside shape.geometry actors) where
     suits : Suits blocks plan x.card
     suits = subst (λ (t : Option (Job × Plan)). TaskSuits blocks x.card t) xt (all a x e)
 
     set_suited : (y : Actor) → TaskSuits blocks y.card y.task → AllSuited blocks (slice_set actors a y)
     set_suited y s = each_set actors a x y (λ (z : Actor). TaskSuits blocks z.card z.task) e s all
+
+    set_orders : (y : Actor) → OrdersInside shape.geometry y.orders → AllOrdersInside shape.geometry (slice_set actors a y)
+    set_orders y s = each_set actors a x y (λ (z : Actor). OrdersInside shape.geometry z.orders) e s ords
+
+    left : (next : Want) (got : Got) → OrdersInside shape.geometry (Rattle.wb_runs.specs.Effects.orders_then x.orders next got)
+    left next got = orders_left shape.geometry x.orders next got (ords a x e)
 
     -- by a step
     goes_on : (next : Want) (got : Got) (card' : Card) → next ≡ want plan → Fits next got → MayMake next got x.card card' → TaskSuits blocks card' (Some (job, after plan got))
@@ -108,163 +123,171 @@ module _ (P A : Type 0) (shape : Shape) where
 
     -- on a device, done or failed
     on_device : (phase : Phase P A) (step : DeviceStep) (got : Got) (chosen : Chosen P A) → InPhase phase actors → Device step ≡ want plan → Fits (Device step) got →
-        UsedRightly (phase_then shape phase (Device step) got chosen) (slice_set actors a (actor_then {P = P} {A = A} shape phase x (Device step) got))
+        UsedRightly (phase_then shape phase (Device step) got chosen) (slice_set actors a (actor_then {P = P} {A = A} shape phase devices x (Device step) got))
     on_device (Stands t) step got chosen i h f = record {
       suited = set_suited _ (subst (λ (o : Option (Job × Plan)). TaskSuits blocks x.card (task_then o (Device step) got)) (sym xt) (goes_on (Device step) got x.card h f refl));
       here = rule_same blocks t.words actors a x _ i e refl;
+      orders = set_orders _ (left (Device step) got);
     }
     on_device Gone step got chosen i h f = record {
       suited = set_suited _ (subst (λ (o : Option (Job × Plan)). TaskSuits blocks x.card (task_then o (Device step) got)) (sym xt) (goes_on (Device step) got x.card h f refl));
       here = blank_set _ (i a x e) i;
+      orders = set_orders _ (left (Device step) got);
     }
     on_device (Opens mode reading) step got chosen i h f = record {
       suited = set_suited _ (subst (λ (o : Option (Job × Plan)). TaskSuits blocks x.card (task_then o (Device step) got)) (sym xt) (goes_on (Device step) got x.card h f refl));
       here = (blank_set _ (i.0 a x e) i.0, open_set _ (subst (λ (o : Option (Job × Plan)). OpensOrRests (task_then o (Device step) got)) (sym xt) (opens_still got i.1)) i.1);
+      orders = set_orders _ (left (Device step) got);
     }
 
     -- of the desk
     on_desk : (phase : Phase P A) (step : DeskStep) (got : Got) (chosen : Chosen P A) → InPhase phase actors → Desk step ≡ want plan → Fits (Desk step) got →
-        UsedRightly (phase_then shape phase (Desk step) got chosen) (slice_set actors a (actor_then {P = P} {A = A} shape phase x (Desk step) got))
+        UsedRightly (phase_then shape phase (Desk step) got chosen) (slice_set actors a (actor_then {P = P} {A = A} shape phase devices x (Desk step) got))
     on_desk (Stands t) step got chosen i h f = record {
       suited = set_suited _ (subst (λ (o : Option (Job × Plan)). TaskSuits blocks x.card (task_then o (Desk step) got)) (sym xt) (goes_on (Desk step) got x.card h f refl));
       here = rule_same blocks t.words actors a x _ i e refl;
+      orders = set_orders _ (left (Desk step) got);
     }
     on_desk Gone step got chosen i h f = record {
       suited = set_suited _ (subst (λ (o : Option (Job × Plan)). TaskSuits blocks x.card (task_then o (Desk step) got)) (sym xt) (goes_on (Desk step) got x.card h f refl));
       here = blank_set _ (i a x e) i;
+      orders = set_orders _ (left (Desk step) got);
     }
     on_desk (Opens mode reading) step got chosen i h f = record {
       suited = set_suited _ (subst (λ (o : Option (Job × Plan)). TaskSuits blocks x.card (task_then o (Desk step) got)) (sym xt) (goes_on (Desk step) got x.card h f refl));
       here = (blank_set _ (i.0 a x e) i.0, open_set _ (subst (λ (o : Option (Job × Plan)). OpensOrRests (task_then o (Desk step) got)) (sym xt) (opens_still got i.1)) i.1);
+      orders = set_orders _ (left (Desk step) got);
     }
 
     -- on the words
     on_words : (phase : Phase P A) (step : CellStep) (got : Got) (chosen : Chosen P A) → InPhase phase actors → Cell step ≡ want plan → Fits (Cell step) got → OfTarget phase (λ t. got ≡ got_of (result_of t.words step)) →
-        UsedRightly (phase_then shape phase (Cell step) got chosen) (slice_set actors a (actor_then {P = P} {A = A} shape phase x (Cell step) got))
+        UsedRightly (phase_then shape phase (Cell step) got chosen) (slice_set actors a (actor_then {P = P} {A = A} shape phase devices x (Cell step) got))
     on_words (Stands t) step got chosen i h f g = record {
       suited = set_suited _ (subst (λ (o : Option (Job × Plan)). TaskSuits blocks (card_after t.words step x.card) (task_then o (Cell step) got)) (sym xt) (goes_on (Cell step) got (card_after t.words step x.card) h f (t.words, g, refl)));
       here = rule_after blocks t.words actors a x _ step i e (subst (λ (v : Want). MayTake blocks x.card v) (sym h) (is_ready blocks plan x.card suits)) refl;
+      orders = set_orders _ (left (Cell step) got);
     }
     on_words Gone step got chosen i h f g = absurd g
     on_words (Opens mode reading) step got chosen i h f g = absurd g
 
     -- an answer where a target stands, or none
     on_answer : (t : Target P) (answer : Answer) (got : Got) (chosen : Chosen P A) → InPhase (Stands t) actors → End answer ≡ want plan →
-        UsedRightly (phase_then shape (Stands t) (End answer) got chosen) (slice_set actors a (actor_then {P = P} {A = A} shape (Stands t) x (End answer) got))
+        UsedRightly (phase_then shape (Stands t) (End answer) got chosen) (slice_set actors a (actor_then {P = P} {A = A} shape (Stands t) devices x (End answer) got))
     on_answer t answer got chosen i h = record {
       suited = set_suited _ (subst (λ (o : Option (Job × Plan)). TaskSuits blocks x.card (task_then o (End answer) got)) (sym xt) (ends answer h));
       here = rule_same blocks t.words actors a x _ i e refl;
+      orders = set_orders _ (ords a x e);
     }
 
     gone_answer : (answer : Answer) (got : Got) (chosen : Chosen P A) → InPhase Gone actors → End answer ≡ want plan →
-        UsedRightly (phase_then {P = P} {A = A} shape Gone (End answer) got chosen) (slice_set actors a (actor_then {P = P} {A = A} shape Gone x (End answer) got))
+        UsedRightly (phase_then {P = P} {A = A} shape Gone (End answer) got chosen) (slice_set actors a (actor_then {P = P} {A = A} shape Gone devices x (End answer) got))
     gone_answer answer got chosen i h = record {
       suited = set_suited _ (subst (λ (o : Option (Job × Plan)). TaskSuits blocks x.card (task_then o (End answer) got)) (sym xt) (ends answer h));
       here = blank_set _ (i a x e) i;
+      orders = set_orders _ (ords a x e);
     }
 
     -- an opening that is refused
     refused_answer : (mode : Mode) (reading : Option (ReadSteps A)) (refusal : _) (got : Got) → AllBlank actors → End (Refuses refusal) ≡ want plan →
-        UsedRightly Gone (slice_set actors a (actor_then {P = P} {A = A} shape (Opens mode reading) x (End (Refuses refusal)) got))
+        UsedRightly Gone (slice_set actors a (actor_then {P = P} {A = A} shape (Opens mode reading) devices x (End (Refuses refusal)) got))
     refused_answer mode reading refusal got b h = record {
       suited = set_suited _ (subst (λ (o : Option (Job × Plan)). TaskSuits blocks x.card (task_then o (End (Refuses refusal)) got)) (sym xt) (ends (Refuses refusal) h));
       here = blank_set _ (b a x e) b;
+      orders = set_orders _ (ords a x e);
     }
 
-    -- and one that is done, over metadata without entries
-    opened_answer : (mode : Mode) (stored : Stored A) (policy : P) (got : Got) → AllBlank actors → stored.tree.entries ≡ replicate shape.geometry.cache_blocks None →
-        UsedRightly (Stands (target_over shape mode policy stored)) (slice_set actors a (actor_then {P = P} {A = A} shape (Opens mode (Some (AllRead stored))) x (End Finished) got))
-    opened_answer mode stored policy got b n = record {
-      suited = set_suited _ (subst (λ (o : Option (Job × Plan)). TaskSuits blocks (card_over shape x.card (Some (AllRead stored))) (task_then o (End Finished) got)) (sym xt) (ap (λ (c : Card). c.hold) blank));
-      here = subst (λ (ws : Words). LockRule blocks ws (cards_of (slice_set actors a (actor_then {P = P} {A = A} shape (Opens mode (Some (AllRead stored))) x (End Finished) got)))) (sym fresh) (fresh_ruled blocks _ (blank_set _ blank b));
+    -- and one that is done
+    opened_answer : (mode : Mode) (stored : Stored A) (policy : P) (got : Got) → AllBlank actors → EntriesInside blocks stored.tree.entries →
+        UsedRightly (Stands (target_over shape mode policy stored)) (slice_set actors a (actor_then {P = P} {A = A} shape (Opens mode (Some (AllRead stored))) devices x (End Finished) got))
+    opened_answer mode stored policy got b inside = record {
+      suited = set_suited _ (subst (λ (o : Option (Job × Plan)). TaskSuits blocks (card_over shape x.card (Some (AllRead stored))) (task_then o (End Finished) got)) (sym xt) done.nothing);
+      here = subst (λ (cs : List Card). LockRule blocks (words_by (fresh_words blocks) (seals_of stored)) cs) (sym (cards_set actors a (actor_then {P = P} {A = A} shape (Opens mode (Some (AllRead stored))) devices x (End Finished) got))) done.rule;
+      orders = set_orders _ (ords a x e);
     }
       where
-        none : seals_of stored ≡ []
-        none = ap (λ (es : List (Option Entry)). sealing_steps stored.root.clean 0 es) n ∙ no_seals stored.root.clean 0 shape.geometry.cache_blocks
-
-        blank : card_over shape x.card (Some (AllRead stored)) ≡ blank_card
-        blank = ap (λ (steps : List CellStep). card_by (fresh_words blocks) blank_card steps) none
-
-        fresh : words_by (fresh_words blocks) (seals_of stored) ≡ fresh_words blocks
-        fresh = ap (λ (steps : List CellStep). words_by (fresh_words blocks) steps) none
+        done : Sealed blocks stored.root.clean a (words_by (fresh_words blocks) (seals_of stored)) (cards_of actors) (card_by (fresh_words blocks) blank_card (seals_of stored))
+        done = all_sealed blocks stored.root.clean a 0 stored.tree.entries (fresh_words blocks) (cards_of actors) blank_card inside (fresh_ruled blocks actors b)
+            (subst (λ (c : Card). get_elem? (cards_of actors) a ≡ some c) (b a x e) (card_at actors a x e)) refl (fresh_taken blocks)
 
   -- ---- each step
 
-  module _ (w : State P A) (got : Got) (read : List Bytes) (chosen : Chosen P A) (a : ℕ) (x : Actor) (job : Job) (plan : Plan) (known : Known P A shape w) (e : slice_get w.actors a ≡ Some x) (xt : x.task ≡ Some (job, plan)) where
+  module _ (w : State P A) (got : Got) (read : List Bytes) (chosen : Chosen P A) (a : ℕ) (x : Actor) (job : Job) (plan : Plan) (known : IsKnown P A shape w) (e : slice_get w.actors a ≡ Some x) (xt : x.task ≡ Some (job, plan)) where
     abbrev Then : Phase P A → Want → Type 0
-    Then phase next = UsedRightly (phase_then shape phase next got chosen) (slice_set w.actors a (actor_then {P = P} {A = A} shape phase x next got))
+    Then phase next = UsedRightly (phase_then shape phase next got chosen) (slice_set w.actors a (actor_then {P = P} {A = A} shape phase w.devices x next got))
 
     -- an opening's answer
-    opens : (mode : Mode) (reading : Option (ReadSteps A)) (answer : Answer) → w.phase ≡ Opens mode reading → AllSuited blocks w.actors → InPhase (Opens mode reading) w.actors → End answer ≡ want plan → Gives shape w job (End answer) got read chosen → Then (Opens mode reading) (End answer)
-    opens mode reading (Refuses refusal) p all i h g =
-        subst (λ (c : Chosen P A). UsedRightly (phase_then shape (Opens mode reading) (End (Refuses refusal)) got c) (slice_set w.actors a (actor_then {P = P} {A = A} shape (Opens mode reading) x (End (Refuses refusal)) got))) (sym (plain job g))
-        (refused_answer w.actors a x e job plan xt all mode reading refusal got i.0 h)
+    opens : (mode : Mode) (reading : Option (ReadSteps A)) (answer : Answer) → w.phase ≡ Opens mode reading → AllSuited blocks w.actors → AllOrdersInside shape.geometry w.actors → InPhase (Opens mode reading) w.actors → End answer ≡ want plan → Gives shape w job (End answer) got read chosen → Then (Opens mode reading) (End answer)
+    opens mode reading (Refuses refusal) p all ords i h g =
+        subst (λ (c : Chosen P A). UsedRightly (phase_then shape (Opens mode reading) (End (Refuses refusal)) got c) (slice_set w.actors a (actor_then {P = P} {A = A} shape (Opens mode reading) w.devices x (End (Refuses refusal)) got))) (sym (plain job g))
+        (refused_answer w.devices w.actors a x e job plan xt all ords mode reading refusal got i.0 h)
       where
         plain : (j : Job) → Gives shape w j (End (Refuses refusal)) got read chosen → chosen ≡ Plain
         plain (Read extent) g = g.0.1
         plain (Write extent content) g = g.0.1
         plain Flush g = g.0.1
         plain (Open m) g = g.0.1
-    opens mode reading Finished p all i h g =
-        let o = is_open w.actors a x e job plan xt all i.1 in
+        plain (Migrate migration block) g = g.0.1
+    opens mode reading Finished p all ords i h g =
+        let o = is_open w.devices w.actors a x e job plan xt all ords i.1 in
         let done : Gives shape w (Open o.0) (End Finished) got read chosen = subst (λ (j : Job). Gives shape w j (End Finished) got read chosen) o.1 g in
-        let kept = done_kept P A shape w got read chosen (Open o.0) (End Finished) known done in
+        let kept = done_kept P A shape w got read chosen known.images x.buffer (Open o.0) (End Finished) known.known done in
         by_reading reading chosen (subst (λ (q : Phase P A). DoesOpen q w.commit chosen) p done.2)
-        (subst (λ (q : Phase P A). Rattle.wb_runs.proofs.Metadata.MetadataKept shape.geometry (phase_then shape q (End Finished) got chosen) (Rattle.wb_runs.specs.Effects.commit_then q w.commit (End Finished) got chosen) w.devices.metadata) p kept)
+        (subst (λ (q : Phase P A). Turns (λ now. Rattle.wb_runs.proofs.Metadata.MetadataKept shape.geometry now (phase_then shape q (End Finished) got chosen) (Rattle.wb_runs.specs.Effects.commit_then q w.commit (End Finished) got chosen) w.devices.metadata) known.images) p kept)
       where
         by_reading : (r : Option (ReadSteps A)) (c : Chosen P A) → DoesOpen (Opens mode r) w.commit c →
-            Rattle.wb_runs.proofs.Metadata.MetadataKept shape.geometry (phase_then shape (Opens mode r) (End Finished) got c) (Rattle.wb_runs.specs.Effects.commit_then (Opens mode r) w.commit (End Finished) got c) w.devices.metadata →
-            UsedRightly (phase_then shape (Opens mode r) (End Finished) got c) (slice_set w.actors a (actor_then {P = P} {A = A} shape (Opens mode r) x (End Finished) got))
-        by_reading (Some (AllRead stored)) (Opened policy) d k = opened_answer w.actors a x e job plan xt all mode stored policy got i.0 k.entries
+            Turns (λ now. Rattle.wb_runs.proofs.Metadata.MetadataKept shape.geometry now (phase_then shape (Opens mode r) (End Finished) got c) (Rattle.wb_runs.specs.Effects.commit_then (Opens mode r) w.commit (End Finished) got c) w.devices.metadata) known.images →
+            UsedRightly (phase_then shape (Opens mode r) (End Finished) got c) (slice_set w.actors a (actor_then {P = P} {A = A} shape (Opens mode r) w.devices x (End Finished) got))
+        by_reading (Some (AllRead stored)) (Opened policy) d k = opened_answer w.devices w.actors a x e job plan xt all ords mode stored policy got i.0 (λ at entry f. (k.kept.is.kept.mapping.within at entry f).0)
         by_reading (Some (Begun alloc global)) (Opened policy) d k = absurd d.0
         by_reading (Some (FirstSlotRead alloc global first)) (Opened policy) d k = absurd d.0
         by_reading (Some (RootFound global root loader)) (Opened policy) d k = absurd d.0
         by_reading None (Opened policy) d k = absurd d.0
         by_reading r c d k = absurd d
 
-    answers : (phase : Phase P A) (answer : Answer) → w.phase ≡ phase → AllSuited blocks w.actors → InPhase phase w.actors → End answer ≡ want plan → Gives shape w job (End answer) got read chosen → Then phase (End answer)
-    answers (Stands t) answer p all i h g = on_answer w.actors a x e job plan xt all t answer got chosen i h
-    answers Gone answer p all i h g = gone_answer w.actors a x e job plan xt all answer got chosen i h
-    answers (Opens mode reading) answer p all i h g = opens mode reading answer p all i h g
+    answers : (phase : Phase P A) (answer : Answer) → w.phase ≡ phase → AllSuited blocks w.actors → AllOrdersInside shape.geometry w.actors → InPhase phase w.actors → End answer ≡ want plan → Gives shape w job (End answer) got read chosen → Then phase (End answer)
+    answers (Stands t) answer p all ords i h g = on_answer w.devices w.actors a x e job plan xt all ords t answer got chosen i h
+    answers Gone answer p all ords i h g = gone_answer w.devices w.actors a x e job plan xt all ords answer got chosen i h
+    answers (Opens mode reading) answer p all ords i h g = opens mode reading answer p all ords i h g
 
     given_word : (j : Job) (step : CellStep) → Gives shape w j (Cell step) got read chosen → OfTarget w.phase (λ t. got ≡ got_of (result_of t.words step))
     given_word (Read extent) step g = g.1
     given_word (Write extent content) step g = g.1
     given_word Flush step g = g.1
     given_word (Open mode) step g = g.1
+    given_word (Migrate migration block) step g = g.1
 
     steps : (next : Want) → UsedRightly w.phase w.actors → next ≡ want plan → Gives shape w job next got read chosen → Then w.phase next
-    steps (Cell step) u h g = on_words w.actors a x e job plan xt u.suited w.phase step got chosen u.here h (gives_fits P A shape w got read chosen job (Cell step) tt g) (given_word job step g)
-    steps (Device step) u h g = on_device w.actors a x e job plan xt u.suited w.phase step got chosen u.here h (gives_fits P A shape w got read chosen job (Device step) tt g)
-    steps (Desk step) u h g = on_desk w.actors a x e job plan xt u.suited w.phase step got chosen u.here h (gives_fits P A shape w got read chosen job (Desk step) tt g)
-    steps (End answer) u h g = answers w.phase answer refl u.suited u.here h g
+    steps (Cell step) u h g = on_words w.devices w.actors a x e job plan xt u.suited u.orders w.phase step got chosen u.here h (gives_fits P A shape w got read chosen job (Cell step) tt g) (given_word job step g)
+    steps (Device step) u h g = on_device w.devices w.actors a x e job plan xt u.suited u.orders w.phase step got chosen u.here h (gives_fits P A shape w got read chosen job (Device step) tt g)
+    steps (Desk step) u h g = on_desk w.devices w.actors a x e job plan xt u.suited u.orders w.phase step got chosen u.here h (gives_fits P A shape w got read chosen job (Desk step) tt g)
+    steps (End answer) u h g = answers w.phase answer refl u.suited u.orders u.here h g
 
   -- whoever takes it
-  stepped_used : (w : State P A) (a : ℕ) (next : Want) (got : Got) (read : List Bytes) (chosen : Chosen P A) (o : Option Actor) → slice_get w.actors a ≡ o → Known P A shape w → UsedRightly w.phase w.actors →
+  stepped_used : (w : State P A) (a : ℕ) (next : Want) (got : Got) (read : List Bytes) (chosen : Chosen P A) (o : Option Actor) → slice_get w.actors a ≡ o → IsKnown P A shape w → UsedRightly w.phase w.actors →
       OfSome o (λ x. OfSome x.task (λ doing. (next ≡ want doing.1) × Gives shape w doing.0 next got read chosen)) →
-      UsedRightly (phase_then shape w.phase next got chosen) (with_actor w o (λ x. stepped shape w a x next got chosen (λ step. device_done (job_of x.task) step chosen))).actors
+      UsedRightly (phase_then shape w.phase next got chosen) (with_actor w o (λ x. stepped shape w a x next got chosen (λ step. device_done (job_of x.task) x.buffer step chosen))).actors
   stepped_used w a next got read chosen None e k u h = absurd h
   stepped_used w a next got read chosen (Some x) e k u h = by_task x.task refl h
     where
       by_task : (t : Option (Job × Plan)) → x.task ≡ t → OfSome t (λ doing. (next ≡ want doing.1) × Gives shape w doing.0 next got read chosen) →
-          UsedRightly (phase_then shape w.phase next got chosen) (slice_set w.actors a (actor_then {P = P} {A = A} shape w.phase x next got))
+          UsedRightly (phase_then shape w.phase next got chosen) (slice_set w.actors a (actor_then {P = P} {A = A} shape w.phase w.devices x next got))
       by_task None xt h = absurd h
       by_task (Some doing) xt h = steps w got read chosen a x doing.0 doing.1 k e xt next u h.0 h.1
 
   faulted_used : (w : State P A) (a : ℕ) (choice : Choice) (next : Want) (chosen : Chosen P A) (o : Option Actor) → slice_get w.actors a ≡ o → UsedRightly w.phase w.actors →
       OfSome o (λ x. OfSome x.task (λ doing. (next ≡ want doing.1) × MayFailAt w.devices choice next × Falters w choice next chosen)) →
-      UsedRightly (phase_then shape w.phase next Fault chosen) (with_actor w o (λ x. stepped shape w a x next Fault chosen (λ step. device_failed (lands (device_of step) choice) (job_of x.task) step chosen))).actors
+      UsedRightly (phase_then shape w.phase next Fault chosen) (with_actor w o (λ x. stepped shape w a x next Fault chosen (λ step. device_failed (lands (device_of step) choice) (job_of x.task) x.buffer step chosen))).actors
   faulted_used w a choice next chosen None e u h = absurd h
   faulted_used w a choice next chosen (Some x) e u h = by_task x.task refl h
     where
-      by_next : (job : Job) (plan : Plan) (next : Want) → x.task ≡ Some (job, plan) → next ≡ want plan → MayFailAt w.devices choice next → UsedRightly (phase_then shape w.phase next Fault chosen) (slice_set w.actors a (actor_then {P = P} {A = A} shape w.phase x next Fault))
-      by_next job plan (Device step) xt h m = on_device w.actors a x e job plan xt u.suited w.phase step Fault chosen u.here h tt
+      by_next : (job : Job) (plan : Plan) (next : Want) → x.task ≡ Some (job, plan) → next ≡ want plan → MayFailAt w.devices choice next → UsedRightly (phase_then shape w.phase next Fault chosen) (slice_set w.actors a (actor_then {P = P} {A = A} shape w.phase w.devices x next Fault))
+      by_next job plan (Device step) xt h m = on_device w.devices w.actors a x e job plan xt u.suited u.orders w.phase step Fault chosen u.here h tt
       by_next job plan (Cell step) xt h m = absurd m
       by_next job plan (Desk step) xt h m = absurd m
       by_next job plan (End answer) xt h m = absurd m
 
       by_task : (t : Option (Job × Plan)) → x.task ≡ t → OfSome t (λ doing. (next ≡ want doing.1) × MayFailAt w.devices choice next × Falters w choice next chosen) →
-          UsedRightly (phase_then shape w.phase next Fault chosen) (slice_set w.actors a (actor_then {P = P} {A = A} shape w.phase x next Fault))
+          UsedRightly (phase_then shape w.phase next Fault chosen) (slice_set w.actors a (actor_then {P = P} {A = A} shape w.phase w.devices x next Fault))
       by_task None xt h = absurd h
       by_task (Some doing) xt h = by_next doing.0 doing.1 next xt h.0 h.1
 
@@ -279,53 +302,117 @@ module _ (P A : Type 0) (shape : Shape) where
   rest_open : (actors : List Actor) → AllOpen (all_resting actors)
   rest_open actors a x e = subst (λ (v : Actor). OpensOrRests v.task) (sym (all_rest actors a x e)) tt
 
-  -- a request or a flush of an actor that has no task
-  starts_task : (phase : Phase P A) (actors : List Actor) (a : ℕ) (x y : Actor) → slice_get actors a ≡ Some x → y.card ≡ x.card → TaskSuits blocks y.card y.task → (¬ ¬ OfTarget phase (λ t. Unit {0})) → UsedRightly phase actors → UsedRightly phase (slice_set actors a y)
-  starts_task (Stands t) actors a x y e c s n u = record { suited = each_set actors a x y (λ (z : Actor). TaskSuits blocks z.card z.task) e s u.suited; here = rule_same blocks t.words actors a x y u.here e c }
-  starts_task Gone actors a x y e c s n u = absurd (n (λ z. z))
-  starts_task (Opens mode reading) actors a x y e c s n u = absurd (n (λ z. z))
+  rest_orders : (actors : List Actor) → AllOrdersInside shape.geometry (all_resting actors)
+  rest_orders actors a x e = subst (λ (v : Actor). OrdersInside shape.geometry v.orders) (sym (all_rest actors a x e)) (λ order m. absurd (omega (arith, m.1)))
+
+  -- an order that is given leaves the words
+  same_here : (phase : Phase P A) (job : Job) (chosen : Chosen P A) (actors : List Actor) → InPhase phase actors → InPhase (phase_given phase job chosen) actors
+  same_here (Stands t) (Migrate migration block) (Orders cut cache) actors i = i
+  same_here (Stands t) (Migrate migration block) Plain actors i = i
+  same_here (Stands t) (Migrate migration block) (Cut cut) actors i = i
+  same_here (Stands t) (Migrate migration block) (Rattle.wb_runs.specs.Happenings.Begins now) actors i = i
+  same_here (Stands t) (Migrate migration block) (Rattle.wb_runs.specs.Happenings.Reaches now commit) actors i = i
+  same_here (Stands t) (Migrate migration block) (Rattle.wb_runs.specs.Happenings.Puts new) actors i = i
+  same_here (Stands t) (Migrate migration block) (Rattle.wb_runs.specs.Happenings.Commits commit tree) actors i = i
+  same_here (Stands t) (Migrate migration block) (Rattle.wb_runs.specs.Happenings.Asks new) actors i = i
+  same_here (Stands t) (Migrate migration block) (Opened policy) actors i = i
+  same_here (Stands t) (Read extent) chosen actors i = i
+  same_here (Stands t) (Write extent content) chosen actors i = i
+  same_here (Stands t) Flush chosen actors i = i
+  same_here (Stands t) (Open mode) chosen actors i = i
+  same_here Gone job chosen actors i = i
+  same_here (Opens mode reading) job chosen actors i = i
+
+  -- a task of an actor that has none
+  starts_task : (phase : Phase P A) (actors : List Actor) (a : ℕ) (x y : Actor) → slice_get actors a ≡ Some x → y.card ≡ x.card → TaskSuits blocks y.card y.task → OrdersInside shape.geometry y.orders → (¬ ¬ OfTarget phase (λ t. Unit {0})) → UsedRightly phase actors → UsedRightly phase (slice_set actors a y)
+  starts_task (Stands t) actors a x y e c s o n u = record {
+    suited = each_set actors a x y (λ (z : Actor). TaskSuits blocks z.card z.task) e s u.suited;
+    here = rule_same blocks t.words actors a x y u.here e c;
+    orders = each_set actors a x y (λ (z : Actor). OrdersInside shape.geometry z.orders) e o u.orders;
+  }
+  starts_task Gone actors a x y e c s o n u = absurd (n (λ z. z))
+  starts_task (Opens mode reading) actors a x y e c s o n u = absurd (n (λ z. z))
 
   holds_nothing : (w : State P A) (x : Actor) (a : ℕ) → UsedRightly w.phase w.actors → slice_get w.actors a ≡ Some x → x.task ≡ None → x.card.hold ≡ Nothing
   holds_nothing w x a u e f = subst (λ (t : Option (Job × Plan)). TaskSuits blocks x.card t) f (u.suited a x e)
 
-  abbrev Started_so : State P A → ℕ → Job → Chosen P A → Option Actor → Type 0
-  Started_so w a job chosen o = UsedRightly (cleared w job).phase (with_actor (cleared w job) o (λ x. record (cleared w job) { actors = slice_set (cleared w job).actors a (given shape x job chosen) })).actors
+  abbrev AfterWhat : State P A → Type 0
+  AfterWhat w = UsedRightly w.phase w.actors
 
-  starts : (w : State P A) (a : ℕ) (job : Job) (chosen : Chosen P A) → UsedRightly w.phase w.actors → (¬ DoesNotApply w (Start a job)) → StartGives shape job Started chosen → Started_so w a job chosen (slice_get (cleared w job).actors a)
-  starts w a (Open mode) chosen u applies gives = by_actor (slice_get (all_resting w.actors) a) refl
+  abbrev Started_so : State P A → ℕ → Job → Chosen P A → Option Actor → Type 0
+  Started_so w a job chosen o = AfterWhat (with_actor (cleared w job) o (λ x. record (cleared w job) { phase = phase_given (cleared w job).phase job chosen; actors = slice_set (cleared w job).actors a (given shape x job chosen) }))
+
+  -- the block of an order that is inside
+  block_inside : (migration : Migration) (block : OBlock) → OrderInside shape.geometry (order_for migration block) → block.0 < blocks
+  block_inside (Promote c) block i = i.0
+  block_inside Demote block i = i
+  block_inside Clean block i = i
+
+  -- the order of a migration that starts, which its actor kept or is given
+  pub order_inside : (i : _) (phase : Phase P A) (commit : _) (m : List History) (actor : Option Actor) (migration : Migration) (block : OBlock) (chosen : Chosen P A) → Rattle.wb_runs.proofs.Metadata.MetadataKept shape.geometry i phase commit m →
+      OrdersInside shape.geometry (Rattle.wb_runs.specs.Happenings.orders_in actor) → StartGives shape phase actor (Migrate migration block) Started chosen → OrderInside shape.geometry (order_for migration block)
+  order_inside i phase commit m actor migration block (Cut cut) k o g = o (order_for migration block) g.1
+  order_inside i (Stands t) commit m actor migration block (Orders cut cache) k o g = order_given P shape.geometry t.desk cache migration block k.is g.1
+  order_inside i Gone commit m actor migration block (Orders cut cache) k o g = absurd g.1
+  order_inside i (Opens mode reading) commit m actor migration block (Orders cut cache) k o g = absurd g.1
+  order_inside i phase commit m actor migration block chosen k o g = absurd g
+
+  given_orders : (migration : Migration) (block : OBlock) (orders : List Order) (chosen : Chosen P A) → OrderInside shape.geometry (order_for migration block) → OrdersInside shape.geometry orders → OrdersInside shape.geometry (Rattle.wb_runs.specs.Effects.orders_given orders (Migrate migration block) chosen)
+  given_orders migration block orders (Orders cut cache) n o = λ order m. first_or (order_for migration block) order orders (OrderInside shape.geometry order) m (λ e. subst (λ (p : Order). OrderInside shape.geometry p) (sym e) n) (λ r. o order r)
+  given_orders migration block orders chosen n o = o
+
+  starts : (w : State P A) (a : ℕ) (job : Job) (chosen : Chosen P A) → IsKnown P A shape w → UsedRightly w.phase w.actors → (¬ DoesNotApply w (Start a job)) → StartGives shape w.phase (slice_get w.actors a) job Started chosen → Started_so w a job chosen (slice_get (cleared w job).actors a)
+  starts w a (Open mode) chosen k u applies gives = by_actor (slice_get (all_resting w.actors) a) refl
     where
       by_actor : (o : Option Actor) → slice_get (all_resting w.actors) a ≡ o → Started_so w a (Open mode) chosen o
-      by_actor None e = record { suited = rest_used w.actors; here = (rest_blank w.actors, rest_open w.actors) }
+      by_actor None e = record { suited = rest_used w.actors; here = (rest_blank w.actors, rest_open w.actors); orders = rest_orders w.actors }
       by_actor (Some x) e =
           let blank : x.card ≡ blank_card = ap (λ (v : Actor). v.card) (all_rest w.actors a x e) in
           let y : Actor = given shape x (Open mode) chosen in
           record {
             suited = each_set (all_resting w.actors) a x y (λ (z : Actor). TaskSuits blocks z.card z.task) e (opening_begins blocks shape.geometry.meta_sectors x.card (ap (λ (c : Card). c.hold) blank)) (rest_used w.actors);
             here = (each_set (all_resting w.actors) a x y (λ (z : Actor). z.card ≡ blank_card) e blank (rest_blank w.actors), each_set (all_resting w.actors) a x y (λ (z : Actor). OpensOrRests z.task) e (mode, refl) (rest_open w.actors));
+            orders = each_set (all_resting w.actors) a x y (λ (z : Actor). OrdersInside shape.geometry z.orders) e (rest_orders w.actors a x e) (rest_orders w.actors);
           }
-  starts w a Flush chosen u applies gives =
-      let f = free P A shape w (Rattle.wb_runs.specs.Clerk.formatted shape) a Flush applies in
+  starts w a Flush chosen k u applies gives =
+      let f = free P A w a Flush applies in
       subst (λ (o : Option Actor). Started_so w a Flush chosen o) (sym f.1)
-      (starts_task w.phase w.actors a f.0 (given shape f.0 Flush chosen) f.1 refl (flush_begins blocks [] (Rattle.wb_types.specs.Limits.node_count shape.geometry.cache_blocks) f.0.card (holds_nothing w f.0 a u f.1 f.2)) (λ m. applies (inr (inr m))) u)
-  starts w a (Read extent) (Cut cut) u applies gives =
-      let f = free P A shape w (Rattle.wb_runs.specs.Clerk.formatted shape) a (Read extent) applies in
+      (over Flush chosen w.phase w.actors (given shape f.0 Flush chosen) a (starts_task w.phase w.actors a f.0 (given shape f.0 Flush chosen) f.1 refl (flush_begins blocks [] (Rattle.wb_types.specs.Limits.node_count shape.geometry.cache_blocks) f.0.card (holds_nothing w f.0 a u f.1 f.2)) (u.orders a f.0 f.1) (λ m. applies (inr (inr m))) u))
+    where
+      over : (job : Job) (chosen : Chosen P A) (phase : Phase P A) (actors : List Actor) (y : Actor) (a : ℕ) → UsedRightly phase (slice_set actors a y) → UsedRightly (phase_given phase job chosen) (slice_set actors a y)
+      over job chosen phase actors y a u = record { suited = u.suited; here = same_here phase job chosen (slice_set actors a y) u.here; orders = u.orders }
+  starts w a (Read extent) (Cut cut) k u applies gives =
+      let f = free P A w a (Read extent) applies in
       subst (λ (o : Option Actor). Started_so w a (Read extent) (Cut cut) o) (sym f.1)
-      (starts_task w.phase w.actors a f.0 (given {P = P} {A = A} shape f.0 (Read extent) (Cut cut)) f.1 refl (starts_inside shape extent (may_start shape extent gives.0), (holds_nothing w f.0 a u f.1 f.2, refl)) (λ m. applies (inr (inr m))) u)
-  starts w a (Write extent content) (Cut cut) u applies gives =
-      let f = free P A shape w (Rattle.wb_runs.specs.Clerk.formatted shape) a (Write extent content) applies in
+      (over (starts_task w.phase w.actors a f.0 (given {P = P} {A = A} shape f.0 (Read extent) (Cut cut)) f.1 refl (starts_inside shape extent (may_start shape extent gives.0), (holds_nothing w f.0 a u f.1 f.2, refl)) (u.orders a f.0 f.1) (λ m. applies (inr (inr m))) u))
+    where
+      over : {actors : List Actor} → UsedRightly w.phase actors → UsedRightly (phase_given w.phase (Read extent) (Cut cut)) actors
+      over {actors} u = record { suited = u.suited; here = same_here w.phase (Read extent) (Cut cut) actors u.here; orders = u.orders }
+  starts w a (Write extent content) (Cut cut) k u applies gives =
+      let f = free P A w a (Write extent content) applies in
       subst (λ (o : Option Actor). Started_so w a (Write extent content) (Cut cut) o) (sym f.1)
-      (starts_task w.phase w.actors a f.0 (given {P = P} {A = A} shape f.0 (Write extent content) (Cut cut)) f.1 refl (starts_inside shape extent (may_start shape extent gives.0), (holds_nothing w f.0 a u f.1 f.2, refl)) (λ m. applies (inr (inr m))) u)
-  starts w a (Read extent) chosen u applies gives = absurd gives
-  starts w a (Write extent content) chosen u applies gives = absurd gives
+      (over (starts_task w.phase w.actors a f.0 (given {P = P} {A = A} shape f.0 (Write extent content) (Cut cut)) f.1 refl (starts_inside shape extent (may_start shape extent gives.0), (holds_nothing w f.0 a u f.1 f.2, refl)) (u.orders a f.0 f.1) (λ m. applies (inr (inr m))) u))
+    where
+      over : {actors : List Actor} → UsedRightly w.phase actors → UsedRightly (phase_given w.phase (Write extent content) (Cut cut)) actors
+      over {actors} u = record { suited = u.suited; here = same_here w.phase (Write extent content) (Cut cut) actors u.here; orders = u.orders }
+  starts w a (Migrate migration block) chosen k u applies gives =
+      let f = free P A w a (Migrate migration block) applies in
+      let kept : OrdersInside shape.geometry (Rattle.wb_runs.specs.Happenings.orders_in (slice_get w.actors a)) = subst (λ (o : Option Actor). OrdersInside shape.geometry (Rattle.wb_runs.specs.Happenings.orders_in o)) (sym f.1) (u.orders a f.0 f.1) in
+      let inside = order_inside k.images w.phase w.commit w.devices.metadata (slice_get w.actors a) migration block chosen k.known kept gives in
+      subst (λ (o : Option Actor). Started_so w a (Migrate migration block) chosen o) (sym f.1)
+      (over (starts_task w.phase w.actors a f.0 (given {P = P} {A = A} shape f.0 (Migrate migration block) chosen) f.1 refl (block_inside migration block inside, (holds_nothing w f.0 a u f.1 f.2, refl))
+      (given_orders migration block f.0.orders chosen inside (u.orders a f.0 f.1)) (λ m. applies (inr (inr (inl m)))) u))
+    where
+      over : {actors : List Actor} → UsedRightly w.phase actors → UsedRightly (phase_given w.phase (Migrate migration block) chosen) actors
+      over {actors} u = record { suited = u.suited; here = same_here w.phase (Migrate migration block) chosen actors u.here; orders = u.orders }
+  starts w a (Read extent) chosen k u applies gives = absurd gives
+  starts w a (Write extent content) chosen k u applies gives = absurd gives
 
   -- ---- every event
 
-  abbrev AfterWhat : State P A → Type 0
-  AfterWhat w = UsedRightly w.phase w.actors
-
   -- where an actor is there, so are phase and actors after its step
-  stepped_to : (w : State P A) (a : ℕ) (next : Want) (got : Got) (chosen : Chosen P A) (change : Job → DeviceStep → List History → List History) (o : Option Actor) → OfSome o (λ x. Unit {0}) →
-      UsedRightly (phase_then shape w.phase next got chosen) (with_actor w o (λ x. stepped shape w a x next got chosen (change (job_of x.task)))).actors → AfterWhat (with_actor w o (λ x. stepped shape w a x next got chosen (change (job_of x.task))))
+  stepped_to : (w : State P A) (a : ℕ) (next : Want) (got : Got) (chosen : Chosen P A) (change : Job → List Bytes → DeviceStep → List History → List History) (o : Option Actor) → OfSome o (λ x. Unit {0}) →
+      UsedRightly (phase_then shape w.phase next got chosen) (with_actor w o (λ x. stepped shape w a x next got chosen (change (job_of x.task) x.buffer))).actors → AfterWhat (with_actor w o (λ x. stepped shape w a x next got chosen (change (job_of x.task) x.buffer)))
   stepped_to w a next got chosen change None h u = absurd h
   stepped_to w a next got chosen change (Some x) h u = u
 
@@ -333,35 +420,31 @@ module _ (P A : Type 0) (shape : Shape) where
   some_actor None Is h = h
   some_actor (Some x) Is h = tt
 
-  pub used_what : (w : State P A) (event : Event) (what : What) (read : List Bytes) (chosen : Chosen P A) → Known P A shape w → AfterWhat w → MayBe shape w event what read chosen → AfterWhat (after_what shape w event what chosen)
+  pub used_what : (w : State P A) (event : Event) (what : What) (read : List Bytes) (chosen : Chosen P A) → IsKnown P A shape w → AfterWhat w → MayBe shape w event what read chosen → AfterWhat (after_what shape w event what chosen)
   used_what w (Start a job) Skipped read chosen k u h = u
   used_what w (Start a job) (Refused refusal) read chosen k u h = u
-  used_what w (Start a job) Started read chosen k u h = started_to (slice_get (cleared w job).actors a) (starts w a job chosen u h.1 h.2)
-    where
-      started_to : (o : Option Actor) → Started_so w a job chosen o → AfterWhat (with_actor (cleared w job) o (λ x. record (cleared w job) { actors = slice_set (cleared w job).actors a (given shape x job chosen) }))
-      started_to None u = u
-      started_to (Some x) u = u
+  used_what w (Start a job) Started read chosen k u h = starts w a job chosen k u h.1 h.2
   used_what w (Start a job) (Stepped next got) read chosen k u h = u
   used_what w (Start a job) Stopped read chosen k u h = u
   used_what w (Step a) Skipped read chosen k u h = u
   used_what w (Step a) (Refused refusal) read chosen k u h = u
   used_what w (Step a) Started read chosen k u h = u
-  used_what w (Step a) (Stepped next got) read chosen k u h = stepped_to w a next got chosen (λ job step. device_done job step chosen) (slice_get w.actors a) (some_actor (slice_get w.actors a) _ h) (stepped_used w a next got read chosen (slice_get w.actors a) refl k u h)
+  used_what w (Step a) (Stepped next got) read chosen k u h = stepped_to w a next got chosen (λ job buffer step. device_done job buffer step chosen) (slice_get w.actors a) (some_actor (slice_get w.actors a) _ h) (stepped_used w a next got read chosen (slice_get w.actors a) refl k u h)
   used_what w (Step a) Stopped read chosen k u h = u
   used_what w (FaultStep a choice) Skipped read chosen k u h = u
   used_what w (FaultStep a choice) (Refused refusal) read chosen k u h = u
   used_what w (FaultStep a choice) Started read chosen k u h = u
   used_what w (FaultStep a choice) (Stepped next got) read chosen k u h =
       subst (λ (g : Got). AfterWhat (after_what shape w (FaultStep a choice) (Stepped next g) chosen)) (sym h.1)
-      (stepped_to w a next Fault chosen (λ job step. device_failed (lands (device_of step) choice) job step chosen) (slice_get w.actors a) (some_actor (slice_get w.actors a) _ h.2) (faulted_used w a choice next chosen (slice_get w.actors a) refl u h.2))
+      (stepped_to w a next Fault chosen (λ job buffer step. device_failed (lands (device_of step) choice) job buffer step chosen) (slice_get w.actors a) (some_actor (slice_get w.actors a) _ h.2) (faulted_used w a choice next chosen (slice_get w.actors a) refl u h.2))
   used_what w (FaultStep a choice) Stopped read chosen k u h = u
   used_what w (Stop choice) Skipped read chosen k u h = u
   used_what w (Stop choice) (Refused refusal) read chosen k u h = u
   used_what w (Stop choice) Started read chosen k u h = u
   used_what w (Stop choice) (Stepped next got) read chosen k u h = u
-  used_what w (Stop choice) Stopped read chosen k u h = record { suited = rest_used w.actors; here = rest_blank w.actors }
+  used_what w (Stop choice) Stopped read chosen k u h = record { suited = rest_used w.actors; here = rest_blank w.actors; orders = rest_orders w.actors }
 
-  always : (w : State P A) (hs : List (Happening P A)) → Known P A shape w → AfterWhat w → IsRun shape w hs → AfterWhat (after_all shape w hs)
+  pub always : (w : State P A) (hs : List (Happening P A)) → IsKnown P A shape w → AfterWhat w → IsRun shape w hs → AfterWhat (after_all shape w hs)
   always w [] k u r = u
   always w (h ∷ hs) k u r = always (after_happening shape w h) hs (known_after P A shape w h k r.0) (used_what w h.record_is.event h.record_is.what h.record_is.read.items h.chosen k u r.0) r.1
 
@@ -372,6 +455,7 @@ module _ (P A : Type 0) (shape : Shape) where
   used_start metadata = record {
     suited = λ a x e. subst (λ (v : Actor). TaskSuits blocks v.card v.task) (sym (replicated shape.actors a resting x e)) refl;
     here = λ a x e. ap (λ (v : Actor). v.card) (replicated shape.actors a resting x e);
+    orders = λ a x e. subst (λ (v : Actor). OrdersInside shape.geometry v.orders) (sym (replicated shape.actors a resting x e)) (λ order m. absurd (omega (arith, m.1)));
   }
 
   pub run_used : (metadata : List History) (hs : List (Happening P A)) → IsFormatted shape.geometry metadata → Rattle.std.specs.Prelude.length metadata ≡ shape.geometry.meta_sectors → IsRun shape (start shape metadata) hs → AreUsedRightly shape (after_all shape (start shape metadata) hs)

@@ -1,11 +1,12 @@
 -- Where a happening leads.
-use Rattle.std.specs.Prelude.{◌+◌, ℕ, suc, Bool, true, cond, List, [], ◌∷◌, Option, Some, None, map, replicate, is_some, slice_get, slice_set}
+use Rattle.std.specs.Prelude.{◌+◌, ℕ, suc, Bool, true, false, cond, if◌then◌else◌, List, [], ◌∷◌, Option, Some, None, drop, map, replicate, is_some, slice_get, slice_set, take}
 use Rattle.std.specs.List.{count_by}
 use Rattle.wb_types.specs.declared.entry.Entry.{Entry}
 use Rattle.wb_types.specs.declared.extent.Extent.{Extent}
 use Rattle.wb_types.specs.declared.mode.Mode.{Mode}
+use Rattle.wb_types.specs.declared.number.OBlock.{OBlock}
 use Rattle.wb_types.specs.declared.mode.Dev.TheVariants.{Metadata, Cache, Origin}
-use Rattle.wb_disk.specs.Device.{Content as Bytes, History, synced}
+use Rattle.wb_disk.specs.Device.{Content as Bytes, History, newest, synced}
 use Rattle.wb_disk.specs.Extents.{written_where, written_each}
 use Rattle.wb_disk.specs.Failing.{lands, synced_where}
 use Rattle.wb_disk.specs.Crash.{Choice, crashed}
@@ -20,14 +21,16 @@ use Rattle.wb_meta.specs.Steps.{steps_after}
 use Rattle.wb_meta.specs.declared.read_steps.ReadSteps.{ReadSteps}
 use Rattle.wb_meta.specs.declared.read_steps.ReadSteps.TheVariants.{Done as AllRead}
 use Rattle.wb_meta.specs.declared.read_steps.State.{State as Stored}
+use Rattle.wb_policy.specs.declared.order.Order.{Order}
 use Rattle.wb_desk.specs.Desks.{DeskState}
+use Rattle.wb_desk.specs.Calls.{reserved}
 use Rattle.wb_desk.specs.Commits.{commit_begun}
 use Rattle.wb_desk.specs.Opening.{opened}
 use Rattle.wb_tasks.specs.Plan.{Plan, table, after, device_of}
 use Rattle.wb_tasks.specs.declared.step.Answer.TheVariants.{Done as Finished}
 use Rattle.wb_tasks.specs.declared.step.DeviceStep.{DeviceStep}
-use Rattle.wb_tasks.specs.declared.step.DeviceStep.TheVariants.{Write as WriteExtent, Sync, ReadMetadata, WriteNode, WriteRoot}
-use Rattle.wb_tasks.specs.declared.step.DeskStep.TheVariants.{BeginCommit, EndCommit}
+use Rattle.wb_tasks.specs.declared.step.DeviceStep.TheVariants.{Read as ReadExtent, Write as WriteExtent, Sync, ReadMetadata, WriteNode, WriteRoot}
+use Rattle.wb_tasks.specs.declared.step.DeskStep.TheVariants.{Map, ReleaseOrder, BeginCommit, EndCommit}
 use Rattle.wb_tasks.specs.declared.step.Want.{Want}
 use Rattle.wb_tasks.specs.declared.step.Want.TheVariants.{Cell, Device, Desk, End}
 use Rattle.wb_tasks.specs.declared.step.Got.{Got}
@@ -35,23 +38,28 @@ use Rattle.wb_tasks.specs.declared.step.Got.TheVariants.{Done}
 use Rattle.wb_devices.specs.declared.running.RunningCommit.{RunningCommit}
 use Rattle.wb_devices.specs.declared.devices.Devices.{Devices}
 use Rattle.wb_devices.specs.Moving.{device_in}
-use Rattle.wb_stage.specs.Asking.{ended}
+use Rattle.wb_stage.specs.Asking.{ended, is_of}
 use Rattle.wb_runs.specs.declared.job.Job.{Job}
-use Rattle.wb_runs.specs.declared.job.Job.TheVariants.{Write, Flush, Open}
+use Rattle.wb_runs.specs.declared.job.Job.TheVariants.{Write, Flush, Open, Migrate}
 use Rattle.wb_runs.specs.declared.event.Event.{Event}
 use Rattle.wb_runs.specs.declared.event.Event.TheVariants.{Start, Step, FaultStep, Stop}
 use Rattle.wb_runs.specs.declared.event.What.{What}
 use Rattle.wb_runs.specs.declared.event.What.TheVariants.{Started, Stepped, Stopped}
 use Rattle.wb_runs.specs.declared.event.Record.{Record}
 use Rattle.wb_runs.specs.States.{Shape, State, Actor, Target, Phase, Stands, Gone, Opens, resting, with_device}
-use Rattle.wb_runs.specs.Happenings.{Chosen, Cut, Begins, Reaches, Puts, Commits, Opened, Happening, task_job, May}
+use Rattle.wb_runs.specs.Happenings.{Chosen, Cut, Orders, Begins, Reaches, Puts, Commits, Asks, Opened, Happening, order_for, task_job, May}
 
 -- ---- devices
 
--- what a job writes to so many sectors
-abbrev pub contents_for : Job → ℕ → List Bytes
-contents_for (Write extent content) count = replicate count content
-contents_for job count = []
+-- what a job writes to so many sectors, whose actor has read this last: a migration what it has read
+abbrev pub contents_for : Job → List Bytes → ℕ → List Bytes
+contents_for (Write extent content) buffer count = replicate count content
+contents_for (Migrate migration block) buffer count = buffer
+contents_for job buffer count = []
+
+-- what reads of an extent of a device give
+abbrev pub contents_at : List History → Extent → List Bytes
+contents_at device e = map newest (take e.count (drop e.first device))
 
 -- the metadata device once a node or root was written
 abbrev pub put_by : {P A : Type 0} → Chosen P A → List History → List History
@@ -59,16 +67,16 @@ put_by (Puts new) old = new
 put_by chosen old = old
 
 -- what a step of a job leaves of its device
-abbrev pub device_done : {P A : Type 0} → Job → DeviceStep → Chosen P A → List History → List History
-device_done job (WriteExtent device e) chosen old = written_each old e.first (contents_for job e.count)
-device_done job (Sync device) chosen old = synced old
-device_done job step chosen old = put_by chosen old
+abbrev pub device_done : {P A : Type 0} → Job → List Bytes → DeviceStep → Chosen P A → List History → List History
+device_done job buffer (WriteExtent device e) chosen old = written_each old e.first (contents_for job buffer e.count)
+device_done job buffer (Sync device) chosen old = synced old
+device_done job buffer step chosen old = put_by chosen old
 
 -- and one that fails, having landed on these sectors
-abbrev pub device_failed : {P A : Type 0} → (ℕ → Bool) → Job → DeviceStep → Chosen P A → List History → List History
-device_failed landed job (WriteExtent device e) chosen old = written_where landed old e.first (contents_for job e.count)
-device_failed landed job (Sync device) chosen old = synced_where landed old
-device_failed landed job step chosen old = put_by chosen old
+abbrev pub device_failed : {P A : Type 0} → (ℕ → Bool) → Job → List Bytes → DeviceStep → Chosen P A → List History → List History
+device_failed landed job buffer (WriteExtent device e) chosen old = written_where landed old e.first (contents_for job buffer e.count)
+device_failed landed job buffer (Sync device) chosen old = synced_where landed old
+device_failed landed job buffer step chosen old = put_by chosen old
 
 -- a step on a device changes that one alone
 abbrev pub devices_then : (DeviceStep → List History → List History) → Devices (List History) → Want → Devices (List History)
@@ -112,7 +120,13 @@ abbrev pub begun_desk : {P A : Type 0} → Chosen P A → DeskState P → DeskSt
 begun_desk (Commits commit tree) desk = commit_begun desk tree
 begun_desk chosen desk = desk
 
+abbrev pub asked_desk : {P A : Type 0} → Chosen P A → DeskState P → DeskState P
+asked_desk (Asks new) desk = new
+asked_desk chosen desk = desk
+
 abbrev pub desk_then : {P A : Type 0} → DeskState P → Want → Chosen P A → DeskState P
+desk_then desk (Desk (Map b c)) chosen = asked_desk chosen desk
+desk_then desk (Desk (ReleaseOrder b)) chosen = asked_desk chosen desk
 desk_then desk (Desk (BeginCommit clean most)) chosen = begun_desk chosen desk
 desk_then desk (Desk EndCommit) chosen = ended desk
 desk_then desk next chosen = desk
@@ -200,8 +214,33 @@ card_then shape (Stands t) card (Cell step) = card_after t.words step card
 card_then shape (Opens mode reading) card (End Finished) = card_over shape card reading
 card_then shape phase card next = card
 
-abbrev pub actor_then : {P A : Type 0} → Shape → Phase P A → Actor → Want → Got → Actor
-actor_then shape phase x next got = record { task = task_then x.task next got; card = card_then shape phase x.card next }
+-- these orders without those of a block
+abbrev pub dropped : OBlock → List Order → List Order
+dropped block [] = []
+dropped block (order ∷ orders) = if is_of block order then dropped block orders else order ∷ dropped block orders
+
+-- An entry that comes ends its order, and so does whoever gives it up.
+abbrev pub orders_then : List Order → Want → Got → List Order
+orders_then orders (Desk (Map b c)) Done = dropped b orders
+orders_then orders (Desk (ReleaseOrder b)) Done = dropped b orders
+orders_then orders next got = orders
+
+abbrev pub job_of : Option (Job × Plan) → Job
+job_of None = Flush
+job_of (Some doing) = doing.0
+
+-- what a migration has read last
+abbrev pub buffer_then : Devices (List History) → List Bytes → Want → Got → Job → List Bytes
+buffer_then devices buffer (Device (ReadExtent device e)) Done (Migrate migration block) = contents_at (device_in device devices) e
+buffer_then devices buffer next got job = buffer
+
+abbrev pub actor_then : {P A : Type 0} → Shape → Phase P A → Devices (List History) → Actor → Want → Got → Actor
+actor_then shape phase devices x next got = record {
+  task = task_then x.task next got;
+  card = card_then shape phase x.card next;
+  orders = orders_then x.orders next got;
+  buffer = buffer_then devices x.buffer next got (job_of x.task);
+}
 
 -- nobody has a task
 abbrev pub all_resting : List Actor → List Actor
@@ -209,17 +248,13 @@ all_resting actors = map (λ (x : Actor). resting) actors
 
 -- ---- what happens
 
-abbrev pub job_of : Option (Job × Plan) → Job
-job_of None = Flush
-job_of (Some doing) = doing.0
-
 -- an actor went on by a step, which changed its device so
 abbrev pub stepped : {P A : Type 0} → Shape → State P A → ℕ → Actor → Want → Got → Chosen P A → (DeviceStep → List History → List History) → State P A
 stepped shape w a x next got chosen change = record {
   devices = devices_then change w.devices next;
   commit = commit_then w.phase w.commit next got chosen;
   phase = phase_then shape w.phase next got chosen;
-  actors = slice_set w.actors a (actor_then shape w.phase x next got);
+  actors = slice_set w.actors a (actor_then shape w.phase w.devices x next got);
 }
 
 -- the same state with one actor changed, if it is there
@@ -227,16 +262,26 @@ abbrev pub with_actor : {P A : Type 0} → State P A → Option Actor → (Actor
 with_actor w None change = w
 with_actor w (Some x) change = change x
 
-abbrev pub went : {P A : Type 0} → Shape → State P A → ℕ → Want → Got → Chosen P A → (Job → DeviceStep → List History → List History) → State P A
-went shape w a next got chosen change = with_actor w (slice_get w.actors a) (λ x. stepped shape w a x next got chosen (change (job_of x.task)))
+abbrev pub went : {P A : Type 0} → Shape → State P A → ℕ → Want → Got → Chosen P A → (Job → List Bytes → DeviceStep → List History → List History) → State P A
+went shape w a next got chosen change = with_actor w (slice_get w.actors a) (λ x. stepped shape w a x next got chosen (change (job_of x.task) x.buffer))
 
 abbrev pub cut_of : {P A : Type 0} → Chosen P A → List Extent
 cut_of (Cut extents) = extents
+cut_of (Orders extents cache) = extents
 cut_of chosen = []
+
+-- the orders of an actor, and what the desk is, once an order was given with a job
+abbrev pub orders_given : {P A : Type 0} → List Order → Job → Chosen P A → List Order
+orders_given orders (Migrate migration block) (Orders cut cache) = order_for migration block ∷ orders
+orders_given orders job chosen = orders
+
+abbrev pub phase_given : {P A : Type 0} → Phase P A → Job → Chosen P A → Phase P A
+phase_given (Stands t) (Migrate migration block) (Orders cut cache) = Stands (record { words = t.words; desk = reserved t.desk cache (order_for migration block) false })
+phase_given phase job chosen = phase
 
 -- an actor that has been given a job
 abbrev pub given : {P A : Type 0} → Shape → Actor → Job → Chosen P A → Actor
-given shape x job chosen = record x { task = Some (job, table (task_job shape job (cut_of chosen))) }
+given shape x job chosen = record x { task = Some (job, table (task_job shape job (cut_of chosen))); orders = orders_given x.orders job chosen }
 
 -- An opening drops the target that has failed, and whatever anybody was at.
 abbrev pub cleared : {P A : Type 0} → State P A → Job → State P A
@@ -245,7 +290,7 @@ cleared w job = w
 
 abbrev pub started : {P A : Type 0} → Shape → State P A → ℕ → Job → Chosen P A → State P A
 started shape w a job chosen = with_actor (cleared w job) (slice_get (cleared w job).actors a)
-    (λ x. record (cleared w job) { actors = slice_set (cleared w job).actors a (given shape x job chosen) })
+    (λ x. record (cleared w job) { phase = phase_given (cleared w job).phase job chosen; actors = slice_set (cleared w job).actors a (given shape x job chosen) })
 
 abbrev pub all_crashed : Choice → Devices (List History) → Devices (List History)
 all_crashed choice devices = record {
@@ -259,8 +304,8 @@ after_crash w choice = record { devices = all_crashed choice w.devices; commit =
 
 abbrev pub after_what : {P A : Type 0} → Shape → State P A → Event → What → Chosen P A → State P A
 after_what shape w (Start a job) Started chosen = started shape w a job chosen
-after_what shape w (Step a) (Stepped next got) chosen = went shape w a next got chosen (λ job step. device_done job step chosen)
-after_what shape w (FaultStep a choice) (Stepped next got) chosen = went shape w a next got chosen (λ job step. device_failed (lands (device_of step) choice) job step chosen)
+after_what shape w (Step a) (Stepped next got) chosen = went shape w a next got chosen (λ job buffer step. device_done job buffer step chosen)
+after_what shape w (FaultStep a choice) (Stepped next got) chosen = went shape w a next got chosen (λ job buffer step. device_failed (lands (device_of step) choice) job buffer step chosen)
 after_what shape w (Stop choice) Stopped chosen = after_crash w choice
 after_what shape w event what chosen = w
 

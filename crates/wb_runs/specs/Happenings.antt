@@ -1,5 +1,5 @@
 -- What an event may do in a state.
-use Rattle.std.specs.Prelude.{◌≡◌, ◌≢◌, ◌≤◌, ◌<◌, ◌+◌, ◌-◌, ◌/◌, ◌^◌, ◌&&◌, ◌==◌, ◌⊎◌, ℕ, Bool, true, false, List, [], Option, Some, None, length, slice_get, if◌then◌else◌, nat_le}
+use Rattle.std.specs.Prelude.{◌≡◌, ◌≢◌, ◌≤◌, ◌<◌, ◌+◌, ◌-◌, ◌/◌, ◌^◌, ◌&&◌, ◌==◌, ◌⊎◌, ℕ, Bool, true, false, List, [], Option, Some, None, All, Contains, length, slice_get, if◌then◌else◌, nat_le}
 use Rattle.wb_types.specs.Limits.{node_count}
 use Rattle.wb_types.specs.declared.extent.Extent.{Extent}
 use Rattle.wb_types.specs.declared.geometry.Geometry.{Geometry}
@@ -7,12 +7,17 @@ use Rattle.wb_types.specs.Extents.{IsCutInto}
 use Rattle.wb_types.specs.declared.mode.Mode.TheVariants.{Writeback}
 use Rattle.wb_types.specs.declared.mode.Dev.TheVariants.{Metadata, Cache, Origin}
 use Rattle.wb_types.specs.declared.refusal.Refusal.{Refusal}
-use Rattle.wb_types.specs.declared.refusal.Refusal.TheVariants.{Range, Crosses}
+use Rattle.wb_types.specs.declared.refusal.Refusal.TheVariants.{Range, Crosses, Busy, Memory}
+use Rattle.wb_types.specs.declared.number.OBlock.{OBlock}
+use Rattle.wb_types.specs.declared.number.CBlock.{CBlock}
+use Rattle.wb_types.specs.declared.number.Place.{Place}
 use Rattle.wb_disk.specs.Device.{Content as Bytes, History}
+use Rattle.wb_format.specs.declared.node.Node.{Node}
 use Rattle.wb_disk.specs.Extents.{GivesEach}
 use Rattle.wb_disk.specs.Failing.{MayFail, lands}
 use Rattle.wb_disk.specs.Crash.{Choice, Applies}
 use Rattle.wb_tree.specs.Mapping.{Mapping}
+use Rattle.wb_tree.specs.declared.image.Image.{Image}
 use Rattle.wb_meta.specs.Steps.{DoesStep, coming_step}
 use Rattle.wb_meta.specs.Reads.{ReadingGoesOn, StopsBy, AreStepsOn, IsDone, sectors_read}
 use Rattle.wb_meta.specs.States.{IsOfReading}
@@ -20,16 +25,22 @@ use Rattle.wb_meta.specs.declared.read_steps.ReadSteps.{ReadSteps}
 use Rattle.wb_meta.specs.declared.commit_steps.CommitStep.{CommitStep}
 use Rattle.wb_meta.specs.declared.commit_steps.CommitStep.TheVariants.{WriteNode as PutNode, Sync as SyncAll, WriteRoot as PutRoot}
 use Rattle.wb_meta.specs.declared.commit_steps.CommitSteps.TheVariants.{NodesWritten}
-use Rattle.wb_desk.specs.Desks.{DeskState}
+use Rattle.wb_policy.specs.declared.order.Order.{Order}
+use Rattle.wb_policy.specs.declared.order.Order.TheVariants.{Promote as PromoteOrder, Demote as DemoteOrder, Clean as CleanOrder}
+use Rattle.wb_tree.specs.Edits.{IsChangedAt}
+use Rattle.wb_desk.specs.Desks.{DeskState, MayReserve}
+use Rattle.wb_desk.specs.Entries.{MayMap, entry_of, mapped}
 use Rattle.wb_desk.specs.Commits.{IsBeginRefused, commit_begun}
-use Rattle.wb_tasks.specs.Tables.{TaskJob, Reading, Writing, OnBlock, Flushing, Opening, BlockRange}
+use Rattle.wb_tasks.specs.Tables.{TaskJob, Reading, Writing, Migrating, OnBlock, Flushing, Opening, BlockRange, whole_block}
+use Rattle.wb_tasks.specs.declared.step.Migration.{Migration}
+use Rattle.wb_tasks.specs.declared.step.Migration.TheVariants.{Promote, Demote, Clean}
 use Rattle.wb_tasks.specs.Plan.{Plan, want, got_of, device_of}
 use Rattle.wb_tasks.specs.Ready.{HoldsBlocks}
 use Rattle.wb_words.specs.Effects.{result_of}
 use Rattle.wb_tasks.specs.declared.step.Answer.TheVariants.{Done as Finished}
 use Rattle.wb_tasks.specs.declared.step.DeviceStep.{DeviceStep}
 use Rattle.wb_tasks.specs.declared.step.DeviceStep.TheVariants.{Read as ReadExtent, Write as WriteExtent, Sync, ReadMetadata, WriteNode, WriteRoot}
-use Rattle.wb_tasks.specs.declared.step.DeskStep.TheVariants.{BeginCommit, EndCommit}
+use Rattle.wb_tasks.specs.declared.step.DeskStep.TheVariants.{Map, ReleaseOrder, BeginCommit, EndCommit}
 use Rattle.wb_tasks.specs.declared.step.Want.{Want}
 use Rattle.wb_tasks.specs.declared.step.Want.TheVariants.{Cell, Device, Desk, End}
 use Rattle.wb_tasks.specs.declared.step.Got.{Got}
@@ -37,30 +48,32 @@ use Rattle.wb_tasks.specs.declared.step.Got.TheVariants.{Done, Fault, Refused as
 use Rattle.wb_devices.specs.declared.running.RunningCommit.{RunningCommit}
 use Rattle.wb_devices.specs.declared.devices.Devices.{Devices}
 use Rattle.wb_devices.specs.Moving.{device_in}
-use Rattle.wb_stage.specs.Asking.{HasBegun}
+use Rattle.wb_stage.specs.Asking.{HasBegun, IsGivenUp}
 use Rattle.wb_devices.specs.Committing.{goes_on}
 use Rattle.wb_stage.specs.Stages.{is_all_done}
 use Rattle.wb_devices.specs.Opened.{HasCome, got_of_refusal}
 use Rattle.wb_runs.specs.declared.job.Job.{Job}
-use Rattle.wb_runs.specs.declared.job.Job.TheVariants.{Read, Write, Flush, Open}
+use Rattle.wb_runs.specs.declared.job.Job.TheVariants.{Read, Write, Flush, Open, Migrate}
 use Rattle.wb_runs.specs.declared.event.Event.{Event}
 use Rattle.wb_runs.specs.declared.event.Event.TheVariants.{Start, Step, FaultStep, Stop}
 use Rattle.wb_runs.specs.declared.event.What.{What}
 use Rattle.wb_runs.specs.declared.event.What.TheVariants.{Skipped, Refused, Started, Stepped, Stopped}
 use Rattle.wb_runs.specs.declared.event.Record.{Record}
-use Rattle.wb_runs.specs.States.{Shape, State, Phase, Opens, OfTarget, OfReading, sector_count, block_size}
+use Rattle.wb_runs.specs.States.{Shape, State, Actor, Phase, Opens, OfTarget, OfReading, sector_count, block_size}
 
 -- What no record holds of what was free at it: into which extents a job's sectors are cut, in the order in which they are
--- taken; a reading that has read nothing; how far it has come after a step, and the commit of the opening's root once all was
+-- taken, and the cache block of an order that is given; a reading that has read nothing; how far it has come after a step, and the commit of the opening's root once all was
 -- read; what the metadata device is once a node or root was written; the commit that begins, and the tree to which its image
--- leads; the policy of a desk that is opened.
+-- leads; the desk after it was asked to map a block or to give up an order; the policy of a desk that is opened.
 pub data Chosen (P A : Type 0) : Type 0 where
   Plain : Chosen P A
   Cut : List Extent → Chosen P A
+  Orders : List Extent → CBlock → Chosen P A
   Begins : ReadSteps A → Chosen P A
   Reaches : Option (ReadSteps A) → Option RunningCommit → Chosen P A
   Puts : List History → Chosen P A
   Commits : RunningCommit → Mapping → Chosen P A
+  Asks : DeskState P → Chosen P A
   Opened : P → Chosen P A
 
 -- a record, and what was free at it
@@ -76,6 +89,7 @@ extent_of (Read extent) = extent
 extent_of (Write extent content) = extent
 extent_of Flush = record { first = 0; count = 0 }
 extent_of (Open mode) = record { first = 0; count = 0 }
+extent_of (Migrate migration block) = record { first = 0; count = 0 }
 
 -- the part of a block that an extent covers, cut so
 abbrev pub block_range : Shape → Extent → List Extent → BlockRange
@@ -85,12 +99,23 @@ block_range shape extent cut = record {
   extents = cut;
 }
 
+-- a whole block, cut so
+abbrev pub migrated_range : Shape → OBlock → List Extent → BlockRange
+migrated_range shape block cut = record { block_sectors = block_size shape; block = block; extents = cut }
+
+-- the order under which a block is migrated so
+abbrev pub order_for : Migration → OBlock → Order
+order_for (Promote cache) block = PromoteOrder block cache
+order_for Demote block = DemoteOrder block
+order_for Clean block = CleanOrder block
+
 -- the task of a job, whose sectors are cut so
 abbrev pub task_job : Shape → Job → List Extent → TaskJob
 task_job shape (Read extent) cut = OnBlock (Reading (block_range shape extent cut))
 task_job shape (Write extent content) cut = OnBlock (Writing (block_range shape extent cut))
 task_job shape Flush cut = Flushing [] (node_count shape.geometry.cache_blocks)
 task_job shape (Open mode) cut = Opening shape.geometry.meta_sectors
+task_job shape (Migrate migration block) cut = OnBlock (Migrating migration (migrated_range shape block cut))
 
 -- some sectors, all of the origin
 abbrev pub is_inside : Shape → Extent → Bool
@@ -103,12 +128,13 @@ is_in_one_block shape extent = extent.first / block_size shape == (extent.first 
 abbrev pub extent_refusal : Shape → Extent → Option Refusal
 extent_refusal shape extent = if is_inside shape extent then (if is_in_one_block shape extent then None else Some Crosses) else Some Range
 
--- why a job is not started
+-- why a job is not started, whatever orders there are
 abbrev pub job_refusal : Shape → Job → Option Refusal
 job_refusal shape (Read extent) = extent_refusal shape extent
 job_refusal shape (Write extent content) = extent_refusal shape extent
 job_refusal shape Flush = None
 job_refusal shape (Open mode) = None
+job_refusal shape (Migrate migration block) = None
 
 -- ---- what applies
 
@@ -123,10 +149,17 @@ AtWork w a on = OfSome (slice_get w.actors a) (λ x. OfSome x.task (λ doing. on
 abbrev pub HasTask : {P A : Type 0} → State P A → ℕ → Type 0
 HasTask w a = AtWork w a (λ job s. Unit {0})
 
+-- blocks are migrated so as yet
+abbrev pub IsMade : Migration → Type 0
+IsMade (Promote cache) = Unit {0}
+IsMade Demote = ⊥
+IsMade Clean = ⊥
+
 -- A job is not started where this holds: an opening where a target stands that has not failed, or in a mode in which none is
--- opened yet; any other where no target stands.
+-- opened yet; any other where no target stands, and a migration of a kind that is not made yet.
 abbrev pub IsOutOfPlace : {P A : Type 0} → Phase P A → Job → Type 0
 IsOutOfPlace phase (Open mode) = OfTarget phase (λ t. t.words.fail ≡ 0) ⊎ (mode ≢ Writeback)
+IsOutOfPlace phase (Migrate migration block) = (¬ OfTarget phase (λ t. Unit {0})) ⊎ (¬ IsMade migration)
 IsOutOfPlace phase job = ¬ OfTarget phase (λ t. Unit {0})
 
 -- the device of a step may fail so
@@ -190,24 +223,43 @@ DoesRead {P} {A} geometry left was device commit got (Reaches after commit') = (
     ⊎ ((refusal : Refusal) × IsOfReading refusal × StopsBy was device refusal × (got ≡ got_of_refusal refusal) × (after ≡ None) × (commit' ≡ commit)))
 DoesRead geometry left was device commit got chosen = ⊥
 
+-- each node of an image has all its words
+abbrev pub AreWhole : Image → Type 0
+AreWhole image = All (λ (node : Place × Node). length node.1.words ≡ 32) image.nodes.items
+
 -- A commit begins, of an image of the desk's tree, with at most so many nodes; or the desk refuses it.
 abbrev pub DoesBegin : {P A : Type 0} → ℕ → DeskState P → Got → Chosen P A → Type 0
 DoesBegin most desk (Began nodes) (Commits commit tree) = (nodes ≤ most) × (nodes ≡ length commit.image.nodes.items) × (commit.steps ≡ NodesWritten 0)
-    × HasBegun desk commit.image (commit_begun desk tree)
+    × HasBegun desk commit.image (commit_begun desk tree) × AreWhole commit.image
 DoesBegin most desk (GotRefused refusal) Plain = IsBeginRefused desk refusal
 DoesBegin most desk got chosen = ⊥
+
+-- A block that an order brings gets its entry; or the desk has no memory for that, and stays.
+abbrev pub DoesMap : {P A : Type 0} → OBlock → CBlock → DeskState P → Got → Chosen P A → Type 0
+DoesMap b c desk Done (Asks new) = MayMap desk b c × IsChangedAt desk.tree new.tree c.0 (Some (entry_of b)) × (new ≡ mapped desk c new.tree new.policy)
+DoesMap b c desk (GotRefused refusal) Plain = refusal ≡ Memory
+DoesMap b c desk got chosen = ⊥
+
+-- an order is given up
+abbrev pub DoesRelease : {P A : Type 0} → Order → DeskState P → Chosen P A → Type 0
+DoesRelease order desk (Asks new) = IsGivenUp (Some order) desk new
+DoesRelease order desk chosen = ⊥
 
 -- an opening that is answered done has read all, and its root is durable
 abbrev pub DoesOpen : {P A : Type 0} → Phase P A → Option RunningCommit → Chosen P A → Type 0
 DoesOpen phase commit (Opened policy) = OfReading phase (λ mode reading. IsDone reading) × (is_all_done commit ≡ true)
 DoesOpen phase commit chosen = ⊥
 
--- What a step gives, what it read, one content a sector, and what was free at it. A read or write moves sectors of a device on
--- which blocks stand.
+-- What a step gives, what a read was given, one content a sector, and what was free at it. A read, write or migration moves sectors
+-- of a device on which blocks stand. A migration asks the desk to map its block, or to give up its order.
 abbrev pub Gives : {P A : Type 0} → Shape → State P A → Job → Want → Got → List Bytes → Chosen P A → Type 0
 Gives shape w job (Cell step) got read chosen = IsPlain read chosen × OfTarget w.phase (λ t. got ≡ got_of (result_of t.words step))
 Gives shape w (Read extent) (Device (ReadExtent device e)) got read chosen = HoldsBlocks device × (chosen ≡ Plain) × (got ≡ Done) × (length read ≡ e.count) × GivesEach (device_in device w.devices) e.first read
 Gives shape w (Write extent content) (Device (WriteExtent device e)) got read chosen = HoldsBlocks device × IsPlain read chosen × (got ≡ Done) × (e.first + e.count ≤ length (device_in device w.devices))
+Gives shape w (Migrate migration block) (Device (ReadExtent device e)) got read chosen = HoldsBlocks device × IsPlain read chosen × (got ≡ Done) × (e.first + e.count ≤ length (device_in device w.devices))
+Gives shape w (Migrate migration block) (Device (WriteExtent device e)) got read chosen = HoldsBlocks device × IsPlain read chosen × (got ≡ Done) × (e.first + e.count ≤ length (device_in device w.devices))
+Gives shape w (Migrate migration block) (Desk (Map b c)) got read chosen = (read ≡ []) × OfTarget w.phase (λ t. DoesMap b c t.desk got chosen)
+Gives shape w (Migrate migration block) (Desk (ReleaseOrder b)) got read chosen = (read ≡ []) × (got ≡ Done) × OfTarget w.phase (λ t. DoesRelease (order_for migration block) t.desk chosen)
 Gives shape w job (Device (Sync Metadata)) got read chosen = (read ≡ []) × (got ≡ Done) × DoesSync w.phase w.commit w.devices.metadata chosen
 Gives shape w job (Device (Sync device)) got read chosen = IsPlain read chosen × (got ≡ Done)
 Gives shape w job (Device (WriteNode number)) got read chosen = (read ≡ []) × (got ≡ Done) × DoesPut w.commit (WriteNode number) w.devices.metadata chosen
@@ -248,19 +300,36 @@ Falters w choice (Device (ReadExtent device e)) chosen = (chosen ≡ Plain) × H
 Falters w choice (Device (WriteExtent device e)) chosen = (chosen ≡ Plain) × HoldsBlocks device
 Falters w choice next chosen = ⊥
 
--- what a start comes to
-abbrev pub StartGives : {P A : Type 0} → Shape → Job → What → Chosen P A → Type 0
-StartGives shape job (Refused refusal) Plain = job_refusal shape job ≡ Some refusal
-StartGives shape Flush Started Plain = Unit {0}
-StartGives shape (Open mode) Started Plain = Unit {0}
-StartGives shape (Read extent) Started (Cut cut) = (extent_refusal shape extent ≡ None) × IsCutInto extent cut
-StartGives shape (Write extent content) Started (Cut cut) = (extent_refusal shape extent ≡ None) × IsCutInto extent cut
-StartGives shape job what chosen = ⊥
+-- the orders that an actor has
+abbrev pub orders_in : Option Actor → List Order
+orders_in None = []
+orders_in (Some x) = x.orders
+
+-- an order may be given, and takes some cache block
+abbrev pub MayOrder : {P : Type 0} → DeskState P → Order → Type 0
+MayOrder desk order = (cache : CBlock) × MayReserve desk cache order
+
+-- A migration starts under an order that its actor keeps, or under one that is given; it is refused where neither can be.
+abbrev pub MigrationStarts : {P A : Type 0} → Extent → Phase P A → List Order → Order → What → Chosen P A → Type 0
+MigrationStarts whole phase kept order (Refused Busy) Plain = (¬ Contains kept order) × OfTarget phase (λ t. ¬ MayOrder t.desk order)
+MigrationStarts whole phase kept order Started (Cut cut) = IsCutInto whole cut × Contains kept order
+MigrationStarts whole phase kept order Started (Orders cut cache) = IsCutInto whole cut × OfTarget phase (λ t. MayReserve t.desk cache order)
+MigrationStarts whole phase kept order what chosen = ⊥
+
+-- what a start by an actor comes to
+abbrev pub StartGives : {P A : Type 0} → Shape → Phase P A → Option Actor → Job → What → Chosen P A → Type 0
+StartGives shape phase actor (Migrate migration block) what chosen = MigrationStarts (whole_block (block_size shape) block) phase (orders_in actor) (order_for migration block) what chosen
+StartGives shape phase actor job (Refused refusal) Plain = job_refusal shape job ≡ Some refusal
+StartGives shape phase actor Flush Started Plain = Unit {0}
+StartGives shape phase actor (Open mode) Started Plain = Unit {0}
+StartGives shape phase actor (Read extent) Started (Cut cut) = (extent_refusal shape extent ≡ None) × IsCutInto extent cut
+StartGives shape phase actor (Write extent content) Started (Cut cut) = (extent_refusal shape extent ≡ None) × IsCutInto extent cut
+StartGives shape phase actor job what chosen = ⊥
 
 -- This is what the event does here.
 abbrev pub MayBe : {P A : Type 0} → Shape → State P A → Event → What → List Bytes → Chosen P A → Type 0
 MayBe shape w event Skipped read chosen = IsPlain read chosen × DoesNotApply w event
-MayBe shape w (Start a job) what read chosen = (read ≡ []) × (¬ DoesNotApply w (Start a job)) × StartGives shape job what chosen
+MayBe shape w (Start a job) what read chosen = (read ≡ []) × (¬ DoesNotApply w (Start a job)) × StartGives shape w.phase (slice_get w.actors a) job what chosen
 MayBe shape w (Step a) (Stepped next got) read chosen = AtWork w a (λ job s. (next ≡ want s) × Gives shape w job next got read chosen)
 MayBe shape w (FaultStep a choice) (Stepped next got) read chosen = (read ≡ []) × (got ≡ Fault)
     × AtWork w a (λ job s. (next ≡ want s) × MayFailAt w.devices choice next × Falters w choice next chosen)

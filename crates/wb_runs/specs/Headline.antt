@@ -1,5 +1,6 @@
 -- What is promised of every run.
-use Rattle.std.specs.Prelude.{◌≡◌, ◌≤◌, ◌+◌, ◌*◌, ◌/◌, ◌%◌, ◌==◌, ℕ, suc, List, [], ◌∷◌, Option, Some, None, All, IsPermutation, Contains, map, length, replicate, slice_get, unwrap_or, if◌then◌else◌}
+use Rattle.std.specs.List.{count_by}
+use Rattle.std.specs.Prelude.{true, is_some, ◌≡◌, ◌≤◌, ◌+◌, ◌*◌, ◌/◌, ◌%◌, ◌==◌, ℕ, suc, List, [], ◌∷◌, Option, Some, None, All, IsPermutation, Contains, map, length, slice_get, unwrap_or, if◌then◌else◌}
 use Rattle.wb_types.specs.declared.entry.Entry.{Entry}
 use Rattle.wb_types.specs.Extents.{sectors_in, rising}
 use Rattle.wb_types.specs.declared.refusal.Refusal.{Refusal}
@@ -124,12 +125,12 @@ abbrev pub CrashConsistent : Shape → Notes → Devices (List History) → Type
 CrashConsistent shape n devices = (metadata cache origin : List Bytes) → MayLeave devices.metadata metadata → MayLeave devices.cache cache → MayLeave devices.origin origin
     → ShowsOpened shape n metadata cache origin
 
--- Metadata represent a root of this geometry, and a tree in which nothing is cached.
-pub record IsEmpty (shape : Shape) (metadata : List Bytes) : Type 0 where
+-- Metadata represent a root of this geometry, and a tree, of which a root that is marked clean says nothing but that it is empty.
+pub record CanBeRead (shape : Shape) (metadata : List Bytes) : Type 0 where
   pub stored : Stored
   pub represents : Represents metadata stored.root stored.found
   pub geometry : stored.root.geometry ≡ shape.geometry
-  pub nothing : stored.found.entries ≡ replicate shape.geometry.cache_blocks None
+  pub clean : stored.root.clean ≡ true → count_by is_some stored.found.entries ≡ 0
 
 -- an actor may do a step, and it is not skipped
 pub record GivesSomething {P A : Type 0} (shape : Shape) (w : State P A) (a : ℕ) : Type 0 where
@@ -183,9 +184,9 @@ abbrev pub InEveryRun : (P A : Type 0) → (Shape → List History → List (Hap
 InEveryRun P A Holds = (shape : Shape) (metadata : List History) (hs : List (Happening P A)) → IsFormatted shape.geometry metadata → length metadata ≡ shape.geometry.meta_sectors
     → IsRun shape (start shape metadata) hs → Holds shape metadata hs
 
--- whatever a crash leaves of the metadata represents a tree
+-- whatever a crash leaves of the metadata represents a root and a tree
 abbrev pub MetadataAreRead : (P A : Type 0) → Type 0
-MetadataAreRead P A = InEveryRun P A (λ shape metadata hs. (sectors : List Bytes) → MayLeave (after_all shape (start shape metadata) hs).devices.metadata sectors → IsEmpty shape sectors)
+MetadataAreRead P A = InEveryRun P A (λ shape metadata hs. (sectors : List Bytes) → MayLeave (after_all shape (start shape metadata) hs).devices.metadata sectors → CanBeRead shape sectors)
 
 -- whatever a crash leaves of the three devices, what an opening then shows is allowed
 abbrev pub AllCrashConsistent : (P A : Type 0) → Type 0
@@ -199,6 +200,29 @@ AllOpeningsShowAllowed P A = InEveryRun P A (λ shape metadata hs. AllOpenRightl
 abbrev pub OpeningsRefuseByCause : (P A : Type 0) → Type 0
 OpeningsRefuseByCause P A = InEveryRun P A (λ shape metadata hs. AllRefuseByCause shape (start shape metadata) (formatted shape) hs)
 
+-- A read that is answered done was given each of its sectors exactly once, and a write that is has entered each of its own so.
+abbrev pub IsCovered : Doing → Job → Answer → Type 0
+IsCovered doing (Read extent) Finished = IsPermutation (sectors_in extent) (map (λ (r : Reading). r.sector) doing.readings)
+IsCovered doing (Write extent content) Finished = IsPermutation (sectors_in extent) (map (λ (p : Position). p.sector) doing.entered)
+IsCovered doing job answer = Unit {0}
+
+abbrev pub DoingCovers : Option (Option Doing) → Answer → Type 0
+DoingCovers (Some (Some doing)) answer = IsCovered doing doing.job answer
+DoingCovers doing answer = ⊥
+
+-- only an actor that is at something answers
+abbrev pub AnswerCovers : Notes → Event → What → Type 0
+AnswerCovers n (Step a) (Stepped (End answer) got) = DoingCovers (slice_get n.doings a) answer
+AnswerCovers n event what = Unit {0}
+
+-- so it is of every answer of a run
+abbrev pub AllCover : {P A : Type 0} → Shape → State P A → Notes → List (Happening P A) → Type 0
+AllCover shape w n [] = Unit {0}
+AllCover shape w n (h ∷ hs) = AnswerCovers n h.record_is.event h.record_is.what × AllCover shape (after_happening shape w h) (note_happening shape w n h) hs
+
+abbrev pub AnswersCoverTheirSectors : (P A : Type 0) → Type 0
+AnswersCoverTheirSectors P A = InEveryRun P A (λ shape metadata hs. AllCover shape (start shape metadata) (formatted shape) hs)
+
 -- an event is skipped only where it does not apply
 abbrev pub SkipsRightly : {P A : Type 0} → State P A → Event → What → Type 0
 SkipsRightly w event Skipped = DoesNotApply w event
@@ -208,6 +232,10 @@ SkipsRightly w event what = Unit {0}
 abbrev pub AllSkipRightly : {P A : Type 0} → Shape → State P A → List (Happening P A) → Type 0
 AllSkipRightly shape w [] = Unit {0}
 AllSkipRightly shape w (h ∷ hs) = SkipsRightly w h.record_is.event h.record_is.what × AllSkipRightly shape (after_happening shape w h) hs
+
+-- so it is in every run
+abbrev pub EventsSkipRightly : (P A : Type 0) → Type 0
+EventsSkipRightly P A = InEveryRun P A (λ shape metadata hs. AllSkipRightly shape (start shape metadata) hs)
 
 -- The whole promise of a run: no event is skipped that applies, each answer is right, and whatever a crash leaves after it is
 -- consistent.

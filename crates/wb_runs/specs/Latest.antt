@@ -1,12 +1,12 @@
 -- That reads are given what was written last.
-use Rattle.std.specs.Prelude.{List, [], ◌∷◌, Option, Some, All, slice_get}
+use Rattle.std.specs.Prelude.{◌≡◌, List, [], ◌∷◌, Option, Some, All, slice_get}
 use Rattle.wb_types.specs.declared.extent.Extent.{Extent}
 use Rattle.wb_disk.specs.Device.{Content as Bytes}
 use Rattle.wb_tasks.specs.declared.step.DeviceStep.TheVariants.{Read as ReadExtent}
 use Rattle.wb_tasks.specs.declared.step.Want.TheVariants.{Device}
 use Rattle.wb_tasks.specs.declared.step.Got.TheVariants.{Done}
 use Rattle.wb_runs.specs.declared.job.Job.{Job}
-use Rattle.wb_runs.specs.declared.job.Job.TheVariants.{Read}
+use Rattle.wb_runs.specs.declared.job.Job.TheVariants.{Read, Migrate}
 use Rattle.wb_runs.specs.declared.event.Event.{Event}
 use Rattle.wb_runs.specs.declared.event.Event.TheVariants.{Step}
 use Rattle.wb_runs.specs.declared.event.What.{What}
@@ -17,9 +17,10 @@ use Rattle.wb_runs.specs.Effects.{after_happening}
 use Rattle.wb_runs.specs.Clerk.{Notes, Doing, sector_for, readings_from, formatted}
 use Rattle.wb_runs.specs.Headline.{IsLatest, InEveryRun, note_happening}
 
--- each sector that a step of a read is given is the last entry of its history
+-- Each sector that a step of a read is given is the last entry of its history. What a migration reads is not told.
 abbrev pub GivesLatest : Shape → Notes → Job → Extent → List Bytes → Type 0
 GivesLatest shape n (Read extent) e read = All IsLatest (readings_from n.histories (sector_for shape extent e) read)
+GivesLatest shape n (Migrate migration block) e read = read ≡ []
 GivesLatest shape n job e read = ⊥
 
 -- only who is noted to read is given anything

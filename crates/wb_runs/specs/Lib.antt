@@ -7,3 +7,4 @@ pub mod Holding
 pub mod Progress
 pub mod Possible
 pub mod Latest
+pub mod Inside

@@ -1,9 +1,13 @@
 -- That the promises are not empty: runs that pass through what they speak of.
-use Rattle.std.specs.Prelude.{◌≡◌, ◌≤◌, ◌∷◌, ℕ, suc, List, [], Some, length, slice_get}
+use Rattle.std.specs.Prelude.{◌≡◌, ◌≤◌, ◌∷◌, ℕ, suc, List, [], Some, None, length, slice_get}
 use Rattle.wb_types.specs.Limits.{IsWithinLimits}
 use Rattle.wb_types.specs.declared.extent.Extent.{Extent}
 use Rattle.wb_types.specs.declared.geometry.Geometry.{Geometry}
 use Rattle.wb_types.specs.declared.mode.Dev.TheVariants.{Origin}
+use Rattle.wb_types.specs.declared.number.OBlock.{OBlock}
+use Rattle.wb_types.specs.declared.number.CBlock.{CBlock}
+use Rattle.wb_orders.specs.Orders.{order_at}
+use Rattle.wb_tasks.specs.declared.step.Migration.TheVariants.{Promote}
 use Rattle.wb_disk.specs.Device.{Content as Bytes, History}
 use Rattle.wb_meta.specs.Formats.{IsFormatted}
 use Rattle.wb_meta.specs.Reads.{sectors_read}
@@ -12,12 +16,12 @@ use Rattle.wb_tasks.specs.Plan.{want}
 use Rattle.wb_tasks.specs.declared.step.Answer.TheVariants.{Done as Finished}
 use Rattle.wb_tasks.specs.declared.step.Want.TheVariants.{End}
 use Rattle.wb_runs.specs.declared.job.Job.{Job}
-use Rattle.wb_runs.specs.declared.job.Job.TheVariants.{Read, Write, Flush}
+use Rattle.wb_runs.specs.declared.job.Job.TheVariants.{Read, Write, Flush, Migrate}
 use Rattle.wb_runs.specs.States.{Shape, State, Gone, OfTarget, start}
 use Rattle.wb_runs.specs.Happenings.{Happening, AtWork, OfSome}
 use Rattle.wb_runs.specs.Effects.{after_all, IsRun}
 use Rattle.wb_runs.specs.Clerk.{Notes, Doing, formatted}
-use Rattle.wb_runs.specs.Headline.{shown, noted}
+use Rattle.wb_runs.specs.Headline.{place_of, shown, noted}
 
 -- a run after which a target stands, as an opening was answered done
 pub record Opens (P A : Type 0) (shape : Shape) (metadata : List History) : Type 0 where
@@ -83,3 +87,24 @@ abbrev pub CanSurvive : (P A : Type 0) → Type 0
 CanSurvive P A = (policy : P) (reading : ReadSteps A) → sectors_read reading ≡ 0 → (cache_blocks meta_sectors : ℕ) (within : IsWithinLimits 64 cache_blocks 1 meta_sectors) (threshold others : ℕ) (metadata : List History) (content other : Bytes)
     → IsFormatted (one_block cache_blocks meta_sectors within) metadata → length metadata ≡ meta_sectors
     → Survives P A (record { geometry = one_block cache_blocks meta_sectors within; threshold = threshold; actors = suc others }) metadata content other
+
+-- the first block of the origin, and that of the cache
+abbrev pub first_block : OBlock
+first_block = record { 0 = 0 }
+
+abbrev pub first_cache_block : CBlock
+first_cache_block = record { 0 = 0 }
+
+-- A run after which a promotion of the first block is answered done at the next step of the first actor: the block stands in the first
+-- cache block, and no order lives there any more.
+pub record Promotes (P A : Type 0) (shape : Shape) (metadata : List History) : Type 0 where
+  pub happenings : List (Happening P A)
+  pub is_run : IsRun shape (start shape metadata) happenings
+  pub answers : AboutToAnswer (Migrate (Promote first_cache_block) first_block) (after_all shape (start shape metadata) happenings)
+  pub stands : OfTarget (after_all shape (start shape metadata) happenings).phase (λ target. (place_of target.desk.tree.entries 0 ≡ Some 0) × (order_at target.desk.orders.slots 0 ≡ None))
+
+-- There is one over the smallest origin, where orders may ask for a block at once.
+abbrev pub CanPromote : (P A : Type 0) → Type 0
+CanPromote P A = (policy : P) (reading : ReadSteps A) → sectors_read reading ≡ 0 → (cache_blocks meta_sectors : ℕ) (within : IsWithinLimits 64 cache_blocks 1 meta_sectors) (threshold others : ℕ) (metadata : List History) → 64 ≤ threshold
+    → IsFormatted (one_block cache_blocks meta_sectors within) metadata → length metadata ≡ meta_sectors
+    → Promotes P A (record { geometry = one_block cache_blocks meta_sectors within; threshold = threshold; actors = suc others }) metadata

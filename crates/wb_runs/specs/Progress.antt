@@ -1,6 +1,8 @@
 -- That no run is ever stuck.
-use Rattle.std.specs.Prelude.{◌≡◌, ℕ, List}
+use Rattle.std.specs.Prelude.{◌≡◌, ◌≤◌, ℕ, List}
+use Rattle.wb_types.specs.Limits.{node_count}
 use Rattle.wb_disk.specs.Device.{Content as Bytes}
+use Rattle.wb_tree.specs.Fields.{AreApart}
 use Rattle.wb_meta.specs.Reads.{sectors_read}
 use Rattle.wb_meta.specs.declared.read_steps.ReadSteps.{ReadSteps}
 use Rattle.wb_desk.specs.Commits.{MayBegin}
@@ -20,15 +22,16 @@ pub record HasHappening {P A : Type 0} (shape : Shape) (w : State P A) (event : 
   pub chosen : Chosen P A
   pub may : MayBe shape w event what read chosen
 
--- a commit begins, where a flush allows so many nodes
+-- a commit begins, whose image has at most so many nodes
 abbrev pub CanBegin : (P A : Type 0) → ℕ → DeskState P → Type 0
 CanBegin P A most desk = (nodes : ℕ) × ((chosen : Chosen P A) × DoesBegin most desk (Began nodes) chosen)
 
--- Every event has a happening, and whoever has a task may do its next step; and where a commit may begin, one can.
+-- Every event has a happening, and whoever has a task may do its next step. Where a commit may begin, one can, by each flush that
+-- allows as many nodes as a tree of this size may have, as all of a run do, if no node of the tree is known twice.
 pub record IsFree {P A : Type 0} (shape : Shape) (w : State P A) : Type 0 where
   pub events : (event : Event) → HasHappening shape w event
   pub steps : (a : ℕ) → HasTask w a → GivesSomething shape w a
-  pub commits : (target : Target P) (most : ℕ) → w.phase ≡ Stands target → MayBegin target.desk → CanBegin P A most target.desk
+  pub commits : (target : Target P) (most : ℕ) → w.phase ≡ Stands target → AreApart target.desk.tree.known → node_count shape.geometry.cache_blocks ≤ most → MayBegin target.desk → CanBegin P A most target.desk
 
 -- So it is after every run, where there is a policy to open with, and a reading that has read nothing.
 abbrev pub NeverStuck : (P A : Type 0) → Type 0

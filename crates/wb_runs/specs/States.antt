@@ -1,15 +1,16 @@
 -- A cache target over three devices as a pure machine: its states.
-use Rattle.std.specs.Prelude.{◌*◌, ℕ, List, Option, Some, None, replicate}
+use Rattle.std.specs.Prelude.{◌*◌, ℕ, List, [], Option, Some, None, replicate}
 use Rattle.wb_types.specs.declared.geometry.Geometry.{Geometry}
 use Rattle.wb_types.specs.declared.mode.Mode.{Mode}
 use Rattle.wb_types.specs.declared.mode.Dev.{Dev}
 use Rattle.wb_types.specs.declared.mode.Dev.TheVariants.{Metadata, Cache, Origin}
-use Rattle.wb_disk.specs.Device.{History}
+use Rattle.wb_disk.specs.Device.{Content as Bytes, History}
 use Rattle.wb_disk.specs.Memory.{blank}
 use Rattle.wb_words.specs.SharedWords.{Words}
 use Rattle.wb_words.specs.Cards.{blank_card}
 use Rattle.wb_words.specs.declared.card.Card.{Card}
 use Rattle.wb_meta.specs.declared.read_steps.ReadSteps.{ReadSteps}
+use Rattle.wb_policy.specs.declared.order.Order.{Order}
 use Rattle.wb_desk.specs.Desks.{DeskState}
 use Rattle.wb_tasks.specs.Plan.{Plan}
 use Rattle.wb_devices.specs.declared.devices.Devices.{Devices}
@@ -22,10 +23,14 @@ pub record Shape : Type 0 where
   pub threshold : ℕ
   pub actors : ℕ
 
--- What an actor is at, and what is left of it, if it is at anything; and what it knows of the shared words.
+-- What an actor is at, and what is left of it, if it is at anything; what it knows of the shared words; the orders that it has:
+-- that of the migration that it is at, and those of migrations that it may start again; and the contents that a migration has
+-- read last, which it writes next.
 pub record Actor : Type 0 where
   pub task : Option (Job × Plan)
   pub card : Card
+  pub orders : List Order
+  pub buffer : List Bytes
 
 -- what stands from an opening's answer to a crash or the next opening's start
 pub record Target (P : Type 0) : Type 0 where
@@ -46,9 +51,9 @@ pub record State (P A : Type 0) : Type 0 where
   pub phase : Phase P A
   pub actors : List Actor
 
--- an actor with nothing to do
+-- an actor with nothing to do, and with no order
 abbrev pub resting : Actor
-resting = record { task = None; card = blank_card }
+resting = record { task = None; card = blank_card; orders = []; buffer = [] }
 
 abbrev pub block_size : Shape → ℕ
 block_size shape = shape.geometry.block

@@ -1,6 +1,7 @@
 //! What an actor can be told to do.
 
-use wb_types::{Content, Extent, Mode};
+use wb_tasks::Migration;
+use wb_types::{Content, Extent, Mode, OBlock};
 
 /// A task with its arguments.
 #[derive(Clone, Copy, Debug, PartialEq, Eq)]
@@ -12,4 +13,7 @@ pub enum Job {
     Flush,
     /// Opens a target in this mode over what the devices hold.
     Open(Mode),
+    /// Moves this block between the origin and the cache, under an order of the desk. Its start gives the order, and is refused
+    /// `Busy` where it may not be given; an actor that keeps this very order starts again under it.
+    Migrate(Migration, OBlock),
 }

@@ -1,38 +1,15 @@
 //! The theorems over all runs.
 
-ghost use Rattle.wb_runs.specs.Headline.{MetadataAreRead, AllCrashConsistent, AllOpeningsShowAllowed, AllRunsAreRight, OpeningsRefuseByCause};
-ghost use Rattle.wb_runs.specs.Possible.{CanFlush, CanOpen, CanSurvive};
-ghost use Rattle.wb_runs.specs.Holding.{WordsAreUsedRightly};
-ghost use Rattle.wb_runs.specs.Latest.{ReadsGiveLatest};
+ghost use Rattle.wb_runs.specs.Headline.{AnswersCoverTheirSectors, EventsSkipRightly, MetadataAreRead, OpeningsRefuseByCause};
+ghost use Rattle.wb_runs.specs.Possible.{CanFlush, CanOpen, CanPromote, CanSurvive};
 ghost use Rattle.wb_runs.specs.Progress.{NeverStuck};
-
-/// In every interleaving of reads, writes, flushes and openings, with failing steps and crashes anywhere and over any number of lives:
-/// an event is skipped only where it does not apply; a read that is answered done was given each of its sectors exactly once, and each
-/// is the last entry of the sector's write history at the step that read it; a write that is answered done has entered each of its
-/// sectors exactly once; what an opening shows that is answered done, and what one would show after any crash, is of each sector an
-/// entry of its history at its durable floor or later; and an opening is refused only by a device of which a step of it failed, for
-/// want of memory, or since no generation is left.
-pub fn headline<P, A>()
-    ensures { AllRunsAreRight P A }
-{}
+ghost use Rattle.wb_runs.specs.Inside.{StepsStayInside};
+ghost use Rattle.wb_runs.specs.Holding.{WordsAreUsedRightly};
 
 /// In every run, over any policy: whatever a crash leaves of the metadata device, it represents a root of this geometry and a
-/// tree, so an opening finds one. Nothing is cached yet.
+/// tree, so an opening finds one; and a root that is marked clean is one of a tree without entries.
 pub fn metadata_are_read<P, A>()
     ensures { MetadataAreRead P A }
-{}
-
-/// In every run of reads, writes, flushes and openings, with failing steps and crashes anywhere and over any number of lives: whatever
-/// a crash leaves of the three devices, the metadata represent a tree, and what an opening shows by it of each sector is an entry
-/// of the sector's write history at its durable floor or later.
-pub fn every_crash_is_consistent<P, A>()
-    ensures { AllCrashConsistent P A }
-{}
-
-/// In every such run what an opening shows that is answered done is, of each sector, an entry of the write history before it, at the
-/// durable floor or later; the next history begins with it.
-pub fn every_opening_shows_allowed<P, A>()
-    ensures { AllOpeningsShowAllowed P A }
 {}
 
 /// After every run each actor that has a task has what is needed for what is left of it, and so is ready for its next step; whoever
@@ -41,10 +18,15 @@ pub fn words_are_used_rightly<P, A>()
     ensures { WordsAreUsedRightly P A }
 {}
 
-/// In every run each sector that a step of a read is given is the last entry of the sector's write history at that step, whatever
-/// other actors are at, and however steps fail.
-pub fn reads_give_the_latest_write<P, A>()
-    ensures { ReadsGiveLatest P A }
+/// In every run an event is skipped only where it does not apply.
+pub fn events_skip_rightly<P, A>()
+    ensures { EventsSkipRightly P A }
+{}
+
+/// In every run a read that is answered done was given each of its sectors exactly once, and a write that is has entered each of its
+/// sectors exactly once, wherever their block stands.
+pub fn answers_cover_their_sectors<P, A>()
+    ensures { AnswersCoverTheirSectors P A }
 {}
 
 /// No run is ever stuck, given some policy to open with and a reading that has read nothing: after every run each event has a
@@ -73,4 +55,16 @@ pub fn a_flush_can_be_done<P, A>()
 /// durable, a write of something else that fails, a crash, and a second opening that is answered done and shows the first write.
 pub fn a_write_can_survive<P, A>()
     ensures { CanSurvive P A }
+{}
+
+/// And over the smallest origin one in which, after an opening, a promotion copies its block, maps it and is about to be answered done: the
+/// block stands in the cache, and its order is over.
+pub fn a_block_can_be_promoted<P, A>()
+    ensures { CanPromote P A }
+{}
+
+/// After every run the cache and the origin have their sizes, and whoever has a task wants next a step on sectors that are there, or a
+/// seal by a cache block that is, wherever blocks are cached.
+pub fn steps_stay_inside<P, A>()
+    ensures { StepsStayInside P A }
 {}

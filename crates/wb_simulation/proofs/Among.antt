@@ -1,8 +1,7 @@
 -- One actor goes on, and all others are as they were.
-use Rattle.std.proofs.Common.{bit_or, ◌≡◌, ◌+◌, ◌==◌, ◌∙◌, inl, inr, cond, if◌then◌else◌, ℕ, zero, suc, Bool, true, false, List, [], ◌∷◌, Some, refl, sym, ap, subst, slice_get, slice_set}
-use Rattle.std.proofs.lemmas.Bool.{cases_eq}
+use Rattle.std.proofs.Common.{bit_or, ◌≡◌, ◌≢◌, ◌<◌, ◌+◌, ◌-◌, ◌==◌, ◌∙◌, inl, inr, cond, if◌then◌else◌, ℕ, Bool, true, false, List, Option, Some, None, refl, sym, ap, subst, arith, length, slice_get, slice_set, ◌⊎◌}
+use Rattle.std.proofs.lemmas.Bool.{cases_eq, cases_lt}
 use Rattle.std.proofs.lemmas.List.{length-set}
-use Rattle.wb_types.proofs.Lists.{element_beside}
 use Rattle.wb_disk.specs.Device.{History}
 use Rattle.wb_contents.specs.Devices.{by_block}
 use Rattle.wb_words.specs.SharedWords.{Words, word_at, flag, fail_word, with_cell, taken}
@@ -10,25 +9,29 @@ use Rattle.wb_words.specs.Effects.{words_after}
 use Rattle.wb_words.specs.declared.word.Kind.TheVariants.{ReadHit, ReadMiss, WriteHit, WriteMiss}
 use Rattle.wb_words.specs.declared.step.CellStep.{CellStep}
 use Rattle.wb_words.specs.declared.step.CellStep.TheVariants.{Look, Take, Release, Seal, Finish, Count, SetFailed, SetSuspended}
+use Rattle.wb_policy.specs.declared.order.Order.{Order}
 use Rattle.wb_devices.specs.declared.devices.Devices.{Devices}
 use Rattle.wb_link.specs.Tables.{Got}
-use Rattle.wb_link.specs.World.{World, Shared, Actor as AbstractActor}
+use Rattle.wb_link.specs.World.{World, Shared, Block, Nothing, Actor as AbstractActor, is_alone}
 use Rattle.wb_link.proofs.Lists.{get_set_same, get_set_other}
 use Rattle.wb_refines.specs.Going.{records, shared_after, gone, MayGo}
 use Rattle.wb_refines.specs.Models.{WordsAgree, BelowBeside}
 use Rattle.wb_refines.proofs.Cells.{failed_flag}
 use Rattle.wb_refines.proofs.Going.{goes, with_own}
+use Rattle.wb_types.specs.declared.number.OBlock.{OBlock}
+use Rattle.wb_words.specs.declared.card.Card.{Card}
+use Rattle.wb_tasks.specs.Plan.{Plan}
+use Rattle.wb_tasks.specs.declared.step.Migration.{Migration}
+use Rattle.wb_refines.specs.Models.{IsBelow}
+use Rattle.wb_runs.specs.declared.job.Job.TheVariants.{Migrate}
 use Rattle.wb_runs.specs.States.{Actor}
 use Rattle.wb_runs.specs.Holding.{cards_of}
 use Rattle.wb_simulation.specs.Actors.{StandsFor}
 use Rattle.wb_simulation.specs.Telling.{Telling, IsTold}
-use Rattle.wb_simulation.specs.Worlds.{zeros, Agrees, Turn, Stays, TurnedTo, FollowsBy, Follows, IsUnfinished}
+use Rattle.wb_simulation.specs.Worlds.{zeros, Agrees, Turn, Stays, TurnedTo, DeskTurnedTo, FollowsBy, Follows, IsUnfinished}
+use Rattle.wb_simulation.specs.Behind.{StandsBehind, HasKept, IsUncarried, AreOutside}
 use Rattle.wb_simulation.proofs.Kept.{stands_on}
-
-pub card_there : (actors : List Actor) (a : ℕ) (x : Actor) → slice_get actors a ≡ Some x → slice_get (cards_of actors) a ≡ Some x.card
-card_there [] a x e = absurd (cc)
-card_there (z ∷ xs) zero x e = let same : z ≡ x = cc in ap (λ (v : Actor). Some v.card) same
-card_there (z ∷ xs) (suc a) x e = card_there xs a x e
+use Rattle.wb_simulation.proofs.Behind.{is_inside, there_is, IsNoMigration, no_migration, StaysOutside, CarriesOthers, uncarried_on, card_there, behind_kept, behind_among, carried_below}
 
 -- the failed bit is never cleared
 pub failed_stays : (words : Words) (step : CellStep) (failures suspensions : ℕ) → words.fail ≡ fail_word failures suspensions → flag words.fail ≡ true → flag (words_after words step).fail ≡ true
@@ -54,14 +57,81 @@ failed_stays words SetSuspended f z e t = ap (λ v. flag (bit_or v 2)) e ∙ by_
     by_bits false true = refl
     by_bits false false = refl
 
--- no abstract actor has more than its card counts
-pub below_beside : (size most : ℕ) (words : Words) (committing : Bool) (devices : Devices (List History)) (actors : List Actor) (s : World) (a : ℕ) → Agrees size most words committing devices actors s → BelowBeside s.actors (cards_of actors) a a
-below_beside size most words committing devices actors s a g c y n e held =
-    let x = element_beside s.actors actors c y (sym g.many) e in
-    (c, x.0.card, n, card_there actors c x.0 x.1, (g.each c x.0 y x.1 e).below)
+-- ---- who is there
 
-module _ (size most : ℕ) (words words' : Words) (up : flag words.fail ≡ true → flag words'.fail ≡ true) (committing : Bool) (devices : Devices (List History)) (actors : List Actor) (a : ℕ) (x x' : Actor) (s : World) (y : AbstractActor)
-    (g : Agrees size most words committing devices actors s) (ex : slice_get actors a ≡ Some x) (ey : slice_get s.actors a ≡ Some y) where
+-- An abstract actor is one of the run's, or stands behind them.
+pub record AtPlace (orders : List (Option Order)) (actors : List Actor) (b : ℕ) : Type 0 where
+  pub place : ((x : Actor) × (slice_get actors b ≡ Some x)) ⊎ ((c : ℕ) × (order : Option Order) × (slice_get orders c ≡ Some order) × (b ≡ length actors + c))
+
+module _ (size most : ℕ) (words : Words) (committing : Bool) (orders : List (Option Order)) (devices : Devices (List History)) (actors : List Actor) (s : World) (g : Agrees size most words committing orders devices actors s) where
+  pub at_place : (b : ℕ) (y : AbstractActor) → slice_get s.actors b ≡ Some y → AtPlace orders actors b
+  at_place b y e = elim (cases_lt b (length actors)) [
+    | inl l ↦ record { place = inl (there_is actors b l) }
+    | inr l ↦
+        let inside = is_inside s.actors b y e in
+        let many = g.many in
+        let there = there_is orders (b - length actors) (omega (arith, inside, many, l)) in
+        record { place = inr (b - length actors, there.0, there.1, omega (arith, l)) }
+  ]
+
+  -- each of the run's actors is there
+  pub own_there : (a : ℕ) (x : Actor) → slice_get actors a ≡ Some x → (y : AbstractActor) × (slice_get s.actors a ≡ Some y)
+  own_there a x e = there_is s.actors a (let l = is_inside actors a x e in let many = g.many in omega (arith, l, many))
+
+  -- and so is each one behind
+  pub behind_there : (c : ℕ) (order : Option Order) → slice_get orders c ≡ Some order → (y : AbstractActor) × (slice_get s.actors (length actors + c) ≡ Some y)
+  behind_there c order e = there_is s.actors (length actors + c) (let l = is_inside orders c order e in let many = g.many in omega (arith, l, many))
+
+  pub nobody_alone : (b : ℕ) (z : AbstractActor) → slice_get s.actors b ≡ Some z → is_alone z.task ≡ false
+  nobody_alone b z e = elim (at_place b z e).place [
+    | inl x ↦ (g.each b x.0 z x.1 e).among_others
+    | inr c ↦ behind_among size words devices actors c.0 c.1 (s.shared.blocks c.0) (g.who c.0) z (g.behind c.0 c.1 z c.2 (ap (λ (i : ℕ). slice_get s.actors i) (sym c.3) ∙ e))
+  ]
+
+  -- Whoever holds a block beside this one has a card that counts it, and not this actor's, which is at a task past its look at the fail word.
+  module _ (a there : ℕ) (x : Actor) (ex : slice_get actors a ≡ Some x) (inside : ¬ AreOutside x.task) (own : a ≢ there → (y : AbstractActor) → slice_get s.actors a ≡ Some y → y.held ≢ Nothing → ⊥)
+      (carries : (c : ℕ) → length actors + c ≢ there → g.who c ≡ Some a → (migration : Migration) (block : OBlock) (plan : Plan) → x.task ≡ Some (Migrate migration block, plan) → ⊥) where
+    pub below_beside : BelowBeside s.actors (cards_of actors) there a
+    below_beside b y n e held = elim (at_place b y e).place [
+      | inl z ↦ elim (cases_eq b a) [
+        | inl same ↦ absurd (own (λ f. n (same ∙ f)) y (ap (λ (i : ℕ). slice_get s.actors i) (sym same) ∙ e) held)
+        | inr other ↦ (b, z.0.card, other, card_there actors b z.0 z.1, (g.each b z.0 y z.1 e).below)
+      ]
+      | inr c ↦ behind c.0 c.1 (g.who c.0) refl (λ f. n (c.3 ∙ f)) (g.behind c.0 c.1 y c.2 (ap (λ (i : ℕ). slice_get s.actors i) (sym c.3) ∙ e))
+    ]
+      where
+        Found : Type 0
+        Found = (d : ℕ) × (card : Card) × (d ≢ a) × (slice_get (cards_of actors) d ≡ Some card) × IsBelow y card
+
+        kept : (order : Option Order) → HasKept words actors order y → Found
+        kept order k = elim (cases_eq k.keeper a) [
+          | inl same ↦
+              let here : Some k.x ≡ Some x = sym k.at ∙ ap (λ (i : ℕ). slice_get actors i) same ∙ ex in
+              let is : k.x ≡ x = cc in
+              absurd (inside (subst (λ (v : Actor). AreOutside v.task) is k.outside))
+          | inr other ↦ (k.keeper, k.x.card, other, card_there actors k.keeper k.x k.at, k.below)
+        ]
+
+        behind : (c : ℕ) (order : Option Order) (who : Option ℕ) → g.who c ≡ who → length actors + c ≢ there → StandsBehind size words devices actors c order (s.shared.blocks c) who y → Found
+        behind c order None is away st = elim st.holds [ inl none ↦ absurd (held none) | inr k ↦ kept order k ]
+        behind c order (Some d) is away st =
+            let other : d ≢ a = (λ f.
+            let here : Some st.0 ≡ Some x = sym st.1 ∙ ap (λ (i : ℕ). slice_get actors i) f ∙ ex in
+            let same : st.0 ≡ x = cc in
+            carries c away (is ∙ ap (λ (i : ℕ). Some i) f) st.2.migration st.2.block st.2.plan (ap (λ (v : Actor). v.task) (sym same) ∙ st.2.task)) in
+            (d, st.0.card, other, card_there actors d st.0 st.1, carried_below size devices (record { 0 = c }) order (s.shared.blocks c) st.0 y st.2)
+
+-- ---- one goes on
+
+-- That all others stay as they are: this one is at no migration before and after it.
+pub record OthersStay (size : ℕ) (words : Words) (devices devices' : Devices (List History)) (actors : List Actor) (a : ℕ) (x x' : Actor) (blocks blocks' : ℕ → Block) : Type 0 where
+  pub before : IsNoMigration x.task
+  pub still : IsNoMigration x'.task
+  pub outside : StaysOutside words x x'
+  pub carries : CarriesOthers size devices devices' actors a blocks blocks'
+
+module _ (size most : ℕ) (words words' : Words) (up : flag words.fail ≡ true → flag words'.fail ≡ true) (committing : Bool) (orders : List (Option Order)) (devices : Devices (List History)) (actors : List Actor) (a : ℕ) (x x' : Actor) (s : World) (y : AbstractActor)
+    (g : Agrees size most words committing orders devices actors s) (ex : slice_get actors a ≡ Some x) (ey : slice_get s.actors a ≡ Some y) where
   pub each_on : (y' : AbstractActor) → StandsFor size most words' x' y' → (b : ℕ) (z : Actor) (v : AbstractActor) → slice_get (slice_set actors a x') b ≡ Some z → slice_get (slice_set s.actors a y') b ≡ Some v → StandsFor size most words' z v
   each_on y' st b z v ez ev = elim (cases_eq b a) [
     | inl e ↦
@@ -71,6 +141,33 @@ module _ (size most : ℕ) (words words' : Words) (up : flag words.fail ≡ true
         let other : y' ≡ v = cc in
         subst (λ (q : Actor). StandsFor size most words' q v) one (subst (λ (q : AbstractActor). StandsFor size most words' x' q) other st)
     | inr n ↦ stands_on size most words words' up v z (g.each b z v (sym (get_set_other actors a b x' n) ∙ ez) (sym (get_set_other s.actors a b y' n) ∙ ev))
+  ]
+
+  -- nobody behind is another one then
+  pub behind_on : (y' : AbstractActor) (devices' : Devices (List History)) (blocks' : ℕ → Block) → OthersStay size words devices devices' actors a x x' s.shared.blocks blocks' →
+      (c : ℕ) (order : Option Order) (u : AbstractActor) → slice_get orders c ≡ Some order → slice_get (slice_set s.actors a y') (length (slice_set actors a x') + c) ≡ Some u → StandsBehind size words' devices' (slice_set actors a x') c order (blocks' c) (g.who c) u
+  behind_on y' devices' blocks' o c order u eo eu =
+      let l = is_inside actors a x ex in
+      let n : length actors + c ≢ a = (λ f. absurd (omega (arith, l, f))) in
+      let there : slice_get s.actors (length actors + c) ≡ Some u = sym (get_set_other s.actors a (length actors + c) y' n) ∙ ap (λ (k : ℕ). slice_get (slice_set s.actors a y') (k + c)) (sym (length-set actors a x')) ∙ eu in
+      let st = g.behind c order u eo there in
+      behind_kept size words words' up devices devices' actors a x x' ex s.shared.blocks blocks' o.outside o.carries c order u (g.who c) (not_here c order (g.who c) st) st
+    where
+      not_here : (c : ℕ) (order : Option Order) (who : Option ℕ) → StandsBehind size words devices actors c order (s.shared.blocks c) who u → who ≢ Some a
+      not_here c order None st f = absurd (cc)
+      not_here c order (Some b) st f =
+          let same : b ≡ a = cc in
+          let here : Some st.0 ≡ Some x = sym st.1 ∙ ap (λ (i : ℕ). slice_get actors i) same ∙ ex in
+          let is : st.0 ≡ x = cc in
+          no_migration x.task st.2.migration st.2.block st.2.plan o.before (ap (λ (v : Actor). v.task) (sym is) ∙ st.2.task)
+
+  pub uncarried_then : IsNoMigration x'.task → (b : ℕ) (z : Actor) (migration : Migration) (block : OBlock) (plan : Plan) → slice_get (slice_set actors a x') b ≡ Some z → z.task ≡ Some (Migrate migration block, plan) → (IsUncarried words' plan.steps × ((c : ℕ) → g.who c ≢ Some b)) ⊎ ((c : ℕ) × (c < length orders) × (g.who c ≡ Some b))
+  uncarried_then none b z migration block plan ez t = elim (cases_eq b a) [
+    | inl e ↦
+        let here : Some x' ≡ Some z = sym (get_set_same actors a x x' ex) ∙ ap (λ k. slice_get (slice_set actors a x') k) (sym e) ∙ ez in
+        let one : x' ≡ z = cc in
+        absurd (no_migration x'.task migration block plan none (ap (λ (v : Actor). v.task) one ∙ t))
+    | inr n ↦ elim (g.carried b z migration block plan (sym (get_set_other actors a b x' n) ∙ ez) t) [ inl u ↦ inl (uncarried_on words words' up plan.steps u.0, u.1) | inr c ↦ inr c ]
   ]
 
   -- who leads a commit after it is as it was before, if the one that went on leads none unless it is as it was
@@ -88,15 +185,15 @@ module _ (size most : ℕ) (words words' : Words) (up : flag words.fail ≡ true
       t.origin ≡ by_block size zeros devices'.origin → t.cache ≡ by_block size zeros devices'.cache → t.mode ≡ s.shared.mode → t.committing ≡ committing' → (t.broken ≡ true → t.committing ≡ true) →
       ((b : ℕ) (v : AbstractActor) → slice_get (slice_set s.actors a (gone y y.task results)) b ≡ Some v → v.leads ≡ true → t.committing ≡ true) →
       ((b : ℕ) (v : AbstractActor) → slice_get (slice_set s.actors a (gone y y.task results)) b ≡ Some v → v.leads ≡ true → IsUnfinished v.task → t.broken ≡ false) →
-      ((b c : ℕ) (v u : AbstractActor) → slice_get (slice_set s.actors a (gone y y.task results)) b ≡ Some v → slice_get (slice_set s.actors a (gone y y.task results)) c ≡ Some u → v.leads ≡ true → u.leads ≡ true → b ≡ c) → TurnedTo turn s.shared t →
-      FollowsBy turn telling size most a s words' committing' devices' (slice_set actors a x')
-  goes_leading turn telling committing' devices' results t told may is st w o c m k b led whole one turned =
+      ((b c : ℕ) (v u : AbstractActor) → slice_get (slice_set s.actors a (gone y y.task results)) b ≡ Some v → slice_get (slice_set s.actors a (gone y y.task results)) c ≡ Some u → v.leads ≡ true → u.leads ≡ true → b ≡ c) → TurnedTo turn s.shared t → DeskTurnedTo turn s.shared t → OthersStay size words devices devices' actors a x x' s.shared.blocks t.blocks →
+      FollowsBy turn telling size most a s words' committing' orders devices' (slice_set actors a x')
+  goes_leading turn telling committing' devices' results t told may is st w o c m k b led whole one turned desk others =
       let went = goes size results s a y y.task ey refl may in
       record {
         records = records a y.task results;
         run = went.run;
-        agrees = subst (λ (v : World). Agrees size most words' committing' devices' (slice_set actors a x') v) (sym went.is)
-            (subst (λ (v : Shared). Agrees size most words' committing' devices' (slice_set actors a x') (with_own s a v (gone y y.task results))) (sym is) (record {
+        agrees = subst (λ (v : World). Agrees size most words' committing' orders devices' (slice_set actors a x') v) (sym went.is)
+            (subst (λ (v : Shared). Agrees size most words' committing' orders devices' (slice_set actors a x') (with_own s a v (gone y y.task results))) (sym is) (record {
               words_agree = w;
               origin = o;
               cache = c;
@@ -106,10 +203,16 @@ module _ (size most : ℕ) (words words' : Words) (up : flag words.fail ≡ true
               led = led;
               whole = whole;
               one_leads = one;
-              many = length-set s.actors a (gone y y.task results) ∙ g.many ∙ sym (length-set actors a x');
+              many = length-set s.actors a (gone y y.task results) ∙ g.many ∙ ap (λ (n : ℕ). n + length orders) (sym (length-set actors a x'));
               each = each_on (gone y y.task results) st;
+              who = g.who;
+              behind = behind_on (gone y y.task results) devices' t.blocks others;
+              within = g.within;
+              one_each = g.one_each;
+              carried = uncarried_then others.still;
             }));
         turned = subst (λ (v : World). TurnedTo turn s.shared v.shared) (sym went.is) (subst (λ (v : Shared). TurnedTo turn s.shared v) (sym is) turned);
+        desk = subst (λ (v : World). DeskTurnedTo turn s.shared v.shared) (sym went.is) (subst (λ (v : Shared). DeskTurnedTo turn s.shared v) (sym is) desk);
         told = λ z ez. let both : Some y ≡ Some z = sym ey ∙ ez in let same : y ≡ z = cc in subst (λ (v : AbstractActor). IsTold telling a v.task (records a y.task results)) same told;
       }
 
@@ -125,7 +228,7 @@ module _ (size most : ℕ) (words words' : Words) (up : flag words.fail ≡ true
 
   -- no commit begins, ends or is broken by it
   pub goes_on : (telling : Telling) (devices' : Devices (List History)) (results : List Got) (t : Shared) → IsTold telling a y.task (records a y.task results) → MayGo s.actors a s.shared y y.task results → shared_after s.shared y y.task results ≡ t → StandsFor size most words' x' (gone y y.task results) → ((gone y y.task results).leads ≡ true → gone y y.task results ≡ y) → WordsAgree words' t →
-      t.origin ≡ by_block size zeros devices'.origin → t.cache ≡ by_block size zeros devices'.cache → t.mode ≡ s.shared.mode → t.committing ≡ s.shared.committing → t.broken ≡ s.shared.broken → TurnedTo Stays s.shared t →
-      Follows telling size most a s words' committing devices' (slice_set actors a x')
-  goes_on telling devices' results t told may is st keeps w o c m k b turned = goes_leading Stays telling committing devices' results t told may is st w o c m (k ∙ g.commits) (λ e. k ∙ g.broken (sym b ∙ e))
-      (led_on (gone y y.task results) keeps t k) (whole_on (gone y y.task results) keeps t b) (one_on (gone y y.task results) keeps) turned
+      t.origin ≡ by_block size zeros devices'.origin → t.cache ≡ by_block size zeros devices'.cache → t.mode ≡ s.shared.mode → t.committing ≡ s.shared.committing → t.broken ≡ s.shared.broken → TurnedTo Stays s.shared t → DeskTurnedTo Stays s.shared t → OthersStay size words devices devices' actors a x x' s.shared.blocks t.blocks →
+      Follows telling size most a s words' committing orders devices' (slice_set actors a x')
+  goes_on telling devices' results t told may is st keeps w o c m k b turned desk others = goes_leading Stays telling committing devices' results t told may is st w o c m (k ∙ g.commits) (λ e. k ∙ g.broken (sym b ∙ e))
+      (led_on (gone y y.task results) keeps t k) (whole_on (gone y y.task results) keeps t b) (one_on (gone y y.task results) keeps) turned desk others

@@ -1,5 +1,5 @@
 -- An actor that leads a commit goes on, and nobody else leads one.
-use Rattle.std.proofs.Common.{◌≡◌, ◌≢◌, ◌∙◌, inl, inr, ℕ, zero, suc, Bool, true, false, List, [], ◌∷◌, ◌++◌, Some, None, refl, sym, ap, subst, slice_get, slice_set}
+use Rattle.std.proofs.Common.{◌≡◌, ◌≢◌, ◌∙◌, inl, inr, ℕ, zero, suc, Bool, true, false, List, [], ◌∷◌, ◌++◌, Some, None, refl, sym, ap, subst, slice_get, slice_set, Option}
 use Rattle.std.proofs.lemmas.Bool.{cases_eq}
 use Rattle.wb_types.specs.declared.mode.Dev.TheVariants.{Metadata}
 use Rattle.wb_disk.specs.Device.{History}
@@ -8,6 +8,7 @@ use Rattle.wb_words.specs.SharedWords.{Words, flag}
 use Rattle.wb_words.specs.declared.card.Card.{Card}
 use Rattle.wb_words.specs.declared.step.CellStep.TheVariants.{Look}
 use Rattle.wb_words.specs.declared.word.Word.TheVariants.{Fail}
+use Rattle.wb_policy.specs.declared.order.Order.{Order}
 use Rattle.wb_tasks.specs.Tables.{Flushing}
 use Rattle.wb_tasks.specs.Plan.{Plan, want, first_step, node_writes, root_steps}
 use Rattle.wb_tasks.specs.declared.step.Answer.{Answer}
@@ -28,10 +29,10 @@ use Rattle.wb_runs.specs.declared.job.Job.TheVariants.{Flush}
 use Rattle.wb_runs.specs.States.{Actor}
 use Rattle.wb_simulation.specs.Actors.{IsFlushAt, IsOfFlush, LeadsAt, StandsFor}
 use Rattle.wb_simulation.specs.Telling.{Quietly}
-use Rattle.wb_simulation.specs.Worlds.{zeros, Agrees, Turn, TurnedTo, FollowsBy, IsUnfinished}
+use Rattle.wb_simulation.specs.Worlds.{zeros, Agrees, Turn, TurnedTo, DeskTurnedTo, FollowsBy, IsUnfinished}
 use Rattle.wb_simulation.proofs.Telling.{quiet_are_unnoted}
-use Rattle.wb_simulation.proofs.Among.{goes_leading}
-use Rattle.wb_simulation.proofs.Moving.{begins_by}
+use Rattle.wb_simulation.proofs.Among.{OthersStay, goes_leading}
+use Rattle.wb_simulation.proofs.Followed.{begins_by}
 
 -- ---- what is left of a commit
 
@@ -76,13 +77,14 @@ at_flush size most words plan next y e not_end not_look f =
       ])
     ]
 
-module _ (size most : ℕ) (words : Words) (committing : Bool) (devices : Devices (List History)) (actors : List Actor) (a : ℕ) (x : Actor) (s : World) (y : AbstractActor) (ex : slice_get actors a ≡ Some x) (ey : slice_get s.actors a ≡ Some y) (g : Agrees size most words committing devices actors s) where
+module _ (size most : ℕ) (words : Words) (committing : Bool) (orders : List (Option Order)) (devices : Devices (List History)) (actors : List Actor) (a : ℕ) (x : Actor) (s : World) (y : AbstractActor) (ex : slice_get actors a ≡ Some x) (ey : slice_get s.actors a ≡ Some y) (g : Agrees size most words committing orders devices actors s) where
   -- who stands there now
   pub stands : (words' : Words) (plan' : Plan) (card' : Card) (leads' : Bool) (z : AbstractActor) → plan'.job ≡ Flushing [] most → IsOfFlush most plan'.steps → LeadsAt leads' plan'.steps → (leads' ≡ true → plan'.steps ≡ [] → flag words'.fail ≡ true) → IsFlushing size [] plan' leads' z →
-      StandsFor size most words' (record { task = Some (Flush, plan'); card = card' }) z
+      StandsFor size most words' (record x { task = Some (Flush, plan'); card = card' }) z
   stands words' plan' card' leads' z j o l f is = record {
     at = record { job = j; steps = o; at = inl (record { leads = leads'; at = l; failed = f; is = is }) };
     below = holds_nothing z card' (ap (λ (v : AbstractActor). v.held) is.is);
+    order = ap (λ (v : AbstractActor). v.order) is.is;
     among_others = ap (λ (v : AbstractActor). is_alone v.task) is.is ∙ ap (λ k. job_alone (job_for size [] k)) j;
   }
 
@@ -106,11 +108,11 @@ module _ (size most : ℕ) (words : Words) (committing : Bool) (devices : Device
   -- a flush that leads goes on, and its commit stays whole
   pub leads_on : (turn : Turn) (words' : Words) (up : flag words.fail ≡ true → flag words'.fail ≡ true) (devices' : Devices (List History)) (plan plan' : Plan) (card' : Card) (t : Shared) (next : Want) (later : List Want) (answer : Answer) → IsFlushing size [] (flushing most (next ∷ later) answer) true y → wants_of size (FlushingFor None) (next ∷ later) ≢ [] →
       Leads size [] s.actors a s.shared y t plan' true → plan'.job ≡ Flushing [] most → IsOfFlush most plan'.steps → LeadsAt true plan'.steps → (true ≡ true → plan'.steps ≡ [] → flag words'.fail ≡ true) → WordsAgree words' t → t.origin ≡ by_block size zeros devices'.origin → t.cache ≡ by_block size zeros devices'.cache → t.mode ≡ s.shared.mode →
-      t.committing ≡ s.shared.committing → t.broken ≡ s.shared.broken → TurnedTo turn s.shared t → FollowsBy turn Quietly size most a s words' committing devices' (slice_set actors a (record { task = Some (Flush, plan'); card = card' }))
-  leads_on turn words' up devices' plan plan' card' t next later answer is some l j o at f w og ca mo co br turned =
+      t.committing ≡ s.shared.committing → t.broken ≡ s.shared.broken → TurnedTo turn s.shared t → DeskTurnedTo turn s.shared t → OthersStay size words devices devices' actors a x (record x { task = Some (Flush, plan'); card = card' }) s.shared.blocks t.blocks → FollowsBy turn Quietly size most a s words' committing orders devices' (slice_set actors a (record x { task = Some (Flush, plan'); card = card' }))
+  leads_on turn words' up devices' plan plan' card' t next later answer is some l j o at f w og ca mo co br turned desk others =
       let lead : y.leads ≡ true = ap (λ (v : AbstractActor). v.leads) is.is in
       let y' = gone y y.task l.results in
       let runs = g.led a y ey lead in
       let whole : s.shared.broken ≡ false = g.whole a y ey lead (subst (λ (v : AbstractActor). IsUnfinished v.task) (sym is.is) some) in
-      goes_leading size most words words' up committing devices actors a x (record { task = Some (Flush, plan'); card = card' }) s y g ex ey turn Quietly committing devices' l.results t (l.results, quiet_are_unnoted y.task l.results l.quiet, refl) l.may l.shared
-      (stands words' plan' card' true y' j o at f l.at) w og ca mo (co ∙ g.commits) (λ e. co ∙ runs) (λ b v ev k. co ∙ runs) (λ b v ev k u. br ∙ whole) (one_here lead y') turned
+      goes_leading size most words words' up committing orders devices actors a x (record x { task = Some (Flush, plan'); card = card' }) s y g ex ey turn Quietly committing devices' l.results t (l.results, quiet_are_unnoted y.task l.results l.quiet, refl) l.may l.shared
+      (stands words' plan' card' true y' j o at f l.at) w og ca mo (co ∙ g.commits) (λ e. co ∙ runs) (λ b v ev k. co ∙ runs) (λ b v ev k u. br ∙ whole) (one_here lead y') turned desk others

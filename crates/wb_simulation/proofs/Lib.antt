@@ -1,18 +1,28 @@
 mod Steps
 mod Kept
+mod Behind
+mod Beside
 mod Telling
 mod Cells
 mod Among
-mod Followed
-mod Moving
-mod Starting
-mod Ending
+mod Carrying
+pub mod Found
+mod Promoting
+mod Copying
+mod Deciding
+mod Cut
+mod Ordering
+pub mod Promotions
+pub mod Followed
+pub mod Moving
+pub mod Starting
+pub mod Ending
 mod Leading
 mod Flushing
-mod Flushes
-mod Possible
-mod Opening
+pub mod Flushes
+pub mod Possible
+pub mod Opening
 mod Counts
 mod Told
-mod Noted
-mod Opened
+pub mod Noted
+pub mod Opened

@@ -1,12 +1,15 @@
 -- Each step of a read or a write on an extent of a device is followed.
-use Rattle.std.proofs.Common.{arith, zero, suc, Some, ◌<◌, ◌%◌, length, replicate, map, ◌≡◌, ◌≢◌, ◌≤◌, ◌+◌, ◌∙◌, ◌⊎◌, inl, inr, ℕ, Bool, true, false, List, [], ◌∷◌, Option, refl, sym, ap, subst, slice_get, slice_set}
+use Rattle.std.proofs.Common.{arith, zero, suc, Some, ◌<◌, ◌%◌, length, replicate, map, ◌≡◌, ◌≤◌, ◌+◌, ◌∙◌, ◌⊎◌, inl, inr, ℕ, Bool, true, false, List, [], ◌∷◌, Option, refl, sym, ap, subst, slice_get, slice_set}
 use Rattle.wb_types.specs.declared.extent.Extent.{Extent}
 use Rattle.wb_types.specs.declared.mode.Dev.{Dev}
 use Rattle.wb_types.specs.declared.mode.Dev.TheVariants.{Metadata, Cache, Origin}
 use Rattle.wb_disk.specs.Device.{Content, History}
 use Rattle.wb_disk.specs.Extents.{GivesEach, written_each, written_where}
+use Rattle.std.proofs.lemmas.List.{length-replicate}
 use Rattle.wb_words.specs.SharedWords.{Words, word_at}
+use Rattle.wb_words.specs.Rule.{LockRule}
 use Rattle.wb_words.specs.declared.card.Card.{Card}
+use Rattle.wb_policy.specs.declared.order.Order.{Order}
 use Rattle.wb_tasks.specs.Tables.{BlockRange, BlockJob, Reading, Writing, TaskJob, OnBlock, range_of}
 use Rattle.wb_tasks.specs.Plan.{Plan, want, after, first_step}
 use Rattle.wb_tasks.specs.Ready.{Suits, HoldsBlocks}
@@ -14,14 +17,13 @@ use Rattle.wb_tasks.specs.declared.step.Answer.{Answer}
 use Rattle.wb_tasks.specs.declared.step.DeviceStep.{DeviceStep}
 use Rattle.wb_tasks.specs.declared.step.DeviceStep.TheVariants.{Read as ReadExtent, Write as WriteExtent}
 use Rattle.wb_tasks.specs.declared.step.Want.{Want}
-use Rattle.wb_tasks.specs.declared.step.Want.TheVariants.{Cell, Device}
+use Rattle.wb_tasks.specs.declared.step.Want.TheVariants.{Device}
 use Rattle.wb_tasks.specs.declared.step.Got.{Got}
 use Rattle.wb_tasks.specs.declared.step.Got.TheVariants.{Done, Fault}
-use Rattle.wb_types.proofs.Lists.{element_beside}
 use Rattle.wb_devices.specs.declared.devices.Devices.{Devices}
 use Rattle.wb_devices.specs.Moving.{device_in}
 use Rattle.wb_link.specs.Tables.{Seal, Gave, Got as AbstractGot, Done as DoneThere, read_each}
-use Rattle.wb_link.specs.World.{World, Shared, Actor as AbstractActor, is_alone}
+use Rattle.wb_link.specs.World.{World, Shared, Block, Actor as AbstractActor, is_alone}
 use Rattle.wb_refines.specs.Going.{records, shared_after, gone}
 use Rattle.wb_refines.specs.Translation.{location_at, wants_of, job_for, answer_for, offsets}
 use Rattle.wb_refines.specs.Data.{IsSide, SameBeside, Moves, faults, read_fault}
@@ -31,6 +33,7 @@ use Rattle.wb_refines.proofs.Moving.{extent_steps_followed as followed_alone}
 use Rattle.wb_runs.specs.declared.job.Job.{Job}
 use Rattle.wb_runs.specs.declared.job.Job.TheVariants.{Read, Write}
 use Rattle.wb_runs.specs.States.{Actor, with_device}
+use Rattle.wb_runs.specs.Holding.{cards_of, AllSuited}
 use Rattle.wb_types.specs.Extents.{rising}
 use Rattle.wb_simulation.proofs.Telling.{done_are_writes, faults_are_writes}
 use Rattle.wb_simulation.specs.Steps.{IsPart, AreOfBlock}
@@ -38,8 +41,11 @@ use Rattle.wb_simulation.specs.Actors.{IsLate, IsRequestAt, IsDoing}
 use Rattle.wb_simulation.specs.Telling.{Telling, IsTold, Quietly, Reads, Writes, reading as reading_script, AreUnnoted, AreWrites}
 use Rattle.wb_simulation.specs.Worlds.{zeros, Agrees, Follows}
 use Rattle.wb_simulation.specs.Laws.{ExtentStepsFollowed, after_step}
-use Rattle.wb_simulation.proofs.Among.{goes_on}
-use Rattle.wb_simulation.proofs.Followed.{doing_of}
+use Rattle.wb_simulation.proofs.Among.{own_there, goes_on}
+use Rattle.wb_simulation.specs.Behind.{AreOutside}
+use Rattle.wb_simulation.proofs.Behind.{MigratesNot, IsNoMigration, none_of, past, CarriesOthers, carries_same, stays_past}
+use Rattle.wb_simulation.proofs.Beside.{carries_written}
+use Rattle.wb_simulation.proofs.Followed.{doing_of, begins_by}
 
 -- who has a step on a device to take is at its task there
 at_device : (size : ℕ) (content : Content) (words : Words) (job_on : BlockRange → BlockJob) (part : BlockRange) (step : DeviceStep) (ws : List Want) (answer : Answer) (card : Card) (y : AbstractActor) →
@@ -53,10 +59,10 @@ at_device size content words job_on part step ws answer card y (inr (inr l)) = e
 ]
 
 -- the words tell of the world what they told
-words_beside : (words : Words) (to : Option ℕ) (s t : Shared) → SameBeside to s t → WordsAgree words s → WordsAgree words t
+pub words_beside : (words : Words) (to : Option ℕ) (s t : Shared) → SameBeside to s t → WordsAgree words s → WordsAgree words t
 words_beside words to s t b w = record { fail = b.fail ∙ w.fail; seals = λ block. subst (λ (f : ℕ → Seal). SealAgrees (word_at words.seals block) (f block.0)) (sym b.seals) (w.seals block) }
 
-module _ (size most : ℕ) (words : Words) (committing : Bool) (devices : Devices (List History)) (actors : List Actor) (a : ℕ) (x : Actor) (s : World) (y : AbstractActor) (ex : slice_get actors a ≡ Some x) (ey : slice_get s.actors a ≡ Some y) (g : Agrees size most words committing devices actors s) where
+module _ (size most : ℕ) (words : Words) (committing : Bool) (orders : List (Option Order)) (devices : Devices (List History)) (actors : List Actor) (a : ℕ) (x : Actor) (s : World) (y : AbstractActor) (ex : slice_get actors a ≡ Some x) (ey : slice_get s.actors a ≡ Some y) (g : Agrees size most words committing orders devices actors s) where
   -- the device of a location is its list
   side_of : (device : Dev) (e : Extent) → HoldsBlocks device → IsSide size zeros (location_at size device e) (device_in device devices) s.shared
   side_of Cache e h = g.cache
@@ -66,34 +72,30 @@ module _ (size most : ℕ) (words : Words) (committing : Bool) (devices : Device
   -- an actor of a request has moved an extent, and its device is this list now
   moved : (telling : Telling) (job : Job) (content : Content) (job_on : BlockRange → BlockJob) (plan : Plan) (device : Dev) (e : Extent) (results : List AbstractGot) (list : List History) → IsTold telling a y.task (records a y.task results) → HoldsBlocks device →
       Moves size zeros content s.actors a s.shared y (location_at size device e) results list plan x.card → is_alone (gone y y.task results).task ≡ false → IsDoing size most words job plan x.card (gone y y.task results) →
-      Follows telling size most a s words committing (with_device device devices list) (slice_set actors a (record { task = Some (job, plan); card = x.card }))
-  moved telling job content job_on plan Metadata e results list told h m alone doing = absurd h
-  moved telling job content job_on plan Cache e results list told h m alone doing =
+      IsNoMigration x.task → MigratesNot job → ¬ AreOutside x.task → CarriesOthers size devices (with_device device devices list) actors a s.shared.blocks s.shared.blocks →
+      Follows telling size most a s words committing orders (with_device device devices list) (slice_set actors a (record x { task = Some (job, plan) }))
+  moved telling job content job_on plan Metadata e results list told h m alone doing before still past carries = absurd h
+  moved telling job content job_on plan Cache e results list told h m alone doing before still past carries =
       let t = shared_after s.shared y y.task results in let k = m.beside.images in
-      goes_on size most words words (λ f. f) committing devices actors a x (record { task = Some (job, plan); card = x.card }) s y g ex ey telling (with_device Cache devices list) results t told m.may refl
-      (record { at = doing; below = has_no_more size content plan x.card (gone y y.task results) m.at; among_others = alone }) (λ l. let bad : true ≡ false = sym l ∙ ap (λ (v : AbstractActor). v.leads) m.at.is in absurd (cc)) (words_beside words (location_at size Cache e) s.shared t m.beside g.words_agree)
-      (m.beside.other ∙ g.origin) m.side_is k.mode k.committing k.broken (k.committed, k.running, k.root_written)
-  moved telling job content job_on plan Origin e results list told h m alone doing =
+      goes_on size most words words (λ f. f) committing orders devices actors a x (record x { task = Some (job, plan) }) s y g ex ey telling (with_device Cache devices list) results t told m.may refl
+      (record { at = doing; below = has_no_more size content plan x.card (gone y y.task results) m.at; order = ap (λ (v : AbstractActor). v.order) m.at.is; among_others = alone }) (λ l. let bad : true ≡ false = sym l ∙ ap (λ (v : AbstractActor). v.leads) m.at.is in absurd (cc)) (words_beside words (location_at size Cache e) s.shared t m.beside g.words_agree)
+      (m.beside.other ∙ g.origin) m.side_is k.mode k.committing k.broken (k.committed, k.running, k.root_written) (k.mapping, k.blocks)
+      (record { before = before; still = still; outside = stays_past words x (record x { task = Some (job, plan) }) past; carries = subst (λ (f : ℕ → Block). CarriesOthers size devices (with_device Cache devices list) actors a s.shared.blocks f) (sym k.blocks) carries })
+  moved telling job content job_on plan Origin e results list told h m alone doing before still past carries =
       let t = shared_after s.shared y y.task results in let k = m.beside.images in
-      goes_on size most words words (λ f. f) committing devices actors a x (record { task = Some (job, plan); card = x.card }) s y g ex ey telling (with_device Origin devices list) results t told m.may refl
-      (record { at = doing; below = has_no_more size content plan x.card (gone y y.task results) m.at; among_others = alone }) (λ l. let bad : true ≡ false = sym l ∙ ap (λ (v : AbstractActor). v.leads) m.at.is in absurd (cc)) (words_beside words (location_at size Origin e) s.shared t m.beside g.words_agree)
-      m.side_is (m.beside.other ∙ g.cache) k.mode k.committing k.broken (k.committed, k.running, k.root_written)
+      goes_on size most words words (λ f. f) committing orders devices actors a x (record x { task = Some (job, plan) }) s y g ex ey telling (with_device Origin devices list) results t told m.may refl
+      (record { at = doing; below = has_no_more size content plan x.card (gone y y.task results) m.at; order = ap (λ (v : AbstractActor). v.order) m.at.is; among_others = alone }) (λ l. let bad : true ≡ false = sym l ∙ ap (λ (v : AbstractActor). v.leads) m.at.is in absurd (cc)) (words_beside words (location_at size Origin e) s.shared t m.beside g.words_agree)
+      m.side_is (m.beside.other ∙ g.cache) k.mode k.committing k.broken (k.committed, k.running, k.root_written) (k.mapping, k.blocks)
+      (record { before = before; still = still; outside = stays_past words x (record x { task = Some (job, plan) }) past; carries = subst (λ (f : ℕ → Block). CarriesOthers size devices (with_device Origin devices list) actors a s.shared.blocks f) (sym k.blocks) carries })
 
-same_device : (device : Dev) (devices : Devices (List History)) → HoldsBlocks device → with_device device devices (device_in device devices) ≡ devices
+pub same_device : (device : Dev) (devices : Devices (List History)) → HoldsBlocks device → with_device device devices (device_in device devices) ≡ devices
 same_device Cache devices h = refl
 same_device Origin devices h = refl
 same_device Metadata devices h = absurd h
 
--- the step is the first of what is left
-pub begins_by : (plan : Plan) (next : Want) → want plan ≡ next → ((answer : Answer) → next ≢ Rattle.wb_tasks.specs.declared.step.Want.TheVariants.End answer) → (ws : List Want) × (plan.steps ≡ next ∷ ws)
-begins_by plan next e n = by_steps plan.steps refl
-  where
-    by_steps : (steps : List Want) → plan.steps ≡ steps → (ws : List Want) × (plan.steps ≡ next ∷ ws)
-    by_steps [] k = absurd (n plan.answer (sym (sym (ap (λ (us : List Want). first_step us plan.answer) k) ∙ e)))
-    by_steps (v ∷ ws) k = (ws, k ∙ ap (λ (u : Want). u ∷ ws) (sym (ap (λ (us : List Want). first_step us plan.answer) k) ∙ e))
-
-module _ (size most blocks : ℕ) (words : Words) (committing : Bool) (devices : Devices (List History)) (actors : List Actor) (a : ℕ) (x : Actor) (s : World) (y : AbstractActor) (ex : slice_get actors a ≡ Some x) (ey : slice_get s.actors a ≡ Some y) (g : Agrees size most words committing devices actors s)
-    (part : BlockRange) (is_part : IsPart size part) (device : Dev) (e : Extent) (ws : List Want) (answer : Answer) (h : HoldsBlocks device) where
+module _ (size most blocks : ℕ) (words : Words) (committing : Bool) (orders : List (Option Order)) (devices : Devices (List History)) (actors : List Actor) (a : ℕ) (x : Actor) (s : World) (y : AbstractActor) (ex : slice_get actors a ≡ Some x) (ey : slice_get s.actors a ≡ Some y) (g : Agrees size most words committing orders devices actors s)
+    (part : BlockRange) (is_part : IsPart size part) (device : Dev) (e : Extent) (ws : List Want) (answer : Answer) (h : HoldsBlocks device)
+    (before : IsNoMigration x.task) (past : ¬ AreOutside x.task) where
   abbrev reading : Plan
   reading = plan_of (Reading part) (Device (ReadExtent device e) ∷ ws) answer
 
@@ -101,10 +103,18 @@ module _ (size most blocks : ℕ) (words : Words) (committing : Bool) (devices :
   writing = plan_of (Writing part) (Device (WriteExtent device e) ∷ ws) answer
 
   abbrev Then : Telling → Devices (List History) → Job → Plan → Got → Type 0
-  Then telling devices' job plan got = Follows telling size most a s words committing devices' (slice_set actors a (after_step job plan got x))
+  Then telling devices' job plan got = Follows telling size most a s words committing orders devices' (slice_set actors a (after_step job plan got x))
 
   abbrev list : List History
   list = device_in device devices
+
+  unmoved : CarriesOthers size devices (with_device device devices list) actors a s.shared.blocks s.shared.blocks
+  unmoved = subst (λ (ds : Devices (List History)). CarriesOthers size devices ds actors a s.shared.blocks s.shared.blocks) (sym (same_device device devices h)) (carries_same size devices actors a s.shared.blocks s.shared.blocks refl)
+
+  -- its block is its own, whichever sectors land
+  moves_own : LockRule blocks words (cards_of actors) → AllSuited blocks actors → Suits blocks writing x.card → AreOfBlock size part.block.0 (Device (WriteExtent device e) ∷ ws) → (lands : ℕ → Bool) (content : Content) →
+      CarriesOthers size devices (with_device device devices (written_where lands list e.first (replicate e.count content))) actors a s.shared.blocks s.shared.blocks
+  moves_own rule suited suits o lands content = carries_written size blocks words devices actors a x part.block device e lands (replicate e.count content) s.shared.blocks rule suited ex suits.0 suits.1.0 o.0 (length-replicate e.count content) h
 
   -- what it is told as: its next steps are these sectors
   read_told : (contents : List Content) → length contents ≡ e.count → IsAt size [] reading x.card y → IsTold (Reads part.block.0 (e.first % size) contents) a y.task (records a y.task (map Gave contents))
@@ -138,31 +148,31 @@ module _ (size most blocks : ℕ) (words : Words) (committing : Bool) (devices :
 
   read_done : (extent : Extent) (contents : List Content) → AreOfBlock size part.block.0 (Device (ReadExtent device e) ∷ ws) → Suits blocks reading x.card → length contents ≡ e.count → GivesEach list e.first contents → IsAt size [] reading x.card y → Then (Reads part.block.0 (e.first % size) contents) devices (Read extent) reading Done
   read_done extent contents o suits n given is =
-      let m = followed_alone.read_done size zeros [] s.actors a x.card s.shared y part device e ws answer list contents o.0 (suits.1.1.0, suits.1.1.1.1) (side_of size most words committing devices actors a x s y ex ey g device e h) n given is in
+      let m = followed_alone.read_done size zeros [] s.actors a x.card s.shared y part device e ws answer list contents o.0 (suits.1.1.0, suits.1.1.1.1) (side_of size most words committing orders devices actors a x s y ex ey g device e h) n given is in
       subst (λ (ds : Devices (List History)). Then (Reads part.block.0 (e.first % size) contents) ds (Read extent) reading Done) (same_device device devices h)
-      (moved size most words committing devices actors a x s y ex ey g (Reads part.block.0 (e.first % size) contents) (Read extent) [] Reading (after reading Done) device e (map Gave contents) list (read_told contents n is) h m (ap (λ (v : AbstractActor). is_alone v.task) m.at.is)
-      (record { part = part; job = refl; is_part = is_part; of_block = o.1; at = inl m.at }))
+      (moved size most words committing orders devices actors a x s y ex ey g (Reads part.block.0 (e.first % size) contents) (Read extent) [] Reading (after reading Done) device e (map Gave contents) list (read_told contents n is) h m (ap (λ (v : AbstractActor). is_alone v.task) m.at.is)
+      (record { part = part; job = refl; is_part = is_part; of_block = o.1; at = inl m.at }) before tt past unmoved)
 
   read_fails : (extent : Extent) → AreOfBlock size part.block.0 (Device (ReadExtent device e) ∷ ws) → IsAt size [] reading x.card y → Then Quietly devices (Read extent) reading Fault
   read_fails extent o is =
-      let m = followed_alone.read_fails size zeros [] s.actors a x.card s.shared y part device e ws answer list o.0 (side_of size most words committing devices actors a x s y ex ey g device e h) is in
+      let m = followed_alone.read_fails size zeros [] s.actors a x.card s.shared y part device e ws answer list o.0 (side_of size most words committing orders devices actors a x s y ex ey g device e h) is in
       subst (λ (ds : Devices (List History)). Then Quietly ds (Read extent) reading Fault) (same_device device devices h)
-      (moved size most words committing devices actors a x s y ex ey g Quietly (Read extent) [] Reading (after reading Fault) device e read_fault list (fails_told o is) h m (ap (λ (v : AbstractActor). is_alone v.task) m.at.is)
-      (record { part = part; job = refl; is_part = is_part; of_block = tt; at = inl m.at }))
+      (moved size most words committing orders devices actors a x s y ex ey g Quietly (Read extent) [] Reading (after reading Fault) device e read_fault list (fails_told o is) h m (ap (λ (v : AbstractActor). is_alone v.task) m.at.is)
+      (record { part = part; job = refl; is_part = is_part; of_block = tt; at = inl m.at }) before tt past unmoved)
 
-  write_done : (extent : Extent) (content : Content) → AreOfBlock size part.block.0 (Device (WriteExtent device e) ∷ ws) → Suits blocks writing x.card → e.first + e.count ≤ length list → IsAt size content writing x.card y →
+  write_done : (extent : Extent) (content : Content) → LockRule blocks words (cards_of actors) → AllSuited blocks actors → AreOfBlock size part.block.0 (Device (WriteExtent device e) ∷ ws) → Suits blocks writing x.card → e.first + e.count ≤ length list → IsAt size content writing x.card y →
       Then (Writes part.block.0 (e.first % size) e.count content) (with_device device devices (written_each list e.first (replicate e.count content))) (Write extent content) writing Done
-  write_done extent content o suits room is =
-      let m = followed_alone.write_done size zeros content s.actors a x.card s.shared y part device e ws answer list o.0 (suits.1.1.0, suits.1.1.1.1) (side_of size most words committing devices actors a x s y ex ey g device e h) room is in
-      moved size most words committing devices actors a x s y ex ey g (Writes part.block.0 (e.first % size) e.count content) (Write extent content) content Writing (after writing Done) device e (replicate e.count DoneThere) (written_each list e.first (replicate e.count content)) (write_told content (replicate e.count DoneThere) (done_are_writes e.count) is) h m (ap (λ (v : AbstractActor). is_alone v.task) m.at.is)
-      (record { part = part; job = refl; is_part = is_part; of_block = o.1; at = inl m.at })
+  write_done extent content rule suited o suits room is =
+      let m = followed_alone.write_done size zeros content s.actors a x.card s.shared y part device e ws answer list o.0 (suits.1.1.0, suits.1.1.1.1) (side_of size most words committing orders devices actors a x s y ex ey g device e h) room is in
+      moved size most words committing orders devices actors a x s y ex ey g (Writes part.block.0 (e.first % size) e.count content) (Write extent content) content Writing (after writing Done) device e (replicate e.count DoneThere) (written_each list e.first (replicate e.count content)) (write_told content (replicate e.count DoneThere) (done_are_writes e.count) is) h m (ap (λ (v : AbstractActor). is_alone v.task) m.at.is)
+      (record { part = part; job = refl; is_part = is_part; of_block = o.1; at = inl m.at }) before tt past (moves_own rule suited suits o (λ at. true) content)
 
-  write_fails : (extent : Extent) (content : Content) (lands : ℕ → Bool) → AreOfBlock size part.block.0 (Device (WriteExtent device e) ∷ ws) → e.first + e.count ≤ length list → IsAt size content writing x.card y →
+  write_fails : (extent : Extent) (content : Content) (lands : ℕ → Bool) → LockRule blocks words (cards_of actors) → AllSuited blocks actors → AreOfBlock size part.block.0 (Device (WriteExtent device e) ∷ ws) → Suits blocks writing x.card → e.first + e.count ≤ length list → IsAt size content writing x.card y →
       Then (Writes part.block.0 (e.first % size) e.count content) (with_device device devices (written_where lands list e.first (replicate e.count content))) (Write extent content) writing Fault
-  write_fails extent content lands o room is =
-      let m = followed_alone.write_fails size zeros content s.actors a x.card s.shared y part device e ws answer list lands o.0 (side_of size most words committing devices actors a x s y ex ey g device e h) room is in
-      moved size most words committing devices actors a x s y ex ey g (Writes part.block.0 (e.first % size) e.count content) (Write extent content) content Writing (after writing Fault) device e (faults lands e.first e.count) (written_where lands list e.first (replicate e.count content)) (write_told content (faults lands e.first e.count) (faults_are_writes lands e.first e.count) is) h m (ap (λ (v : AbstractActor). is_alone v.task) m.at.is)
-      (record { part = part; job = refl; is_part = is_part; of_block = tt; at = inl m.at })
+  write_fails extent content lands rule suited o suits room is =
+      let m = followed_alone.write_fails size zeros content s.actors a x.card s.shared y part device e ws answer list lands o.0 (side_of size most words committing orders devices actors a x s y ex ey g device e h) room is in
+      moved size most words committing orders devices actors a x s y ex ey g (Writes part.block.0 (e.first % size) e.count content) (Write extent content) content Writing (after writing Fault) device e (faults lands e.first e.count) (written_where lands list e.first (replicate e.count content)) (write_told content (faults lands e.first e.count) (faults_are_writes lands e.first e.count) is) h m (ap (λ (v : AbstractActor). is_alone v.task) m.at.is)
+      (record { part = part; job = refl; is_part = is_part; of_block = tt; at = inl m.at }) before tt past (moves_own rule suited suits o lands content)
 
 -- a request of this part whose next step is on a device, as it is there
 pub record HasStep (size : ℕ) (content : Content) (words : Words) (job_on : BlockRange → BlockJob) (part : BlockRange) (step : DeviceStep) (plan : Plan) (card : Card) (y : AbstractActor) : Type 0 where
@@ -200,24 +210,24 @@ has_step size content words job_on range part step plan card y next of_part r = 
 
 pub extent_steps_followed : ExtentStepsFollowed
 extent_steps_followed = record {
-  read_done = λ size most blocks words committing devices actors a x extent part plan device e contents s ex task of_part suits next h n given g.
-      let y = element_beside actors s.actors a x g.many ex in
+  read_done = λ size most blocks words committing orders devices actors a x extent part plan device e contents s ex task of_part suits next h n given g.
+      let y = own_there size most words committing orders devices actors s g a x ex in
       let k = has_step size [] words Reading (λ p. refl) part (ReadExtent device e) plan x.card y.0 next of_part (doing_of size most words x y.0 (Read extent) plan (g.each a x y.0 ex y.1) task) in
-      subst (λ (p : Plan). Follows (Reads part.block.0 (e.first % size) contents) size most a s words committing devices (slice_set actors a (after_step (Read extent) p Done x))) (sym k.is)
-      (read_done size most blocks words committing devices actors a x s y.0 ex y.1 g part k.is_part device e k.later plan.answer h extent contents k.of_block (subst (λ (p : Plan). Suits blocks p x.card) k.is suits) n given k.at);
-  read_fails = λ size most blocks words committing devices actors a x extent part plan device e s ex task of_part suits next h g.
-      let y = element_beside actors s.actors a x g.many ex in
+      subst (λ (p : Plan). Follows (Reads part.block.0 (e.first % size) contents) size most a s words committing orders devices (slice_set actors a (after_step (Read extent) p Done x))) (sym k.is)
+      (read_done size most blocks words committing orders devices actors a x s y.0 ex y.1 g part k.is_part device e k.later plan.answer h (none_of x (Read extent) plan tt task) (past x (Read extent) plan (Device (ReadExtent device e)) k.later task (ap (λ (p : Plan). p.steps) k.is) (λ o. o)) extent contents k.of_block (subst (λ (p : Plan). Suits blocks p x.card) k.is suits) n given k.at);
+  read_fails = λ size most blocks words committing orders devices actors a x extent part plan device e s ex task of_part suits next h g.
+      let y = own_there size most words committing orders devices actors s g a x ex in
       let k = has_step size [] words Reading (λ p. refl) part (ReadExtent device e) plan x.card y.0 next of_part (doing_of size most words x y.0 (Read extent) plan (g.each a x y.0 ex y.1) task) in
-      subst (λ (p : Plan). Follows Quietly size most a s words committing devices (slice_set actors a (after_step (Read extent) p Fault x))) (sym k.is)
-      (read_fails size most blocks words committing devices actors a x s y.0 ex y.1 g part k.is_part device e k.later plan.answer h extent k.of_block k.at);
-  write_done = λ size most blocks words committing devices actors a x extent content part plan device e s ex task of_part suits next h room g.
-      let y = element_beside actors s.actors a x g.many ex in
+      subst (λ (p : Plan). Follows Quietly size most a s words committing orders devices (slice_set actors a (after_step (Read extent) p Fault x))) (sym k.is)
+      (read_fails size most blocks words committing orders devices actors a x s y.0 ex y.1 g part k.is_part device e k.later plan.answer h (none_of x (Read extent) plan tt task) (past x (Read extent) plan (Device (ReadExtent device e)) k.later task (ap (λ (p : Plan). p.steps) k.is) (λ o. o)) extent k.of_block k.at);
+  write_done = λ size most blocks words committing orders devices actors a x extent content part plan device e s rule suited ex task of_part suits next h room g.
+      let y = own_there size most words committing orders devices actors s g a x ex in
       let k = has_step size content words Writing (λ p. refl) part (WriteExtent device e) plan x.card y.0 next of_part (doing_of size most words x y.0 (Write extent content) plan (g.each a x y.0 ex y.1) task) in
-      subst (λ (p : Plan). Follows (Writes part.block.0 (e.first % size) e.count content) size most a s words committing (with_device device devices (written_each (device_in device devices) e.first (replicate e.count content))) (slice_set actors a (after_step (Write extent content) p Done x))) (sym k.is)
-      (write_done size most blocks words committing devices actors a x s y.0 ex y.1 g part k.is_part device e k.later plan.answer h extent content k.of_block (subst (λ (p : Plan). Suits blocks p x.card) k.is suits) room k.at);
-  write_fails = λ size most blocks words committing devices actors a x extent content part plan device e lands s ex task of_part suits next h room g.
-      let y = element_beside actors s.actors a x g.many ex in
+      subst (λ (p : Plan). Follows (Writes part.block.0 (e.first % size) e.count content) size most a s words committing orders (with_device device devices (written_each (device_in device devices) e.first (replicate e.count content))) (slice_set actors a (after_step (Write extent content) p Done x))) (sym k.is)
+      (write_done size most blocks words committing orders devices actors a x s y.0 ex y.1 g part k.is_part device e k.later plan.answer h (none_of x (Write extent content) plan tt task) (past x (Write extent content) plan (Device (WriteExtent device e)) k.later task (ap (λ (p : Plan). p.steps) k.is) (λ o. o)) extent content rule suited k.of_block (subst (λ (p : Plan). Suits blocks p x.card) k.is suits) room k.at);
+  write_fails = λ size most blocks words committing orders devices actors a x extent content part plan device e lands s rule suited ex task of_part suits next h room g.
+      let y = own_there size most words committing orders devices actors s g a x ex in
       let k = has_step size content words Writing (λ p. refl) part (WriteExtent device e) plan x.card y.0 next of_part (doing_of size most words x y.0 (Write extent content) plan (g.each a x y.0 ex y.1) task) in
-      subst (λ (p : Plan). Follows (Writes part.block.0 (e.first % size) e.count content) size most a s words committing (with_device device devices (written_where lands (device_in device devices) e.first (replicate e.count content))) (slice_set actors a (after_step (Write extent content) p Fault x))) (sym k.is)
-      (write_fails size most blocks words committing devices actors a x s y.0 ex y.1 g part k.is_part device e k.later plan.answer h extent content lands k.of_block room k.at);
+      subst (λ (p : Plan). Follows (Writes part.block.0 (e.first % size) e.count content) size most a s words committing orders (with_device device devices (written_where lands (device_in device devices) e.first (replicate e.count content))) (slice_set actors a (after_step (Write extent content) p Fault x))) (sym k.is)
+      (write_fails size most blocks words committing orders devices actors a x s y.0 ex y.1 g part k.is_part device e k.later plan.answer h (none_of x (Write extent content) plan tt task) (past x (Write extent content) plan (Device (WriteExtent device e)) k.later task (ap (λ (p : Plan). p.steps) k.is) (λ o. o)) extent content lands rule suited k.of_block (subst (λ (p : Plan). Suits blocks p x.card) k.is suits) room k.at);
 }

@@ -1,6 +1,6 @@
 -- The two clerks' notes stay alike.
-use Rattle.std.proofs.Common.{◌≡◌, ◌≢◌, ◌≤◌, ◌+◌, ◌*◌, ◌∙◌, inl, inr, ℕ, zero, suc, Bool, true, false, cond, nat_lt, unwrap_or, List, [], ◌∷◌, Option, Some, None, length, map, max, refl, sym, ap, subst, slice_get, slice_set}
-use Rattle.std.proofs.lemmas.List.{length-map}
+use Rattle.std.proofs.Common.{◌≡◌, ◌≢◌, ◌<◌, ◌≤◌, ◌+◌, ◌*◌, ◌∙◌, inl, inr, ℕ, zero, suc, Bool, true, false, cond, nat_lt, unwrap_or, List, [], ◌∷◌, Option, Some, None, length, map, max, refl, sym, ap, subst, arith, slice_get, slice_set}
+use Rattle.std.proofs.lemmas.List.{length-map, length-set}
 use Rattle.std.proofs.lemmas.Bool.{cases_eq}
 use Rattle.wb_types.specs.Extents.{rising}
 use Rattle.wb_types.specs.declared.refusal.Refusal.{Refusal}
@@ -9,9 +9,9 @@ use Rattle.wb_disk.specs.Device.{Content, History, only}
 use Rattle.wb_contents.specs.Volume.{changed}
 use Rattle.wb_contents.specs.Devices.{by_block}
 use Rattle.wb_contents.proofs.Positions.{changed_same, changed_other}
-use Rattle.wb_link.specs.Tables.{Script, Job as AbstractJob, Reading, Writing, Writing_through, Flushing, Suspending, Want, Write_at, End, Got, Gave, Fault, Done, Answer as AbstractAnswer, Finished as AnsweredDone, want, after, table, read_each, write_each}
-use Rattle.wb_link.specs.World.{World, Shared, Record, Start, Actor as AbstractActor, resting, after_all, actor_after, task_after, start_actor, reserved, given, effect}
-use Rattle.wb_link.specs.Clerk.{Notes as AbstractNotes, Entry, histories_after, entered_after, finished_after, floors_after, note, noted_step, opened, raised as raised_there}
+use Rattle.wb_link.specs.Tables.{Script, Job as AbstractJob, Reading, Writing, Writing_through, Promoting, Demoting, Cleaning, Flushing, Suspending, Want, Write_at, End, Got, Gave, Fault, Done, Answer as AbstractAnswer, Finished as AnsweredDone, want, after, table, read_each, write_each}
+use Rattle.wb_link.specs.World.{World, Shared, Record, Start, Again, Step, Actor as AbstractActor, resting, after_all, after_record, actor_after, task_after, start_actor, again_actor, step_actor, step_task, reserved, given, effect}
+use Rattle.wb_link.specs.Clerk.{Notes as AbstractNotes, Entry, histories_after, entered_after, finished_after, floors_after, job_noted, note, noted_step, opened, raised as raised_there}
 use Rattle.wb_link.specs.Openings.{On, AllRight}
 use Rattle.wb_link.proofs.Lists.{get_set_same, get_set_other, replicated}
 use Rattle.wb_link.proofs.Steps.{in_set}
@@ -19,9 +19,10 @@ use Rattle.wb_refines.specs.Going.{records, shared_after, gone}
 use Rattle.wb_refines.proofs.Going.{with_own, set_twice, set_same, step_own}
 use Rattle.wb_runs.specs.declared.job.Job.{Job}
 use Rattle.wb_runs.specs.Clerk.{Notes, Doing, Position, Entering, begins, begun, put, nobody, entering, enter, enter_each, write_note, all_raised, greater_of}
-use Rattle.wb_simulation.specs.Noting.{counts_by_block, AreEntries, DoesAlike, IsNotedSo, NotesAgree}
+use Rattle.wb_simulation.specs.Noting.{counts_by_block, AreEntries, DoesAlike, IsNotedSo, IsOfNoAccount, NotesAgree}
 use Rattle.wb_simulation.specs.Noted.{told, AreNewest, NotesFollowed}
-use Rattle.wb_simulation.specs.Telling.{AreUnnoted, AreWrites, AnswersSo, reading, writing}
+use Rattle.wb_simulation.proofs.Behind.{is_inside}
+use Rattle.wb_simulation.specs.Telling.{IsMigrating, IsFromBehind, AreFromBehind, AreUnnoted, AreWrites, AnswersSo, reading, writing}
 use Rattle.wb_simulation.specs.Worlds.{zeros}
 use Rattle.wb_simulation.proofs.Counts.{everywhere, all_raised-length, no_entries_alike, greater_counts, greater-length}
 use Rattle.wb_simulation.proofs.Telling.{reads_unnoted}
@@ -139,20 +140,21 @@ pub record IsOver (job : AbstractJob) (task : Option Script) : Type 0 where
   pub is : script.job ≡ job
 
 -- Who has done something is another one now, and of others nothing has changed.
-module _ (size a : ℕ) (s : World) (y : AbstractActor) (n : Notes) (m : AbstractNotes) (ey : slice_get s.actors a ≡ Some y) (g : NotesAgree size n s m) where
+module _ (size a : ℕ) (s : World) (y : AbstractActor) (n : Notes) (m : AbstractNotes) (ey : slice_get s.actors a ≡ Some y) (among : a < length n.doings) (g : NotesAgree size n s m) where
   agree_after : (n' : Notes) (m' : AbstractNotes) (t : Shared) (y' : AbstractActor) → m'.histories ≡ by_block size zeros n'.histories → m'.finished ≡ counts_by_block size n'.finished → m'.floors ≡ counts_by_block size n'.floors →
       length n'.histories ≡ length n.histories → length n'.finished ≡ length n.finished → length n'.floors ≡ length n.floors →
-      ((b : ℕ) → b ≢ a → slice_get n'.doings b ≡ slice_get n.doings b) → ((b : ℕ) → b ≢ a → m'.jobs b ≡ m.jobs b) → ((b : ℕ) → b ≢ a → m'.entered b ≡ m.entered b) → ((b : ℕ) → b ≢ a → m'.asked b ≡ m.asked b) →
+      ((b : ℕ) → b ≢ a → slice_get n'.doings b ≡ slice_get n.doings b) → length n'.doings ≡ length n.doings → ((b : ℕ) → b ≢ a → m'.jobs b ≡ m.jobs b) → ((b : ℕ) → b ≢ a → m'.entered b ≡ m.entered b) → ((b : ℕ) → b ≢ a → m'.asked b ≡ m.asked b) →
       IsNotedSo size (length n.histories) y'.task (slice_get n'.doings a) a m' → NotesAgree size n' (with_own s a t y') m'
-  agree_after n' m' t y' h f l long finished_long floors_long doings jobs entered asked here = record {
+  agree_after n' m' t y' h f l long finished_long floors_long doings many jobs entered asked here = record {
     histories = h;
     finished = f;
     floors = l;
     as_many = finished_long ∙ g.as_many ∙ sym long;
     floors_as_many = floors_long ∙ g.floors_as_many ∙ sym long;
-    each = in_set s.actors a y y' ey (λ b z. IsNotedSo size (length n'.histories) z.task (slice_get n'.doings b) b m') (subst (λ (k : ℕ). IsNotedSo size k y'.task (slice_get n'.doings a) a m') (sym long) here)
-        (λ b z ne e. subst (λ (k : ℕ). IsNotedSo size k z.task (slice_get n'.doings b) b m') (sym long) (subst (λ (o : Option (Option Doing)). IsNotedSo size (length n.histories) z.task o b m') (sym (doings b ne))
-        (noted_beside size (length n.histories) z.task (slice_get n.doings b) b m m' (jobs b ne) (entered b ne) (asked b ne) (g.each b z e))));
+    each = λ b z l e. in_set s.actors a y y' ey (λ b z. b < length n'.doings → IsNotedSo size (length n'.histories) z.task (slice_get n'.doings b) b m') (λ k. subst (λ (k : ℕ). IsNotedSo size k y'.task (slice_get n'.doings a) a m') (sym long) here)
+        (λ b z ne e k. subst (λ (k : ℕ). IsNotedSo size k z.task (slice_get n'.doings b) b m') (sym long) (subst (λ (o : Option (Option Doing)). IsNotedSo size (length n.histories) z.task o b m') (sym (doings b ne))
+        (noted_beside size (length n.histories) z.task (slice_get n.doings b) b m m' (jobs b ne) (entered b ne) (asked b ne) (g.each b z (omega (arith, k, many)) e)))) b z e l;
+    behind = λ b l. subst (λ (j : Option AbstractJob). IsOfNoAccount j) (sym (jobs b (λ e. absurd (omega (arith, among, l, many, e))))) (g.behind b (omega (arith, l, many)));
   }
 
   -- by these steps
@@ -164,9 +166,9 @@ module _ (size a : ℕ) (s : World) (y : AbstractActor) (n : Notes) (m : Abstrac
 
   unnoted_after : (gots : List Got) → AreUnnoted y.task gots → After gots n
   unnoted_after gots u = to_world gots n (subst (λ (k : AbstractNotes). NotesAgree size n (with_own s a (shared_after s.shared y y.task gots) (gone y y.task gots)) k)
-      (sym (untold gots y.task m a (is_job size (length n.histories) y.task (slice_get n.doings a) a m (g.each a y ey)) u))
-      (agree_after n m (shared_after s.shared y y.task gots) (gone y y.task gots) g.histories g.finished g.floors refl refl refl (λ b e. refl) (λ b e. refl) (λ b e. refl) (λ b e. refl)
-      (noted_job size (length n.histories) y.task (gone y y.task gots).task (slice_get n.doings a) a m (gone_job gots y y.task refl (unnoted_going y.task gots u)) (g.each a y ey))))
+      (sym (untold gots y.task m a (is_job size (length n.histories) y.task (slice_get n.doings a) a m (g.each a y among ey)) u))
+      (agree_after n m (shared_after s.shared y y.task gots) (gone y y.task gots) g.histories g.finished g.floors refl refl refl (λ b e. refl) refl (λ b e. refl) (λ b e. refl) (λ b e. refl)
+      (noted_job size (length n.histories) y.task (gone y y.task gots).task (slice_get n.doings a) a m (gone_job gots y y.task refl (unnoted_going y.task gots u)) (g.each a y among ey))))
 
   put_others : (o : Option Doing) (b : ℕ) → b ≢ a → slice_get (slice_set n.doings a o) b ≡ slice_get n.doings b
   put_others o b ne = get_set_other n.doings a b o ne
@@ -200,14 +202,14 @@ module _ (size a : ℕ) (s : World) (y : AbstractActor) (n : Notes) (m : Abstrac
       slice_get n.doings a ≡ Some (Some doing) → offset + count ≤ size → block * size + offset + count ≤ length n.histories → After gots (write_note n a doing (enter_each content (rising (block * size + offset) count) (entering n doing)))
   write_after block offset count content location all rest answer gots doing are at here l inside =
       let script = writing block all content (write_each location block (rising offset count) rest) answer in
-      let d : DoesAlike size (length n.histories) doing (Writing block all content) a m = subst (λ (t : Option Script). IsNotedSo size (length n.histories) t (Some (Some doing)) a m) at (subst (λ (o : Option (Option Doing)). IsNotedSo size (length n.histories) y.task o a m) here (g.each a y ey)) in
+      let d : DoesAlike size (length n.histories) doing (Writing block all content) a m = subst (λ (t : Option Script). IsNotedSo size (length n.histories) t (Some (Some doing)) a m) at (subst (λ (o : Option (Option Doing)). IsNotedSo size (length n.histories) y.task o a m) here (g.each a y among ey)) in
       let e = enter_each content (rising (block * size + offset) count) (entering n doing) in
       let m' = told m (records a y.task gots) in
       let w : Wrote size (length n.histories) a m m' e = subst (λ (t : Option Script). Wrote size (length n.histories) a m (told m (records a t gots)) e) (sym at)
       (writes_told size location block all content a count gots rest answer offset m n.histories doing.entered are d.job_is g.histories d.entered l inside) in
       let doing' : Doing = record doing { entered = e.entered } in
       to_world gots (write_note n a doing e) (agree_after (write_note n a doing e) m' (shared_after s.shared y y.task gots) (gone y y.task gots) w.histories (w.finished ∙ g.finished) (w.floors ∙ g.floors)
-      (entering_length content (rising (block * size + offset) count) (entering n doing)) refl refl (put_others (Some doing')) (λ b ne. ap (λ (f : ℕ → Option AbstractJob). f b) w.jobs) w.others (λ b ne. ap (λ (f : ℕ → ℕ → ℕ → ℕ). f b) w.asked)
+      (entering_length content (rising (block * size + offset) count) (entering n doing)) refl refl (put_others (Some doing')) (length-set n.doings a (Some doing')) (λ b ne. ap (λ (f : ℕ → Option AbstractJob). f b) w.jobs) w.others (λ b ne. ap (λ (f : ℕ → ℕ → ℕ → ℕ). f b) w.asked)
       (subst (λ (o : Option (Option Doing)). IsNotedSo size (length n.histories) (gone y y.task gots).task o a m') (sym (set_here (Some doing') (Some doing) here))
       (noted_job size (length n.histories) (Some script) (gone y y.task gots).task (Some (Some doing')) a m'
       (subst (λ (t : Option Script). SameJob (Some script) (gone y t gots).task) (sym at) (gone_job gots y (Some script) at (writes_go location block all content rest answer count gots offset are)))
@@ -230,7 +232,7 @@ module _ (size a : ℕ) (s : World) (y : AbstractActor) (n : Notes) (m : Abstrac
   answered : (n' : Notes) (script : Script) (job : AbstractJob) (answer : AbstractAnswer) → y.task ≡ Some script → script.steps ≡ [] → script.answer ≡ answer → script.job ≡ job →
       NotesAgree size n' (with_own s a s.shared (record y { task = None })) (noted_step m a (Some job) (End answer)) → After (Done ∷ []) n'
   answered n' script job answer at none ans is k =
-      let own : m.jobs a ≡ Some script.job = subst (λ (t : Option Script). IsJob m a t) at (is_job size (length n.histories) y.task (slice_get n.doings a) a m (g.each a y ey)) in
+      let own : m.jobs a ≡ Some script.job = subst (λ (t : Option Script). IsJob m a t) at (is_job size (length n.histories) y.task (slice_get n.doings a) a m (g.each a y among ey)) in
       of_task (Some (record { job = job; steps = []; answer = answer })) (Done ∷ []) n' (at ∙ (λ i. Some (record { job = is i; steps = none i; answer = ans i })))
       (subst (λ (k : AbstractNotes). NotesAgree size n' (with_own s a s.shared (record y { task = None })) k) (λ i. noted_step m a ((sym (own ∙ ap (λ (j : AbstractJob). Some j) is)) i) (End answer)) k)
 
@@ -239,11 +241,11 @@ module _ (size a : ℕ) (s : World) (y : AbstractActor) (n : Notes) (m : Abstrac
 
   read_answers : (block : ℕ) (os : List ℕ) (script : Script) → y.task ≡ Some script → script.steps ≡ [] → script.answer ≡ AnsweredDone → script.job ≡ Reading block os → After (Done ∷ []) (put n a None)
   read_answers block os script at none ans is = answered (put n a None) script (Reading block os) AnsweredDone at none ans is
-      (agree_after (put n a None) (noted_step m a (Some (Reading block os)) (End AnsweredDone)) s.shared over g.histories g.finished g.floors refl refl refl (put_others None) (λ b ne. changed_other m.jobs a b None ne) (λ b ne. changed_other m.entered a b (m.entered a) ne) (λ b ne. refl) tt)
+      (agree_after (put n a None) (noted_step m a (Some (Reading block os)) (End AnsweredDone)) s.shared over g.histories g.finished g.floors refl refl refl (put_others None) (length-set n.doings a None) (λ b ne. changed_other m.jobs a b None ne) (λ b ne. changed_other m.entered a b (m.entered a) ne) (λ b ne. refl) tt)
 
   does_alike : (job : AbstractJob) (script : Script) (doing : Doing) → y.task ≡ Some script → script.job ≡ job → slice_get n.doings a ≡ Some (Some doing) → DoesAlike size (length n.histories) doing job a m
   does_alike job script doing at is here = subst (λ (j : AbstractJob). DoesAlike size (length n.histories) doing j a m) is
-      (subst (λ (t : Option Script). IsNotedSo size (length n.histories) t (Some (Some doing)) a m) at (subst (λ (o : Option (Option Doing)). IsNotedSo size (length n.histories) y.task o a m) here (g.each a y ey)))
+      (subst (λ (t : Option Script). IsNotedSo size (length n.histories) t (Some (Some doing)) a m) at (subst (λ (o : Option (Option Doing)). IsNotedSo size (length n.histories) y.task o a m) here (g.each a y among ey)))
 
   write_answers : (block : ℕ) (os : List ℕ) (content : Content) (script : Script) (doing : Doing) → y.task ≡ Some script → script.steps ≡ [] → script.answer ≡ AnsweredDone → script.job ≡ Writing block os content → slice_get n.doings a ≡ Some (Some doing) →
       After (Done ∷ []) (put (record n { finished = all_raised n.finished doing.entered }) a None)
@@ -251,7 +253,7 @@ module _ (size a : ℕ) (s : World) (y : AbstractActor) (n : Notes) (m : Abstrac
       let d = does_alike (Writing block os content) script doing at is here in
       answered (put (record n { finished = all_raised n.finished doing.entered }) a None) script (Writing block os content) AnsweredDone at none ans is
       (agree_after (put (record n { finished = all_raised n.finished doing.entered }) a None) (noted_step m a (Some (Writing block os content)) (End AnsweredDone)) s.shared over g.histories
-      (ap (raised_there (m.entered a)) g.finished ∙ d.entered n.finished g.as_many) g.floors refl (all_raised-length n.finished doing.entered) refl (put_others None) (λ b ne. changed_other m.jobs a b None ne) (λ b ne. changed_other m.entered a b (m.entered a) ne) (λ b ne. refl) tt)
+      (ap (raised_there (m.entered a)) g.finished ∙ d.entered n.finished g.as_many) g.floors refl (all_raised-length n.finished doing.entered) refl (put_others None) (length-set n.doings a None) (λ b ne. changed_other m.jobs a b None ne) (λ b ne. changed_other m.entered a b (m.entered a) ne) (λ b ne. refl) tt)
 
   flush_answers : (script : Script) (doing : Doing) → y.task ≡ Some script → script.steps ≡ [] → script.answer ≡ AnsweredDone → script.job ≡ Flushing None → slice_get n.doings a ≡ Some (Some doing) → length doing.then_finished ≡ length n.floors →
       After (Done ∷ []) (put (record n { floors = greater_of n.floors doing.then_finished }) a None)
@@ -259,21 +261,21 @@ module _ (size a : ℕ) (s : World) (y : AbstractActor) (n : Notes) (m : Abstrac
       let d = does_alike (Flushing None) script doing at is here in
       answered (put (record n { floors = greater_of n.floors doing.then_finished }) a None) script (Flushing None) AnsweredDone at none ans is
       (agree_after (put (record n { floors = greater_of n.floors doing.then_finished }) a None) (noted_step m a (Some (Flushing None)) (End AnsweredDone)) s.shared over g.histories g.finished
-      ((λ i b o. max (g.floors i b o) (d.asked i b o)) ∙ sym (greater_counts size n.floors doing.then_finished (sym long))) refl refl (greater-length n.floors doing.then_finished (sym long)) (put_others None) (λ b ne. changed_other m.jobs a b None ne) (λ b ne. changed_other m.entered a b (m.entered a) ne) (λ b ne. refl) tt)
+      ((λ i b o. max (g.floors i b o) (d.asked i b o)) ∙ sym (greater_counts size n.floors doing.then_finished (sym long))) refl refl (greater-length n.floors doing.then_finished (sym long)) (put_others None) (length-set n.doings a None) (λ b ne. changed_other m.jobs a b None ne) (λ b ne. changed_other m.entered a b (m.entered a) ne) (λ b ne. refl) tt)
 
   refusal_answers : (script : Script) → y.task ≡ Some script → script.steps ≡ [] → script.answer ≢ AnsweredDone → After (Done ∷ []) (put n a None)
   refusal_answers script at none undone = answered (put n a None) script script.job script.answer at none refl refl
       (subst (λ (k : AbstractNotes). NotesAgree size (put n a None) (with_own s a s.shared over) k) (sym (refused_note m a script.job script.answer undone))
-      (agree_after (put n a None) (record m { jobs = changed m.jobs a None }) s.shared over g.histories g.finished g.floors refl refl refl (put_others None) (λ b ne. changed_other m.jobs a b None ne) (λ b ne. refl) (λ b ne. refl) tt))
+      (agree_after (put n a None) (record m { jobs = changed m.jobs a None }) s.shared over g.histories g.finished g.floors refl refl refl (put_others None) (length-set n.doings a None) (λ b ne. changed_other m.jobs a b None ne) (λ b ne. refl) (λ b ne. refl) tt))
 
   absent_answers : y.task ≡ None → After (Done ∷ []) (put n a None)
-  absent_answers e = absent (Done ∷ []) (put n a None) e (agree_after (put n a None) m s.shared y g.histories g.finished g.floors refl refl refl (put_others None) (λ b ne. refl) (λ b ne. refl) (λ b ne. refl) (subst (λ (t : Option Script). IsNotedSo size (length n.histories) t (slice_get (slice_set n.doings a None) a) a m) (sym e) tt))
+  absent_answers e = absent (Done ∷ []) (put n a None) e (agree_after (put n a None) m s.shared y g.histories g.finished g.floors refl refl refl (put_others None) (length-set n.doings a None) (λ b ne. refl) (λ b ne. refl) (λ b ne. refl) (subst (λ (t : Option Script). IsNotedSo size (length n.histories) t (slice_get (slice_set n.doings a None) a) a m) (sym e) tt))
 
   -- ---- starts
 
   start_after : (abstract_job : AbstractJob) (job : Job) (was : Option Doing) → slice_get n.doings a ≡ Some was → NotesAgree size (put n a (Some (begun n job))) (after_all s (Start a abstract_job ∷ [])) (told m (Start a abstract_job ∷ []))
   start_after abstract_job job was here = subst (λ (v : World). NotesAgree size (put n a (Some (begun n job))) v (note m (Start a abstract_job))) (sym (ap (λ o. start_actor s a o abstract_job) ey))
-      (agree_after (put n a (Some (begun n job))) (note m (Start a abstract_job)) (reserved s.shared abstract_job) (given y abstract_job) g.histories g.finished g.floors refl refl refl (put_others (Some (begun n job)))
+      (agree_after (put n a (Some (begun n job))) (note m (Start a abstract_job)) (reserved s.shared abstract_job) (given y abstract_job) g.histories g.finished g.floors refl refl refl (put_others (Some (begun n job))) (length-set n.doings a (Some (begun n job)))
       (λ b ne. changed_other m.jobs a b (Some abstract_job) ne) (λ b ne. changed_other m.entered a b [] ne) (λ b ne. changed_other m.asked a b m.finished ne)
       (subst (λ (o : Option (Option Doing)). IsNotedSo size (length n.histories) (Some (table abstract_job)) o a (note m (Start a abstract_job))) (sym (set_here (Some (begun n job)) was here)) (record {
         job_is = changed_same m.jobs a (Some abstract_job);
@@ -282,7 +284,7 @@ module _ (size a : ℕ) (s : World) (y : AbstractActor) (n : Notes) (m : Abstrac
       })))
 
   late_after : (gots : List Got) (job : Job) → y.task ≡ None → After gots (put n a (Some (begun n job)))
-  late_after gots job e = absent gots (put n a (Some (begun n job))) e (agree_after (put n a (Some (begun n job))) m s.shared y g.histories g.finished g.floors refl refl refl (put_others (Some (begun n job))) (λ b ne. refl) (λ b ne. refl) (λ b ne. refl)
+  late_after gots job e = absent gots (put n a (Some (begun n job))) e (agree_after (put n a (Some (begun n job))) m s.shared y g.histories g.finished g.floors refl refl refl (put_others (Some (begun n job))) (length-set n.doings a (Some (begun n job))) (λ b ne. refl) (λ b ne. refl) (λ b ne. refl)
       (subst (λ (t : Option Script). IsNotedSo size (length n.histories) t (slice_get (slice_set n.doings a (Some (begun n job))) a) a m) (sym e) tt))
 
 -- ---- what hangs on no step
@@ -303,51 +305,196 @@ none_counted_in false at shown = refl
 no_counts : (size : ℕ) (shown : List Content) → (λ (b o : ℕ). zero) ≡ counts_by_block size (map (λ (c : Content). zero) shown)
 no_counts size shown = sym (everywhere (counts_by_block size (map (λ (c : Content). zero) shown)) (λ b o. zero) (λ b o. none_counted_in (nat_lt o size) (b * size + o) shown))
 
+-- ---- of those behind nothing is noted
+
+-- each of the notes stays, and so is of no account what is done behind
+pub record SameNotes (many : ℕ) (m m' : AbstractNotes) : Type 0 where
+  pub histories : m'.histories ≡ m.histories
+  pub finished : m'.finished ≡ m.finished
+  pub floors : m'.floors ≡ m.floors
+  pub jobs : (b : ℕ) → b < many → m'.jobs b ≡ m.jobs b
+  pub entered : (b : ℕ) → b < many → m'.entered b ≡ m.entered b
+  pub asked : (b : ℕ) → b < many → m'.asked b ≡ m.asked b
+  pub behind : (b : ℕ) → many ≤ b → IsOfNoAccount (m'.jobs b)
+
+-- a migration's steps are noted as nothing, whatever they are
+migrating_note : (m : AbstractNotes) (a : ℕ) (job : AbstractJob) (next : Want) → IsMigrating job → noted_step m a (Some job) next ≡ record m { jobs = changed m.jobs a (job_noted job next) }
+migrating_note m a (Promoting order os) next i = λ k. record { histories = m.histories; finished = m.finished; floors = λ b o. m.floors b o; jobs = changed m.jobs a (job_noted (Promoting order os) next); entered = changed_nothing m.entered a (m.entered a) refl k; asked = m.asked }
+migrating_note m a (Demoting order os) next i = λ k. record { histories = m.histories; finished = m.finished; floors = λ b o. m.floors b o; jobs = changed m.jobs a (job_noted (Demoting order os) next); entered = changed_nothing m.entered a (m.entered a) refl k; asked = m.asked }
+migrating_note m a (Cleaning order os) next i = λ k. record { histories = m.histories; finished = m.finished; floors = λ b o. m.floors b o; jobs = changed m.jobs a (job_noted (Cleaning order os) next); entered = changed_nothing m.entered a (m.entered a) refl k; asked = m.asked }
+migrating_note m a job next i = absurd i
+
+noted_account : (job : AbstractJob) (next : Want) → IsMigrating job → IsOfNoAccount (job_noted job next)
+noted_account job (End answer) i = tt
+noted_account job next i = i
+
+module _ (many : ℕ) where
+  -- what is noted at one behind
+  changed_behind : {X : Type 0} (f : ℕ → X) (b : ℕ) (x : X) → many ≤ b → (c : ℕ) → c < many → changed f b x c ≡ f c
+  changed_behind f b x l c k = changed_other f b c x (λ e. absurd (omega (arith, l, k, e)))
+
+  job_behind : (m : AbstractNotes) (b : ℕ) (j : Option AbstractJob) → IsOfNoAccount j → ((c : ℕ) → many ≤ c → IsOfNoAccount (m.jobs c)) → (c : ℕ) → many ≤ c → IsOfNoAccount (changed m.jobs b j c)
+  job_behind m b j i h c l = elim (cases_eq c b) [
+    | inl e ↦ subst (λ (k : ℕ). IsOfNoAccount (changed m.jobs b j k)) (sym e) (subst (λ (k : Option AbstractJob). IsOfNoAccount k) (sym (changed_same m.jobs b j)) i)
+    | inr n ↦ subst (λ (k : Option AbstractJob). IsOfNoAccount k) (sym (changed_other m.jobs b c j n)) (h c l)
+  ]
+
+  begun_behind : (m : AbstractNotes) (b : ℕ) (job : AbstractJob) → many ≤ b → IsMigrating job → ((c : ℕ) → many ≤ c → IsOfNoAccount (m.jobs c)) →
+      SameNotes many m (record m { jobs = changed m.jobs b (Some job); entered = changed m.entered b []; asked = changed m.asked b m.finished })
+  begun_behind m b job l i h = record {
+    histories = refl;
+    finished = refl;
+    floors = refl;
+    jobs = changed_behind m.jobs b (Some job) l;
+    entered = changed_behind m.entered b [] l;
+    asked = changed_behind m.asked b m.finished l;
+    behind = job_behind m b (Some job) i h;
+  }
+
+  step_behind : (m : AbstractNotes) (b : ℕ) (next : Want) (job : Option AbstractJob) → many ≤ b → IsOfNoAccount job → ((c : ℕ) → many ≤ c → IsOfNoAccount (m.jobs c)) → SameNotes many m (noted_step m b job next)
+  step_behind m b next None l i h = record { histories = refl; finished = refl; floors = refl; jobs = λ c k. refl; entered = λ c k. refl; asked = λ c k. refl; behind = h }
+  step_behind m b next (Some job) l i h = subst (λ (k : AbstractNotes). SameNotes many m k) (sym (migrating_note m b job next i)) (record {
+    histories = refl;
+    finished = refl;
+    floors = refl;
+    jobs = changed_behind m.jobs b (job_noted job next) l;
+    entered = λ c k. refl;
+    asked = λ c k. refl;
+    behind = job_behind m b (job_noted job next) (noted_account job next i) h;
+  })
+
+  note_behind : (m : AbstractNotes) (r : Record) → IsFromBehind many r → ((c : ℕ) → many ≤ c → IsOfNoAccount (m.jobs c)) → SameNotes many m (note m r)
+  note_behind m (Start b job) from h = begun_behind m b job from.0 from.1 h
+  note_behind m (Again b job) from h = begun_behind m b job from.0 from.1 h
+  note_behind m (Step b next got) from h = step_behind m b next (m.jobs b) from (h b from) h
+
+  notes_behind : (rs : List Record) (m : AbstractNotes) → AreFromBehind many rs → ((c : ℕ) → many ≤ c → IsOfNoAccount (m.jobs c)) → SameNotes many m (told m rs)
+  notes_behind [] m from h = record { histories = refl; finished = refl; floors = refl; jobs = λ c k. refl; entered = λ c k. refl; asked = λ c k. refl; behind = h }
+  notes_behind (r ∷ rs) m from h =
+      let first = note_behind m r from.0 h in
+      let later = notes_behind rs (note m r) from.1 first.behind in
+      record {
+        histories = later.histories ∙ first.histories;
+        finished = later.finished ∙ first.finished;
+        floors = later.floors ∙ first.floors;
+        jobs = λ c k. later.jobs c k ∙ first.jobs c k;
+        entered = λ c k. later.entered c k ∙ first.entered c k;
+        asked = λ c k. later.asked c k ∙ first.asked c k;
+        behind = later.behind;
+      }
+
+  -- and none of the actors before them is another one then
+  record_beside : (s : World) (r : Record) → IsFromBehind many r → (b : ℕ) → b < many → slice_get (after_record s r).actors b ≡ slice_get s.actors b
+  record_beside s (Start c job) from b l = started (slice_get s.actors c)
+    where
+      started : (o : Option AbstractActor) → slice_get (start_actor s c o job).actors b ≡ slice_get s.actors b
+      started None = refl
+      started (Some x) = get_set_other s.actors c b (given x job) (λ e. let k = from.0 in absurd (omega (arith, l, k, e)))
+  record_beside s (Again c job) from b l = started (slice_get s.actors c)
+    where
+      started : (o : Option AbstractActor) → slice_get (again_actor s c o job).actors b ≡ slice_get s.actors b
+      started None = refl
+      started (Some x) = get_set_other s.actors c b (given x job) (λ e. let k = from.0 in absurd (omega (arith, l, k, e)))
+  record_beside s (Step c next got) from b l = stepped (slice_get s.actors c)
+    where
+      by_task : (x : AbstractActor) (task : Option Script) → slice_get (step_task s c x task got).actors b ≡ slice_get s.actors b
+      by_task x None = refl
+      by_task x (Some script) = get_set_other s.actors c b (actor_after x script (want script) got) (λ e. absurd (omega (arith, l, from, e)))
+
+      stepped : (o : Option AbstractActor) → slice_get (step_actor s c o got).actors b ≡ slice_get s.actors b
+      stepped None = refl
+      stepped (Some x) = by_task x x.task
+
+  records_beside : (rs : List Record) (s : World) → AreFromBehind many rs → (b : ℕ) → b < many → slice_get (after_all s rs).actors b ≡ slice_get s.actors b
+  records_beside [] s from b l = refl
+  records_beside (r ∷ rs) s from b l = records_beside rs (after_record s r) from.1 b l ∙ record_beside s r from.0 b l
+
+from_behind : (many from : ℕ) (rs : List Record) → many ≤ from → AreFromBehind from rs → AreFromBehind many rs
+from_behind many from [] l a = tt
+from_behind many from (Start b job ∷ rs) l a = ((let k = a.0.0 in omega (arith, k, l), a.0.1), from_behind many from rs l a.1)
+from_behind many from (Again b job ∷ rs) l a = ((let k = a.0.0 in omega (arith, k, l), a.0.1), from_behind many from rs l a.1)
+from_behind many from (Step b next got ∷ rs) l a = ((let k = a.0 in omega (arith, k, l)), from_behind many from rs l a.1)
+
+carried_noted : (size : ℕ) (n : Notes) (from : ℕ) → length n.doings ≤ from → (rs : List Record) (s : World) (m : AbstractNotes) → AreFromBehind from rs → NotesAgree size n s m → NotesAgree size n (after_all s rs) (told m rs)
+carried_noted size n from out rs s m are g =
+    let all = from_behind (length n.doings) from rs out are in
+    let k = notes_behind (length n.doings) rs m all g.behind in
+    record {
+      histories = k.histories ∙ g.histories;
+      finished = k.finished ∙ g.finished;
+      floors = k.floors ∙ g.floors;
+      as_many = g.as_many;
+      floors_as_many = g.floors_as_many;
+      each = λ b z l e. noted_beside size (length n.histories) z.task (slice_get n.doings b) b m (told m rs) (k.jobs b l) (k.entered b l) (k.asked b l) (g.each b z l (sym (records_beside (length n.doings) rs s all b l) ∙ e));
+      behind = k.behind;
+    }
+
+-- who has no task there is of no account
+set_aside : (size : ℕ) (n : Notes) (s : World) (m : AbstractNotes) (a : ℕ) (y : AbstractActor) (doing : Option Doing) → NotesAgree size n s m → slice_get s.actors a ≡ Some y → y.task ≡ None → NotesAgree size (put n a doing) s m
+set_aside size n s m a y doing g ey none = record {
+  histories = g.histories;
+  finished = g.finished;
+  floors = g.floors;
+  as_many = g.as_many;
+  floors_as_many = g.floors_as_many;
+  each = λ b z l e. elim (cases_eq b a) [
+    | inl same ↦
+        let here : Some y ≡ Some z = sym ey ∙ ap (λ (k : ℕ). slice_get s.actors k) (sym same) ∙ e in
+        let is : y ≡ z = cc in
+        subst (λ (t : Option Script). IsNotedSo size (length n.histories) t (slice_get (slice_set n.doings a doing) b) b m) (sym none ∙ ap (λ (v : AbstractActor). v.task) is) tt
+    | inr ne ↦ subst (λ (o : Option (Option Doing)). IsNotedSo size (length n.histories) z.task o b m) (sym (get_set_other n.doings a b doing ne)) (g.each b z (subst (λ (k : ℕ). b < k) (length-set n.doings a doing) l) e)
+  ];
+  behind = λ b l. g.behind b (subst (λ (k : ℕ). k ≤ b) (length-set n.doings a doing) l);
+}
+
 pub notes_followed : NotesFollowed
 notes_followed = record {
-  quiet = λ turn size most a s words committing devices actors f y n m ey g.
+  quiet = λ turn size most a s words committing orders devices actors f y n m ey among g.
       let t = f.told y ey in
-      subst (λ (rs : List Record). NotesAgree size n (after_all s rs) (told m rs)) (sym t.2) (unnoted_after size a s y n m ey g t.0 t.1);
-  read = λ block offset contents turn size most a s words committing devices actors f y n m ey g.
+      subst (λ (rs : List Record). NotesAgree size n (after_all s rs) (told m rs)) (sym t.2) (unnoted_after size a s y n m ey among g t.0 t.1);
+  read = λ block offset contents turn size most a s words committing orders devices actors f y n m ey among g.
       let t = f.told y ey in
       subst (λ (rs : List Record). NotesAgree size n (after_all s rs) (told m rs)) (sym t.told_is)
-      (unnoted_after size a s y n m ey g (map Gave contents) (subst (λ (k : Option Script). AreUnnoted k (map Gave contents)) (sym t.at) (reads_unnoted t.location block t.all t.rest t.answer contents offset)));
-  write = λ block offset count content turn size most a s words committing devices actors f y n m ey g doing here l inside.
+      (unnoted_after size a s y n m ey among g (map Gave contents) (subst (λ (k : Option Script). AreUnnoted k (map Gave contents)) (sym t.at) (reads_unnoted t.location block t.all t.rest t.answer contents offset)));
+  write = λ block offset count content turn size most a s words committing orders devices actors f y n m ey among g doing here l inside.
       let t = f.told y ey in
       let n' = write_note n a doing (enter_each content (rising (block * size + offset) count) (entering n doing)) in
       subst (λ (rs : List Record). NotesAgree size n' (after_all s rs) (told m rs)) (sym t.told_is)
-      (write_after size a s y n m ey g block offset count content t.location t.all t.rest t.answer t.results doing t.are t.at here l inside);
-  read_answered = λ block os turn size most a s words committing devices actors f y n m ey g.
+      (write_after size a s y n m ey among g block offset count content t.location t.all t.rest t.answer t.results doing t.are t.at here l inside);
+  read_answered = λ block os turn size most a s words committing orders devices actors f y n m ey among g.
       let t = f.told y ey in let k = script_of (Reading block os) y.task t.0 in
-      subst (λ (rs : List Record). NotesAgree size (put n a None) (after_all s rs) (told m rs)) (sym t.1) (read_answers size a s y n m ey g block os k.script k.at k.none k.done k.is);
-  write_answered = λ block os content turn size most a s words committing devices actors f y n m ey g doing here.
+      subst (λ (rs : List Record). NotesAgree size (put n a None) (after_all s rs) (told m rs)) (sym t.1) (read_answers size a s y n m ey among g block os k.script k.at k.none k.done k.is);
+  write_answered = λ block os content turn size most a s words committing orders devices actors f y n m ey among g doing here.
       let t = f.told y ey in let k = script_of (Writing block os content) y.task t.0 in
       subst (λ (rs : List Record). NotesAgree size (put (record n { finished = all_raised n.finished doing.entered }) a None) (after_all s rs) (told m rs)) (sym t.1)
-      (write_answers size a s y n m ey g block os content k.script doing k.at k.none k.done k.is here);
-  flush_answered = λ turn size most a s words committing devices actors f y n m ey g doing here long.
+      (write_answers size a s y n m ey among g block os content k.script doing k.at k.none k.done k.is here);
+  flush_answered = λ turn size most a s words committing orders devices actors f y n m ey among g doing here long.
       let t = f.told y ey in let k = script_of (Flushing None) y.task t.0 in
       subst (λ (rs : List Record). NotesAgree size (put (record n { floors = greater_of n.floors doing.then_finished }) a None) (after_all s rs) (told m rs)) (sym t.1)
-      (flush_answers size a s y n m ey g k.script doing k.at k.none k.done k.is here long);
-  refused = λ job refusal turn size most a s words committing devices actors f y n m ey g.
+      (flush_answers size a s y n m ey among g k.script doing k.at k.none k.done k.is here long);
+  refused = λ job refusal turn size most a s words committing orders devices actors f y n m ey among g.
       let t = f.told y ey in
-      subst (λ (rs : List Record). NotesAgree size (put n a None) (after_all s rs) (told m rs)) (sym t.1) (by_task size a s y n m ey g job refusal y.task refl t.0);
-  starts = λ abstract_job job turn size most a s words committing devices actors f y n m ey g was here.
-      subst (λ (rs : List Record). NotesAgree size (put n a (Some (begun n job))) (after_all s rs) (told m rs)) (sym (f.told y ey)) (start_after size a s y n m ey g abstract_job job was here);
-  starts_late = λ job turn size most a s words committing devices actors f y n m ey g none.
+      subst (λ (rs : List Record). NotesAgree size (put n a None) (after_all s rs) (told m rs)) (sym t.1) (by_task size a s y n m ey among g job refusal y.task refl t.0);
+  starts = λ abstract_job job turn size most a s words committing orders devices actors f y n m ey among g was here.
+      subst (λ (rs : List Record). NotesAgree size (put n a (Some (begun n job))) (after_all s rs) (told m rs)) (sym (f.told y ey)) (start_after size a s y n m ey among g abstract_job job was here);
+  starts_late = λ job turn size most a s words committing orders devices actors f y n m ey among g none.
       let t = f.told y ey in
-      subst (λ (rs : List Record). NotesAgree size (put n a (Some (begun n job))) (after_all s rs) (told m rs)) (sym t.2) (late_after size a s y n m ey g t.0 job none);
+      subst (λ (rs : List Record). NotesAgree size (put n a (Some (begun n job))) (after_all s rs) (told m rs)) (sym t.2) (late_after size a s y n m ey among g t.0 job none);
+  carries = λ from turn size most a s words committing orders devices actors f y n m ey among g out. carried_noted size n from out f.records s m (f.told y ey) g;
+  aside = λ size n s m a y doing g ey none. set_aside size n s m a y doing g ey none;
   redone = λ size n s m a doing doing' g here e f. record {
     histories = g.histories;
     finished = g.finished;
     floors = g.floors;
     as_many = g.as_many;
     floors_as_many = g.floors_as_many;
-    each = λ b z ez. elim (cases_eq b a) [
+    each = λ b z l ez. elim (cases_eq b a) [
       | inl same ↦ subst (λ (k : ℕ). IsNotedSo size (length n.histories) z.task (slice_get (slice_set n.doings a (Some doing')) k) k m) (sym same)
           (subst (λ (o : Option (Option Doing)). IsNotedSo size (length n.histories) z.task o a m) (sym (get_set_same n.doings a (Some doing) (Some doing') here))
-          (redone_so size (length n.histories) z.task doing doing' a m e f (subst (λ (o : Option (Option Doing)). IsNotedSo size (length n.histories) z.task o a m) here (g.each a z (ap (slice_get s.actors) (sym same) ∙ ez)))))
-      | inr ne ↦ subst (λ (o : Option (Option Doing)). IsNotedSo size (length n.histories) z.task o b m) (sym (get_set_other n.doings a b (Some doing') ne)) (g.each b z ez)
+          (redone_so size (length n.histories) z.task doing doing' a m e f (subst (λ (o : Option (Option Doing)). IsNotedSo size (length n.histories) z.task o a m) here (g.each a z (is_inside n.doings a (Some doing) here) (ap (slice_get s.actors) (sym same) ∙ ez)))))
+      | inr ne ↦ subst (λ (o : Option (Option Doing)). IsNotedSo size (length n.histories) z.task o b m) (sym (get_set_other n.doings a b (Some doing') ne)) (g.each b z (subst (λ (k : ℕ). b < k) (length-set n.doings a (Some doing')) l) ez)
     ];
+    behind = λ b l. g.behind b (subst (λ (k : ℕ). k ≤ b) (length-set n.doings a (Some doing')) l);
   };
   ended = λ size n s t m g. record {
     histories = g.histories;
@@ -355,7 +502,8 @@ notes_followed = record {
     floors = g.floors;
     as_many = g.as_many;
     floors_as_many = g.floors_as_many;
-    each = λ b z e. subst (λ (v : AbstractActor). IsNotedSo size (length n.histories) v.task (slice_get (nobody n.doings) b) b m) (replicated (length s.actors) b resting z e) tt;
+    each = λ b z l e. subst (λ (v : AbstractActor). IsNotedSo size (length n.histories) v.task (slice_get (nobody n.doings) b) b m) (replicated (length s.actors) b resting z e) tt;
+    behind = λ b l. g.behind b (subst (λ (k : ℕ). k ≤ b) (length-map n.doings (λ (d : Option Doing). None)) l);
   };
   anew = λ size many shown view s t same. record {
     histories = sym same;
@@ -363,11 +511,12 @@ notes_followed = record {
     floors = no_counts size shown;
     as_many = length-map shown (λ (c : Content). 0) ∙ sym (length-map shown only);
     floors_as_many = length-map shown (λ (c : Content). 0) ∙ sym (length-map shown only);
-    each = λ b z e. subst (λ (v : AbstractActor). IsNotedSo size (length (map only shown)) v.task (slice_get (begins many shown).doings b) b (opened view)) (replicated (length s.actors) b resting z e) tt;
+    behind = λ b l. tt;
+    each = λ b z l e. subst (λ (v : AbstractActor). IsNotedSo size (length (map only shown)) v.task (slice_get (begins many shown).doings b) b (opened view)) (replicated (length s.actors) b resting z e) tt;
   };
-  newest_read = λ turn size most a block offset contents s words committing devices actors f y n m ey g right.
+  newest_read = λ turn size most a block offset contents s words committing orders devices actors f y n m ey among g right.
       let t = f.told y ey in
-      let job = subst (λ (k : Option Script). IsJob m a k) t.at (is_job size (length n.histories) y.task (slice_get n.doings a) a m (g.each a y ey)) in
+      let job = subst (λ (k : Option Script). IsJob m a k) t.at (is_job size (length n.histories) y.task (slice_get n.doings a) a m (g.each a y among ey)) in
       subst (λ (h : ℕ → ℕ → History). AreNewest h block offset contents) g.histories
       (reads_newest t.location block t.all t.rest t.answer contents offset m a job
       (subst (λ (k : Option Script). AllRight m (map (λ (r : Record). On r) (records a k (map Gave contents)))) t.at (subst (λ (rs : List Record). AllRight m (map (λ (r : Record). On r) rs)) t.told_is right)));
@@ -377,7 +526,7 @@ notes_followed = record {
     script_of job None so = absurd so
     script_of job (Some script) so = record { script = script; at = refl; none = so.0; done = so.1; is = so.2 }
 
-    by_task : (size a : ℕ) (s : World) (y : AbstractActor) (n : Notes) (m : AbstractNotes) (ey : slice_get s.actors a ≡ Some y) (g : NotesAgree size n s m) (job : AbstractJob) (refusal : Refusal) (task : Option Script) → y.task ≡ task → AnswersSo job (Refuses refusal) y.task →
+    by_task : (size a : ℕ) (s : World) (y : AbstractActor) (n : Notes) (m : AbstractNotes) (ey : slice_get s.actors a ≡ Some y) (among : a < length n.doings) (g : NotesAgree size n s m) (job : AbstractJob) (refusal : Refusal) (task : Option Script) → y.task ≡ task → AnswersSo job (Refuses refusal) y.task →
         NotesAgree size (put n a None) (after_all s (records a y.task (Done ∷ []))) (told m (records a y.task (Done ∷ [])))
-    by_task size a s y n m ey g job refusal None e so = absent_answers size a s y n m ey g e
-    by_task size a s y n m ey g job refusal (Some script) e so = let so' = subst (λ (t : Option Script). AnswersSo job (Refuses refusal) t) e so in refusal_answers size a s y n m ey g script e so'.0 so'.1
+    by_task size a s y n m ey among g job refusal None e so = absent_answers size a s y n m ey among g e
+    by_task size a s y n m ey among g job refusal (Some script) e so = let so' = subst (λ (t : Option Script). AnswersSo job (Refuses refusal) t) e so in refusal_answers size a s y n m ey among g script e so'.0 so'.1

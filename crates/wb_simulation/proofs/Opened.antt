@@ -1,14 +1,12 @@
 -- The words of a target that an opening has made tell what the tree that it read has.
-use Rattle.std.proofs.Common.{◌≡◌, ◌≢◌, ◌<◌, ◌≤◌, ◌+◌, ◌*◌, ◌/◌, ◌^◌, ◌==◌, ◌∙◌, inl, ℕ, zero, suc, Bool, true, false, cond, if◌then◌else◌, List, [], ◌∷◌, Option, Some, None, length, replicate, refl, sym, ap, subst, arith, slice_get, slice_set, slice_index_or, unwrap_or}
-use Rattle.std.proofs.lemmas.Bool.{eqb-true, eq-eqb, lt-ltb}
+use Rattle.std.proofs.Common.{◌≡◌, ◌≢◌, ◌<◌, ◌≤◌, ◌+◌, ◌^◌, ◌==◌, ◌∙◌, inl, ℕ, zero, suc, Bool, true, false, cond, if◌then◌else◌, List, [], ◌∷◌, Option, Some, None, length, replicate, refl, sym, ap, subst, arith, slice_get, slice_set, slice_index_or, unwrap_or}
+use Rattle.std.proofs.lemmas.Bool.{eqb-true, eq-eqb}
 use Rattle.std.proofs.lemmas.List.{length-replicate, length-set}
-use Rattle.std.proofs.lemmas.Nat.{div-mul-add}
-use native.Mathlib.Nat.{mul_comm}
 use Rattle.wb_types.specs.declared.entry.Entry.{Entry}
 use Rattle.wb_types.specs.declared.number.OBlock.{OBlock}
 use Rattle.wb_words.specs.declared.word.Access.TheVariants.{Owned}
 use Rattle.wb_words.specs.declared.step.CellStep.TheVariants.{Take, Seal as SealBlock, Release}
-use Rattle.wb_words.specs.SharedWords.{Words, word_at, fresh_words, seal_word, place_in, cached_at, flag, with_cell, taken}
+use Rattle.wb_words.specs.SharedWords.{Words, word_at, fresh_words, seal_word, flag, with_cell, taken}
 use Rattle.wb_words.specs.Effects.{words_after}
 use Rattle.wb_tree.specs.Mapping.{IsMapping}
 use Rattle.wb_link.specs.World.{Actor as AbstractActor, resting as idle}
@@ -20,7 +18,11 @@ use Rattle.wb_refines.proofs.Holding.{holds_nothing}
 use Rattle.wb_runs.specs.Effects.{sealing_steps, words_by}
 use Rattle.wb_runs.specs.Headline.{cached_from, place_of}
 use Rattle.wb_simulation.specs.Actors.{StandsFor, IsBusyAt}
+use Rattle.wb_runs.specs.declared.job.Job.TheVariants.{Migrate}
+use Rattle.wb_policy.specs.declared.order.Order.{Order}
+use Rattle.wb_simulation.specs.Behind.{IsUnused, live_there}
 use Rattle.wb_simulation.specs.Opened.{OpenedFollowed}
+use Rattle.wb_simulation.proofs.Steps.{place_told}
 
 -- ---- the seals once each entry was sealed
 
@@ -135,7 +137,7 @@ sealed_there clean (Some entry ∷ entries) c seals block k once l e =
 
 -- ---- what a mapping says of its entries
 
-found_at : (entries : List (Option Entry)) (block c k : ℕ) → cached_from block c entries ≡ Some k → (i : ℕ) × (entry : Entry) × (k ≡ c + i) × (i < length entries) × (slice_index_or entries i None ≡ Some entry) × (entry.origin.0 ≡ block)
+pub found_at : (entries : List (Option Entry)) (block c k : ℕ) → cached_from block c entries ≡ Some k → (i : ℕ) × (entry : Entry) × (k ≡ c + i) × (i < length entries) × (slice_index_or entries i None ≡ Some entry) × (entry.origin.0 ≡ block)
 found_at [] block c k e = absurd (cc)
 found_at (None ∷ entries) block c k e = let f = found_at entries block (suc c) k e in (suc f.0, f.1, (let is = f.2 in omega (arith, is)), (let l = f.3 in omega (arith, l)), f.4, f.5)
 found_at (Some entry ∷ entries) block c k e = by (entry.origin.0 == block) refl e (found_at entries block (suc c) k)
@@ -161,13 +163,6 @@ once_of (Some entry ∷ entries) once = (
 )
 
 -- ---- what a seal tells
-
-pub place_told : (k : ℕ) (dirty : Bool) → k < 2 ^ 32 → place_in (seal_word (Some (record { 0 = k })) dirty) ≡ Some (record { 0 = k })
-place_told k dirty l = ap cached_at (half dirty) ∙ ap (λ (t : Bool). if t then Some (record { 0 = k }) else None) (lt-ltb k (2 ^ 32) l)
-  where
-    half : (dirty : Bool) → (2 * (k + 1) + cond dirty 1 0) / 2 ≡ suc k
-    half true = ap (λ v. (v + 1) / 2) (mul_comm 2 (k + 1)) ∙ div-mul-add (k + 1) 2 1 (omega arith) ∙ omega arith
-    half false = ap (λ v. (v + 0) / 2) (mul_comm 2 (k + 1)) ∙ div-mul-add (k + 1) 2 0 (omega arith) ∙ omega arith
 
 -- no block is sealed at first
 none_at : (n k : ℕ) → unwrap_or (slice_get (replicate n zero) k) zero ≡ zero
@@ -223,16 +218,22 @@ opened_followed size most origin_blocks cache_blocks clean entries learnt blocks
   led = λ a y e l. absurd (nobody a y e l);
   whole = λ a y e l u. absurd (nobody a y e l);
   one_leads = λ a b y z e f l m. absurd (nobody a y e l);
-  many = length-replicate (length actors) idle;
-  each = λ a x y e f. subst (λ (v : AbstractActor). StandsFor size most words x v) (replicated (length actors) a idle y f) (record {
+  many = length-replicate (length actors + cache_blocks) idle ∙ ap (λ (n : ℕ). length actors + n) (sym (length-replicate {A = Option Order} cache_blocks None));
+  each = λ a x y e f. subst (λ (v : AbstractActor). StandsFor size most words x v) (replicated (length actors + cache_blocks) a idle y f) (record {
     at = subst (λ t. IsBusyAt size most words t x.card idle) (sym (rest a x e)) (refl, inl (record { task = refl; held = refl; order = refl; leads = refl }));
     below = holds_nothing idle x.card refl;
+    order = refl;
     among_others = refl;
   });
+  who = λ c. None;
+  behind = λ c order y e f. subst (λ (v : AbstractActor). IsUnused words actors c order v) (replicated (length actors + cache_blocks) (length actors + c) idle y f) (record { task = refl; order_is = ap (live_there c) (replicated cache_blocks c None order e); leads = refl; holds = inl refl });
+  within = λ c a e. absurd (cc);
+  one_each = λ c d a e f. absurd (cc);
+  carried = λ a x migration block plan e t. absurd (let bad : None ≡ Some (Migrate migration block, plan) = sym (rest a x e) ∙ t in cc);
 }
   where
     words : Words
     words = words_by (fresh_words origin_blocks) (sealing_steps clean 0 entries)
 
-    nobody : (a : ℕ) (y : AbstractActor) → slice_get (replicate (length actors) idle) a ≡ Some y → y.leads ≡ true → ⊥
-    nobody a y e l = let same = replicated (length actors) a idle y e in let bad : true ≡ false = sym l ∙ ap (λ (v : AbstractActor). v.leads) (sym same) in absurd (cc)
+    nobody : (a : ℕ) (y : AbstractActor) → slice_get (replicate (length actors + cache_blocks) idle) a ≡ Some y → y.leads ≡ true → ⊥
+    nobody a y e l = let same = replicated (length actors + cache_blocks) a idle y e in let bad : true ≡ false = sym l ∙ ap (λ (v : AbstractActor). v.leads) (sym same) in absurd (cc)

@@ -1,5 +1,5 @@
 -- A target that was just made agrees with the abstract world that begins.
-use Rattle.std.proofs.Common.{◌≡◌, ◌+◌, ◌*◌, ◌∙◌, inl, ℕ, zero, suc, Bool, true, false, cond, nat_lt, unwrap_or, Some, None, replicate, refl, sym, ap, subst, slice_get}
+use Rattle.std.proofs.Common.{◌≡◌, ◌+◌, ◌*◌, ◌∙◌, inl, ℕ, zero, suc, Bool, true, false, cond, nat_lt, unwrap_or, Some, None, length, replicate, refl, sym, ap, subst, slice_get, Option}
 use Rattle.std.proofs.lemmas.List.{length-replicate}
 use Rattle.wb_disk.specs.Device.{Content, only}
 use Rattle.wb_contents.specs.Devices.{by_block}
@@ -9,6 +9,9 @@ use Rattle.wb_link.proofs.Lists.{replicated}
 use Rattle.wb_refines.specs.Models.{SealAgrees}
 use Rattle.wb_refines.proofs.Holding.{holds_nothing}
 use Rattle.wb_runs.specs.States.{Actor, resting}
+use Rattle.wb_runs.specs.declared.job.Job.TheVariants.{Migrate}
+use Rattle.wb_policy.specs.declared.order.Order.{Order}
+use Rattle.wb_simulation.specs.Behind.{IsUnused, live_there}
 use Rattle.wb_simulation.specs.Actors.{StandsFor}
 use Rattle.wb_simulation.specs.Laws.{CanAgree}
 use Rattle.wb_simulation.proofs.Opened.{fresh_at, nowhere}
@@ -28,10 +31,10 @@ empty_device c size count = λ i b o. here (nat_lt o size) (b * size + o) i
     here false at = refl
 
 rests : (size most blocks : ℕ) → StandsFor size most (fresh_words blocks) resting idle
-rests size most blocks = record { at = (refl, inl (record { task = refl; held = refl; order = refl; leads = refl })); below = holds_nothing idle resting.card refl; among_others = refl }
+rests size most blocks = record { at = (refl, inl (record { task = refl; held = refl; order = refl; leads = refl })); below = holds_nothing idle resting.card refl; order = refl; among_others = refl }
 
 pub can_agree : CanAgree
-can_agree size most blocks cache origin many = record {
+can_agree size most blocks caches cache origin many = record {
   words_agree = record { fail = refl; seals = λ block. subst (λ (n : ℕ). SealAgrees n (record { location = None; dirty = false })) (sym (fresh_at blocks block)) (nowhere false) };
   origin = empty_device zeros size origin;
   cache = empty_device zeros size cache;
@@ -41,10 +44,16 @@ can_agree size most blocks cache origin many = record {
   led = λ a y e l. absurd (nobody a y e l);
   whole = λ a y e l u. absurd (nobody a y e l);
   one_leads = λ a b y z e f l m. absurd (nobody a y e l);
-  many = length-replicate many idle ∙ sym (length-replicate many resting);
+  many = length-replicate (many + caches) idle ∙ (λ i. sym (length-replicate many resting) i + sym (length-replicate {A = Option Order} caches None) i);
   each = λ a x y e f. subst (λ (v : Actor). StandsFor size most (fresh_words blocks) v y) (replicated many a resting x e)
-      (subst (λ (v : AbstractActor). StandsFor size most (fresh_words blocks) resting v) (replicated many a idle y f) (rests size most blocks));
+      (subst (λ (v : AbstractActor). StandsFor size most (fresh_words blocks) resting v) (replicated (many + caches) a idle y f) (rests size most blocks));
+  who = λ c. None;
+  behind = λ c order y e f. subst (λ (v : AbstractActor). IsUnused (fresh_words blocks) (replicate many resting) c order v) (replicated (many + caches) (length (replicate many resting) + c) idle y f)
+      (record { task = refl; order_is = ap (live_there c) (replicated caches c None order e); leads = refl; holds = inl refl });
+  within = λ c a e. absurd (cc);
+  one_each = λ c d a e f. absurd (cc);
+  carried = λ a x migration block plan e t. absurd (let idle_is : resting ≡ x = replicated many a resting x e in let bad : None ≡ Some (Migrate migration block, plan) = ap (λ (v : Actor). v.task) idle_is ∙ t in cc);
 }
   where
-    nobody : (a : ℕ) (y : AbstractActor) → slice_get (replicate many idle) a ≡ Some y → y.leads ≡ true → ⊥
-    nobody a y e l = let bad : false ≡ true = ap (λ (v : AbstractActor). v.leads) (replicated many a idle y e) ∙ l in absurd (cc)
+    nobody : (a : ℕ) (y : AbstractActor) → slice_get (replicate (many + caches) idle) a ≡ Some y → y.leads ≡ true → ⊥
+    nobody a y e l = let bad : false ≡ true = ap (λ (v : AbstractActor). v.leads) (replicated (many + caches) a idle y e) ∙ l in absurd (cc)

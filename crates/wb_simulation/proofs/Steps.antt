@@ -1,19 +1,37 @@
 -- The steps of a read or write of one block are of that block.
-use Rattle.std.proofs.Common.{arith, mul_comm, mod-lt, ◌≡◌, ◌≤◌, ◌<◌, ◌+◌, ◌*◌, ◌/◌, ◌%◌, ◌^◌, ◌++◌, ◌∙◌, if◌then◌else◌, nat_lt, ℕ, zero, suc, Bool, true, false, List, [], ◌∷◌, map, Option, Some, None, refl, sym, ap, subst, Contains}
+use Rattle.std.proofs.Common.{arith, cond, ◌==◌, mul_comm, mod-lt, ◌≡◌, ◌≤◌, ◌<◌, ◌+◌, ◌*◌, ◌/◌, ◌%◌, ◌^◌, ◌++◌, ◌∙◌, if◌then◌else◌, nat_lt, ℕ, zero, suc, Bool, true, false, List, [], ◌∷◌, map, Option, Some, None, refl, sym, ap, subst, Contains}
+use Rattle.std.proofs.lemmas.Bool.{lt-ltb}
 use Rattle.std.proofs.lemmas.Nat.{div-add-mod', div-mul-add, mod-mul-add}
 use Rattle.wb_types.proofs.Lists.{Contains-first, Contains-behind}
 use Rattle.wb_types.specs.declared.extent.Extent.{Extent}
 use Rattle.wb_types.specs.declared.mode.Dev.TheVariants.{Cache, Origin}
 use Rattle.wb_types.specs.declared.number.CBlock.{CBlock}
 use Rattle.wb_words.specs.SharedWords.{place_in, cached_at, seal_word, dirty_in}
-use Rattle.wb_tasks.specs.Tables.{BlockRange, Reading, Writing, OnBlock, read_step, write_step, read_count, write_count, cache_extent, dirtying}
-use Rattle.wb_tasks.specs.Plan.{work_of}
+use Rattle.wb_words.specs.SharedWords.{Words, word_at}
+use Rattle.wb_words.specs.Effects.{result_of}
+use Rattle.wb_words.specs.declared.step.CellResult.TheVariants.{Done as Won, Lost as NotWon}
+use Rattle.wb_words.specs.declared.word.Word.TheVariants.{Cell as LockWord, Seal as SealWord, Number, Count as CountWord, Fail}
+use Rattle.wb_types.specs.declared.number.OBlock.{OBlock}
+use Rattle.wb_types.specs.declared.refusal.Refusal.TheVariants.{Failed, Worn, Busy}
+use Rattle.wb_tasks.specs.Tables.{TaskJob, BlockRange, Reading, Writing, Migrating, OnBlock, read_step, write_step, read_count, write_count, cache_extent, dirtying, copies, ending, work}
+use Rattle.wb_tasks.specs.Plan.{work_of, after, got_of, onward, refused, may_take, exchange, is_worn, gives_back}
+use Rattle.wb_tasks.specs.declared.step.Answer.{Answer}
+use Rattle.wb_tasks.specs.declared.step.Migration.TheVariants.{Promote}
 use Rattle.wb_tasks.specs.declared.step.Want.{Want}
 use Rattle.wb_tasks.specs.declared.step.Want.TheVariants.{Cell}
 use Rattle.wb_words.specs.declared.word.Access.TheVariants.{Shared, Owned}
-use Rattle.wb_words.specs.declared.step.CellStep.TheVariants.{Release, Finish}
+use Rattle.wb_words.specs.declared.step.CellStep.{CellStep}
+use Rattle.wb_words.specs.declared.step.CellStep.TheVariants.{Look, Take, Release, Seal, Finish, Count, SetFailed, SetSuspended}
 use Rattle.wb_refines.specs.Data.{IsInBlock}
-use Rattle.wb_simulation.specs.Steps.{IsOfBlock, IsPart, AreOfBlock}
+use Rattle.wb_simulation.specs.Steps.{IsOfBlock, IsPart, AreOfBlock, ArePaired, IsNoWrite}
+
+-- a seal of a cache block tells it
+pub place_told : (k : ℕ) (dirty : Bool) → k < 2 ^ 32 → place_in (seal_word (Some (record { 0 = k })) dirty) ≡ Some (record { 0 = k })
+place_told k dirty l = ap cached_at (half dirty) ∙ ap (λ (t : Bool). if t then Some (record { 0 = k }) else None) (lt-ltb k (2 ^ 32) l)
+  where
+    half : (dirty : Bool) → (2 * (k + 1) + cond dirty 1 0) / 2 ≡ suc k
+    half true = ap (λ v. (v + 1) / 2) (mul_comm 2 (k + 1)) ∙ div-mul-add (k + 1) 2 1 (omega arith) ∙ omega arith
+    half false = ap (λ v. (v + 0) / 2) (mul_comm 2 (k + 1)) ∙ div-mul-add (k + 1) 2 0 (omega arith) ∙ omega arith
 
 -- what is sealed anew tells the place that was seen
 seal_tells : (seal : ℕ) (dirty : Bool) → place_in (seal_word (place_in seal) dirty) ≡ place_in seal
@@ -75,3 +93,60 @@ module _ (size : ℕ) (part : BlockRange) (is : IsPart size part) where
       by_seal None dirty t = writes None part.extents (rest None) is.each tt
       by_seal (Some c) true t = writes (Some c) part.extents (rest (Some c)) is.each tt
       by_seal (Some c) false t = (t true, writes (Some c) part.extents (rest (Some c)) is.each tt)
+
+-- ---- what a migration has still to do
+
+-- it is of the block, and each extent is written once it was read, the next step being no write
+abbrev pub AreCopies : ℕ → ℕ → List Want → Type 0
+AreCopies size block steps = AreOfBlock size block steps × ArePaired size steps × IsNoWrite steps
+
+-- What is left after a step on the words is what was left, or one of these.
+pub after_cell : (P : List Want → Type 0) (job : TaskJob) (words : Words) (step : CellStep) (ws : List Want) (answer : Answer) → P [] → P ws → ((seen : ℕ) → P (exchange job seen)) → ((block : OBlock) (seal : ℕ) → P (Cell (Look (Number block)) ∷ work_of job seal)) → P (gives_back job) →
+    P (after (record { job = job; steps = Cell step ∷ ws; answer = answer }) (got_of (result_of words step))).steps
+after_cell P job words (Look Fail) ws answer none stays exchanges works back = by_test (words.fail == 0)
+  where
+    by_test : (t : Bool) → P (if t then onward (record { job = job; steps = Cell (Look Fail) ∷ ws; answer = answer }) else refused (record { job = job; steps = Cell (Look Fail) ∷ ws; answer = answer }) [] Failed).steps
+    by_test true = stays
+    by_test false = none
+after_cell P job words (Look (LockWord b)) ws answer none stays exchanges works back = by_test (may_take job (word_at words.cells b))
+  where
+    by_test : (t : Bool) → P (if t then record (record { job = job; steps = Cell (Look (LockWord b)) ∷ ws; answer = answer }) { steps = exchange job (word_at words.cells b) } else refused (record { job = job; steps = Cell (Look (LockWord b)) ∷ ws; answer = answer }) [] Busy).steps
+    by_test true = exchanges (word_at words.cells b)
+    by_test false = none
+after_cell P job words (Look (SealWord b)) ws answer none stays exchanges works back = works b (word_at words.seals b)
+after_cell P job words (Look (Number b)) ws answer none stays exchanges works back = by_test (is_worn job (word_at words.numbers b))
+  where
+    by_test : (t : Bool) → P (if t then refused (record { job = job; steps = Cell (Look (Number b)) ∷ ws; answer = answer }) (gives_back job) Worn else onward (record { job = job; steps = Cell (Look (Number b)) ∷ ws; answer = answer })).steps
+    by_test true = back
+    by_test false = stays
+after_cell P job words (Look (CountWord kind)) ws answer none stays exchanges works back = stays
+after_cell P job words (Take access b seen) ws answer none stays exchanges works back = by_test (word_at words.cells b == seen)
+  where
+    by_test : (t : Bool) → P (after (record { job = job; steps = Cell (Take access b seen) ∷ ws; answer = answer }) (got_of (if t then Won else NotWon))).steps
+    by_test true = stays
+    by_test false = none
+after_cell P job words (Release access b) ws answer none stays exchanges works back = stays
+after_cell P job words (Seal b place dirty) ws answer none stays exchanges works back = stays
+after_cell P job words (Finish b) ws answer none stays exchanges works back = stays
+after_cell P job words (Count kind) ws answer none stays exchanges works back = stays
+after_cell P job words SetFailed ws answer none stays exchanges works back = stays
+after_cell P job words SetSuspended ws answer none stays exchanges works back = stays
+
+module _ (size : ℕ) (part : BlockRange) (is : IsPart size part) where
+  abbrev Copies : List Want → Type 0
+  Copies ws = AreCopies size part.block.0 ws
+
+  -- an extent of the origin, and where it is in the cache
+  paired_extent : (c : CBlock) (e : Extent) → (cache_extent part c e).first % size ≡ e.first % size
+  paired_extent c e = ap (λ n. (c.0 * n + e.first % n) % size) (sym is.sized) ∙ mod-mul-add c.0 size (e.first % size) (mod-lt e.first is.some)
+
+  copied_in : (c : CBlock) (es : List Extent) (ws : List Want) → ((e : Extent) → Contains es e → IsOfBlock size part.block.0 e) → Copies ws → Copies (copies part None (Some c) es ++ ws)
+  copied_in c [] ws each w = w
+  copied_in c (e ∷ es) ws each w =
+      let later = copied_in c es ws (λ f m. each f (Contains-behind e es f m)) w in
+      let mine = each e (Contains-first e es) in
+      ((on_origin size part is e mine, (on_cache size part is c e mine, later.0)), ((refl, paired_extent c e), (later.2, later.1)), tt)
+
+  -- what a promotion does once it has its block
+  pub promotion_works : (c : CBlock) → c.0 < 2 ^ 32 → (place : Option CBlock) (dirty : Bool) → Copies (work (Migrating (Promote c) part) place dirty)
+  promotion_works c small place dirty = copied_in c part.extents (ending (Promote c) part.block place) is.each ((place_told c.0 false small, tt), (tt, tt, (tt, (tt, tt))), tt)

@@ -18,9 +18,9 @@ use Rattle.wb_refines.specs.Models.{IsAt, HasStopped, IsBelow}
 use Rattle.wb_refines.specs.Flushes.{IsFlushing, IsOnMetadata}
 use Rattle.wb_refines.specs.Tasks.{IsIdle}
 use Rattle.wb_runs.specs.declared.job.Job.{Job}
-use Rattle.wb_runs.specs.declared.job.Job.TheVariants.{Read, Write, Flush, Open}
+use Rattle.wb_runs.specs.declared.job.Job.TheVariants.{Read, Write, Flush, Open, Migrate}
 use Rattle.wb_runs.specs.States.{Actor}
-use Rattle.wb_simulation.specs.Steps.{IsPart, AreOfBlock}
+use Rattle.wb_simulation.specs.Steps.{IsPart, AreOfBlock, IsOutside}
 
 -- A task that began though its actor has still what it kept at a failure: there it has none, and it ends at its look at the fail word.
 pub record IsLate (words : Words) (plan : Plan) (y : AbstractActor) : Type 0 where
@@ -65,20 +65,28 @@ pub record IsFlushAt (size most : ℕ) (words : Words) (plan : Plan) (y : Abstra
   pub steps : IsOfFlush most plan.steps
   pub at : IsLeading size words plan y ⊎ IsLate words plan y
 
+-- Its migration is done by another one there, so it rests. What it has kept at a failure it has from an earlier task: this one has still to
+-- look at the fail word, or has only to answer.
+pub record IsAside (words : Words) (plan : Plan) (y : AbstractActor) : Type 0 where
+  pub nothing : y.task ≡ None
+  pub rests : IsIdle y ⊎ ((flag words.fail ≡ true) × IsOutside plan.steps)
+
 -- what an actor with this job is there
 abbrev pub IsDoing : (size most : ℕ) → Words → Job → Plan → Card → AbstractActor → Type 0
 IsDoing size most words (Read extent) plan card y = IsRequestAt size [] words Reading plan card y
 IsDoing size most words (Write extent content) plan card y = IsRequestAt size content words Writing plan card y
 IsDoing size most words Flush plan card y = IsFlushAt size most words plan y
 IsDoing size most words (Open mode) plan card y = ⊥
+IsDoing size most words (Migrate migration block) plan card y = IsAside words plan y
 
 -- one without a task is idle, or has kept something at a failure
 abbrev pub IsBusyAt : (size most : ℕ) → Words → Option (Job × Plan) → Card → AbstractActor → Type 0
 IsBusyAt size most words None card y = (y.task ≡ None) × (IsIdle y ⊎ (flag words.fail ≡ true))
 IsBusyAt size most words (Some doing) card y = IsDoing size most words doing.0 doing.1 card y
 
--- An actor of a run is this one there, which has no block that the card does not count, and no task that has to be alone.
+-- An actor of a run is this one there, which has no block that the card does not count, no order, and no task that has to be alone.
 pub record StandsFor (size most : ℕ) (words : Words) (x : Actor) (y : AbstractActor) : Type 0 where
   pub at : IsBusyAt size most words x.task x.card y
   pub below : IsBelow y x.card
+  pub order : y.order ≡ None
   pub among_others : is_alone y.task ≡ false

@@ -1,5 +1,6 @@
 pub mod Steps
 pub mod Actors
+pub mod Behind
 pub mod Telling
 pub mod Worlds
 pub mod Sites
@@ -7,3 +8,4 @@ pub mod Opened
 pub mod Noting
 pub mod Noted
 pub mod Laws
+pub mod Promoting

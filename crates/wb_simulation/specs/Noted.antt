@@ -1,9 +1,10 @@
 -- How the two clerks' notes stay alike by what the abstract one is told, and what it says of reads.
-use Rattle.std.specs.Prelude.{◌≡◌, ◌≤◌, ◌+◌, ◌*◌, ℕ, Bool, List, [], ◌∷◌, Option, Some, None, length, map, slice_get}
+use Rattle.std.specs.Prelude.{◌≡◌, ◌<◌, ◌≤◌, ◌+◌, ◌*◌, ℕ, Bool, List, [], ◌∷◌, Option, Some, None, length, map, slice_get}
 use Rattle.wb_types.specs.Extents.{rising}
 use Rattle.wb_disk.specs.Device.{Content, History, newest, only}
 use Rattle.wb_contents.specs.Devices.{by_block}
 use Rattle.wb_words.specs.SharedWords.{Words}
+use Rattle.wb_policy.specs.declared.order.Order.{Order}
 use Rattle.wb_tasks.specs.declared.step.Answer.TheVariants.{Done as Finished, Refused as Refuses}
 use Rattle.wb_types.specs.declared.refusal.Refusal.{Refusal}
 use Rattle.wb_devices.specs.declared.devices.Devices.{Devices}
@@ -15,7 +16,7 @@ use Rattle.wb_runs.specs.declared.job.Job.{Job}
 use Rattle.wb_runs.specs.Clerk.{Notes, Doing, begins, begun, put, nobody, entering, enter_each, write_note, all_raised, greater_of}
 use Rattle.wb_runs.specs.States.{Actor}
 use Rattle.wb_simulation.specs.Noting.{NotesAgree}
-use Rattle.wb_simulation.specs.Telling.{Telling, Quietly, Reads, Writes, Answers, Starts}
+use Rattle.wb_simulation.specs.Telling.{Telling, Quietly, Reads, Writes, Answers, Starts, Carries}
 use Rattle.wb_simulation.specs.Worlds.{zeros, Turn, FollowsBy}
 
 -- the abstract notes after these records
@@ -29,8 +30,8 @@ AreNewest histories b o (c ∷ contents) = (c ≡ newest (histories b o)) × Are
 
 -- What a run of the abstract world that follows a happening makes of notes that agree, whose actor is this one there before it.
 abbrev pub Kept : Telling → ((size : ℕ) (n : Notes) (a : ℕ) (y : AbstractActor) → (Notes → Type 0) → Type 0) → Type 0
-Kept telling Premise = (turn : Turn) (size most a : ℕ) (s : World) (words : Words) (committing : Bool) (devices : Devices (List History)) (actors : List Actor) (f : FollowsBy turn telling size most a s words committing devices actors) (y : AbstractActor) (n : Notes) (m : AbstractNotes) →
-    slice_get s.actors a ≡ Some y → NotesAgree size n s m → Premise size n a y (λ (n' : Notes). NotesAgree size n' (after_all s f.records) (told m f.records))
+Kept telling Premise = (turn : Turn) (size most a : ℕ) (s : World) (words : Words) (committing : Bool) (orders : List (Option Order)) (devices : Devices (List History)) (actors : List Actor) (f : FollowsBy turn telling size most a s words committing orders devices actors) (y : AbstractActor) (n : Notes) (m : AbstractNotes) →
+    slice_get s.actors a ≡ Some y → a < length n.doings → NotesAgree size n s m → Premise size n a y (λ (n' : Notes). NotesAgree size n' (after_all s f.records) (told m f.records))
 
 pub record NotesFollowed : Type 0 where
   -- nothing is noted
@@ -48,6 +49,10 @@ pub record NotesFollowed : Type 0 where
   -- who starts, or starts late, is noted to have entered nothing
   pub starts : (abstract_job : AbstractJob) (job : Job) → Kept (Starts abstract_job) (λ size n a y Then. (was : Option Doing) → slice_get n.doings a ≡ Some was → Then (put n a (Some (begun n job))))
   pub starts_late : (job : Job) → Kept Quietly (λ size n a y Then. y.task ≡ None → Then (put n a (Some (begun n job))))
+  -- of those behind nothing is noted
+  pub carries : (from : ℕ) → Kept (Carries from) (λ size n a y Then. length n.doings ≤ from → Then n)
+  -- nor, where it has no task there, of who has one here
+  pub aside : (size : ℕ) (n : Notes) (s : World) (m : AbstractNotes) (a : ℕ) (y : AbstractActor) (doing : Option Doing) → NotesAgree size n s m → slice_get s.actors a ≡ Some y → y.task ≡ None → NotesAgree size (put n a doing) s m
   -- what it has read, and on which devices it failed, is of no account there
   pub redone : (size : ℕ) (n : Notes) (s : World) (m : AbstractNotes) (a : ℕ) (doing doing' : Doing) → NotesAgree size n s m → slice_get n.doings a ≡ Some (Some doing) → doing'.entered ≡ doing.entered → doing'.then_finished ≡ doing.then_finished → NotesAgree size (put n a (Some doing')) s m
   -- a crash and an opening's start end what all are at
@@ -55,5 +60,5 @@ pub record NotesFollowed : Type 0 where
   -- an opening that is answered done begins notes anew with what it shows
   pub anew : (size many : ℕ) (shown : List Content) (view : ℕ → ℕ → Content) (s : World) (t : Shared) → by_block size zeros (map only shown) ≡ (λ b o. only (view b o)) → NotesAgree size (begins many shown) (emptied s t) (opened view)
   -- where the records are right, what a read is given are the last entries of the histories
-  pub newest_read : (turn : Turn) (size most a block offset : ℕ) (contents : List Content) (s : World) (words : Words) (committing : Bool) (devices : Devices (List History)) (actors : List Actor) (f : FollowsBy turn (Reads block offset contents) size most a s words committing devices actors) (y : AbstractActor) (n : Notes) (m : AbstractNotes) →
-      slice_get s.actors a ≡ Some y → NotesAgree size n s m → AllRight m (map (λ (r : Record). On r) f.records) → AreNewest (by_block size zeros n.histories) block offset contents
+  pub newest_read : (turn : Turn) (size most a block offset : ℕ) (contents : List Content) (s : World) (words : Words) (committing : Bool) (orders : List (Option Order)) (devices : Devices (List History)) (actors : List Actor) (f : FollowsBy turn (Reads block offset contents) size most a s words committing orders devices actors) (y : AbstractActor) (n : Notes) (m : AbstractNotes) →
+      slice_get s.actors a ≡ Some y → a < length n.doings → NotesAgree size n s m → AllRight m (map (λ (r : Record). On r) f.records) → AreNewest (by_block size zeros n.histories) block offset contents

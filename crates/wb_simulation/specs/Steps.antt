@@ -2,11 +2,13 @@
 use Rattle.std.specs.Prelude.{◌≡◌, ◌≤◌, ◌<◌, ◌+◌, ◌/◌, ◌%◌, ℕ, List, [], ◌∷◌, Contains}
 use Rattle.wb_types.specs.declared.extent.Extent.{Extent}
 use Rattle.wb_words.specs.SharedWords.{place_in, seal_word}
-use Rattle.wb_words.specs.declared.step.CellStep.TheVariants.{Seal}
+use Rattle.wb_words.specs.declared.step.CellStep.TheVariants.{Look, Release, Seal, SetFailed}
+use Rattle.wb_words.specs.declared.word.Word.TheVariants.{Fail}
 use Rattle.wb_tasks.specs.Tables.{BlockRange}
 use Rattle.wb_tasks.specs.declared.step.DeviceStep.TheVariants.{Read, Write}
+use Rattle.wb_tasks.specs.declared.step.DeskStep.TheVariants.{Map, ReleaseOrder}
 use Rattle.wb_tasks.specs.declared.step.Want.{Want}
-use Rattle.wb_tasks.specs.declared.step.Want.TheVariants.{Cell, Device}
+use Rattle.wb_tasks.specs.declared.step.Want.TheVariants.{Cell, Device, Desk}
 use Rattle.wb_refines.specs.Data.{IsInBlock}
 
 -- an extent of sectors of this block of the origin
@@ -28,3 +30,41 @@ AreOfBlock size block (Device (Read device e) ∷ later) = IsInBlock size block 
 AreOfBlock size block (Device (Write device e) ∷ later) = IsInBlock size block device e × AreOfBlock size block later
 AreOfBlock size block (Cell (Seal b place dirty) ∷ later) = (place_in (seal_word place dirty) ≡ place) × AreOfBlock size block later
 AreOfBlock size block (next ∷ later) = AreOfBlock size block later
+
+-- it is written next, to as many sectors and at the same offset
+abbrev pub IsWrittenNext : ℕ → Extent → List Want → Type 0
+IsWrittenNext size r (Device (Write device e) ∷ later) = (e.count ≡ r.count) × (e.first % size ≡ r.first % size)
+IsWrittenNext size r steps = ⊥
+
+-- the next step is no write
+abbrev pub IsNoWrite : List Want → Type 0
+IsNoWrite (Device (Write device e) ∷ later) = ⊥
+IsNoWrite steps = Unit {0}
+
+-- what is left once a promotion's order is over: its seal, and its block to give back
+abbrev pub IsTail : List Want → Type 0
+IsTail [] = Unit {0}
+IsTail (Cell (Seal block place dirty) ∷ later) = IsTail later
+IsTail (Cell (Release access block) ∷ later) = IsTail later
+IsTail steps = ⊥
+
+-- A migration writes each extent that it has read, before it does anything else, and writes nothing else; once it has mapped its block, only
+-- its seal and its block are left.
+abbrev pub ArePaired : ℕ → List Want → Type 0
+ArePaired size [] = Unit {0}
+ArePaired size (Device (Read device e) ∷ later) = IsWrittenNext size e later × ArePaired size later
+ArePaired size (Desk (Map block place) ∷ later) = IsTail later × IsNoWrite later × ArePaired size later
+ArePaired size (next ∷ later) = IsNoWrite later × ArePaired size later
+
+-- What is left is to let go of block and order, or to set the failed bit: it is to be refused.
+abbrev pub IsLettingGo : List Want → Type 0
+IsLettingGo (Cell SetFailed ∷ later) = Unit {0}
+IsLettingGo (Cell (Release access block) ∷ Desk (ReleaseOrder b) ∷ later) = Unit {0}
+IsLettingGo (Desk (ReleaseOrder block) ∷ later) = Unit {0}
+IsLettingGo steps = ⊥
+
+-- Who takes these steps has still to look at the fail word, or has only to answer.
+abbrev pub IsOutside : List Want → Type 0
+IsOutside [] = Unit {0}
+IsOutside (Cell (Look Fail) ∷ later) = Unit {0}
+IsOutside steps = ⊥

@@ -1,12 +1,12 @@
 -- What the abstract world's clerk is told, who sees the records of one actor.
-use Rattle.std.specs.Prelude.{◌≡◌, ◌≢◌, ℕ, zero, suc, List, [], ◌∷◌, Option, Some, None, length, map}
+use Rattle.std.specs.Prelude.{◌≡◌, ◌≢◌, ◌≤◌, ℕ, zero, suc, List, [], ◌∷◌, Option, Some, None, length, map}
 use Rattle.wb_types.specs.Extents.{rising}
 use Rattle.wb_disk.specs.Device.{Content}
 use Rattle.wb_words.specs.SharedWords.{flag}
 use Rattle.wb_tasks.specs.declared.step.Answer.{Answer}
 use Rattle.wb_tasks.specs.declared.step.Answer.TheVariants.{Done as Finished, Refused as Refuses}
-use Rattle.wb_link.specs.Tables.{Script, Job, Reading, Writing, Want, Write_at, End, Got, Gave, Done, Fault, Finished as AnsweredDone, Answer as AbstractAnswer, want, read_each, write_each}
-use Rattle.wb_link.specs.World.{Record, Start, task_after}
+use Rattle.wb_link.specs.Tables.{Script, Job, Reading, Writing, Promoting, Demoting, Cleaning, Want, Write_at, End, Got, Gave, Done, Fault, Finished as AnsweredDone, Answer as AbstractAnswer, want, read_each, write_each}
+use Rattle.wb_link.specs.World.{Record, Start, Again, Step, task_after}
 use Rattle.wb_refines.specs.Going.{records}
 
 -- A step of which nothing is noted: no write, and no answer.
@@ -35,14 +35,32 @@ reading block all steps answer = record { job = Reading block all; steps = steps
 abbrev pub writing : ℕ → List ℕ → Content → List Want → AbstractAnswer → Script
 writing block all content steps answer = record { job = Writing block all content; steps = steps; answer = answer }
 
+-- a job of which nothing is noted: a migration writes nothing new, and its answer makes nothing finished or durable
+abbrev pub IsMigrating : Job → Type 0
+IsMigrating (Promoting order os) = Unit {0}
+IsMigrating (Demoting order os) = Unit {0}
+IsMigrating (Cleaning order os) = Unit {0}
+IsMigrating job = ⊥
+
+-- a record of one of the actors from this one on, who do migrations alone
+abbrev pub IsFromBehind : ℕ → Record → Type 0
+IsFromBehind from (Start b job) = (from ≤ b) × IsMigrating job
+IsFromBehind from (Again b job) = (from ≤ b) × IsMigrating job
+IsFromBehind from (Step b next got) = from ≤ b
+
+abbrev pub AreFromBehind : ℕ → List Record → Type 0
+AreFromBehind from [] = Unit {0}
+AreFromBehind from (r ∷ rs) = IsFromBehind from r × AreFromBehind from rs
+
 -- It is told nothing that it notes; that a read is given these contents of a block's sectors from an offset on; that a write writes
--- this content to so many of them, done or failing; that a task of this job is answered; or that the actor is given a job.
+-- this content to so many of them, done or failing; that a task of this job is answered; that the actor is given a job; or something of those from this actor on, who migrate.
 pub data Telling : Type 0 where
   Quietly : Telling
   Reads : (block offset : ℕ) → List Content → Telling
   Writes : (block offset count : ℕ) → Content → Telling
   Answers : Job → Answer → Telling
   Starts : Job → Telling
+  Carries : (from : ℕ) → Telling
 
 -- the next steps of a read are these
 pub record IsReading (a block offset : ℕ) (contents : List Content) (task : Option Script) (told : List Record) : Type 0 where
@@ -77,3 +95,4 @@ IsTold (Reads block offset contents) a task told = IsReading a block offset cont
 IsTold (Writes block offset count content) a task told = IsWriting a block offset count content task told
 IsTold (Answers job answer) a task told = AnswersSo job answer task × (told ≡ records a task (Done ∷ []))
 IsTold (Starts job) a task told = told ≡ Start a job ∷ []
+IsTold (Carries from) a task told = AreFromBehind from told

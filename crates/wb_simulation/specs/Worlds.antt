@@ -1,15 +1,22 @@
 -- When a state of a run, where a target stands, is a state of the abstract world; and when what happens there is a run of that world.
-use Rattle.std.specs.Prelude.{◌≡◌, ◌≢◌, ℕ, Bool, true, false, List, [], Option, Some, None, length, replicate, slice_get}
+use Rattle.std.specs.Prelude.{◌≡◌, ◌≢◌, ◌⊎◌, ◌<◌, ◌+◌, ℕ, Bool, true, false, List, [], Option, Some, None, length, replicate, slice_get}
 use Rattle.wb_types.specs.declared.mode.Mode.TheVariants.{Writeback}
+use Rattle.wb_types.specs.declared.number.OBlock.{OBlock}
 use Rattle.wb_disk.specs.Device.{Content, History}
 use Rattle.wb_contents.specs.Devices.{by_block}
+use Rattle.wb_contents.specs.Volume.{Locations, changed}
 use Rattle.wb_words.specs.SharedWords.{Words}
+use Rattle.wb_policy.specs.declared.order.Order.{Order}
 use Rattle.wb_devices.specs.declared.devices.Devices.{Devices}
 use Rattle.wb_link.specs.Tables.{Script}
-use Rattle.wb_link.specs.World.{World, Shared, Record, IsRun, after_all, Actor as AbstractActor}
+use Rattle.wb_link.specs.World.{World, Shared, Block, Mapped, Reserved, begun, ended, given_back, Record, IsRun, after_all, Actor as AbstractActor}
 use Rattle.wb_refines.specs.Models.{WordsAgree}
+use Rattle.wb_tasks.specs.Plan.{Plan}
+use Rattle.wb_tasks.specs.declared.step.Migration.{Migration}
+use Rattle.wb_runs.specs.declared.job.Job.TheVariants.{Migrate}
 use Rattle.wb_runs.specs.States.{Actor}
 use Rattle.wb_simulation.specs.Actors.{StandsFor}
+use Rattle.wb_simulation.specs.Behind.{StandsBehind, IsUncarried}
 use Rattle.wb_simulation.specs.Telling.{Telling, IsTold}
 
 -- a sector before anything was written; behind the end of a device there is nothing else
@@ -22,8 +29,9 @@ IsUnfinished None = ⊥
 IsUnfinished (Some script) = script.steps ≢ []
 
 -- These words, devices, actors, and whether the desk has a commit that runs, are those of the world. Blocks have so many sectors,
--- and images at most so many nodes.
-pub record Agrees (size most : ℕ) (words : Words) (committing : Bool) (devices : Devices (List History)) (actors : List Actor) (s : World) : Type 0 where
+-- and images at most so many nodes. Behind those of the run there is an abstract actor for each cache block, which has the order that is live
+-- there, if any is, and does the migration under it, whoever of the run's actors is at that.
+pub record Agrees (size most : ℕ) (words : Words) (committing : Bool) (orders : List (Option Order)) (devices : Devices (List History)) (actors : List Actor) (s : World) : Type 0 where
   pub words_agree : WordsAgree words s.shared
   pub origin : s.shared.origin ≡ by_block size zeros devices.origin
   pub cache : s.shared.cache ≡ by_block size zeros devices.cache
@@ -35,30 +43,58 @@ pub record Agrees (size most : ℕ) (words : Words) (committing : Bool) (devices
   pub led : (a : ℕ) (y : AbstractActor) → slice_get s.actors a ≡ Some y → y.leads ≡ true → s.shared.committing ≡ true
   pub whole : (a : ℕ) (y : AbstractActor) → slice_get s.actors a ≡ Some y → y.leads ≡ true → IsUnfinished y.task → s.shared.broken ≡ false
   pub one_leads : (a b : ℕ) (y z : AbstractActor) → slice_get s.actors a ≡ Some y → slice_get s.actors b ≡ Some z → y.leads ≡ true → z.leads ≡ true → a ≡ b
-  pub many : length s.actors ≡ length actors
+  pub many : length s.actors ≡ length actors + length orders
   pub each : (a : ℕ) (x : Actor) (y : AbstractActor) → slice_get actors a ≡ Some x → slice_get s.actors a ≡ Some y → StandsFor size most words x y
+  -- which of the run's actors, if any, is at a migration onto each cache block
+  pub who : ℕ → Option ℕ
+  pub behind : (c : ℕ) (order : Option Order) (y : AbstractActor) → slice_get orders c ≡ Some order → slice_get s.actors (length actors + c) ≡ Some y → StandsBehind size words devices actors c order (s.shared.blocks c) (who c) y
+  pub within : (c a : ℕ) → who c ≡ Some a → c < length orders
+  pub one_each : (c d a : ℕ) → who c ≡ Some a → who d ≡ Some a → c ≡ d
+  pub carried : (a : ℕ) (x : Actor) (migration : Migration) (block : OBlock) (plan : Plan) → slice_get actors a ≡ Some x → x.task ≡ Some (Migrate migration block, plan) → (IsUncarried words plan.steps × ((c : ℕ) → who c ≢ Some a)) ⊎ ((c : ℕ) × (c < length orders) × (who c ≡ Some a))
 
--- What comes of the images that the metadata stand for: they stay; a commit begins, from the desk's mapping; its root is written, or not; it ends.
+-- What comes of the desk and of the images that the metadata stand for: they stay; a commit begins, from the desk's mapping; its root is
+-- written, or not; it ends; a cache block is reserved for an order; an order ends by an entry of the mapping; it is given up.
 pub data Turn : Type 0 where
   Stays : Turn
   Begins : Turn
   Puts : (written : Bool) → Turn
   Ends : Turn
+  Reserves : (cache : ℕ) → Turn
+  Maps : (block cache : ℕ) → Turn
+  GivesUp : (cache : ℕ) → Turn
 
 abbrev pub TurnedTo : Turn → (s t : Shared) → Type 0
-TurnedTo Stays s t = (t.committed ≡ s.committed) × (t.running ≡ s.running) × (t.root_written ≡ s.root_written)
 TurnedTo Begins s t = (t.committed ≡ s.committed) × (t.running ≡ s.mapping) × (t.root_written ≡ s.root_written)
 TurnedTo (Puts written) s t = (t.committed ≡ s.committed) × (t.running ≡ s.running) × (t.root_written ≡ written)
 TurnedTo Ends s t = (t.committed ≡ s.running) × (t.root_written ≡ false)
+TurnedTo turn s t = (t.committed ≡ s.committed) × (t.running ≡ s.running) × (t.root_written ≡ s.root_written)
 
--- The world can go on by some records of this actor so that these are its state then, and this comes of its images.
-pub record FollowsBy (turn : Turn) (telling : Telling) (size most a : ℕ) (s : World) (words : Words) (committing : Bool) (devices : Devices (List History)) (actors : List Actor) : Type 0 where
+-- where each block is then
+abbrev pub mapping_by : Turn → Shared → Locations
+mapping_by (Maps block cache) s = changed s.mapping block (Some cache)
+mapping_by turn s = s.mapping
+
+-- and the state of each cache block
+abbrev pub blocks_by : Turn → Shared → ℕ → Block
+blocks_by Begins s = λ c. begun (s.blocks c)
+blocks_by Ends s = λ c. ended (s.blocks c)
+blocks_by (Reserves cache) s = changed s.blocks cache Reserved
+blocks_by (Maps block cache) s = changed s.blocks cache Mapped
+blocks_by (GivesUp cache) s = changed s.blocks cache (given_back (s.blocks cache))
+blocks_by turn s = s.blocks
+
+abbrev pub DeskTurnedTo : Turn → (s t : Shared) → Type 0
+DeskTurnedTo turn s t = (t.mapping ≡ mapping_by turn s) × (t.blocks ≡ blocks_by turn s)
+
+-- The world can go on by some records of this actor, or of one behind, so that these are its state then, and this comes of its desk and images.
+pub record FollowsBy (turn : Turn) (telling : Telling) (size most a : ℕ) (s : World) (words : Words) (committing : Bool) (orders : List (Option Order)) (devices : Devices (List History)) (actors : List Actor) : Type 0 where
   pub records : List Record
   pub run : IsRun size s records
-  pub agrees : Agrees size most words committing devices actors (after_all s records)
+  pub agrees : Agrees size most words committing orders devices actors (after_all s records)
   pub turned : TurnedTo turn s.shared (after_all s records).shared
+  pub desk : DeskTurnedTo turn s.shared (after_all s records).shared
   pub told : (y : AbstractActor) → slice_get s.actors a ≡ Some y → IsTold telling a y.task records
 
--- the same, and the images stay
-abbrev pub Follows : Telling → (size most a : ℕ) → World → Words → Bool → Devices (List History) → List Actor → Type 0
-Follows telling size most a s words committing devices actors = FollowsBy Stays telling size most a s words committing devices actors
+-- the same, and desk and images stay
+abbrev pub Follows : Telling → (size most a : ℕ) → World → Words → Bool → List (Option Order) → Devices (List History) → List Actor → Type 0
+Follows telling size most a s words committing orders devices actors = FollowsBy Stays telling size most a s words committing orders devices actors

@@ -50,6 +50,66 @@ const FLUSHES: [Row; 2] = [
     },
 ];
 
+/// A block is promoted, flushed and written again, and the power is lost.
+const PROMOTIONS: [Row; 4] = [
+    Row {
+        name: "of a cached block a crash may keep each sector as it was flushed",
+        lines: "setup writeback 64 4 10 4\nstart 0 w 0 1 11\nend 0\nstart 0 promote 0 0\nend 0\nstart 0 flush\nend 0\nstart 0 w 0 2 22\nend 0\nstop old\nopen writeback\nview 0 2\n",
+        prints: "0 done\n0 done\n0 done\n0 done\nopen 3 1 1\n0 11\n1 00\n",
+        ends: Ended::Played,
+    },
+    Row {
+        name: "or as it was written",
+        lines: "setup writeback 64 4 10 4\nstart 0 w 0 1 11\nend 0\nstart 0 promote 0 0\nend 0\nstart 0 flush\nend 0\nstart 0 w 0 2 22\nend 0\nstop new\nopen writeback\nview 0 2\n",
+        prints: "0 done\n0 done\n0 done\n0 done\nopen 3 1 1\n0 22\n1 22\n",
+        ends: Ended::Played,
+    },
+    Row {
+        name: "one new and the other old",
+        lines: "setup writeback 64 4 10 4\nstart 0 w 0 1 11\nend 0\nstart 0 promote 0 0\nend 0\nstart 0 flush\nend 0\nstart 0 w 0 2 22\nend 0\nstop old c:1:1\nopen writeback\nview 0 2\n",
+        prints: "0 done\n0 done\n0 done\n0 done\nopen 3 1 1\n0 11\n1 22\n",
+        ends: Ended::Played,
+    },
+    Row {
+        name: "or the other way round",
+        lines: "setup writeback 64 4 10 4\nstart 0 w 0 1 11\nend 0\nstart 0 promote 0 0\nend 0\nstart 0 flush\nend 0\nstart 0 w 0 2 22\nend 0\nstop old c:0:1\nopen writeback\nview 0 2\n",
+        prints: "0 done\n0 done\n0 done\n0 done\nopen 3 1 1\n0 22\n1 00\n",
+        ends: Ended::Played,
+    },
+];
+
+/// The power is lost once the root of a second promotion was written.
+const PROMOTED_TWICE: [Row; 2] = [
+    Row {
+        name: "a root that was written and not synced may be lost, and its block with it",
+        lines: "setup writeback 64 4 10 4\nstart 0 w 0 1 11\nend 0\nstart 0 promote 0 0\nend 0\nstart 0 flush\nend 0\nstart 0 flush\nend 0\nstart 0 flush\nend 0\nstart 0 flush\nend 0\nstart 0 flush\nend 0\nstart 0 flush\nend 0\nstart 0 promote 5 1\nend 0\nstart 0 flush\nstep 0 7\nstop old\nopen writeback\n",
+        prints: "0 done\n0 done\n0 done\n0 done\n0 done\n0 done\n0 done\n0 done\n0 done\nopen 8 1 1\n",
+        ends: Ended::Played,
+    },
+    Row {
+        name: "or kept",
+        lines: "setup writeback 64 4 10 4\nstart 0 w 0 1 11\nend 0\nstart 0 promote 0 0\nend 0\nstart 0 flush\nend 0\nstart 0 flush\nend 0\nstart 0 flush\nend 0\nstart 0 flush\nend 0\nstart 0 flush\nend 0\nstart 0 flush\nend 0\nstart 0 promote 5 1\nend 0\nstart 0 flush\nstep 0 7\nstop new\nopen writeback\n",
+        prints: "0 done\n0 done\n0 done\n0 done\n0 done\n0 done\n0 done\n0 done\n0 done\nopen 9 2 2\n",
+        ends: Ended::Played,
+    },
+];
+
+/// Promotions that may not start, or start again.
+const BUSY_PROMOTIONS: [Row; 2] = [
+    Row {
+        name: "a promotion into a cache block that is taken, of a block that is mapped, or outside, is refused as busy",
+        lines: "setup writeback 64 4 10 4\nstart 0 promote 0 0\nend 0\nstart 0 promote 1 0\nstart 0 promote 0 1\nstart 0 promote 10 1\nstart 0 promote 1 4\nstart 0 promote 1 1\nend 0\n",
+        prints: "0 done\n0 refused 3 Busy\n0 refused 3 Busy\n0 refused 3 Busy\n0 refused 3 Busy\n0 done\n",
+        ends: Ended::Played,
+    },
+    Row {
+        name: "a promotion that lost its block to a write keeps its order, and starts again under it",
+        lines: "setup writeback 64 4 10 4\nstart 1 w 0 1 11\nstep 1 3\nstart 0 promote 0 0\nend 0\nstart 2 promote 0 1\nend 1\nstart 0 promote 0 0\nend 0\nstart 0 r 0 1\nend 0\n",
+        prints: "0 refused 3 Busy\n2 refused 3 Busy\n1 done\n0 done\n0 0 11\n0 done\n",
+        ends: Ended::Played,
+    },
+];
+
 /// Lines that do not apply, that are refused at the start, and that do nothing.
 const SKIPPED: [Row; 3] = [
     Row {
@@ -105,8 +165,8 @@ const ENDED: [Row; 6] = [
         ends: Ended::Refused,
     },
     Row {
-        name: "a migration, which there is none of yet",
-        lines: "setup writeback 64 4 10 4\nstart 0 promote 0 0\n",
+        name: "a demotion, which there is none of yet",
+        lines: "setup writeback 64 4 10 4\nstart 0 demote 0\n",
         prints: "bad line 2\n",
         ends: Ended::Refused,
     },
@@ -138,6 +198,21 @@ fn failed_writes_land_or_do_not(rt: HostRuntime) -> Result<(), Fail> {
 #[test]
 fn what_was_flushed_survives(rt: HostRuntime) -> Result<(), Fail> {
     compare(rt.alloc(), &FLUSHES)
+}
+
+#[test]
+fn what_was_promoted_survives(rt: HostRuntime) -> Result<(), Fail> {
+    compare(rt.alloc(), &PROMOTIONS)
+}
+
+#[test]
+fn a_promotion_stands_with_its_root(rt: HostRuntime) -> Result<(), Fail> {
+    compare(rt.alloc(), &PROMOTED_TWICE)
+}
+
+#[test]
+fn promotions_that_may_not_start_are_busy(rt: HostRuntime) -> Result<(), Fail> {
+    compare(rt.alloc(), &BUSY_PROMOTIONS)
 }
 
 #[test]

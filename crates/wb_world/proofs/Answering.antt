@@ -34,8 +34,7 @@ use Rattle.wb_world.specs.declared.phase.Phase.{Phase}
 use Rattle.wb_world.specs.declared.phase.Phase.TheVariants.{Closed, Underway, Standing}
 use Rattle.wb_world.specs.Life.{Happens, IsThere, Now, actors_of, answered, contents_of, device_step_of, opening_actor, shape_of, stands_by, state_of}
 use Rattle.wb_world.specs.Making.{HasMade, IsMade, read_of, reading_by, reading_of}
-use Rattle.wb_world.specs.Members.{free, seated}
-use Rattle.wb_world.specs.declared.member.Member.{Member}
+use Rattle.wb_world.specs.Members.{Member, free, seated}
 use Rattle.wb_desk.specs.Desks.{DeskState}
 use Rattle.wb_world.specs.Standing.{AllRoomy, Point, AtEnd, AtRefusal, HasMadeThere, HasReadAll, HasComeTo, StandsAt, StandsSo, plan_from}
 use Rattle.wb_world.proofs.Members.{all_free}
@@ -64,7 +63,7 @@ module _ (g : Geometry) (n : ℕ) (devices : Devices Memory) (o : Opener) (made 
 
   -- with nothing to do, and this card
   abbrev rested : Actor
-  rested = record { task = None; card = card }
+  rested = record { task = None; card = card; orders = []; buffer = [] }
 
   actors : IsMade g n o.actor made → seated made.members.items made.target.crew.cards ≡ slice_set (actors_of n (Underway o)) o.actor rested
   actors is = ap (λ (ms : List Member). seated ms made.target.crew.cards) is.members_are ∙ ap (λ (cs : List Card). seated (replicate n free) cs) is.cards_are
@@ -79,7 +78,7 @@ module _ (g : Geometry) (n : ℕ) (devices : Devices Memory) (o : Opener) (made 
     leads = ap (λ (commit : Option RunningCommit). standing commit (record { words = made.target.crew.words; desk = made.target.desk }) (seated made.members.items made.target.crew.cards)) is.commit_is
         ∙ ap (λ (xs : List Actor). standing None (record { words = made.target.crew.words; desk = made.target.desk }) xs) (actors is)
         ∙ ap (λ (t : Target Quiet). standing None t (slice_set (actors_of n (Underway o)) o.actor rested)) (target_is g n o.actor made is)
-        ∙ sym (ap (λ (x : Option Actor). with_actor (over (Some made)) x (λ y. stepped shape (over (Some made)) o.actor y (End Finished) Done (Opened made.target.desk.policy) (λ step. device_done {P = Quiet} {A = Global} (job_of y.task) step (Opened made.target.desk.policy)))) (there n o h));
+        ∙ sym (ap (λ (x : Option Actor). with_actor (over (Some made)) x (λ y. stepped shape (over (Some made)) o.actor y (End Finished) Done (Opened made.target.desk.policy) (λ step. device_done {P = Quiet} {A = Global} (job_of y.task) y.buffer step (Opened made.target.desk.policy)))) (there n o h));
   })
 
 -- its answer, which is a refusal
@@ -89,7 +88,7 @@ refused shape n devices o h refusal what next e = rw e (record {
   chosen = Plain;
   may = busy n o _ h (sym next, ((refl, refl), refl));
   leads = ap (λ xs. record { devices = contents_of devices; commit = None; phase = Gone; actors = xs }) (sym (set_twice (replicate n resting) o.actor (opening_actor o.task) resting ∙ set_replicate n o.actor resting))
-      ∙ sym (ap (λ (x : Option Actor). with_actor (state_of n devices (Underway o)) x (λ y. stepped shape (state_of n devices (Underway o)) o.actor y (End (Refuses refusal)) Done Plain (λ step. device_done {P = Quiet} {A = Global} (Open Writeback) step Plain))) (there n o h));
+      ∙ sym (ap (λ (x : Option Actor). with_actor (state_of n devices (Underway o)) x (λ y. stepped shape (state_of n devices (Underway o)) o.actor y (End (Refuses refusal)) Done Plain (λ step. device_done {P = Quiet} {A = Global} (Open Writeback) y.buffer step Plain))) (there n o h));
 })
 
 -- ---- wherever it stands, where its next step is none on a device

@@ -14,3 +14,5 @@ pub mod Answering
 pub mod Seals
 pub mod Landing
 pub mod Flags
+mod Orders
+mod Stepped

@@ -7,8 +7,7 @@ use Rattle.wb_tasks.specs.Plan.{Plan}
 use Rattle.wb_runs.specs.declared.job.Job.{Job}
 use Rattle.wb_runs.specs.States.{Actor, resting}
 use Rattle.wb_runs.specs.Happenings.{OfSome}
-use Rattle.wb_world.specs.declared.member.Member.{Member}
-use Rattle.wb_world.specs.Members.{free, seat, seated, works_there}
+use Rattle.wb_world.specs.Members.{Member, free, seat, seated, works_there}
 
 -- a list in which an element was set to itself
 pub set_same : {X : Type 0} (xs : List X) (i : ℕ) (x : X) → slice_get xs i ≡ Some x → slice_set xs i x ≡ xs
@@ -61,9 +60,9 @@ set_task (n ∷ ms) (d ∷ cs) zero m = refl
 set_task (n ∷ ms) (d ∷ cs) (suc a) m = ap (λ xs. seat n d ∷ xs) (set_task ms cs a m)
 
 -- where nobody is at anything, one with this card rests beside others that have none
-pub all_free : (n a : ℕ) (card : Card) → seated (replicate n free) (slice_set (replicate n blank_card) a card) ≡ slice_set (replicate n resting) a (record { task = None; card = card })
+pub all_free : (n a : ℕ) (card : Card) → seated (replicate n free) (slice_set (replicate n blank_card) a card) ≡ slice_set (replicate n resting) a (record { task = None; card = card; orders = []; buffer = [] })
 all_free zero a card = refl
-all_free (suc n) zero card = ap (λ xs. record { task = None; card = card } ∷ xs) (none_set n)
+all_free (suc n) zero card = ap (λ xs. record { task = None; card = card; orders = []; buffer = [] } ∷ xs) (none_set n)
   where
     none_set : (k : ℕ) → seated (replicate k free) (replicate k blank_card) ≡ replicate k resting
     none_set zero = refl

@@ -10,7 +10,7 @@ use Rattle.wb_types.specs.declared.mode.Mode.TheVariants.{Writeback}
 use Rattle.wb_types.specs.declared.mode.Dev.{Dev}
 use Rattle.wb_types.specs.declared.mode.Dev.TheVariants.{Metadata, Cache, Origin}
 use Rattle.wb_policy.specs.declared.quiet.Quiet.{Quiet}
-use Rattle.wb_disk.specs.Device.{History, synced}
+use Rattle.wb_disk.specs.Device.{Content as Bytes, History, synced}
 use Rattle.wb_disk.specs.Memory.{Memory}
 use Rattle.wb_disk.specs.Crash.{Choice, Applies, crashed}
 use Rattle.wb_disk.specs.Failing.{MayFail, lands, synced_where}
@@ -30,7 +30,7 @@ use Rattle.wb_devices.specs.Committing.{goes_on}
 use Rattle.wb_devices.specs.Moving.{device_in}
 use Rattle.wb_devices.specs.declared.running.RunningCommit.{RunningCommit}
 use Rattle.wb_runs.specs.declared.job.Job.{Job}
-use Rattle.wb_runs.specs.declared.job.Job.TheVariants.{Open}
+use Rattle.wb_runs.specs.declared.job.Job.TheVariants.{Open, Migrate}
 use Rattle.wb_runs.specs.declared.event.Event.{Event}
 use Rattle.wb_runs.specs.declared.event.Event.TheVariants.{Start, Step, FaultStep, Stop}
 use Rattle.wb_runs.specs.declared.event.What.{What}
@@ -170,6 +170,8 @@ no_mode devices n o a job e f = absurd (cc)
 -- no other job starts where no target stands
 pub no_target : (devices : Devices Memory) (n : ℕ) (o : Phase) (a : ℕ) (job : Job) → stands o ≡ false → wants_target job ≡ true → DoesNotApply (state_of n devices o) (Start a job)
 no_target devices n o a (Open mode) e f = absurd (cc)
+no_target devices n Closed a (Migrate migration block) e f = inr (inr (inl (λ t. t)))
+no_target devices n (Underway o) a (Migrate migration block) e f = inr (inr (inl (λ t. t)))
 no_target devices n Closed a job e f = inr (inr (λ t. t))
 no_target devices n (Underway o) a job e f = inr (inr (λ t. t))
 no_target devices n (Standing t members) a job e f = absurd (cc)
@@ -229,9 +231,9 @@ module _ (shape : Shape) (n : ℕ) (devices devices' : Devices Memory) (o new : 
   acts plan t = rw (same, t) (sym (set_twice (replicate n resting) o.actor (opening_actor o.task) (opening_actor plan)))
 
   -- what its step leads to
-  leads : (commit : Option RunningCommit) (next : Want) (got : Got) (chosen : Chosen Quiet Global) (change : Job → DeviceStep → List History → List History) →
-      went shape (w commit) o.actor next got chosen change ≡ stepped shape (w commit) o.actor (opening_actor o.task) next got chosen (change (Open Writeback))
-  leads commit next got chosen change = ap (λ (x : Option Actor). with_actor (w commit) x (λ y. stepped shape (w commit) o.actor y next got chosen (change (job_of y.task)))) (there n o h)
+  leads : (commit : Option RunningCommit) (next : Want) (got : Got) (chosen : Chosen Quiet Global) (change : Job → List Bytes → DeviceStep → List History → List History) →
+      went shape (w commit) o.actor next got chosen change ≡ stepped shape (w commit) o.actor (opening_actor o.task) next got chosen (change (Open Writeback) [])
+  leads commit next got chosen change = ap (λ (x : Option Actor). with_actor (w commit) x (λ y. stepped shape (w commit) o.actor y next got chosen (change (job_of y.task) y.buffer))) (there n o h)
 
   next_state : (contents : Devices (List History)) (reading : Option (ReadSteps Global)) (commit : Option RunningCommit) (plan : Plan) → contents_of devices' ≡ contents → (reading_of new) ≡ reading → new.opening.commit ≡ commit → new.task ≡ plan →
       state_of n devices' (Underway new) ≡ record { devices = contents; commit = commit; phase = Opens Writeback reading; actors = slice_set (actors_of n (Underway o)) o.actor (opening_actor plan) }
@@ -242,17 +244,17 @@ module _ (shape : Shape) (n : ℕ) (devices devices' : Devices Memory) (o new : 
   syncs alloc Metadata what next e t r c d = rw e (record {
     chosen = Begins (Begun alloc alloc);
     may = busy n o _ h (sym next, (refl, refl, refl));
-    leads = next_state _ _ _ _ d r c t ∙ sym (leads None (Device (Sync Metadata)) Done (Begins (Begun alloc alloc)) (λ job step. device_done {P = Quiet} {A = Global} job step (Begins (Begun alloc alloc))));
+    leads = next_state _ _ _ _ d r c t ∙ sym (leads None (Device (Sync Metadata)) Done (Begins (Begun alloc alloc)) (λ job buffer step. device_done {P = Quiet} {A = Global} job buffer step (Begins (Begun alloc alloc))));
   })
   syncs alloc Cache what next e t r c d = rw e (record {
     chosen = Plain;
     may = busy n o _ h (sym next, ((refl, refl), refl));
-    leads = next_state _ _ _ _ d r c t ∙ sym (leads None (Device (Sync Cache)) Done Plain (λ job step. device_done {P = Quiet} {A = Global} job step Plain));
+    leads = next_state _ _ _ _ d r c t ∙ sym (leads None (Device (Sync Cache)) Done Plain (λ job buffer step. device_done {P = Quiet} {A = Global} job buffer step Plain));
   })
   syncs alloc Origin what next e t r c d = rw e (record {
     chosen = Plain;
     may = busy n o _ h (sym next, ((refl, refl), refl));
-    leads = next_state _ _ _ _ d r c t ∙ sym (leads None (Device (Sync Origin)) Done Plain (λ job step. device_done {P = Quiet} {A = Global} job step Plain));
+    leads = next_state _ _ _ _ d r c t ∙ sym (leads None (Device (Sync Origin)) Done Plain (λ job buffer step. device_done {P = Quiet} {A = Global} job buffer step Plain));
   })
 
   pub fails : (choice : Choice) (step : DeviceStep) (what : What) → step ≢ WriteRoot → device_step_of (want o.task) ≡ Some step → want o.task ≡ Device step → what ≡ Stepped (Device step) Fault → MayFail (device_of step) choice (length (device_in (device_of step) (contents_of devices))) → new.task ≡ after o.task Fault → (reading_of new) ≡ reading_failed (device_of step) (reading_of o) → new.opening.commit ≡ None →
@@ -260,22 +262,22 @@ module _ (shape : Shape) (n : ℕ) (devices devices' : Devices Memory) (o new : 
   fails choice (ReadMetadata left) what other kind next e m t r c d = rw e (record {
     chosen = Plain;
     may = (refl, refl, busy n o _ h (sym next, m, (refl, refl)));
-    leads = next_state _ _ _ _ d r c t ∙ sym (leads None (Device (ReadMetadata left)) Fault Plain (λ job step. device_failed {P = Quiet} {A = Global} (lands Metadata choice) job step Plain));
+    leads = next_state _ _ _ _ d r c t ∙ sym (leads None (Device (ReadMetadata left)) Fault Plain (λ job buffer step. device_failed {P = Quiet} {A = Global} (lands Metadata choice) job buffer step Plain));
   })
   fails choice (Sync Metadata) what other kind next e m t r c d = rw e (record {
     chosen = Plain;
     may = (refl, refl, busy n o _ h (sym next, m, (refl, tt)));
-    leads = next_state _ _ _ _ d r c t ∙ sym (leads None (Device (Sync Metadata)) Fault Plain (λ job step. device_failed {P = Quiet} {A = Global} (lands Metadata choice) job step Plain));
+    leads = next_state _ _ _ _ d r c t ∙ sym (leads None (Device (Sync Metadata)) Fault Plain (λ job buffer step. device_failed {P = Quiet} {A = Global} (lands Metadata choice) job buffer step Plain));
   })
   fails choice (Sync Cache) what other kind next e m t r c d = rw e (record {
     chosen = Plain;
     may = (refl, refl, busy n o _ h (sym next, m, refl));
-    leads = next_state _ _ _ _ d r c t ∙ sym (leads None (Device (Sync Cache)) Fault Plain (λ job step. device_failed {P = Quiet} {A = Global} (lands Cache choice) job step Plain));
+    leads = next_state _ _ _ _ d r c t ∙ sym (leads None (Device (Sync Cache)) Fault Plain (λ job buffer step. device_failed {P = Quiet} {A = Global} (lands Cache choice) job buffer step Plain));
   })
   fails choice (Sync Origin) what other kind next e m t r c d = rw e (record {
     chosen = Plain;
     may = (refl, refl, busy n o _ h (sym next, m, refl));
-    leads = next_state _ _ _ _ d r c t ∙ sym (leads None (Device (Sync Origin)) Fault Plain (λ job step. device_failed {P = Quiet} {A = Global} (lands Origin choice) job step Plain));
+    leads = next_state _ _ _ _ d r c t ∙ sym (leads None (Device (Sync Origin)) Fault Plain (λ job buffer step. device_failed {P = Quiet} {A = Global} (lands Origin choice) job buffer step Plain));
   })
   fails choice WriteRoot what other kind next e m t r c d = absurd (other refl)
   fails choice step what other kind next e m t r c d = absurd (cc)
@@ -285,7 +287,7 @@ module _ (shape : Shape) (n : ℕ) (devices devices' : Devices Memory) (o new : 
   reads left was got what next e present does t d = rw e (record {
     chosen = Reaches (reading_of new) new.opening.commit;
     may = busy n o _ h (sym next, (refl, refl, of_reading (reading_of o) present));
-    leads = next_state _ _ _ _ d refl refl t ∙ sym (leads None (Device (ReadMetadata left)) got (Reaches (reading_of new) new.opening.commit) (λ job step. device_done {P = Quiet} {A = Global} job step (Reaches (reading_of new) new.opening.commit)));
+    leads = next_state _ _ _ _ d refl refl t ∙ sym (leads None (Device (ReadMetadata left)) got (Reaches (reading_of new) new.opening.commit) (λ job buffer step. device_done {P = Quiet} {A = Global} job buffer step (Reaches (reading_of new) new.opening.commit)));
   })
     where
       of_reading : (reading : Option (ReadSteps Global)) → reading ≡ Some was → OfReading {P = Quiet} (Opens Writeback reading) (λ mode r. DoesRead {P = Quiet} shape.geometry left r devices.metadata.contents None got (Reaches (reading_of new) new.opening.commit))
@@ -298,7 +300,7 @@ module _ (shape : Shape) (n : ℕ) (devices devices' : Devices Memory) (o new : 
   puts c what next e on does t r k d = rw e (record {
     chosen = Puts devices'.metadata.contents;
     may = busy n o _ h (sym next, (refl, refl, (on, does)));
-    leads = next_state _ _ _ _ d r k t ∙ sym (leads (Some c) (Device WriteRoot) Done (Puts devices'.metadata.contents) (λ job step. device_done {P = Quiet} {A = Global} job step (Puts devices'.metadata.contents)));
+    leads = next_state _ _ _ _ d r k t ∙ sym (leads (Some c) (Device WriteRoot) Done (Puts devices'.metadata.contents) (λ job buffer step. device_done {P = Quiet} {A = Global} job buffer step (Puts devices'.metadata.contents)));
   })
 
   -- it is durable
@@ -308,7 +310,7 @@ module _ (shape : Shape) (n : ℕ) (devices devices' : Devices Memory) (o new : 
   settles c what next e on t r k d = rw e (record {
     chosen = Plain;
     may = busy n o _ h (sym next, (refl, refl, (on, refl)));
-    leads = next_state _ _ _ _ d r k t ∙ sym (leads (Some c) (Device (Sync Metadata)) Done Plain (λ job step. device_done {P = Quiet} {A = Global} job step Plain));
+    leads = next_state _ _ _ _ d r k t ∙ sym (leads (Some c) (Device (Sync Metadata)) Done Plain (λ job buffer step. device_done {P = Quiet} {A = Global} job buffer step Plain));
   })
 
   -- its write fails, having landed or not
@@ -320,7 +322,7 @@ module _ (shape : Shape) (n : ℕ) (devices devices' : Devices Memory) (o new : 
   fails_to_put choice c what next e on m landed t r k d = rw e (record {
     chosen = Puts devices'.metadata.contents;
     may = (refl, refl, busy n o _ h (sym next, m, (on, landed)));
-    leads = next_state _ _ _ _ d r k t ∙ sym (leads (Some c) (Device WriteRoot) Fault (Puts devices'.metadata.contents) (λ job step. device_failed {P = Quiet} {A = Global} (lands Metadata choice) job step (Puts devices'.metadata.contents)));
+    leads = next_state _ _ _ _ d r k t ∙ sym (leads (Some c) (Device WriteRoot) Fault (Puts devices'.metadata.contents) (λ job buffer step. device_failed {P = Quiet} {A = Global} (lands Metadata choice) job buffer step (Puts devices'.metadata.contents)));
   })
 
   -- its sync fails
@@ -330,7 +332,7 @@ module _ (shape : Shape) (n : ℕ) (devices devices' : Devices Memory) (o new : 
   fails_to_settle choice c what next e on m t r k d = rw e (record {
     chosen = Plain;
     may = (refl, refl, busy n o _ h (sym next, m, ((refl, (on, tt)))));
-    leads = next_state _ _ _ _ d r k t ∙ sym (leads (Some c) (Device (Sync Metadata)) Fault Plain (λ job step. device_failed {P = Quiet} {A = Global} (lands Metadata choice) job step Plain));
+    leads = next_state _ _ _ _ d r k t ∙ sym (leads (Some c) (Device (Sync Metadata)) Fault Plain (λ job buffer step. device_failed {P = Quiet} {A = Global} (lands Metadata choice) job buffer step Plain));
   })
 
 -- where this commit runs

@@ -13,7 +13,7 @@ use Rattle.wb_tasks.specs.declared.step.Answer.TheVariants.{Done as Finished, Re
 use Rattle.wb_tasks.specs.declared.step.DeviceStep.{DeviceStep}
 use Rattle.wb_tasks.specs.declared.step.DeviceStep.TheVariants.{Read as ReadExtent, Write as WriteExtent, Sync, ReadMetadata, WriteNode, WriteRoot}
 use Rattle.wb_tasks.specs.declared.step.DeskStep.{DeskStep}
-use Rattle.wb_tasks.specs.declared.step.DeskStep.TheVariants.{BeginCommit, EndCommit}
+use Rattle.wb_tasks.specs.declared.step.DeskStep.TheVariants.{Map, Unmap, ReleaseOrder, BeginCommit, EndCommit}
 use Rattle.wb_tasks.specs.declared.step.Want.{Want}
 use Rattle.wb_tasks.specs.declared.step.Want.TheVariants.{Cell, Device, Desk, End}
 use Rattle.wb_tasks.specs.declared.step.Got.{Got}
@@ -21,7 +21,7 @@ use Rattle.wb_devices.specs.declared.devices.Devices.{Devices}
 use Rattle.wb_devices.specs.declared.running.RunningCommit.{RunningCommit}
 use Rattle.wb_devices.specs.Moving.{device_in}
 use Rattle.wb_runs.specs.declared.job.Job.{Job}
-use Rattle.wb_runs.specs.declared.job.Job.TheVariants.{Read, Write, Flush, Open}
+use Rattle.wb_runs.specs.declared.job.Job.TheVariants.{Read, Write, Flush, Open, Migrate}
 use Rattle.wb_runs.specs.States.{Shape, Actor, Stands, Target as RunTarget}
 use Rattle.wb_runs.specs.Happenings.{Chosen, Puts, Opened, OfSome, DoesOpen, DoesPut, DoesSync, Gives}
 use Rattle.wb_runs.specs.Holding.{AreUsedRightly}
@@ -71,46 +71,57 @@ module _ (shape : Shape) (devices : Devices (List History)) (commit : Option Run
   reads (Write extent content) device e g = absurd g
   reads Flush device e g = absurd g
   reads (Open mode) device e g = absurd g
+  reads (Migrate migration block) device e g = (tt, g.0, g.3)
 
   writes : (job : Job) (device : Dev) (e : Extent) → G job (Device (WriteExtent device e)) → IsDoable devices commit job (WriteExtent device e)
   writes (Read extent) device e g = absurd g
   writes (Write extent content) device e g = (tt, g.0, g.3)
   writes Flush device e g = absurd g
   writes (Open mode) device e g = absurd g
+  writes (Migrate migration block) device e g = (tt, g.0, g.3)
 
   syncs : (job : Job) → G job (Device (Sync Metadata)) → ComesNext commit (Sync Metadata) devices.metadata
   syncs (Read extent) g = syncs_next t commit devices.metadata chosen g.2
   syncs (Write extent content) g = syncs_next t commit devices.metadata chosen g.2
   syncs Flush g = syncs_next t commit devices.metadata chosen g.2
   syncs (Open mode) g = syncs_next t commit devices.metadata chosen g.2
+  syncs (Migrate migration block) g = syncs_next t commit devices.metadata chosen g.2
 
   writes_node : (job : Job) (number : ℕ) → G job (Device (WriteNode number)) → ComesNext commit (WriteNode number) devices.metadata
   writes_node (Read extent) number g = puts_next commit (WriteNode number) devices.metadata chosen g.2
   writes_node (Write extent content) number g = puts_next commit (WriteNode number) devices.metadata chosen g.2
   writes_node Flush number g = puts_next commit (WriteNode number) devices.metadata chosen g.2
   writes_node (Open mode) number g = puts_next commit (WriteNode number) devices.metadata chosen g.2
+  writes_node (Migrate migration block) number g = puts_next commit (WriteNode number) devices.metadata chosen g.2
 
   writes_root : (job : Job) → G job (Device WriteRoot) → ComesNext commit WriteRoot devices.metadata
   writes_root (Read extent) g = puts_next commit WriteRoot devices.metadata chosen g.2
   writes_root (Write extent content) g = puts_next commit WriteRoot devices.metadata chosen g.2
   writes_root Flush g = puts_next commit WriteRoot devices.metadata chosen g.2
   writes_root (Open mode) g = puts_next commit WriteRoot devices.metadata chosen g.2
+  writes_root (Migrate migration block) g = puts_next commit WriteRoot devices.metadata chosen g.2
 
   reads_metadata : (job : Job) (left : ℕ) → G job (Device (ReadMetadata left)) → ⊥
   reads_metadata (Read extent) left g = g.2
   reads_metadata (Write extent content) left g = g.2
   reads_metadata Flush left g = g.2
   reads_metadata (Open mode) left g = g.2
+  reads_metadata (Migrate migration block) left g = g.2
 
-  asks : (job : Job) (step : DeskStep) → G job (Desk step) → IsAskable commit step
+  asks : (job : Job) (step : DeskStep) → G job (Desk step) → IsAskable commit job step
   asks (Read extent) (BeginCommit clean most) g = g.1
   asks (Write extent content) (BeginCommit clean most) g = g.1
   asks Flush (BeginCommit clean most) g = g.1
   asks (Open mode) (BeginCommit clean most) g = g.1
+  asks (Migrate migration block) (BeginCommit clean most) g = g.1
   asks (Read extent) EndCommit g = g.2
   asks (Write extent content) EndCommit g = g.2
   asks Flush EndCommit g = g.2
   asks (Open mode) EndCommit g = g.2
+  asks (Migrate migration block) EndCommit g = g.2
+  asks (Migrate migration block) (Map b c) g = tt
+  asks (Migrate migration block) (ReleaseOrder b) g = tt
+  asks (Migrate migration block) (Unmap b) g = absurd g
   asks (Read extent) step g = absurd g
   asks (Write extent content) step g = absurd g
   asks Flush step g = absurd g
@@ -120,6 +131,7 @@ module _ (shape : Shape) (devices : Devices (List History)) (commit : Option Run
   ends (Read extent) g = λ o. o
   ends (Write extent content) g = λ o. o
   ends Flush g = λ o. o
+  ends (Migrate migration block) g = λ o. o
   ends (Open mode) g = λ o. opens_nobody t commit chosen (third g)
 
   pub possible : (job : Job) (next : Want) → G job next → IsPossible devices commit job next

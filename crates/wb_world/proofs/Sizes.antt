@@ -21,14 +21,14 @@ use Rattle.wb_tasks.specs.declared.step.Got.{Got}
 use Rattle.wb_devices.specs.declared.devices.Devices.{Devices}
 use Rattle.wb_devices.specs.Moving.{device_in}
 use Rattle.wb_runs.specs.declared.job.Job.{Job}
-use Rattle.wb_runs.specs.declared.job.Job.TheVariants.{Read, Write, Flush, Open}
+use Rattle.wb_runs.specs.declared.job.Job.TheVariants.{Read, Write, Flush, Migrate, Open}
 use Rattle.wb_runs.specs.declared.event.Event.{Event}
 use Rattle.wb_runs.specs.declared.event.Event.TheVariants.{Start, Step, FaultStep, Stop}
 use Rattle.wb_runs.specs.declared.event.What.{What}
 use Rattle.wb_runs.specs.declared.event.What.TheVariants.{Skipped, Refused, Started, Stepped, Stopped}
 use Rattle.wb_runs.specs.States.{Actor, Shape, cache_sector_count, sector_count, start, with_device}
 use Rattle.wb_runs.specs.Happenings.{Chosen, Plain, Falters, Gives, MayBe, OfSome}
-use Rattle.wb_runs.specs.Effects.{IsRun, after_all, after_happening, after_what, all_crashed, cleared, contents_for, device_done, device_failed, devices_then, given, job_of, put_by, stepped, with_actor}
+use Rattle.wb_runs.specs.Effects.{IsRun, after_all, after_happening, after_what, all_crashed, cleared, contents_for, device_done, device_failed, devices_then, given, job_of, phase_given, put_by, stepped, with_actor}
 use Rattle.wb_world.specs.Life.{Happened, Now}
 
 -- cache and origin are as large as before
@@ -73,22 +73,23 @@ by_device change step devices Metadata e k = on_metadata change step devices e
 by_device change step devices Cache e k = on_device change step devices Cache (λ q. absurd (cc)) e k
 by_device change step devices Origin e k = on_device change step devices Origin (λ q. absurd (cc)) e k
 
-module _ (shape : Shape) (w : Now) (got : Got) (read : List Bytes) (chosen : Chosen Quiet Global) where
+module _ (shape : Shape) (w : Now) (got : Got) (read : List Bytes) (chosen : Chosen Quiet Global) (buffer : List Bytes) where
   abbrev done : Job → DeviceStep → List History → List History
-  done job = λ step. device_done job step chosen
+  done job = λ step. device_done job buffer step chosen
 
   read_plain : (job : Job) (device : Dev) (e : Rattle.wb_types.specs.declared.extent.Extent.Extent) → Gives shape w job (Device (ReadExtent device e)) got read chosen → chosen ≡ Plain
   read_plain (Read extent) device e g = g.1
   read_plain (Write extent content) device e g = absurd g
   read_plain Flush device e g = absurd g
   read_plain (Open mode) device e g = absurd g
+  read_plain (Migrate migration block) device e g = g.1.1
 
   pub done_size : (job : Job) (next : Want) → Gives shape w job next got read chosen → AsLarge w.devices (devices_then (done job) w.devices next)
   done_size job (Cell step) g = same_size w.devices
   done_size job (Desk step) g = same_size w.devices
   done_size job (End answer) g = same_size w.devices
   done_size job (Device (ReadExtent device e)) g = by_device (done job) (ReadExtent device e) w.devices device refl (λ d. ap (λ (c : Chosen Quiet Global). length (put_by c d)) (read_plain job device e g))
-  done_size job (Device (WriteExtent device e)) g = by_device (done job) (WriteExtent device e) w.devices device refl (λ d. length-written_where (λ at. true) d e.first (contents_for job e.count))
+  done_size job (Device (WriteExtent device e)) g = by_device (done job) (WriteExtent device e) w.devices device refl (λ d. length-written_where (λ at. true) d e.first (contents_for job buffer e.count))
   done_size job (Device (Sync device)) g = by_device (done job) (Sync device) w.devices device refl (λ d. length-map d _)
   done_size job (Device (ReadMetadata left)) g = on_metadata (done job) (ReadMetadata left) w.devices refl
   done_size job (Device (WriteNode number)) g = on_metadata (done job) (WriteNode number) w.devices refl
@@ -96,14 +97,14 @@ module _ (shape : Shape) (w : Now) (got : Got) (read : List Bytes) (chosen : Cho
 
   module _ (choice : Choice) where
     abbrev failed : Job → DeviceStep → List History → List History
-    failed job = λ step. device_failed (lands (device_of step) choice) job step chosen
+    failed job = λ step. device_failed (lands (device_of step) choice) job buffer step chosen
 
     pub failed_size : (job : Job) (next : Want) → Falters w choice next chosen → AsLarge w.devices (devices_then (failed job) w.devices next)
     failed_size job (Cell step) g = absurd g
     failed_size job (Desk step) g = absurd g
     failed_size job (End answer) g = absurd g
     failed_size job (Device (ReadExtent device e)) g = by_device (failed job) (ReadExtent device e) w.devices device refl (λ d. ap (λ (c : Chosen Quiet Global). length (put_by c d)) g.0)
-    failed_size job (Device (WriteExtent device e)) g = by_device (failed job) (WriteExtent device e) w.devices device refl (λ d. length-written_where (lands device choice) d e.first (contents_for job e.count))
+    failed_size job (Device (WriteExtent device e)) g = by_device (failed job) (WriteExtent device e) w.devices device refl (λ d. length-written_where (lands device choice) d e.first (contents_for job buffer e.count))
     failed_size job (Device (Sync device)) g = by_device (failed job) (Sync device) w.devices device refl (λ d. length-synced_from (lands device choice) 0 d)
     failed_size job (Device (ReadMetadata left)) g = on_metadata (failed job) (ReadMetadata left) w.devices refl
     failed_size job (Device (WriteNode number)) g = on_metadata (failed job) (WriteNode number) w.devices refl
@@ -112,14 +113,14 @@ module _ (shape : Shape) (w : Now) (got : Got) (read : List Bytes) (chosen : Cho
 -- ---- an event
 
 -- whoever is at work there goes on so
-went_size : (shape : Shape) (w : Now) (next : Want) (got : Got) (chosen : Chosen Quiet Global) (a : ℕ) (change : Job → DeviceStep → List History → List History) (o : Option Actor) (P : Job → Plan → Type 0) → OfSome o (λ (x : Actor). OfSome x.task (λ doing. P doing.0 doing.1))
-    → ((job : Job) (plan : Plan) → P job plan → AsLarge w.devices (devices_then (change job) w.devices next)) → AsLarge w.devices (with_actor w o (λ x. stepped shape w a x next got chosen (change (job_of x.task)))).devices
+went_size : (shape : Shape) (w : Now) (next : Want) (got : Got) (chosen : Chosen Quiet Global) (a : ℕ) (change : Job → List Bytes → DeviceStep → List History → List History) (o : Option Actor) (P : Job → Plan → Type 0) → OfSome o (λ (x : Actor). OfSome x.task (λ doing. P doing.0 doing.1))
+    → ((job : Job) (plan : Plan) (buffer : List Bytes) → P job plan → AsLarge w.devices (devices_then (change job buffer) w.devices next)) → AsLarge w.devices (with_actor w o (λ x. stepped shape w a x next got chosen (change (job_of x.task) x.buffer))).devices
 went_size shape w next got chosen a change None P h k = absurd h
 went_size shape w next got chosen a change (Some x) P h k = by_task x.task refl h
   where
-    by_task : (t : Option (Job × Plan)) → x.task ≡ t → OfSome t (λ doing. P doing.0 doing.1) → AsLarge w.devices (devices_then (change (job_of x.task)) w.devices next)
+    by_task : (t : Option (Job × Plan)) → x.task ≡ t → OfSome t (λ doing. P doing.0 doing.1) → AsLarge w.devices (devices_then (change (job_of x.task) x.buffer) w.devices next)
     by_task None e h = absurd h
-    by_task (Some doing) e h = rw e (k doing.0 doing.1 h)
+    by_task (Some doing) e h = rw e (k doing.0 doing.1 x.buffer h)
 
 actor_size : (w : Now) (o : Option Actor) (change : Actor → Now) (devices : Devices (List History)) → AsLarge devices w.devices → ((x : Actor) → AsLarge devices (change x).devices) → AsLarge devices (with_actor w o change).devices
 actor_size w None change devices s k = s
@@ -133,9 +134,9 @@ crashed_size : (choice : Choice) (devices : Devices (List History)) → AsLarge 
 crashed_size choice devices = record { cache = length-crashed Cache choice 0 devices.cache; origin = length-crashed Origin choice 0 devices.origin }
 
 pub event_size : (shape : Shape) (w : Now) (event : Event) (what : What) (read : List Bytes) (chosen : Chosen Quiet Global) → MayBe shape w event what read chosen → AsLarge w.devices (after_what shape w event what chosen).devices
-event_size shape w (Start a job) Started read chosen m = actor_size (cleared w job) (slice_get (cleared w job).actors a) (λ x. record (cleared w job) { actors = slice_set (cleared w job).actors a (given shape x job chosen) }) w.devices (cleared_size w job) (λ x. cleared_size w job)
-event_size shape w (Step a) (Stepped next got) read chosen m = went_size shape w next got chosen a (λ job step. device_done job step chosen) (slice_get w.actors a) _ m (λ job plan g. done_size shape w got read chosen job next g.1)
-event_size shape w (FaultStep a choice) (Stepped next got) read chosen m = went_size shape w next got chosen a (λ job step. device_failed (lands (device_of step) choice) job step chosen) (slice_get w.actors a) _ m.2 (λ job plan g. failed_size shape w got read chosen choice job next g.2)
+event_size shape w (Start a job) Started read chosen m = actor_size (cleared w job) (slice_get (cleared w job).actors a) (λ x. record (cleared w job) { phase = phase_given (cleared w job).phase job chosen; actors = slice_set (cleared w job).actors a (given shape x job chosen) }) w.devices (cleared_size w job) (λ x. cleared_size w job)
+event_size shape w (Step a) (Stepped next got) read chosen m = went_size shape w next got chosen a (λ job buffer step. device_done job buffer step chosen) (slice_get w.actors a) _ m (λ job plan buffer g. done_size shape w got read chosen buffer job next g.1)
+event_size shape w (FaultStep a choice) (Stepped next got) read chosen m = went_size shape w next got chosen a (λ job buffer step. device_failed (lands (device_of step) choice) job buffer step chosen) (slice_get w.actors a) _ m.2 (λ job plan buffer g. failed_size shape w got read chosen buffer choice job next g.2)
 event_size shape w (Stop choice) Stopped read chosen m = crashed_size choice w.devices
 event_size shape w event what read chosen m = same_size w.devices
 

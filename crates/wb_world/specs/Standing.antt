@@ -24,8 +24,8 @@ use Rattle.wb_devices.specs.declared.devices.Devices.{Devices}
 use Rattle.wb_devices.specs.declared.running.RunningCommit.{RunningCommit}
 use Rattle.wb_words.specs.SharedWords.{flag}
 use Rattle.wb_runs.specs.declared.job.Job.{Job}
+use Rattle.wb_world.specs.Members.{Member}
 use Rattle.wb_world.specs.declared.making.Made.{Made}
-use Rattle.wb_world.specs.declared.member.Member.{Member}
 use Rattle.wb_world.specs.declared.opener.Opener.{Opener}
 use Rattle.wb_world.specs.declared.phase.Phase.{Phase}
 use Rattle.wb_world.specs.declared.phase.Phase.TheVariants.{Closed, Underway, Standing}

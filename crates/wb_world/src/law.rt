@@ -7,10 +7,10 @@ ghost use Rattle.wb_runs.specs.Headline.{AllRunsAreRight};
 use std::alloc::Global;
 use wb_policy::Quiet;
 
-/// The theorem of every interleaving of reads, writes, flushes and openings, with failing steps and crashes anywhere and over any
-/// number of lives (`wb_runs::headline`), of the desks that a world has. The trace of a world is one of such a run.
+/// The theorem of every interleaving of reads, writes, flushes, promotions and openings, with failing steps and crashes anywhere and
+/// over any number of lives (`wb_headline::headline`), of the desks that a world has. The trace of a world is one of such a run.
 pub fn headline()
     ensures { AllRunsAreRight QuietValue GlobalValue }
 {
-    wb_runs::headline::<Quiet, Global>();
+    wb_headline::headline::<Quiet, Global>();
 }

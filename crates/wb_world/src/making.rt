@@ -87,7 +87,7 @@ fn resting_members(alloc: Global) -> Result<Vec<Member>, Refusal>
     let mut members = Vec::new(alloc);
     for _ in 0..ACTORS {
         members
-            .push(Member::resting())
+            .push(Member::resting(alloc))
             .map_err(|_| Refusal::Memory)?;
     }
     Ok(members)

@@ -13,7 +13,7 @@ ghost use Rattle.wb_world.specs.Life.{contents_of};
 ghost use Rattle.wb_world.specs.Serving.{DoesOn, FailsAt, IsDoable};
 
 use crate::committing::{fail_put, put_next};
-use crate::room::{make_room, write_landing};
+use crate::room::{extent_of, make_room, write_each_landing, write_landing};
 use crate::syncing::{fail_sync, sync};
 use std::alloc::Global;
 use wb_devices::{Devices, RunningCommit};
@@ -29,19 +29,23 @@ pub(crate) fn do_step(
     devices: &mut Devices<MemDisk>,
     commit: &mut Option<RunningCommit>,
     job: &Job,
+    buffer: &[Content],
     step: DeviceStep,
 ) -> Result<Vec<Content>, Refusal>
     requires { IsDoable (contents_of devices.old) commit.old job.now step }
-    ensures ok { IfOk result (λ read. DoesOn (contents_of devices.old) commit.old job.now step read.items (contents_of devices.new) commit.new) }
+    ensures ok { IfOk result (λ read. DoesOn (contents_of devices.old) commit.old job.now buffer.now step read.items (contents_of devices.new) commit.new) }
     ensures size { length devices.new.metadata.contents ≡ length devices.old.metadata.contents }
     ensures err { OnErr result ((contents_of devices.new ≡ contents_of devices.old) × (commit.new ≡ commit.old)) }
     ensures refusal { IfErr result (λ refusal. refusal ≡ Memory) }
 {
     match step {
-        DeviceStep::Read(device, extent) => read_from(alloc, devices, device, extent),
+        DeviceStep::Read(device, extent) => {
+            let read = read_from(alloc, devices, device, extent)?;
+            Ok(read)
+        }
         DeviceStep::Write(device, extent) => {
             let everywhere = CrashChoice::new(Base::Newest, Vec::new(alloc));
-            write_to(devices, device, extent, job, &everywhere)?;
+            write_to(devices, device, extent, job, buffer, &everywhere)?;
             Ok(Vec::new(alloc))
         }
         DeviceStep::Sync(device) => {
@@ -62,12 +66,13 @@ pub(crate) fn fail_step(
     devices: &mut Devices<MemDisk>,
     commit: &mut Option<RunningCommit>,
     job: &Job,
+    buffer: &[Content],
     step: DeviceStep,
     choice: &CrashChoice,
 ) -> Result<bool, Refusal>
     requires { IsDoable (contents_of devices.old) commit.old job.now step }
     ensures may { IfOk result (λ may. IsTrue may ↔ MayFail (device_of step) choice.now (length (device_in (device_of step) (contents_of devices.old)))) }
-    ensures failed { IfOk result (λ may. OnTrue may (FailsAt choice.now (contents_of devices.old) commit.old job.now step (contents_of devices.new) commit.new)) }
+    ensures failed { IfOk result (λ may. OnTrue may (FailsAt choice.now (contents_of devices.old) commit.old job.now buffer.now step (contents_of devices.new) commit.new)) }
     ensures size { length devices.new.metadata.contents ≡ length devices.old.metadata.contents }
     ensures kept { IfOk result (λ may. OnFalse may ((contents_of devices.new ≡ contents_of devices.old) × (commit.new ≡ commit.old))) }
     ensures err { OnErr result ((contents_of devices.new ≡ contents_of devices.old) × (commit.new ≡ commit.old)) }
@@ -75,7 +80,9 @@ pub(crate) fn fail_step(
 {
     match step {
         DeviceStep::Read(device, _) => Ok(choice.may_fail(device, sectors_of(devices, device))),
-        DeviceStep::Write(device, extent) => fail_write(devices, device, extent, job, choice),
+        DeviceStep::Write(device, extent) => fail_write(
+            devices, device, extent, job, buffer, choice,
+        ),
         DeviceStep::Sync(device) => Ok(fail_sync(devices, commit, device, choice)),
         DeviceStep::WriteNode(_) | DeviceStep::WriteRoot => {
             fail_put(&mut devices.metadata, commit, step, choice)
@@ -90,11 +97,12 @@ fn fail_write(
     device: Dev,
     extent: Extent,
     job: &Job,
+    buffer: &[Content],
     choice: &CrashChoice,
 ) -> Result<bool, Refusal>
     requires { extent.first + extent.count ≤ length (device_in device (contents_of devices.old)) }
     ensures may { IfOk result (λ may. IsTrue may ↔ MayFail device choice.now (length (device_in device (contents_of devices.old)))) }
-    ensures failed { IfOk result (λ may. OnTrue may (contents_of devices.new ≡ with_device device (contents_of devices.old) (written_where (lands device choice.now) (device_in device (contents_of devices.old)) extent.first (contents_for job.now extent.count)))) }
+    ensures failed { IfOk result (λ may. OnTrue may (contents_of devices.new ≡ with_device device (contents_of devices.old) (written_where (lands device choice.now) (device_in device (contents_of devices.old)) extent.first (contents_for job.now buffer.now extent.count)))) }
     ensures kept { IfOk result (λ may. OnFalse may (contents_of devices.new ≡ contents_of devices.old)) }
     ensures err { OnErr result (contents_of devices.new ≡ contents_of devices.old) }
     ensures refusal { IfErr result (λ refusal. refusal ≡ Memory) }
@@ -102,7 +110,7 @@ fn fail_write(
     if !choice.may_fail(device, sectors_of(devices, device)) {
         return Ok(false);
     }
-    write_to(devices, device, extent, job, choice)?;
+    write_to(devices, device, extent, job, buffer, choice)?;
     Ok(true)
 }
 
@@ -155,17 +163,18 @@ fn write_to(
     device: Dev,
     extent: Extent,
     job: &Job,
+    buffer: &[Content],
     choice: &CrashChoice,
 ) -> Result<(), Refusal>
     requires { extent.first + extent.count ≤ length (device_in device (contents_of devices.old)) }
-    ensures ok { OnOk result (contents_of devices.new ≡ with_device device (contents_of devices.old) (written_where (lands device choice.now) (device_in device (contents_of devices.old)) extent.first (contents_for job.now extent.count))) }
+    ensures ok { OnOk result (contents_of devices.new ≡ with_device device (contents_of devices.old) (written_where (lands device choice.now) (device_in device (contents_of devices.old)) extent.first (contents_for job.now buffer.now extent.count))) }
     ensures err { OnErr result (contents_of devices.new ≡ contents_of devices.old) }
     ensures refusal { IfErr result (λ refusal. refusal ≡ Memory) }
 {
     match device {
-        Dev::Metadata => write_extent(&mut devices.metadata, device, extent, job, choice),
-        Dev::Cache => write_extent(&mut devices.cache, device, extent, job, choice),
-        Dev::Origin => write_extent(&mut devices.origin, device, extent, job, choice),
+        Dev::Metadata => write_extent(&mut devices.metadata, device, extent, job, buffer, choice),
+        Dev::Cache => write_extent(&mut devices.cache, device, extent, job, buffer, choice),
+        Dev::Origin => write_extent(&mut devices.origin, device, extent, job, buffer, choice),
     }
 }
 
@@ -175,18 +184,29 @@ fn write_extent(
     device: Dev,
     extent: Extent,
     job: &Job,
+    buffer: &[Content],
     choice: &CrashChoice,
 ) -> Result<(), Refusal>
     requires { extent.first + extent.count ≤ length disk.old.contents }
-    ensures ok { OnOk result (disk.new.contents ≡ written_where (lands device choice.now) disk.old.contents extent.first (contents_for job.now extent.count)) }
+    ensures ok { OnOk result (disk.new.contents ≡ written_where (lands device choice.now) disk.old.contents extent.first (contents_for job.now buffer.now extent.count)) }
     ensures err { OnErr result (disk.new.contents ≡ disk.old.contents) }
     ensures refusal { IfErr result (λ refusal. refusal ≡ Memory) }
 {
-    if let Job::Write(_, content) = job {
-        if make_room(disk, extent).is_err() {
-            return Err(Refusal::Memory);
+    match job {
+        Job::Write(_, content) => {
+            if make_room(disk, extent).is_err() {
+                return Err(Refusal::Memory);
+            }
+            write_landing(disk, device, extent, content, choice);
         }
-        write_landing(disk, device, extent, content, choice);
+        Job::Migrate(_, _) => {
+            let there = extent_of(disk, extent.first, buffer);
+            if make_room(disk, there).is_err() {
+                return Err(Refusal::Memory);
+            }
+            write_each_landing(disk, device, there, buffer, choice);
+        }
+        Job::Read(_) | Job::Flush | Job::Open(_) => {}
     }
     Ok(())
 }

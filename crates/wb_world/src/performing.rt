@@ -33,6 +33,7 @@ impl Target {
         alloc: Global,
         devices: &mut Devices<MemDisk>,
         job: &Job,
+        buffer: &[Content],
         want: Want,
     ) -> Result<(Got, Vec<Content>), Refusal>
         requires actor { actor < length self.old.crew.cards }
@@ -40,7 +41,7 @@ impl Target {
         requires ready { MayTake self.old.crew.blocks (card_of self.old.crew actor) want }
         requires possible { IsPossible (contents_of devices.old) self.old.commit job.now want }
         requires enough { Allows (node_count self.old.desk.geometry.cache_blocks) want }
-        ensures ok { IfOk result (λ given. Performs (contents_of devices.old) self.old actor job.now want given.0 given.1.items (contents_of devices.new) self.new) }
+        ensures ok { IfOk result (λ given. Performs (contents_of devices.old) self.old actor job.now buffer.now want given.0 given.1.items (contents_of devices.new) self.new) }
         ensures kind { IfOk result (λ given. IsStep want → Fits want given.0) }
         ensures size { length devices.new.metadata.contents ≡ length devices.old.metadata.contents }
         ensures err { OnErr result ((contents_of devices.new ≡ contents_of devices.old) × (self.new ≡ self.old)) }
@@ -49,11 +50,11 @@ impl Target {
         match want {
             Want::Cell(step) => Ok((self.take(actor, step), Vec::new(alloc))),
             Want::Device(step) => {
-                let read = do_step(alloc, devices, &mut self.commit, job, step)?;
+                let read = do_step(alloc, devices, &mut self.commit, job, buffer, step)?;
                 Ok((Got::Done, read))
             }
             Want::Desk(step) => {
-                let got = ask(alloc, &mut self.desk, &mut self.commit, step);
+                let got = ask(alloc, &mut self.desk, &mut self.commit, job, step);
                 Ok((got, Vec::new(alloc)))
             }
             Want::End(_) => Ok((Got::Done, Vec::new(alloc))),

@@ -1,4 +1,4 @@
-//! Whether a job over a target may be started, and the tasks of reads, writes and flushes.
+//! Whether a job over a target may be started, and the tasks of reads, writes, flushes and migrations.
 
 ghost use Rattle.std.specs.Prelude.{◌≡◌, ◌/◌, None, true};
 ghost use Rattle.wb_types.specs.Extents.{pieces};
@@ -7,13 +7,14 @@ ghost use Rattle.wb_tasks.specs.Tables.{OnBlock, Reading, Writing};
 ghost use Rattle.wb_runs.specs.Happenings.{block_range, extent_refusal, job_refusal, task_job};
 ghost use Rattle.wb_world.specs.declared.world.TheConstants.{ACTORS};
 ghost use Rattle.wb_world.specs.Life.{shape_of, wants_target};
-ghost use Rattle.wb_world.specs.Serving.{cut_for};
+ghost use Rattle.wb_world.specs.Serving.{cut_for, is_made, order_of};
 
 use crate::work::Work;
 use std::alloc::Global;
 use wb_flow::FlushTask;
+use wb_policy::Order;
 use wb_runs::Job;
-use wb_tasks::{ReadTask, RequestTask, WriteTask};
+use wb_tasks::{Migration, MigrationTask, ReadTask, RequestTask, WriteTask};
 use wb_types::{Extent, Geometry, OBlock, Refusal};
 
 /// Why a job is not started.
@@ -25,6 +26,7 @@ pub(crate) fn refusal_of(geometry: &Geometry, job: &Job) -> Option<Refusal>
         Job::Write(extent, _) => extent_refusal(geometry, *extent),
         Job::Flush => None,
         Job::Open(_) => None,
+        Job::Migrate(_, _) => None,
     }
 }
 
@@ -48,17 +50,42 @@ fn extent_refusal(geometry: &Geometry, extent: Extent) -> Option<Refusal>
     }
 }
 
-/// The task of a job that may be started: of a read's or write's steps on a device each takes one sector, and a flush allows as many
-/// nodes as an image may have.
+/// The order under which a job runs, if it is a migration.
+pub(crate) fn order_of(job: &Job) -> Option<Order>
+    ensures { result ≡ order_of job.now }
+{
+    match job {
+        Job::Migrate(Migration::Promote(cache), block) => Some(Order::Promote(*block, *cache)),
+        Job::Migrate(Migration::Demote, block) => Some(Order::Demote(*block)),
+        Job::Migrate(Migration::Clean, block) => Some(Order::Clean(*block)),
+        _ => None,
+    }
+}
+
+/// Whether such a job is made: any but a migration that is no promotion.
+pub(crate) fn is_made(job: &Job) -> bool
+    ensures { result ≡ is_made job.now }
+{
+    match job {
+        Job::Migrate(Migration::Demote, _) | Job::Migrate(Migration::Clean, _) => false,
+        _ => true,
+    }
+}
+
+/// The task of a job that may be started: of a read's, write's or migration's steps on a device each takes one sector, and a flush
+/// allows as many nodes as an image may have.
 pub(crate) fn task_of(alloc: Global, geometry: &Geometry, job: &Job) -> Work
     requires over { wants_target job.now ≡ true }
     requires may_start { job_refusal (shape_of geometry.now ACTORS) job.now ≡ None }
-    ensures { result ≡ table (task_job (shape_of geometry.now ACTORS) job.now (cut_for job.now)) }
+    ensures { result ≡ table (task_job (shape_of geometry.now ACTORS) job.now (cut_for (shape_of geometry.now ACTORS) job.now)) }
 {
     match job {
         Job::Read(extent) => Work::requests(RequestTask::reads(read_of(geometry, *extent))),
         Job::Write(extent, _) => Work::requests(RequestTask::writes(write_of(geometry, *extent))),
         Job::Flush => Work::flushes(FlushTask::new(Vec::new(alloc), geometry.node_count())),
+        Job::Migrate(migration, block) => {
+            Work::migrates(MigrationTask::new(*migration, geometry.block, *block, 1))
+        }
         Job::Open(_) => unreachable!(),
     }
 }

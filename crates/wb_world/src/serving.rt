@@ -21,7 +21,8 @@ use wb_disk::{CrashChoice, MemDisk};
 use wb_runs::{Job, What};
 use wb_types::{Geometry, Refusal};
 
-/// An actor gets a job, if it has none and the job may be started.
+/// An actor gets a job, if it has none and the job may be started. `Memory` where there is no room for an order; then nothing has
+/// changed.
 pub(crate) fn start(
     geometry: &Geometry,
     alloc: Global,
@@ -29,17 +30,19 @@ pub(crate) fn start(
     phase: &mut Phase,
     actor: usize,
     job: &Job,
-) -> What
+) -> Result<What, Refusal>
     requires there { IsThere ACTORS phase.old }
     requires sound { IsSound geometry.now ACTORS devices.now phase.old }
     ensures there { IsThere ACTORS phase.new }
     ensures sound { IsSound geometry.now ACTORS devices.now phase.new }
-    ensures does { Happens (shape_of geometry.now ACTORS) (state_of ACTORS devices.now phase.old) (Start actor job.now) result [] (state_of ACTORS devices.now phase.new) }
+    ensures ok { IfOk result (λ what. Happens (shape_of geometry.now ACTORS) (state_of ACTORS devices.now phase.old) (Start actor job.now) what [] (state_of ACTORS devices.now phase.new)) }
+    ensures err { OnErr result (state_of ACTORS devices.now phase.new ≡ state_of ACTORS devices.now phase.old) }
+    ensures refusal { IfErr result (λ refusal. refusal ≡ Memory) }
 {
     if wants_target(job) {
         return start_there(geometry, alloc, devices, phase, actor, job);
     }
-    open(geometry, alloc, devices, phase, actor, job)
+    Ok(open(geometry, alloc, devices, phase, actor, job))
 }
 
 /// The same of a job that wants a target: where none stands it is skipped.
@@ -50,16 +53,18 @@ fn start_there(
     phase: &mut Phase,
     actor: usize,
     job: &Job,
-) -> What
+) -> Result<What, Refusal>
     requires there { IsThere ACTORS phase.old }
     requires sound { IsSound geometry.now ACTORS devices.now phase.old }
     requires over { wants_target job.now ≡ true }
     ensures there { IsThere ACTORS phase.new }
     ensures sound { IsSound geometry.now ACTORS devices.now phase.new }
-    ensures does { Happens (shape_of geometry.now ACTORS) (state_of ACTORS devices.now phase.old) (Start actor job.now) result [] (state_of ACTORS devices.now phase.new) }
+    ensures ok { IfOk result (λ what. Happens (shape_of geometry.now ACTORS) (state_of ACTORS devices.now phase.old) (Start actor job.now) what [] (state_of ACTORS devices.now phase.new)) }
+    ensures err { OnErr result (state_of ACTORS devices.now phase.new ≡ state_of ACTORS devices.now phase.old) }
+    ensures refusal { IfErr result (λ refusal. refusal ≡ Memory) }
 {
     let Phase::Standing(target, members) = phase else {
-        return What::Skipped;
+        return Ok(What::Skipped);
     };
     start_over(geometry, alloc, devices, target, members, actor, job)
 }
@@ -69,24 +74,27 @@ fn start_over(
     geometry: &Geometry,
     alloc: Global,
     devices: &Devices<MemDisk>,
-    target: &Target,
+    target: &mut Target,
     members: &mut Vec<Member>,
     actor: usize,
     job: &Job,
-) -> What
-    requires there { IsThere ACTORS (Standing target.now members.old) }
-    requires sound { IsSound geometry.now ACTORS devices.now (Standing target.now members.old) }
+) -> Result<What, Refusal>
+    requires there { IsThere ACTORS (Standing target.old members.old) }
+    requires sound { IsSound geometry.now ACTORS devices.now (Standing target.old members.old) }
     requires over { wants_target job.now ≡ true }
-    ensures there { IsThere ACTORS (Standing target.now members.new) }
-    ensures sound { IsSound geometry.now ACTORS devices.now (Standing target.now members.new) }
-    ensures does { Happens (shape_of geometry.now ACTORS) (state_of ACTORS devices.now (Standing target.now members.old)) (Start actor job.now) result [] (state_of ACTORS devices.now (Standing target.now members.new)) }
+    ensures there { IsThere ACTORS (Standing target.new members.new) }
+    ensures sound { IsSound geometry.now ACTORS devices.now (Standing target.new members.new) }
+    ensures ok { IfOk result (λ what. Happens (shape_of geometry.now ACTORS) (state_of ACTORS devices.now (Standing target.old members.old)) (Start actor job.now) what [] (state_of ACTORS devices.now (Standing target.new members.new))) }
+    ensures err { OnErr result ((target.new ≡ target.old) × (members.new.items ≡ members.old.items)) }
+    ensures refusal { IfErr result (λ refusal. refusal ≡ Memory) }
 {
     let _ = devices;
     if actor >= members.len() {
-        return What::Skipped;
+        return Ok(What::Skipped);
     }
     let member = &mut members[actor];
-    member.start(alloc, geometry, job)
+    let what = member.start(alloc, geometry, &mut target.desk, job)?;
+    Ok(what)
 }
 
 /// Whether the job is one of a target that stands.

@@ -89,7 +89,7 @@ fn works(members: &Vec<Member>, actor: usize) -> bool
     requires { actor < length members.now.items }
     ensures { result ≡ works_there members.now.items actor }
 {
-    members[actor].task.is_some()
+    members[actor].is_busy()
 }
 
 /// Whether one stands that has not failed.

@@ -5,15 +5,16 @@ ghost use Rattle.wb_tasks.specs.Plan.{Plan, want, after, MayCome};
 
 use std::marker::Model;
 use wb_flow::FlushTask;
-use wb_tasks::{Got, RequestTask, Task, Want};
+use wb_tasks::{Got, MigrationTask, RequestTask, Task, Want};
 
 #[derive(Drop)]
 enum Kind {
     Requests(RequestTask),
     Flushes(FlushTask),
+    Migrates(MigrationTask),
 }
 
-/// What is left of a read, a write or a flush.
+/// What is left of a read, a write, a flush or a migration.
 #[derive(Drop)]
 pub struct Work {
     kind: Kind,
@@ -48,6 +49,15 @@ impl Work {
         }
     }
 
+    /// A migration.
+    pub(crate) fn migrates(task: MigrationTask) -> Work
+        ensures { result ≡ task }
+    {
+        Work {
+            kind: Kind::Migrates(task),
+        }
+    }
+
     /// The next step, or the answer.
     pub fn want(&self) -> Want
         ensures { result ≡ want self.now }
@@ -55,6 +65,7 @@ impl Work {
         match &self.kind {
             Kind::Requests(task) => task.want(),
             Kind::Flushes(task) => task.want(),
+            Kind::Migrates(task) => task.want(),
         }
     }
 }
@@ -66,6 +77,7 @@ impl Task for Work {
         match &mut self.kind {
             Kind::Requests(task) => task.next(got),
             Kind::Flushes(task) => task.next(got),
+            Kind::Migrates(task) => task.next(got),
         }
     }
 }

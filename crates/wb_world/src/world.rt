@@ -22,9 +22,10 @@ use std::alloc::Global;
 use std::marker::Model;
 use wb_devices::Devices;
 use wb_disk::MemDisk;
+use wb_headline::reads_give_the_latest_write;
 use wb_meta::format;
 use wb_policy::Quiet;
-use wb_runs::{Event, Record, never_stuck, reads_give_the_latest_write, words_are_used_rightly};
+use wb_runs::{Event, Record, never_stuck, words_are_used_rightly};
 use wb_types::{Content, Geometry, Refusal};
 
 /// How many actors a world has.
@@ -165,7 +166,7 @@ fn happen(
 {
     match event {
         Event::Start(a, job) => {
-            let what = start(geometry, alloc, devices, phase, *a, job);
+            let what = start(geometry, alloc, devices, phase, *a, job)?;
             Ok(Outcome::told(alloc, what))
         }
         Event::Step(a) => step(geometry, alloc, devices, phase, *a),

@@ -1,4 +1,4 @@
-use Rattle.wb_runs.proofs.Causing.{run_refuses}
+use Rattle.wb_runs.proofs.LinkedRuns.{run_refuses}
 use Rattle.wb_runs.proofs.law.openings_refuse_by_cause.Goals as goal
 
 pub returns : goal.returns

@@ -55,7 +55,7 @@ returns-clause-sound c =
         failed = stands.failed;
         sizes = stands.sizes;
         roomy = roomy_set nodes members.items c.args.actor c.falter.new.self stands.roomy
-            (fault_roomy nodes c.args.choice.now (contents_of c.args.devices.now) target.commit m.task c.in_ok-what.what (contents_of c.falter.new.devices) c.falter.new.commit c.falter.new.self.task (stands.roomy c.args.actor m here) c.in_ok-what.ensures.ok);
+            (fault_roomy nodes c.args.choice.now (contents_of c.args.devices.now) target.commit m c.in_ok-what.what (contents_of c.falter.new.devices) c.falter.new.commit c.falter.new.self (stands.roomy c.args.actor m here) c.in_ok-what.ensures.ok);
       };
     }
 

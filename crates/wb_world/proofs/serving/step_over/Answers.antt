@@ -58,7 +58,7 @@ pub returns-clause-there : goal.returns-clause-there
 returns-clause-there c =
     let target = c.args.target.now in
     let m = c.index_mut-member.result.now in
-    let keeps = step_keeps (contents_of c.args.devices.now) target c.args.actor m.task c.in_ok-done.done.what c.in_ok-done.done.read.items (contents_of c.step.new.devices) c.step.new.target c.step.new.self.task c.requires.sound.stands.failed c.in_ok-done.ensures.ok in
+    let keeps = step_keeps (contents_of c.args.devices.now) target c.args.actor m c.in_ok-done.done.what c.in_ok-done.done.read.items (contents_of c.step.new.devices) c.step.new.target c.step.new.self c.requires.sound.stands.failed c.in_ok-done.ensures.ok in
     (keeps.cards ∙ c.requires.there.0, length-set c.args.members.now.items c.args.actor c.step.new.self ∙ c.requires.there.1)
 
 pub returns-clause-sound : goal.returns-clause-sound
@@ -69,7 +69,7 @@ returns-clause-sound c =
     let nodes = node_count c.args.geometry.now.cache_blocks in
     let here = slice_get_read members.items c.len.result c.args.actor m (omega (arith, members.ok)) (omega arith) c.index_mut-member.ensures.value in
     let stands = c.requires.sound.stands in
-    let keeps = step_keeps (contents_of c.args.devices.now) target c.args.actor m.task c.in_ok-done.done.what c.in_ok-done.done.read.items (contents_of c.step.new.devices) c.step.new.target c.step.new.self.task stands.failed c.in_ok-done.ensures.ok in
+    let keeps = step_keeps (contents_of c.args.devices.now) target c.args.actor m c.in_ok-done.done.what c.in_ok-done.done.read.items (contents_of c.step.new.devices) c.step.new.target c.step.new.self stands.failed c.in_ok-done.ensures.ok in
     record {
       whole = c.in_ok-done.ensures.size ∙ c.requires.sound.whole;
       stands = record {
@@ -77,7 +77,7 @@ returns-clause-sound c =
         failed = keeps.failed;
         sizes = keeps.sizes ∙ stands.sizes;
         roomy = roomy_set nodes members.items c.args.actor c.step.new.self stands.roomy
-            (step_roomy nodes (contents_of c.args.devices.now) target c.args.actor m.task c.in_ok-done.done.what c.in_ok-done.done.read.items (contents_of c.step.new.devices) c.step.new.target c.step.new.self.task (stands.roomy c.args.actor m here) c.in_ok-done.ensures.ok);
+            (step_roomy nodes (contents_of c.args.devices.now) target c.args.actor m c.in_ok-done.done.what c.in_ok-done.done.read.items (contents_of c.step.new.devices) c.step.new.target c.step.new.self (stands.roomy c.args.actor m here) c.in_ok-done.ensures.ok);
       };
     }
 

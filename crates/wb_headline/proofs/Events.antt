@@ -1,0 +1,87 @@
+-- A run of the abstract world goes on by events, and what it promises of the site that it has come to.
+use Rattle.std.proofs.Common.{◌≡◌, ◌∙◌, ℕ, true, List, [], ◌∷◌, ◌++◌, refl, sym, ap, subst, map, Contains}
+use Rattle.wb_disk.specs.Device.{Content, entries}
+use Rattle.wb_contents.specs.Volume.{Locations, at_location}
+use Rattle.wb_contents.specs.Promises.{IsEntryFrom}
+use Rattle.wb_link.specs.World.{World, Record, IsRun, after_all, after_record}
+use Rattle.wb_link.specs.Clerk.{Notes, opened}
+use Rattle.wb_link.specs.Openings.{Event, On, Site, Phase, Stands, after_event, after_events, note_event, noted, EventRight, AllRight, MayHappen, Happens, site}
+use Rattle.wb_link.specs.Headline.{Headline}
+use Rattle.wb_link.proofs.Lives.{headline}
+use Rattle.wb_simulation.specs.Worlds.{zeros}
+use Rattle.wb_simulation.specs.Noted.{told}
+
+-- Some run from empty devices has come to this site, and its clerk has these notes.
+pub record Reached (size many : ℕ) (v : Site) (m : Notes) : Type 0 where
+  pub events : List Event
+  pub happens : Happens size (site many zeros) events
+  pub at : after_events (site many zeros) events ≡ v
+  pub notes : noted (opened (λ b o. zeros)) events ≡ m
+
+-- ---- one run behind another
+
+after-append : (v : Site) (es fs : List Event) → after_events v (es ++ fs) ≡ after_events (after_events v es) fs
+after-append v [] fs = refl
+after-append v (e ∷ es) fs = after-append (after_event v e) es fs
+
+noted-append : (m : Notes) (es fs : List Event) → noted m (es ++ fs) ≡ noted (noted m es) fs
+noted-append m [] fs = refl
+noted-append m (e ∷ es) fs = noted-append (note_event m e) es fs
+
+happens-append : (size : ℕ) (v : Site) (es fs : List Event) → Happens size v es → Happens size (after_events v es) fs → Happens size v (es ++ fs)
+happens-append size v [] fs h k = k
+happens-append size v (e ∷ es) fs h k = (h.0, happens-append size (after_event v e) es fs h.1 k)
+
+right_behind : (m : Notes) (es fs : List Event) → AllRight m (es ++ fs) → AllRight (noted m es) fs
+right_behind m [] fs r = r
+right_behind m (e ∷ es) fs r = right_behind (note_event m e) es fs r.1
+
+pub start_reached : (size many : ℕ) → Reached size many (site many zeros) (opened (λ b o. zeros))
+start_reached size many = record { events = []; happens = tt; at = refl; notes = refl }
+
+module _ (size many : ℕ) (v : Site) (m : Notes) (r : Reached size many v m) where
+  pub goes_on : (es : List Event) → Happens size v es → Reached size many (after_events v es) (noted m es)
+  goes_on es h = record {
+    events = r.events ++ es;
+    happens = happens-append size (site many zeros) r.events es r.happens (subst (λ (w : Site). Happens size w es) (sym r.at) h);
+    at = after-append (site many zeros) r.events es ∙ ap (λ (w : Site). after_events w es) r.at;
+    notes = noted-append (opened (λ b o. zeros)) r.events es ∙ ap (λ (n : Notes). noted n es) r.notes;
+  }
+
+  -- whatever happens next is right
+  pub is_right : (es : List Event) → Happens size v es → AllRight m es
+  is_right es h =
+      let all = headline size many zeros (r.events ++ es) (happens-append size (site many zeros) r.events es r.happens (subst (λ (w : Site). Happens size w es) (sym r.at) h)) in
+      subst (λ (n : Notes). AllRight n es) r.notes (right_behind (opened (λ b o. zeros)) r.events es all.right)
+
+  -- what a crash may leave where the committed image has a block is allowed
+  pub committed_allowed : (b o : ℕ) (c : Content) → Contains (entries (at_location v.world.shared.origin v.world.shared.cache (v.world.shared.committed b) b o)) c → IsEntryFrom (m.floors b o) (m.histories b o) c
+  committed_allowed = subst (λ (n : Notes). (b o : ℕ) (c : Content) → Contains (entries (at_location v.world.shared.origin v.world.shared.cache (v.world.shared.committed b) b o)) c → IsEntryFrom (n.floors b o) (n.histories b o) c) r.notes
+      (subst (λ (w : Site). (b o : ℕ) (c : Content) → Contains (entries (at_location w.world.shared.origin w.world.shared.cache (w.world.shared.committed b) b o)) c → IsEntryFrom ((noted (opened (λ b o. zeros)) r.events).floors b o) ((noted (opened (λ b o. zeros)) r.events).histories b o) c) r.at
+      (headline size many zeros r.events r.happens).committed)
+
+  -- and where the running one has it, once its root was written
+  pub running_allowed : v.world.shared.root_written ≡ true → (b o : ℕ) (c : Content) → Contains (entries (at_location v.world.shared.origin v.world.shared.cache (v.world.shared.running b) b o)) c → IsEntryFrom (m.floors b o) (m.histories b o) c
+  running_allowed = subst (λ (n : Notes). v.world.shared.root_written ≡ true → (b o : ℕ) (c : Content) → Contains (entries (at_location v.world.shared.origin v.world.shared.cache (v.world.shared.running b) b o)) c → IsEntryFrom (n.floors b o) (n.histories b o) c) r.notes
+      (subst (λ (w : Site). w.world.shared.root_written ≡ true → (b o : ℕ) (c : Content) → Contains (entries (at_location w.world.shared.origin w.world.shared.cache (w.world.shared.running b) b o)) c → IsEntryFrom ((noted (opened (λ b o. zeros)) r.events).floors b o) ((noted (opened (λ b o. zeros)) r.events).histories b o) c) r.at
+      (headline size many zeros r.events r.happens).running)
+
+-- ---- records of tasks, where a target stands
+
+-- the site with a later world
+abbrev pub gone_on : Site → List Record → Site
+gone_on v rs = record { world = after_all v.world rs; phase = v.phase }
+
+after-records : (v : Site) (rs : List Record) → after_events v (map (λ (r : Record). On r) rs) ≡ gone_on v rs
+after-records v [] = refl
+after-records v (r ∷ rs) = after-records (after_event v (On r)) rs
+
+pub records_happen : (size : ℕ) (v : Site) (rs : List Record) → v.phase ≡ Stands → IsRun size v.world rs → Happens size v (map (λ (r : Record). On r) rs)
+records_happen size v [] p run = tt
+records_happen size v (r ∷ rs) p run = ((p, run.0), records_happen size (after_event v (On r)) rs p run.1)
+
+pub records_reach : (size many : ℕ) (v : Site) (m : Notes) (rs : List Record) → Reached size many v m → v.phase ≡ Stands → IsRun size v.world rs → Reached size many (gone_on v rs) (told m rs)
+records_reach size many v m rs r p run = subst (λ (w : Site). Reached size many w (told m rs)) (after-records v rs) (goes_on size many v m r (map (λ (x : Record). On x) rs) (records_happen size v rs p run))
+
+pub event_reaches : (size many : ℕ) (v : Site) (m : Notes) (e : Event) → Reached size many v m → MayHappen size v e → Reached size many (after_event v e) (note_event m e)
+event_reaches size many v m e r h = goes_on size many v m r (e ∷ []) (h, tt)

@@ -1,0 +1,437 @@
+-- Each step of a flush, with each result that it may have, is followed.
+use Rattle.std.proofs.Common.{◌≡◌, ◌≢◌, ◌∙◌, ◌≤◌, ◌&&◌, ◌==◌, ◌⊎◌, inl, inr, ℕ, Bool, true, false, if◌then◌else◌, List, [], ◌∷◌, Option, Some, None, refl, sym, ap, subst, length, slice_get, slice_set}
+use Rattle.std.proofs.lemmas.List.{length-set}
+use Rattle.wb_types.specs.declared.geometry.Geometry.{Geometry}
+use Rattle.wb_types.specs.declared.number.Place.{Place}
+use Rattle.wb_types.specs.declared.mode.Dev.{Dev}
+use Rattle.wb_types.specs.declared.mode.Dev.TheVariants.{Metadata, Cache, Origin}
+use Rattle.wb_types.specs.declared.refusal.Refusal.{Refusal}
+use Rattle.wb_types.specs.declared.refusal.Refusal.TheVariants.{Busy, Memory, GenerationEnd}
+use Rattle.wb_disk.specs.Device.{Content as Bytes, History, synced}
+use Rattle.wb_disk.specs.Failing.{synced_where}
+use Rattle.wb_words.specs.Rule.{LockRule}
+use Rattle.wb_words.specs.SharedWords.{Words}
+use Rattle.wb_words.specs.Effects.{result_of, words_after}
+use Rattle.wb_words.specs.declared.step.CellStep.{CellStep}
+use Rattle.wb_words.specs.declared.step.CellStep.TheVariants.{Look, SetFailed}
+use Rattle.wb_words.specs.declared.word.Word.TheVariants.{Fail}
+use Rattle.wb_format.specs.declared.node.Node.{Node}
+use Rattle.wb_tree.specs.declared.image.Image.{Image}
+use Rattle.wb_tree.specs.Mapping.{Mapping}
+use Rattle.wb_meta.specs.Representing.{Stored}
+use Rattle.wb_meta.specs.Steps.{DoesStep, FailsStep, steps_after, after_node}
+use Rattle.wb_meta.specs.Commits.{HasFailed}
+use Rattle.wb_meta.specs.declared.commit_steps.CommitSteps.{CommitSteps}
+use Rattle.wb_meta.specs.declared.commit_steps.CommitSteps.TheVariants.{NodesWritten, NodesSynced, RootWritten, Done as Committed}
+use Rattle.wb_meta.proofs.Stepping.{fails as step_fails}
+use Rattle.wb_policy.specs.declared.order.Order.{Order}
+use Rattle.wb_desk.specs.Desks.{DeskState}
+use Rattle.wb_desk.specs.Commits.{IsBeginRefused, commit_begun, commit_ended}
+use Rattle.wb_tasks.specs.Plan.{Plan, want, after, got_of, device_of}
+use Rattle.wb_tasks.specs.Ready.{HoldsBlocks}
+use Rattle.wb_tasks.specs.declared.step.Answer.{Answer}
+use Rattle.wb_tasks.specs.declared.step.Answer.TheVariants.{Done as Finished, Refused as Refuses}
+use Rattle.wb_tasks.specs.declared.step.DeviceStep.{DeviceStep}
+use Rattle.wb_tasks.specs.declared.step.DeviceStep.TheVariants.{Read as ReadExtent, Write as WriteExtent, Sync, ReadMetadata, WriteNode, WriteRoot}
+use Rattle.wb_tasks.specs.declared.step.DeskStep.TheVariants.{BeginCommit, EndCommit}
+use Rattle.wb_tasks.specs.declared.step.Want.{Want}
+use Rattle.wb_tasks.specs.declared.step.Want.TheVariants.{Cell, Device, Desk, End}
+use Rattle.wb_tasks.specs.declared.step.Got.{Got}
+use Rattle.wb_tasks.specs.declared.step.Got.TheVariants.{Done, Fault, Began, Refused as GotRefused}
+use Rattle.wb_devices.specs.declared.devices.Devices.{Devices}
+use Rattle.wb_devices.specs.declared.running.RunningCommit.{RunningCommit}
+use Rattle.wb_devices.specs.Moving.{device_in}
+use Rattle.wb_devices.specs.Committing.{is_coming, goes_on, is_committed}
+use Rattle.wb_stage.specs.Asking.{HasBegun, ended}
+use Rattle.wb_roots.specs.Roots.{MayBeReadAs, Commit}
+use Rattle.wb_roots.proofs.Leading.{after_failure, after_failed_node}
+use Rattle.wb_runs.specs.declared.job.Job.{Job}
+use Rattle.wb_runs.specs.declared.job.Job.TheVariants.{Flush}
+use Rattle.wb_runs.specs.States.{Shape, State, Actor, Target, Phase, Stands, with_device}
+use Rattle.wb_runs.specs.Effects.{actor_then}
+use Rattle.wb_runs.specs.Holding.{cards_of}
+use Rattle.wb_runs.specs.Clerk.{Notes, Doing, noted_step, device_note, failing, put, finished_note, greater_of}
+use Rattle.wb_runs.proofs.Images.{Images, later_of, one_image}
+use Rattle.wb_runs.proofs.Underway.{Underway, Readable, images_of, is_written, led_on}
+use Rattle.wb_runs.proofs.Metadata.{MetadataKept, AtDesk, Leading, Quiet, Broken, begins_over, ends_over, kept_readable}
+use Rattle.wb_link.specs.Tables.{Flushing as FlushingFor}
+use Rattle.wb_link.specs.World.{World, Shared, after_all}
+use Rattle.wb_refines.specs.Flushes.{IsNoBegin, IsWrittenAfter}
+use Rattle.wb_simulation.specs.Noting.{NotesAgree}
+use Rattle.wb_simulation.specs.Noted.{told}
+use Rattle.wb_simulation.specs.Sites.{ImagesAgree, IsRunning, locations}
+use Rattle.wb_simulation.specs.Telling.{Telling, Quietly, Answers}
+use Rattle.wb_simulation.specs.Worlds.{Agrees, Turn, Stays, Begins, Puts, Ends, TurnedTo, FollowsBy, Follows}
+use Rattle.wb_simulation.specs.Laws.{went, after_step, turn_of}
+use Rattle.wb_simulation.proofs.Flushes.{flush_steps_followed}
+use Rattle.wb_simulation.proofs.Noted.{notes_followed}
+use Rattle.wb_simulation.proofs.Opening.{images_followed}
+use Rattle.wb_headline.specs.Desks.{live_orders}
+use Rattle.wb_headline.proofs.Desking.{desk_stays, desk_begins, desk_ends}
+use Rattle.wb_headline.proofs.Following.{size, most, Sized, Followed, Goes}
+use Rattle.wb_headline.proofs.Rooted.{same_one}
+use Rattle.wb_headline.proofs.Targets.{standing, actor_is, beside, noted_within, stays_on, leads_on}
+
+-- ---- the commit, by itself
+
+-- a step that is not the root's leaves the root written or not
+written_before : (image : Image) (steps : CommitSteps) (step : DeviceStep) → is_coming image steps step ≡ true → (step ≢ WriteRoot) → is_written (steps_after image steps) ≡ true → is_written steps ≡ true
+written_before image (NodesWritten count) step e n w = by (slice_get image.nodes.items count) w
+  where
+    by : (o : Option (Place × Node)) → is_written (after_node o count) ≡ true → false ≡ true
+    by None w = w
+    by (Some node) w = w
+written_before image NodesSynced WriteRoot e n w = absurd (n refl)
+written_before image NodesSynced step e n w = absurd (cc)
+written_before image RootWritten step e n w = refl
+written_before image Committed step e n w = refl
+
+and_left : (a b : Bool) → (a && b) ≡ true → a ≡ true
+and_left true b e = refl
+and_left false b e = absurd (cc)
+
+-- whether the root may have been written once a step failed
+abbrev failed_written : CommitSteps → Bool
+failed_written (NodesWritten count) = false
+failed_written steps = true
+
+-- so it is there
+written_there : (image : Image) (steps : CommitSteps) (step : DeviceStep) (before after : Bool) → is_coming image steps step ≡ true → (is_written steps ≡ true → before ≡ true) → IsWrittenAfter step before after → failed_written steps ≡ true → after ≡ true
+written_there image (NodesWritten count) step before after e b w f = absurd (cc)
+written_there image NodesSynced WriteRoot before after e b w f = w
+written_there image NodesSynced (Sync device) before after e b w f = absurd (cc)
+written_there image NodesSynced (ReadExtent d x) before after e b w f = absurd (cc)
+written_there image NodesSynced (WriteExtent d x) before after e b w f = absurd (cc)
+written_there image NodesSynced (ReadMetadata left) before after e b w f = absurd (cc)
+written_there image NodesSynced (WriteNode number) before after e b w f = absurd (cc)
+written_there image RootWritten (Sync device) before after e b w f = w (b refl)
+written_there image RootWritten (ReadExtent d x) before after e b w f = absurd (cc)
+written_there image RootWritten (WriteExtent d x) before after e b w f = absurd (cc)
+written_there image RootWritten (ReadMetadata left) before after e b w f = absurd (cc)
+written_there image RootWritten (WriteNode number) before after e b w f = absurd (cc)
+written_there image RootWritten WriteRoot before after e b w f = absurd (cc)
+written_there image Committed step before after e b w f = absurd (cc)
+
+module _ (g : Geometry) (images : Images) (commit : RunningCommit) (of : Commit) (old new : List History) (u : Underway g images commit of old) where
+  -- what is read once a step failed
+  failed_read : FailsStep commit.image commit.steps old new → Readable g (images_of of (failed_written commit.steps)) new
+  failed_read bad = by_steps commit.steps (step_fails of.image of.old.root.geometry.meta_sectors of.before old new commit.steps u.can.places u.come (subst (λ (i : Image). FailsStep i commit.steps old new) (sym u.image) bad))
+    where
+      two : MayBeReadAs of.old.root.geometry of.old (Some of.new) new → Readable g (images_of of true) new
+      two m = record { read = subst (λ (x : Geometry). MayBeReadAs x of.old (Some of.new) new) u.same m; fit = u.fit; fit_later = u.fit_new }
+
+      by_steps : (steps : CommitSteps) → HasFailed of.image of.before steps new → Readable g (images_of of (failed_written steps)) new
+      by_steps (NodesWritten count) f = record { read = subst (λ (x : Geometry). MayBeReadAs x of.old None new) u.same (after_failed_node of u.can count new f); fit = u.fit; fit_later = u.fit_new }
+      by_steps NodesSynced f = two (after_failure of u.can NodesSynced new f)
+      by_steps RootWritten f = two (after_failure of u.can RootWritten new f)
+      by_steps Committed f = absurd f
+
+-- a target's images while a commit is under way
+runs_there : (of : Commit) (written : Bool) (s : Shared) → (written ≡ true → s.root_written ≡ true) → s.running ≡ locations of.new → IsRunning (later_of (images_of of written)) s
+runs_there of true s w r = (w refl, r)
+runs_there of false s w r = tt
+
+some_is : {X : Type 0} (a b : X) → ◌≡◌ {A = Option X} (Some a) (Some b) → a ≡ b
+some_is a b e = ap (λ o. Rattle.std.proofs.Common.unwrap_or o a) e
+
+failing_entered : (doing : Doing) (step : DeviceStep) (got : Got) → ((failing doing step got).entered ≡ doing.entered) × ((failing doing step got).then_finished ≡ doing.then_finished)
+failing_entered doing step Fault = (refl, refl)
+failing_entered doing step got = (refl, refl)
+
+module _ (P A : Type 0) (shape : Shape) (images : Images) (t : Target P) (commit : Option RunningCommit) (devices : Devices (List History)) (actors : List Actor) (n : Notes) (known : MetadataKept {P = P} {A = A} shape.geometry images (Stands t) commit devices.metadata)
+    (f : Followed P A shape images (standing P A shape images t commit devices actors n) n) (rule : LockRule shape.geometry.origin_blocks t.words (cards_of actors)) (a : ℕ) (x : Actor) (ex : slice_get actors a ≡ Some x) (plan : Plan) (xt : x.task ≡ Some (Flush, plan))
+    (shown : List Bytes) (doing : Doing) (noted : slice_get n.doings a ≡ Some (Some doing)) (job_is : doing.job ≡ Flush) where
+  abbrev s : Shared
+  s = f.site.world.shared
+
+  -- the state after a step, by this actor
+  abbrev then_is : Target P → Option RunningCommit → Devices (List History) → Want → Got → State P A
+  then_is t' commit' devices' next got = record { devices = devices'; commit = commit'; phase = Stands t'; actors = slice_set actors a (actor_then {P = P} {A = A} shape (Stands t) devices x next got) }
+
+  -- what is noted of a step on a device, and of any other
+  abbrev device_n : DeviceStep → Got → Notes
+  device_n step got = put n a (Some (failing doing step got))
+
+  sized_device : (step : DeviceStep) (got : Got) (y : Actor) → Sized P A shape (slice_set actors a y) (device_n step got)
+  sized_device step got y = record { actors_many = length-set actors a y ∙ f.sized.actors_many; doings_many = length-set n.doings a (Some (failing doing step got)) ∙ f.sized.doings_many; sectors = f.sized.sectors }
+
+  sized_plain : (y : Actor) → Sized P A shape (slice_set actors a y) n
+  sized_plain y = record { actors_many = length-set actors a y ∙ f.sized.actors_many; doings_many = f.sized.doings_many; sectors = f.sized.sectors }
+
+  noted_less : Rattle.std.proofs.Common.◌<◌ a (length n.doings)
+  noted_less = noted_within P A shape images t commit devices actors n known f a x ex
+
+  quiet_notes : (turn : Turn) (words' : Words) (committing' : Bool) (orders' : List (Option Order)) (devices' : Devices (List History)) (y : Actor) (g : FollowsBy turn Quietly (size P A shape) (most P A shape) a f.site.world words' committing' orders' devices' (slice_set actors a y)) →
+      NotesAgree (size P A shape) n (after_all f.site.world g.records) (told f.notes g.records)
+  quiet_notes turn words' committing' orders' devices' y g =
+      let b = beside P A shape images t commit devices actors n known f a x ex in
+      notes_followed.quiet turn (size P A shape) (most P A shape) a f.site.world words' committing' orders' devices' (slice_set actors a y) g b.0 n f.notes b.1 noted_less f.notes_agree
+
+  -- ---- steps on devices
+
+  module _ (turn : Turn) (step : DeviceStep) (got : Got) (contents : List Bytes) (t' : Target P) (commit' : Option RunningCommit) (devices' : Devices (List History)) (images' : Images) (plain : Rattle.wb_runs.specs.Effects.buffer_then devices x.buffer (Device step) got Flush ≡ x.buffer)
+      (g : FollowsBy turn Quietly (size P A shape) (most P A shape) a f.site.world t'.words t'.desk.space.committing (live_orders t'.desk) devices' (slice_set actors a (after_step Flush plan got x))) where
+    device_notes : NotesAgree (size P A shape) (device_n step got) (after_all f.site.world g.records) (told f.notes g.records)
+    device_notes = let e = failing_entered doing step got in notes_followed.redone (size P A shape) n (after_all f.site.world g.records) (told f.notes g.records) a doing (failing doing step got) (quiet_notes turn t'.words t'.desk.space.committing (live_orders t'.desk) devices' (after_step Flush plan got x) g) noted e.0 e.1
+
+    on_device : AtDesk shape.geometry images' t'.desk commit' devices'.metadata → Rattle.wb_headline.specs.Desks.DeskAgrees t'.desk (after_all f.site.world g.records).shared → ImagesAgree shape.geometry images'.committed (later_of images') devices'.metadata (after_all f.site.world g.records).shared →
+        ((state : Stored) → images'.running ≡ Some state → (after_all f.site.world g.records).shared.running ≡ locations state) → Goes P A shape (then_is t' commit' devices' (Device step) got) (noted_step shape shown n a (Some (Some doing)) (Device step) got contents)
+    on_device known' desk images_agree running =
+        subst (λ (q : Job). Goes P A shape (then_is t' commit' devices' (Device step) got) (device_note shape (device_n step got) a (failing doing step got) q step got contents)) (sym job_is)
+        (subst (λ (y : Actor). Goes P A shape (record { devices = devices'; commit = commit'; phase = Stands t'; actors = slice_set actors a y }) (device_n step got)) (sym (actor_is P A shape (Stands t) devices x Flush plan (Device step) got xt ∙ (λ i. record (after_step Flush plan got x) { buffer = plain i })))
+        (leads_on P A shape images t commit devices actors n known f a x ex turn Quietly t' commit' devices' (slice_set actors a (after_step Flush plan got x)) (device_n step got) images' g tt device_notes (sized_device step got (after_step Flush plan got x)) known' desk images_agree running))
+
+  -- cache and origin are synced, or fail to be
+  module _ (device : Dev) (holds : HoldsBlocks device) (next : Device (Sync device) ≡ want plan) (contents : List Bytes) where
+    metadata_same : (list : List History) → (with_device device devices list).metadata ≡ devices.metadata
+    metadata_same list = by device holds
+      where
+        by : (d : Dev) → HoldsBlocks d → (with_device d devices list).metadata ≡ devices.metadata
+        by Cache h = refl
+        by Origin h = refl
+        by Metadata h = absurd h
+
+    synced_so : (got : Got) (list : List History) → Follows Quietly (size P A shape) (most P A shape) a f.site.world t.words t.desk.space.committing (live_orders t.desk) (with_device device devices list) (slice_set actors a (after_step Flush plan got x)) →
+        Goes P A shape (then_is t commit (with_device device devices list) (Device (Sync device)) got) (noted_step shape shown n a (Some (Some doing)) (Device (Sync device)) got contents)
+    synced_so got list g =
+        let known' = subst (λ (m : List History). AtDesk shape.geometry images t.desk commit m) (sym (metadata_same list)) known in
+        let s' = (after_all f.site.world g.records).shared in
+        let readable = kept_readable shape.geometry images (with_device device devices list).metadata P A (Stands t) commit known' in
+        on_device Stays (Sync device) got contents t commit (with_device device devices list) images refl g known' (desk_stays P t.desk s s' f.phase.desk t.desk refl refl g.desk.0 g.desk.1)
+        (images_followed.stay shape.geometry images.committed (later_of images) devices.metadata (with_device device devices list).metadata s s' f.phase.images_agree g.turned readable.read) (λ state e. g.turned.1 ∙ f.phase.running state e)
+
+    pub syncs : Goes P A shape (then_is t commit (with_device device devices (synced (device_in device devices))) (Device (Sync device)) Done) (noted_step shape shown n a (Some (Some doing)) (Device (Sync device)) Done contents)
+    syncs = synced_so Done (synced (device_in device devices)) (flush_steps_followed.syncs (size P A shape) (most P A shape) device t.words t.desk.space.committing (live_orders t.desk) devices actors a x plan f.site.world holds ex xt (sym next) f.phase.agrees)
+
+    pub sync_fails : (lands : ℕ → Bool) → Goes P A shape (then_is t commit (with_device device devices (synced_where lands (device_in device devices))) (Device (Sync device)) Fault) (noted_step shape shown n a (Some (Some doing)) (Device (Sync device)) Fault contents)
+    sync_fails lands = synced_so Fault (synced_where lands (device_in device devices)) (flush_steps_followed.sync_fails (size P A shape) (most P A shape) device lands t.words t.desk.space.committing (live_orders t.desk) devices actors a x plan f.site.world holds ex xt (sym next) f.phase.agrees)
+
+  -- ---- steps of the commit on the metadata
+
+  module _ (step : DeviceStep) (of_metadata : device_of step ≡ Metadata) (next : Device step ≡ want plan) (contents : List Bytes) (c : RunningCommit) (runs : commit ≡ Some c) (coming : is_coming c.image c.steps step ≡ true) (new : List History) where
+    k : AtDesk shape.geometry images t.desk (Some c) devices.metadata
+    k = subst (λ (m : Option RunningCommit). AtDesk shape.geometry images t.desk m devices.metadata) runs known
+
+    l : Leading shape.geometry images t.desk c devices.metadata
+    l = k.stands
+
+    abbrev devices' : Devices (List History)
+    devices' = record devices { metadata = new }
+
+    running_now : images.running ≡ Some l.of.new
+    running_now = ap (λ (i : Images). i.running) l.under.are
+
+    committed_now : l.of.old ≡ images.committed
+    committed_now = ap (λ (i : Images). i.committed) (sym l.under.are)
+
+    -- the root was written there where it was here
+    written_now : is_written c.steps ≡ true → s.root_written ≡ true
+    written_now e = (subst (λ (o : Option Stored). IsRunning o s) (ap later_of l.under.are ∙ ap (λ b. if b then Some l.of.new else None) e) f.phase.images_agree.later_is).0
+
+    abbrev c' : RunningCommit
+    c' = record c { steps = steps_after c.image c.steps }
+
+    module _ (turn : Turn) (plain : Rattle.wb_runs.specs.Effects.buffer_then devices x.buffer (Device step) Done Flush ≡ x.buffer)
+        (g : FollowsBy turn Quietly (size P A shape) (most P A shape) a f.site.world t.words t.desk.space.committing (live_orders t.desk) devices' (slice_set actors a (after_step Flush plan Done x))) where
+      abbrev s' : Shared
+      s' = (after_all f.site.world g.records).shared
+
+      done_on : s'.mapping ≡ s.mapping → s'.blocks ≡ s.blocks → s'.committed ≡ s.committed → s'.running ≡ s.running → (is_written (steps_after c.image c.steps) ≡ true → s'.root_written ≡ true) → DoesStep c.image c.steps devices.metadata new →
+          Goes P A shape (then_is t (Some c') devices' (Device step) Done) (noted_step shape shown n a (Some (Some doing)) (Device step) Done contents)
+      done_on m b cm r w does =
+          let u = led_on shape.geometry images c l.of devices.metadata new l.under does in
+          let same : u.now.committed ≡ images.committed = ap (λ (i : Images). i.committed) u.kept.are ∙ committed_now in
+          let known' : AtDesk shape.geometry u.now t.desk (Some c') new = record { is = k.is; stands = record { of = l.of; under = u.kept; edited = l.edited; entries = l.entries; places = l.places; generation = l.generation; busy = l.busy } } in
+          let readable = kept_readable shape.geometry u.now new P A (Stands t) (Some c') known' in
+          let there : s'.running ≡ locations l.of.new = r ∙ f.phase.running l.of.new running_now in
+          on_device turn step Done contents t (Some c') devices' u.now plain g known' (desk_stays P t.desk s s' f.phase.desk t.desk refl refl m b)
+          (record {
+            read = readable.read;
+            committed_is = cm ∙ f.phase.images_agree.committed_is ∙ ap locations (sym same);
+            later_is = subst (λ (i : Images). IsRunning (later_of i) s') (sym u.kept.are) (runs_there l.of (is_written (steps_after c.image c.steps)) s' w there);
+          })
+          (λ state e. there ∙ ap locations (some_is l.of.new state (sym (ap (λ (i : Images). i.running) u.kept.are) ∙ e)))
+
+    module _ (written : Bool) (plain : Rattle.wb_runs.specs.Effects.buffer_then devices x.buffer (Device step) Fault Flush ≡ x.buffer) (after_is : IsWrittenAfter step s.root_written written)
+        (g : FollowsBy (Puts written) Quietly (size P A shape) (most P A shape) a f.site.world t.words t.desk.space.committing (live_orders t.desk) devices' (slice_set actors a (after_step Flush plan Fault x))) where
+      failed_on : FailsStep c.image c.steps devices.metadata new → Goes P A shape (then_is t None devices' (Device step) Fault) (noted_step shape shown n a (Some (Some doing)) (Device step) Fault contents)
+      failed_on bad =
+          let images' = images_of l.of (failed_written c.steps) in
+          let s'' = (after_all f.site.world g.records).shared in
+          let readable = failed_read shape.geometry images c l.of devices.metadata new l.under bad in
+          let there : s''.running ≡ locations l.of.new = g.turned.1 ∙ f.phase.running l.of.new running_now in
+          on_device (Puts written) step Fault contents t None devices' images' plain g (record { is = k.is; stands = inr (record { readable = readable; busy = l.busy }) }) (desk_stays P t.desk s s'' f.phase.desk t.desk refl refl g.desk.0 g.desk.1)
+          (record {
+            read = readable.read;
+            committed_is = g.turned.0 ∙ f.phase.images_agree.committed_is ∙ ap locations (sym committed_now);
+            later_is = runs_there l.of (failed_written c.steps) s'' (λ e. g.turned.2 ∙ written_there c.image c.steps step s.root_written written coming written_now after_is e) there;
+          })
+          (λ state e. there ∙ ap locations (some_is l.of.new state e))
+
+  -- the step of a commit that runs is one of these, done or failing
+  module _ (contents : List Bytes) (c : RunningCommit) (runs : commit ≡ Some c) (new : List History) where
+    abbrev put_devices : Devices (List History)
+    put_devices = record devices { metadata = new }
+
+    abbrev next_commit : RunningCommit
+    next_commit = record c { steps = steps_after c.image c.steps }
+
+    pub node_done : (number : ℕ) → Device (WriteNode number) ≡ want plan → is_coming c.image c.steps (WriteNode number) ≡ true → DoesStep c.image c.steps devices.metadata new →
+        Goes P A shape (then_is t (Some next_commit) put_devices (Device (WriteNode number)) Done) (noted_step shape shown n a (Some (Some doing)) (Device (WriteNode number)) Done contents)
+    node_done number next coming does =
+        let g = flush_steps_followed.on_metadata (size P A shape) (most P A shape) (WriteNode number) new t.words t.desk.space.committing (live_orders t.desk) devices actors a x plan f.site.world refl ex xt (sym next) f.phase.agrees in
+        done_on (WriteNode number) refl next contents c runs coming new Stays refl g g.desk.0 g.desk.1 g.turned.0 g.turned.1
+        (λ w. g.turned.2 ∙ written_now (WriteNode number) refl next contents c runs coming new (written_before c.image c.steps (WriteNode number) coming (λ e. absurd (cc)) w)) does
+
+    pub sync_done : Device (Sync Metadata) ≡ want plan → is_coming c.image c.steps (Sync Metadata) ≡ true → DoesStep c.image c.steps devices.metadata new →
+        Goes P A shape (then_is t (Some next_commit) put_devices (Device (Sync Metadata)) Done) (noted_step shape shown n a (Some (Some doing)) (Device (Sync Metadata)) Done contents)
+    sync_done next coming does =
+        let g = flush_steps_followed.on_metadata (size P A shape) (most P A shape) (Sync Metadata) new t.words t.desk.space.committing (live_orders t.desk) devices actors a x plan f.site.world refl ex xt (sym next) f.phase.agrees in
+        done_on (Sync Metadata) refl next contents c runs coming new Stays refl g g.desk.0 g.desk.1 g.turned.0 g.turned.1
+        (λ w. g.turned.2 ∙ written_now (Sync Metadata) refl next contents c runs coming new (written_before c.image c.steps (Sync Metadata) coming (λ e. absurd (cc)) w)) does
+
+    pub root_done : Device WriteRoot ≡ want plan → is_coming c.image c.steps WriteRoot ≡ true → DoesStep c.image c.steps devices.metadata new →
+        Goes P A shape (then_is t (Some next_commit) put_devices (Device WriteRoot) Done) (noted_step shape shown n a (Some (Some doing)) (Device WriteRoot) Done contents)
+    root_done next coming does =
+        let g = flush_steps_followed.on_metadata (size P A shape) (most P A shape) WriteRoot new t.words t.desk.space.committing (live_orders t.desk) devices actors a x plan f.site.world refl ex xt (sym next) f.phase.agrees in
+        done_on WriteRoot refl next contents c runs coming new (Puts true) refl g g.desk.0 g.desk.1 g.turned.0 g.turned.1 (λ w. g.turned.2) does
+
+    pub node_fails : (number : ℕ) → Device (WriteNode number) ≡ want plan → is_coming c.image c.steps (WriteNode number) ≡ true → FailsStep c.image c.steps devices.metadata new →
+        Goes P A shape (then_is t None put_devices (Device (WriteNode number)) Fault) (noted_step shape shown n a (Some (Some doing)) (Device (WriteNode number)) Fault contents)
+    node_fails number next coming bad =
+        let g = flush_steps_followed.metadata_fails (size P A shape) (most P A shape) (WriteNode number) new t.words t.desk.space.committing (live_orders t.desk) devices actors a x plan f.site.world refl ex xt (sym next) f.phase.agrees in
+        failed_on (WriteNode number) refl next contents c runs coming new g.0 refl g.1 g.2 bad
+
+    pub metadata_sync_fails : Device (Sync Metadata) ≡ want plan → is_coming c.image c.steps (Sync Metadata) ≡ true → FailsStep c.image c.steps devices.metadata new →
+        Goes P A shape (then_is t None put_devices (Device (Sync Metadata)) Fault) (noted_step shape shown n a (Some (Some doing)) (Device (Sync Metadata)) Fault contents)
+    metadata_sync_fails next coming bad =
+        let g = flush_steps_followed.metadata_fails (size P A shape) (most P A shape) (Sync Metadata) new t.words t.desk.space.committing (live_orders t.desk) devices actors a x plan f.site.world refl ex xt (sym next) f.phase.agrees in
+        failed_on (Sync Metadata) refl next contents c runs coming new g.0 refl g.1 g.2 bad
+
+    pub root_fails : Device WriteRoot ≡ want plan → is_coming c.image c.steps WriteRoot ≡ true → FailsStep c.image c.steps devices.metadata new →
+        Goes P A shape (then_is t None put_devices (Device WriteRoot) Fault) (noted_step shape shown n a (Some (Some doing)) (Device WriteRoot) Fault contents)
+    root_fails next coming bad =
+        let g = flush_steps_followed.metadata_fails (size P A shape) (most P A shape) WriteRoot new t.words t.desk.space.committing (live_orders t.desk) devices actors a x plan f.site.world refl ex xt (sym next) f.phase.agrees in
+        failed_on WriteRoot refl next contents c runs coming new g.0 refl g.1 g.2 bad
+
+  -- ---- the desk
+
+  no_begin : (refusal : Refusal) → IsBeginRefused t.desk refusal → IsNoBegin refusal
+  no_begin Busy r = tt
+  no_begin Memory r = tt
+  no_begin GenerationEnd r = tt
+  no_begin refusal r = absurd r
+
+  -- a commit begins, of the desk's mapping
+  pub begins : (nodes allowed : ℕ) (clean : Bool) (c : RunningCommit) (tree : Mapping) → Desk (BeginCommit clean allowed) ≡ want plan → c.steps ≡ NodesWritten 0 → HasBegun t.desk c.image (commit_begun t.desk tree) →
+      Goes P A shape (then_is (record { words = t.words; desk = commit_begun t.desk tree }) (Some c) devices (Desk (BeginCommit clean allowed)) (Began nodes)) n
+  begins nodes allowed clean c tree next steps begun = by_commit commit refl known
+    where
+      idle : t.desk.space.committing ≡ false
+      idle = begun.may.idle
+
+      quiet : Quiet shape.geometry images t.desk devices.metadata → AtDesk shape.geometry images t.desk None devices.metadata → Goes P A shape (then_is (record { words = t.words; desk = commit_begun t.desk tree }) (Some c) devices (Desk (BeginCommit clean allowed)) (Began nodes)) n
+      quiet q k =
+          let b = begins_over P shape.geometry images t.desk devices.metadata c tree k.is q steps begun in
+          let agrees = subst (λ (v : Bool). Agrees (size P A shape) (most P A shape) t.words v (live_orders t.desk) devices actors f.site.world) idle f.phase.agrees in
+          let g = flush_steps_followed.begins (size P A shape) (most P A shape) nodes allowed clean t.words (live_orders t.desk) devices actors a x plan f.site.world ex xt (sym next) agrees in
+          let s' = (after_all f.site.world g.records).shared in
+          let t' : Target P = record { words = t.words; desk = commit_begun t.desk tree } in
+          let y = after_step Flush plan (Began nodes) x in
+          let l = b.kept.0.stands in
+          let one : later_of images ≡ None = ap later_of q.are in
+          let agree : ImagesAgree shape.geometry images.committed None devices.metadata s = subst (λ (o : Option Stored). ImagesAgree shape.geometry images.committed o devices.metadata s) one f.phase.images_agree in
+          let begun_there = images_followed.begin shape.geometry images.committed devices.metadata s s' agree g.turned in
+          let same : b.now.committed ≡ images.committed = same_one b.turn images b.now (ap (λ (i : Images). i.running) q.are) b.turned in
+          let later : later_of b.now ≡ None = ap later_of l.under.are ∙ ap (λ (v : CommitSteps). if is_written v then Some l.of.new else None) steps in
+          subst (λ (y : Actor). Goes P A shape (record { devices = devices; commit = Some c; phase = Stands t'; actors = slice_set actors a y }) n) (sym (actor_is P A shape (Stands t) devices x Flush plan (Desk (BeginCommit clean allowed)) (Began nodes) xt))
+          (leads_on P A shape images t commit devices actors n known f a x ex Begins Quietly t' (Some c) devices (slice_set actors a y) n b.now g tt (quiet_notes Begins t.words true (live_orders t.desk) devices y g) (sized_plain y) b.kept.0
+          (desk_begins P t.desk s s' f.phase.desk tree begun.image_is.same_entries g.desk.0 g.desk.1)
+          (subst (λ (o : Option Stored). ImagesAgree shape.geometry b.now.committed o devices.metadata s') (sym later) (subst (λ (v : Stored). ImagesAgree shape.geometry v None devices.metadata s') (sym same) begun_there.0))
+          (λ state e. begun_there.1 ∙ f.phase.desk.mapping ∙ ap (λ es. Rattle.wb_simulation.specs.Opened.located es) (sym b.kept.1.2) ∙ ap locations (some_is b.kept.1.0 state (sym b.kept.1.1 ∙ e))))
+
+      by_commit : (o : Option RunningCommit) → commit ≡ o → AtDesk shape.geometry images t.desk commit devices.metadata → Goes P A shape (then_is (record { words = t.words; desk = commit_begun t.desk tree }) (Some c) devices (Desk (BeginCommit clean allowed)) (Began nodes)) n
+      by_commit (Some d) e k = absurd (let k' = subst (λ (m : Option RunningCommit). AtDesk shape.geometry images t.desk m devices.metadata) e k in let busy = k'.stands.busy in let bad : false ≡ true = sym idle ∙ busy in cc)
+      by_commit None e k =
+          let k' = subst (λ (m : Option RunningCommit). AtDesk shape.geometry images t.desk m devices.metadata) e k in
+          elim k'.stands [ inl q ↦ quiet q k' | inr b ↦ absurd (let bad : false ≡ true = sym idle ∙ b.busy in cc) ]
+
+  -- or none begins
+  pub begin_refused : (refusal : Refusal) (allowed : ℕ) (clean : Bool) → Desk (BeginCommit clean allowed) ≡ want plan → IsBeginRefused t.desk refusal → Goes P A shape (then_is t commit devices (Desk (BeginCommit clean allowed)) (GotRefused refusal)) n
+  begin_refused refusal allowed clean next r =
+      let g = flush_steps_followed.is_refused (size P A shape) (most P A shape) allowed clean refusal t.words t.desk.space.committing (live_orders t.desk) devices actors a x plan f.site.world (no_begin refusal r) ex xt (sym next) f.phase.agrees in
+      let y = after_step Flush plan (GotRefused refusal) x in
+      subst (λ (y : Actor). Goes P A shape (record { devices = devices; commit = commit; phase = Stands t; actors = slice_set actors a y }) n) (sym (actor_is P A shape (Stands t) devices x Flush plan (Desk (BeginCommit clean allowed)) (GotRefused refusal) xt))
+      (stays_on P A shape images t commit devices actors n known f a x ex Quietly t.words devices (slice_set actors a y) n g tt (quiet_notes Stays t.words t.desk.space.committing (live_orders t.desk) devices y g) (sized_plain y) refl)
+
+  -- the commit ends
+  pub ends : (c : RunningCommit) → commit ≡ Some c → Desk EndCommit ≡ want plan → is_committed c.steps ≡ true → Goes P A shape (then_is (record { words = t.words; desk = ended t.desk }) None devices (Desk EndCommit) Done) n
+  ends c runs next done =
+      let k = subst (λ (m : Option RunningCommit). AtDesk shape.geometry images t.desk m devices.metadata) runs known in
+      let e = ends_over P shape.geometry images t.desk devices.metadata c k done in
+      let g = flush_steps_followed.ends (size P A shape) (most P A shape) t.words t.desk.space.committing (live_orders t.desk) devices actors a x plan f.site.world ex xt (sym next) f.phase.agrees in
+      let s' = (after_all f.site.world g.records).shared in
+      let y = after_step Flush plan Done x in
+      let after = commit_ended t.desk in
+      let is : ended t.desk ≡ after = ap (λ (v : Bool). if v then after else t.desk) k.stands.busy in
+      let t' : Target P = record { words = t.words; desk = after } in
+      let known' = subst (λ (d : DeskState P). AtDesk shape.geometry e.now d None devices.metadata) is e.kept.0 in
+      let readable = kept_readable shape.geometry e.now devices.metadata P A (Stands t') None known' in
+      let one : e.now ≡ one_image e.kept.1.0 = e.kept.1.2 in
+      let read = subst (λ (i : Images). MayBeReadAs shape.geometry i.committed (later_of i) devices.metadata) one readable.read in
+      let agree = images_followed.end shape.geometry e.kept.1.0 devices.metadata s s' g.turned (f.phase.running e.kept.1.0 e.kept.1.1) read in
+      subst (λ (d : DeskState P). Goes P A shape (then_is (record { words = t.words; desk = d }) None devices (Desk EndCommit) Done) n) (sym is)
+      (subst (λ (y : Actor). Goes P A shape (record { devices = devices; commit = None; phase = Stands t'; actors = slice_set actors a y }) n) (sym (actor_is P A shape (Stands t) devices x Flush plan (Desk EndCommit) Done xt))
+      (leads_on P A shape images t commit devices actors n known f a x ex Ends Quietly t' None devices (slice_set actors a y) n e.now g tt (quiet_notes Ends t.words false (live_orders t.desk) devices y g) (sized_plain y) known'
+      (desk_ends P t.desk s s' f.phase.desk g.desk.0 g.desk.1)
+      (subst (λ (i : Images). ImagesAgree shape.geometry i.committed (later_of i) devices.metadata s') (sym one) agree)
+      (λ state r. absurd (let bad : None ≡ Some state = sym (ap (λ (i : Images). i.running) one) ∙ r in cc))))
+
+  -- ---- the shared words, and the answer
+
+  pub on_words : (step : CellStep) → (step ≡ Look Fail) ⊎ (step ≡ SetFailed) → Cell step ≡ want plan → Goes P A shape (then_is (record { words = words_after t.words step; desk = t.desk }) commit devices (Cell step) (got_of (result_of t.words step))) n
+  on_words step which next =
+      let y = went t.words Flush plan step x in
+      let g = by which in
+      subst (λ (y : Actor). Goes P A shape (record { devices = devices; commit = commit; phase = Stands (record { words = words_after t.words step; desk = t.desk }); actors = slice_set actors a y }) n) (sym (actor_is P A shape (Stands t) devices x Flush plan (Cell step) (got_of (result_of t.words step)) xt))
+      (stays_on P A shape images t commit devices actors n known f a x ex Quietly (words_after t.words step) devices (slice_set actors a y) n g tt (quiet_notes Stays (words_after t.words step) t.desk.space.committing (live_orders t.desk) devices y g) (sized_plain y) refl)
+    where
+      Then : CellStep → Type 0
+      Then v = Follows Quietly (size P A shape) (most P A shape) a f.site.world (words_after t.words v) t.desk.space.committing (live_orders t.desk) devices (slice_set actors a (went t.words Flush plan v x))
+
+      by : (step ≡ Look Fail) ⊎ (step ≡ SetFailed) → Follows Quietly (size P A shape) (most P A shape) a f.site.world (words_after t.words step) t.desk.space.committing (live_orders t.desk) devices (slice_set actors a (went t.words Flush plan step x))
+      by (inl e) = subst (λ (v : CellStep). Follows Quietly (size P A shape) (most P A shape) a f.site.world (words_after t.words v) t.desk.space.committing (live_orders t.desk) devices (slice_set actors a (went t.words Flush plan v x))) (sym e)
+          (flush_steps_followed.looks (size P A shape) (most P A shape) t.words t.desk.space.committing (live_orders t.desk) devices actors a x plan f.site.world ex xt (sym next ∙ ap Cell e) f.phase.agrees)
+      by (inr e) = subst (λ (v : CellStep). Follows Quietly (size P A shape) (most P A shape) a f.site.world (words_after t.words v) t.desk.space.committing (live_orders t.desk) devices (slice_set actors a (went t.words Flush plan v x))) (sym e)
+          (flush_steps_followed.fails (size P A shape) (most P A shape) _ _ t.words t.desk.space.committing (live_orders t.desk) devices actors a x plan f.site.world rule.logs.fail ex xt (sym next ∙ ap Cell e) f.phase.agrees)
+
+  pub answers : (answer : Answer) (got : Got) (contents : List Bytes) → End answer ≡ want plan → length doing.then_finished ≡ length n.floors → Goes P A shape (then_is t commit devices (End answer) got) (noted_step shape shown n a (Some (Some doing)) (End answer) got contents)
+  answers answer got contents next asked = by_answer answer next
+    where
+      rested : Actor
+      rested = record x { task = None }
+
+      given : (v : Answer) → End v ≡ want plan → Follows (Answers (FlushingFor None) v) (size P A shape) (most P A shape) a f.site.world t.words t.desk.space.committing (live_orders t.desk) devices (slice_set actors a (record x { task = None }))
+      given v e = flush_steps_followed.answers (size P A shape) (most P A shape) v t.words t.desk.space.committing (live_orders t.desk) devices actors a x plan f.site.world ex xt (sym e) f.phase.agrees
+
+      finish : (v : Answer) (n' : Notes) (g : Follows (Answers (FlushingFor None) v) (size P A shape) (most P A shape) a f.site.world t.words t.desk.space.committing (live_orders t.desk) devices (slice_set actors a (record x { task = None }))) →
+          NotesAgree (size P A shape) n' (after_all f.site.world g.records) (told f.notes g.records) → length n'.doings ≡ length n.doings → length n'.histories ≡ length n.histories → Goes P A shape (then_is t commit devices (End v) got) n'
+      finish v n' g notes d h =
+          subst (λ (y : Actor). Goes P A shape (record { devices = devices; commit = commit; phase = Stands t; actors = slice_set actors a y }) n') (sym (actor_is P A shape (Stands t) devices x Flush plan (End v) got xt))
+          (stays_on P A shape images t commit devices actors n known f a x ex (Answers (FlushingFor None) v) t.words devices (slice_set actors a (record x { task = None })) n' g tt notes
+          (record { actors_many = length-set actors a (record x { task = None }) ∙ f.sized.actors_many; doings_many = d ∙ f.sized.doings_many; sectors = h ∙ f.sized.sectors }) refl)
+
+      b : (y : Rattle.wb_link.specs.World.Actor) × (slice_get f.site.world.actors a ≡ Some y)
+      b = beside P A shape images t commit devices actors n known f a x ex
+
+      by_answer : (v : Answer) → End v ≡ want plan → Goes P A shape (then_is t commit devices (End v) got) (noted_step shape shown n a (Some (Some doing)) (End v) got contents)
+      by_answer (Refuses refusal) e =
+          let g = given (Refuses refusal) e in
+          finish (Refuses refusal) (put n a None) g (notes_followed.refused (FlushingFor None) refusal Stays (size P A shape) (most P A shape) a f.site.world t.words t.desk.space.committing (live_orders t.desk) devices (slice_set actors a (record x { task = None })) g b.0 n f.notes b.1 noted_less f.notes_agree)
+          (length-set n.doings a None) refl
+      by_answer Finished e =
+          let g = given Finished e in
+          subst (λ (q : Job). Goes P A shape (then_is t commit devices (End Finished) got) (finished_note n a doing q shown)) (sym job_is)
+          (finish Finished (record n { floors = greater_of n.floors doing.then_finished; doings = slice_set n.doings a None }) g
+          (notes_followed.flush_answered Stays (size P A shape) (most P A shape) a f.site.world t.words t.desk.space.committing (live_orders t.desk) devices (slice_set actors a (record x { task = None })) g b.0 n f.notes b.1 noted_less f.notes_agree doing noted asked)
+          (length-set n.doings a None) refl)

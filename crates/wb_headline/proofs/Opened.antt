@@ -1,0 +1,185 @@
+-- An opening that is answered is followed.
+use Rattle.std.proofs.Common.{◌≡◌, ◌≢◌, ◌∙◌, ◌≤◌, ◌+◌, ◌^◌, ◌⊎◌, inl, inr, ℕ, Bool, true, false, if◌then◌else◌, List, [], ◌∷◌, Option, Some, None, refl, sym, ap, subst, arith, length, map, replicate, slice_get, slice_set, Contains, is_some}
+use Rattle.std.proofs.lemmas.List.{length-replicate, length-set, length-map}
+use Rattle.std.specs.List.{count_by}
+use Rattle.wb_types.proofs.Lists.{set_cases}
+use Rattle.wb_types.specs.declared.entry.Entry.{Entry}
+use Rattle.wb_types.specs.declared.mode.Mode.{Mode}
+use Rattle.wb_types.specs.declared.mode.Mode.TheVariants.{Writeback}
+use Rattle.wb_types.specs.declared.refusal.Refusal.{Refusal}
+use Rattle.wb_disk.specs.Device.{Content as Bytes, History, newest, only, entries}
+use Rattle.wb_disk.proofs.Leaving.{read-left}
+use Rattle.wb_contents.specs.Devices.{by_block}
+use Rattle.wb_contents.specs.Volume.{at_location}
+use Rattle.wb_contents.specs.Promises.{IsEntryFrom}
+use Rattle.wb_tree.specs.Mapping.{IsMapping}
+use Rattle.wb_meta.specs.Representing.{Stored}
+use Rattle.wb_meta.specs.declared.read_steps.ReadSteps.{ReadSteps}
+use Rattle.wb_meta.specs.declared.read_steps.ReadSteps.TheVariants.{Done as AllRead}
+use Rattle.wb_meta.specs.declared.read_steps.State.{State as StoredThere}
+use Rattle.wb_policy.specs.declared.order.Order.{Order}
+use Rattle.wb_tasks.specs.Plan.{Plan}
+use Rattle.wb_tasks.specs.declared.step.Answer.TheVariants.{Done as Finished, Refused as Refuses}
+use Rattle.wb_tasks.specs.declared.step.Want.TheVariants.{End}
+use Rattle.wb_tasks.specs.declared.step.Got.{Got}
+use Rattle.wb_devices.specs.declared.devices.Devices.{Devices}
+use Rattle.wb_devices.specs.declared.running.RunningCommit.{RunningCommit}
+use Rattle.wb_devices.specs.Committing.{is_committed}
+use Rattle.wb_stage.specs.Stages.{is_all_done}
+use Rattle.wb_runs.specs.declared.job.Job.{Job}
+use Rattle.wb_runs.specs.declared.job.Job.TheVariants.{Open}
+use Rattle.wb_runs.specs.States.{Shape, State, Actor, Phase, Stands, Gone, Opens, sector_count, cache_sector_count, block_size}
+use Rattle.wb_runs.specs.Effects.{actor_then, task_then, target_over, words_by}
+use Rattle.wb_runs.specs.Clerk.{Notes, begins, put}
+use Rattle.wb_runs.specs.Headline.{place_of, shown_by, ShowsAllowed}
+use Rattle.wb_runs.proofs.Images.{Images, later_of, one_image}
+use Rattle.wb_runs.proofs.Underway.{Readable}
+use Rattle.wb_runs.proofs.Metadata.{MetadataKept, AtDesk, AtOpening, Quiet, Rooting as RootingKept, kept_readable, target_stands}
+use Rattle.wb_runs.proofs.Linking.{IsTask, AtPhase}
+use Rattle.wb_link.specs.World.{World, Shared, Actor as AbstractActor, resting as idle}
+use Rattle.wb_link.specs.Clerk.{Notes as AbstractNotes, opened as opened_notes}
+use Rattle.wb_link.specs.Openings.{Site, Phase as PhaseThere, Stands as StandsThere, Gone as GoneThere, Opens as OpensThere, Learnt, Answering, opened_on, emptied}
+use Rattle.wb_simulation.specs.Opened.{located}
+use Rattle.wb_simulation.specs.Noting.{NotesAgree}
+use Rattle.wb_simulation.specs.Sites.{ImagesAgree, DevicesAgree, IsRunning, locations}
+use Rattle.wb_simulation.specs.Worlds.{zeros, Agrees}
+use Rattle.wb_simulation.proofs.Noted.{notes_followed}
+use Rattle.wb_simulation.proofs.Opened.{opened_followed}
+use Rattle.wb_headline.specs.Desks.{block_there, DeskAgrees, live_orders}
+use Rattle.wb_headline.proofs.Events.{Reached, event_reaches}
+use Rattle.wb_headline.proofs.Unclean.{NeverClean, event_on}
+use Rattle.wb_headline.proofs.Following.{HasLearnt, HasRoot, HasReadAt, IsOver, opening_at, many, size, most, Sized, TargetFollows, Followed, Goes}
+use Rattle.wb_headline.proofs.Arriving.{SameSectors, sized_so, Arrived, rests, gone}
+use Rattle.wb_headline.proofs.Allowed.{shows_allowed, length-rising}
+use Rattle.wb_headline.proofs.Showing.{state_allowed}
+use Rattle.wb_headline.proofs.Answering.{no_orders_live, opened_state, view_of, answer_of, answer_may, opened_site, answer_leads, shown_view}
+
+module _ (P A : Type 0) (shape : Shape) (images : Images) (devices : Devices (List History)) (commit : Option RunningCommit) (mode : Mode) (reading : Option (ReadSteps A)) (actors : List Actor) (n : Notes) where
+  abbrev w : State P A
+  w = record { devices = devices; commit = commit; phase = Opens mode reading; actors = actors }
+
+  module _ (known : MetadataKept {P = P} {A = A} shape.geometry images (Opens mode reading) commit devices.metadata) (f : Followed P A shape images w n) (alone : AtPhase {P = P} {A = A} (Opens mode reading) actors) (a : ℕ) (x : Actor) (ex : slice_get actors a ≡ Some x) (opened_in : Mode) (plan : Plan) (xt : x.task ≡ Some (Open opened_in, plan)) (got : Got) where
+    -- refused, nothing stands
+    pub refused_goes : (refusal : Refusal) → IsOver plan f.site.phase → Goes P A shape (record { devices = devices; commit = None; phase = Gone; actors = slice_set actors a (actor_then {P = P} {A = A} shape (Opens mode reading) devices x (End (Refuses refusal)) got) }) (put n a None)
+    refused_goes refusal over =
+        let y = actor_then {P = P} {A = A} shape (Opens mode reading) devices x (End (Refuses refusal)) got in
+        let same : SameSectors n (put n a None) = record { histories = refl; finished = refl; floors = refl; doings = length-set n.doings a None } in
+        let readable = kept_readable shape.geometry images devices.metadata P A (Opens mode reading) commit known in
+        gone P A shape images f.phase.later GoneThere devices (put n a None) (rests P A shape images w n (put n a None) f same images.committed f.phase.later GoneThere devices f.phase.devices_follow.idle over.phase_is f.phase.devices_follow.agree) f.phase.devices_follow.fit (λ e. absurd (cc))
+        (slice_set actors a y) (sized_so P A shape actors (slice_set actors a y) n (put n a None) same (length-set actors a y) f.sized) None readable
+
+    module _ (i : Learnt) (ph : f.site.phase ≡ OpensThere Writeback (Answering i)) (rd : HasReadAt (Answering i) reading commit f.phase.later) (policy : P) (done : is_all_done commit ≡ true) (cache_size : length devices.cache ≡ cache_sector_count shape) (origin_size : length devices.origin ≡ sector_count shape) where
+      abbrev stored : StoredThere A
+      stored = rd.0.stored
+
+      abbrev tree : List (Option Entry)
+      tree = stored.tree.entries
+
+      rooting : RootingKept shape.geometry images (AllRead stored) rd.0.running devices.metadata
+      rooting = subst (λ (c : Option RunningCommit). AtOpening shape.geometry images (Some (AllRead stored)) c devices.metadata) rd.0.commit_is (subst (λ (r : Option (ReadSteps A)). AtOpening shape.geometry images r commit devices.metadata) rd.0.reading_is known)
+
+      committed_now : is_committed rd.0.running.steps ≡ true
+      committed_now = subst (λ (c : Option RunningCommit). is_all_done c ≡ true) rd.0.commit_is done
+
+      abbrev y : Actor
+      y = actor_then {P = P} {A = A} shape (Opens mode reading) devices x (End Finished) got
+
+      abbrev stands_now : State P A
+      stands_now = record { devices = devices; commit = None; phase = Stands (target_over shape mode policy stored); actors = slice_set actors a y }
+
+      abbrev shown_now : List Bytes
+      shown_now = shown_by shape tree (map newest devices.cache) (map newest devices.origin)
+
+      -- nobody is at anything then
+      at_rest : (b : ℕ) (z : Actor) → slice_get (slice_set actors a y) b ≡ Some z → z.task ≡ None
+      at_rest b z e = elim (set_cases actors a b y z e) [
+        | inl here ↦ ap (λ (v : Actor). v.task) here.1 ∙ ap (λ (t : Option (Job × Plan)). task_then t (End Finished) got) xt
+        | inr other ↦ by_task z.task refl (λ t. other.0 (alone.1 b z other.1 t ∙ sym (alone.1 a x ex (subst (λ (t : Option (Job × Plan)). IsTask t) (sym xt) tt))))
+      ]
+        where
+          by_task : (t : Option (Job × Plan)) → z.task ≡ t → (IsTask z.task → ⊥) → z.task ≡ None
+          by_task None s none = s
+          by_task (Some task) s none = absurd (none (subst (λ (t : Option (Job × Plan)). IsTask t) (sym s) tt))
+
+      -- what the metadata are read as then: one image alone
+      record One : Type 0 where
+        pub now : Images
+        pub kept : AtDesk shape.geometry now (target_over shape mode policy stored).desk None devices.metadata
+        pub entries_are : now.committed.found.entries ≡ tree
+        pub alone_is : now.running ≡ None
+        pub later_is : later_of now ≡ None
+
+      one : One
+      one =
+          let t = target_stands A shape.geometry images devices.metadata P mode policy shape.threshold stored rd.0.running rooting committed_now in
+          by_standing t.now t.kept.0 t.kept.1 t.kept.0.stands
+        where
+          by_standing : (j : Images) → AtDesk shape.geometry j (target_over shape mode policy stored).desk None devices.metadata → j.committed.found.entries ≡ tree → Rattle.wb_runs.proofs.Metadata.Standing shape.geometry j (target_over shape mode policy stored).desk None devices.metadata → One
+          by_standing j k e (inl q) = record { now = j; kept = k; entries_are = e; alone_is = ap (λ (v : Images). v.running) q.are; later_is = ap later_of q.are }
+          by_standing j k e (inr b) = absurd (let busy = b.busy in cc)
+
+      mapping : IsMapping shape.geometry.cache_blocks shape.geometry.origin_blocks tree
+      mapping = one.kept.is.kept.mapping
+
+      d : DevicesAgree shape.geometry (size P A shape) images.committed f.phase.later devices f.site.world.shared
+      d = f.phase.devices_follow.agree
+
+      -- what is shown is what the abstract opening shows
+      view_is : (b o : ℕ) → newest (at_location (by_block (block_size shape) zeros devices.origin) (by_block (block_size shape) zeros devices.cache) (place_of tree b) b o) ≡ view_of f.site i b o
+      view_is b o = ap (λ g. newest (at_location g (by_block (block_size shape) zeros devices.cache) (place_of tree b) b o)) (sym d.origin) ∙ ap (λ g. newest (at_location f.site.world.shared.origin g (place_of tree b) b o)) (sym d.cache)
+          ∙ ap (λ l. newest (at_location f.site.world.shared.origin f.site.world.shared.cache (l b) b o)) (sym rd.0.same)
+
+      pub shows : ShowsAllowed n shown_now
+      shows = shows_allowed shape n f.notes f.notes_agree.histories f.notes_agree.floors f.sized.sectors devices cache_size origin_size tree mapping
+          (λ b o c k. state_allowed (size P A shape) (many P A shape) shape.geometry f.site f.notes images.committed f.phase.later devices rd.1.0 f.reached d (inr rd.1.1) b o c
+          (subst (λ l. Contains (entries (at_location (by_block (block_size shape) zeros devices.origin) (by_block (block_size shape) zeros devices.cache) (l b) b o)) c) (sym rd.0.same ∙ rd.1.2) k))
+          (map newest devices.cache) (map newest devices.origin) (read-left devices.cache) (read-left devices.origin)
+
+      abbrev blocks_now : ℕ → Rattle.wb_link.specs.World.Block
+      blocks_now k = block_there (opened_state tree k)
+
+      abbrev site_now : Site
+      site_now = opened_site f.site i tree
+
+      agrees_now : Agrees (size P A shape) (most P A shape) (target_over shape mode policy stored).words false (live_orders (target_over shape mode policy stored).desk) devices (slice_set actors a y) site_now.world
+      agrees_now =
+          let many_then : length (slice_set actors a y) + shape.geometry.cache_blocks ≡ length f.site.world.actors = ap (λ k. k + shape.geometry.cache_blocks) (length-set actors a y ∙ f.sized.actors_many) ∙ sym f.as_many in
+          let few : shape.geometry.cache_blocks ≤ 2 ^ 32 = (let l = shape.geometry.within.cache_to in omega (arith, l)) in
+          subst (λ (os : List (Option Order)). Agrees (size P A shape) (most P A shape) (target_over shape mode policy stored).words false os devices (slice_set actors a y) site_now.world) (sym (no_orders_live shape.geometry.cache_blocks))
+          (subst (λ (k : ℕ). Agrees (size P A shape) (most P A shape) (target_over shape mode policy stored).words false (replicate shape.geometry.cache_blocks None) devices (slice_set actors a y) (record { shared = opened_on f.site.world.shared Writeback i blocks_now; actors = replicate k idle })) many_then
+          (opened_followed (size P A shape) (most P A shape) shape.geometry.origin_blocks shape.geometry.cache_blocks stored.root.clean tree i blocks_now f.site.world.shared devices (slice_set actors a y) mapping few rd.0.bare rd.0.same rd.0.unclean d.origin d.cache at_rest))
+
+      pub opened_goes : Goes P A shape stands_now (begins (length n.doings) shown_now)
+      opened_goes =
+          let may = answer_may (size P A shape) f.site i tree ph rd.0.same in
+          let leads = answer_leads f.site i tree ph in
+          let readable = kept_readable shape.geometry one.now devices.metadata P A (Stands (target_over shape mode policy stored)) None one.kept in
+          record {
+            images = one.now;
+            known = one.kept;
+            followed = record {
+              site = site_now;
+              notes = opened_notes (view_of f.site i);
+              reached = subst (λ (v : Site). Reached (size P A shape) (many P A shape) v (opened_notes (view_of f.site i))) leads (event_reaches (size P A shape) (many P A shape) f.site f.notes (answer_of f.site i tree) f.reached may);
+              clean = subst (λ (v : Site). NeverClean v.world) leads (event_on f.site (answer_of f.site i tree) tt f.clean);
+              as_many = length-replicate (length f.site.world.actors) idle ∙ f.as_many;
+              notes_agree = notes_followed.anew (size P A shape) (length n.doings) shown_now (view_of f.site i) f.site.world (opened_on f.site.world.shared Writeback i blocks_now)
+                  (shown_view shape devices cache_size origin_size tree mapping ∙ (λ j b o. only (view_is b o j)));
+              sized = record {
+                actors_many = length-set actors a y ∙ f.sized.actors_many;
+                doings_many = length-replicate (length n.doings) None ∙ f.sized.doings_many;
+                sectors = length-map shown_now only ∙ length-map (Rattle.wb_types.specs.Extents.rising 0 (sector_count shape)) _ ∙ length-rising 0 (sector_count shape);
+              };
+              phase = record {
+                phase_is = refl;
+                agrees = agrees_now;
+                desk = record { mapping = rd.0.same; blocks = λ c. refl };
+                images_agree = record {
+                  read = readable.read;
+                  committed_is = rd.0.same ∙ ap (λ es. located es) (sym one.entries_are);
+                  later_is = subst (λ (l : Option Stored). IsRunning l site_now.world.shared) (sym one.later_is) tt;
+                };
+                running = λ state e. absurd (let bad : None ≡ Some state = sym one.alone_is ∙ e in cc);
+              };
+            };
+          }

@@ -1,0 +1,379 @@
+-- Each step of an opening, done, refused or failing, is followed.
+use Rattle.std.proofs.Common.{◌≡◌, ◌≢◌, ◌∙◌, ◌-◌, ◌⊎◌, inl, inr, ℕ, Bool, true, false, List, [], ◌∷◌, Option, Some, None, refl, sym, ap, subst, arith, length, map, slice_get, slice_set}
+use Rattle.std.proofs.lemmas.Option.{some_pair_parts}
+use Rattle.std.proofs.lemmas.List.{length-set}
+use Rattle.wb_types.proofs.Lists.{set_cases}
+use Rattle.wb_types.specs.declared.mode.Mode.{Mode}
+use Rattle.wb_types.specs.declared.mode.Mode.TheVariants.{Writeback}
+use Rattle.wb_types.specs.declared.mode.Dev.TheVariants.{Metadata, Cache, Origin}
+use Rattle.wb_types.specs.declared.refusal.Refusal.{Refusal}
+use Rattle.wb_types.specs.declared.refusal.Refusal.TheVariants.{Io}
+use Rattle.wb_disk.specs.Device.{Content as Bytes, History, newest, synced}
+use Rattle.wb_disk.specs.Failing.{synced_where}
+use Rattle.wb_disk.proofs.FailedSyncs.{partly_synced}
+use Rattle.wb_meta.specs.Representing.{Stored}
+use Rattle.wb_meta.specs.Steps.{DoesStep, FailsStep}
+use Rattle.wb_meta.specs.Reads.{sectors_read}
+use Rattle.wb_meta.specs.declared.read_steps.ReadSteps.{ReadSteps}
+use Rattle.wb_meta.specs.declared.read_steps.ReadSteps.TheVariants.{Begun, FirstSlotRead, RootFound, Done as AllRead}
+use Rattle.wb_tasks.specs.Tables.{Opening}
+use Rattle.wb_tasks.specs.Plan.{Plan, after}
+use Rattle.wb_tasks.specs.declared.step.Answer.TheVariants.{Done as Finished}
+use Rattle.wb_tasks.specs.declared.step.DeviceStep.{DeviceStep}
+use Rattle.wb_tasks.specs.declared.step.DeviceStep.TheVariants.{Sync, ReadMetadata, WriteRoot}
+use Rattle.wb_tasks.specs.declared.step.Want.TheVariants.{Device}
+use Rattle.wb_tasks.specs.declared.step.Got.{Got}
+use Rattle.wb_tasks.specs.declared.step.Got.TheVariants.{Done, Fault, Refused as GotRefused, More}
+use Rattle.wb_devices.specs.declared.devices.Devices.{Devices}
+use Rattle.wb_devices.specs.declared.running.RunningCommit.{RunningCommit}
+use Rattle.wb_devices.specs.Opened.{HasCome, got_of_refusal}
+use Rattle.wb_roots.proofs.Deciding.{read_is_committed}
+use Rattle.wb_runs.specs.declared.job.Job.{Job}
+use Rattle.wb_runs.specs.declared.job.Job.TheVariants.{Open}
+use Rattle.wb_runs.specs.States.{Shape, State, Actor, Phase, Opens}
+use Rattle.wb_runs.specs.Happenings.{Chosen, Plain, Begins, Reaches, Puts, DoesSync, DoesRead, DoesPut}
+use Rattle.wb_runs.specs.Effects.{commit_then, reading_then, actor_then, task_then, led}
+use Rattle.wb_runs.specs.Clerk.{Notes, Doing, noted_step, device_note, failing, put}
+use Rattle.wb_runs.proofs.Images.{Images, one_image, later_of, IsFitToo}
+use Rattle.wb_runs.proofs.Underway.{Readable, Found, partly_readable}
+use Rattle.wb_runs.proofs.Metadata.{MetadataKept, HasReached, AtOpening, Rooting as RootingKept, kept_readable, root_begins}
+use Rattle.wb_runs.proofs.Opening.{failing_same}
+use Rattle.wb_runs.proofs.Linking.{IsTask, AtPhase}
+use Rattle.wb_link.specs.World.{Shared}
+use Rattle.wb_link.specs.Openings.{Site, Phase as PhaseThere, Stands as StandsThere, Gone as GoneThere, Opens as OpensThere, Learnt, Stage, Settling, Caching, Basing, Looking, Rooting, Renewing, Answering, Learns, Advances, advance}
+use Rattle.wb_simulation.specs.Opened.{located}
+use Rattle.wb_simulation.specs.Sites.{ImagesAgree, DevicesAgree, LeadsTo, locations}
+use Rattle.wb_simulation.proofs.Opening.{openings_followed}
+use Rattle.wb_headline.proofs.Following.{opening_at, HasLearnt, HasRoot, HasReadAt, AtStage, IsOver, size, Followed, Goes}
+use Rattle.wb_headline.proofs.Arriving.{SameSectors, sized_so, Arrived, arrives, rests, opens}
+use Rattle.wb_headline.proofs.Crashing.{one_fit}
+use Rattle.wb_headline.proofs.Rooted.{same_one, rooted_on, leads_so, two_read, two_left, both_left, nowhere}
+
+-- of a step of an opening on a device nothing of the sectors is noted
+pub opening_same : (shape : Shape) (shown : List Bytes) (n : Notes) (a : ℕ) (doing : Doing) (mode : Mode) (step : DeviceStep) (got : Got) (read : List Bytes) → doing.job ≡ Open mode → SameSectors n (noted_step shape shown n a (Some (Some doing)) (Device step) got read)
+opening_same shape shown n a doing mode step got read j =
+    let mid = failing doing step got in
+    subst (λ (q : Job). SameSectors n (device_note shape (put n a (Some mid)) a mid q step got read)) (sym j)
+    (record { histories = refl; finished = refl; floors = refl; doings = length-set n.doings a (Some mid) })
+
+-- the images as they are, read so, beside a root that leads to this state
+with_root : (shape : Shape) (sectors : ℕ) (committed new : Stored) (later : Option Stored) (learnt : Learnt) (old now : Devices (List History)) (s : Shared) → DevicesAgree shape.geometry sectors committed later old s → HasRoot learnt later → learnt.locations ≡ locations new →
+    now.origin ≡ old.origin → now.cache ≡ old.cache → Rattle.wb_roots.specs.Roots.MayBeReadAs shape.geometry committed (Some new) now.metadata → DevicesAgree shape.geometry sectors committed (Some new) now s
+with_root shape sectors committed new later learnt old now s d r same o c read =
+    let runs = subst (λ (l : Option Stored). Rattle.wb_simulation.specs.Sites.IsRunning l s) r.1 d.images.later_is in
+    record {
+      origin = d.origin ∙ ap (λ (x : List History). Rattle.wb_contents.specs.Devices.by_block sectors Rattle.wb_simulation.specs.Worlds.zeros x) (sym o);
+      cache = d.cache ∙ ap (λ (x : List History). Rattle.wb_contents.specs.Devices.by_block sectors Rattle.wb_simulation.specs.Worlds.zeros x) (sym c);
+      images = record { read = read; committed_is = d.images.committed_is; later_is = (runs.0, runs.1 ∙ sym r.2 ∙ same) };
+    }
+
+module _ (P A : Type 0) (shape : Shape) (images : Images) (devices : Devices (List History)) (commit : Option RunningCommit) (mode : Mode) (reading : Option (ReadSteps A)) (actors : List Actor) (n : Notes) where
+  abbrev w : State P A
+  w = record { devices = devices; commit = commit; phase = Opens mode reading; actors = actors }
+
+  abbrev device : List History
+  device = devices.metadata
+
+  module _ (known : MetadataKept {P = P} {A = A} shape.geometry images (Opens mode reading) commit device) (f : Followed P A shape images w n) (alone : AtPhase {P = P} {A = A} (Opens mode reading) actors) (a : ℕ) (x : Actor) (ex : slice_get actors a ≡ Some x) (opened_in : Mode) (shown : List Bytes) (doing : Doing) (job_is : doing.job ≡ Open opened_in) where
+    readable : Readable shape.geometry images device
+    readable = kept_readable shape.geometry images device P A (Opens mode reading) commit known
+
+    -- what is noted then
+    abbrev n' : DeviceStep → Got → List Bytes → Notes
+    n' step got read = noted_step shape shown n a (Some (Some doing)) (Device step) got read
+
+    -- the state after a step
+    abbrev after_it : DeviceStep → Got → Chosen P A → Devices (List History) → State P A
+    after_it step got chosen devices' = record {
+      devices = devices';
+      commit = commit_then {P = P} {A = A} (Opens mode reading) commit (Device step) got chosen;
+      phase = Opens mode (reading_then reading (Device step) got chosen);
+      actors = slice_set actors a (actor_then {P = P} {A = A} shape (Opens mode reading) devices x (Device step) got);
+    }
+
+    same : (step : DeviceStep) (got : Got) (read : List Bytes) → SameSectors n (n' step got read)
+    same step got read = opening_same shape shown n a doing opened_in step got read job_is
+
+    module _ (plan : Plan) (xt : x.task ≡ Some (Open opened_in, plan)) where
+      -- whoever has a task then is the one who opens
+      each_then : (y : Actor) (plan' : Plan) (Is : Plan → Type 0) → y.task ≡ Some (Open opened_in, plan') → Is plan' → (b : ℕ) (z : Actor) (job : Job) (plan2 : Plan) → slice_get (slice_set actors a y) b ≡ Some z → z.task ≡ Some (job, plan2) → Is plan2
+      each_then y plan' Is yt i b z job plan2 e zt = elim (set_cases actors a b y z e) [
+        | inl here ↦
+            let both : Some (Open opened_in, plan') ≡ Some (job, plan2) = sym yt ∙ ap (λ (v : Actor). v.task) (sym here.1) ∙ zt in
+            subst Is (some_pair_parts (Open opened_in) job plan' plan2 both).1 i
+        | inr other ↦ absurd (other.0 (alone.1 b z other.1 (subst (λ (t : Option (Job × Plan)). IsTask t) (sym zt) tt) ∙ sym (alone.1 a x ex (subst (λ (t : Option (Job × Plan)). IsTask t) (sym xt) tt))))
+      ]
+
+      -- it goes on so
+      goes_to : (step : DeviceStep) (got : Got) (read : List Bytes) (chosen : Chosen P A) (images' : Images) (later' : Option Stored) (phase' : PhaseThere) (devices' : Devices (List History)) (reading' : Option (ReadSteps A)) (commit' : Option RunningCommit) (plan' : Plan) →
+          reading_then reading (Device step) got chosen ≡ reading' → commit_then {P = P} {A = A} (Opens mode reading) commit (Device step) got chosen ≡ commit' → after plan got ≡ plan' → Arrived P A shape images'.committed later' phase' devices' (n' step got read) → IsFitToo later' → phase' ≢ StandsThere →
+          MetadataKept {P = P} {A = A} shape.geometry images' (Opens mode reading') commit' devices'.metadata → AtStage reading' commit' later' plan' phase' ⊎ IsOver plan' phase' → Goes P A shape (after_it step got chosen devices') (n' step got read)
+      goes_to step got read chosen images' later' phase' devices' reading' commit' plan' er ec ep v fit down known' at =
+          let y = actor_then {P = P} {A = A} shape (Opens mode reading) devices x (Device step) got in
+          subst (λ (r : Option (ReadSteps A)). Goes P A shape (record { devices = devices'; commit = commit_then {P = P} {A = A} (Opens mode reading) commit (Device step) got chosen; phase = Opens mode r; actors = slice_set actors a y }) (n' step got read)) (sym er)
+          (subst (λ (c : Option RunningCommit). Goes P A shape (record { devices = devices'; commit = c; phase = Opens mode reading'; actors = slice_set actors a y }) (n' step got read)) (sym ec)
+          (opens P A shape images' later' phase' devices' (n' step got read) v fit down (slice_set actors a y) (sized_so P A shape actors (slice_set actors a y) n (n' step got read) (same step got read) (length-set actors a y) f.sized) mode reading' commit' f.phase.writeback known'
+          (each_then y plan' (λ (p : Plan). AtStage reading' commit' later' p phase' ⊎ IsOver p phase') (ap (λ (t : Option (Job × Plan)). task_then t (Device step) got) xt ∙ ap (λ (p : Plan). Some (Open opened_in, p)) ep) at)))
+
+    over : (total : ℕ) (refusal : Refusal) → IsOver (record { job = Opening total; steps = []; answer = Rattle.wb_tasks.specs.declared.step.Answer.TheVariants.Refused refusal }) GoneThere
+    over total refusal = record { nothing = refl; refused = λ e. absurd (cc); phase_is = refl }
+
+    no_stand : (stage : Stage) → OpensThere Writeback stage ≢ StandsThere
+    no_stand stage e = absurd (cc)
+
+    no_gone : GoneThere ≢ StandsThere
+    no_gone e = absurd (cc)
+
+    module _ (total left : ℕ) where
+      -- ---- the first sync of the metadata
+
+      module _ (ph : f.site.phase ≡ OpensThere Writeback Settling) (rd : HasReadAt Settling reading commit f.phase.later) (xt : x.task ≡ Some (Open opened_in, opening_at total left Settling)) where
+        begins_of : (chosen : Chosen P A) → DoesSync (Opens mode reading) None device chosen → (now : ReadSteps A) × (chosen ≡ Begins now) × (sectors_read now ≡ 0)
+        begins_of (Begins now) s = (now, refl, s)
+        begins_of chosen s = absurd s
+
+        reached_at : (now : ReadSteps A) (i : Images) (m : List History) → sectors_read now ≡ 0 → Found shape.geometry i m → HasReached shape.geometry i now m
+        reached_at (Begun alloc global) i m e found = record { found = found; come = tt; on = tt }
+        reached_at (FirstSlotRead alloc global first) i m e found = absurd (omega (arith, e))
+        reached_at (RootFound global root loader) i m e found = absurd (omega (arith, e))
+        reached_at (AllRead state) i m e found = absurd (omega (arith, e))
+
+        pub settle_done : (read : List Bytes) (chosen : Chosen P A) → DoesSync (Opens mode reading) commit device chosen → Goes P A shape (after_it (Sync Metadata) Done chosen (record devices { metadata = synced device })) (n' (Sync Metadata) Done read)
+        settle_done read chosen s =
+            let b = begins_of chosen (subst (λ (c : Option RunningCommit). DoesSync (Opens mode reading) c device chosen) rd.1 s) in
+            let l = openings_followed.settles shape.geometry (size P A shape) images.committed f.phase.later Writeback f.site devices ph f.phase.devices_follow.agree in
+            let found : Found shape.geometry (one_image l.state) (synced device) = record { committed = l.state; are = refl; read = l.leads.agrees.images.read; settled = l.settled; fit = one_fit images f.phase.later l.state readable.fit f.phase.devices_follow.fit l.one_of } in
+            goes_to (opening_at total left Settling) xt (Sync Metadata) Done read chosen (one_image l.state) None (OpensThere Writeback Caching) (record devices { metadata = synced device }) (Some b.0) None (opening_at total left Caching)
+            (ap (λ (c : Chosen P A). reading_then reading (Device (Sync Metadata)) Done c) b.1) (ap (λ (c : Option RunningCommit). led c Done) rd.1) refl
+            (arrives P A shape images w n (n' (Sync Metadata) Done read) f (same (Sync Metadata) Done read) l.state None (OpensThere Writeback Caching) (record devices { metadata = synced device }) l.leads (no_stand Caching)) tt (no_stand Caching)
+            (reached_at b.0 (one_image l.state) (synced device) b.2 found)
+            (inl (record { total = total; left = left; stage = Caching; is = refl; phase_is = refl; read = ((b.0, refl), refl, refl) }))
+
+        pub settle_fails : (read : List Bytes) (chosen : Chosen P A) (lands : ℕ → Bool) → Goes P A shape (after_it (Sync Metadata) Fault chosen (record devices { metadata = synced_where lands device })) (n' (Sync Metadata) Fault read)
+        settle_fails read chosen lands =
+            let l = openings_followed.settling_fails shape.geometry (size P A shape) images.committed f.phase.later Writeback f.site devices ph f.phase.devices_follow.agree (synced_where lands device) (partly_synced lands device) in
+            goes_to (opening_at total left Settling) xt (Sync Metadata) Fault read chosen images f.phase.later GoneThere (record devices { metadata = synced_where lands device }) None None _
+            refl (ap (λ (c : Option RunningCommit). led c Fault) rd.1) refl
+            (arrives P A shape images w n (n' (Sync Metadata) Fault read) f (same (Sync Metadata) Fault read) images.committed f.phase.later GoneThere (record devices { metadata = synced_where lands device }) l no_gone) f.phase.devices_follow.fit no_gone
+            (partly_readable shape.geometry images lands device readable)
+            (inr (over total _))
+
+      -- ---- the syncs of cache and origin
+
+      module _ (ph : f.site.phase ≡ OpensThere Writeback Caching) (rd : HasReadAt Caching reading commit f.phase.later) (xt : x.task ≡ Some (Open opened_in, opening_at total left Caching)) where
+        pub cache_done : (read : List Bytes) (chosen : Chosen P A) → Goes P A shape (after_it (Sync Cache) Done chosen (record devices { cache = synced devices.cache })) (n' (Sync Cache) Done read)
+        cache_done read chosen =
+            let l = openings_followed.syncs_cache shape.geometry (size P A shape) images.committed f.phase.later Writeback f.site devices ph f.phase.devices_follow.agree in
+            goes_to (opening_at total left Caching) xt (Sync Cache) Done read chosen images f.phase.later (OpensThere Writeback Basing) (record devices { cache = synced devices.cache }) reading commit (opening_at total left Basing) refl refl refl
+            (arrives P A shape images w n (n' (Sync Cache) Done read) f (same (Sync Cache) Done read) images.committed f.phase.later (OpensThere Writeback Basing) (record devices { cache = synced devices.cache }) l (no_stand Basing)) f.phase.devices_follow.fit (no_stand Basing) known
+            (inl (record { total = total; left = left; stage = Basing; is = refl; phase_is = refl; read = rd }))
+
+        pub cache_fails : (read : List Bytes) (chosen : Chosen P A) (lands : ℕ → Bool) → Goes P A shape (after_it (Sync Cache) Fault chosen (record devices { cache = synced_where lands devices.cache })) (n' (Sync Cache) Fault read)
+        cache_fails read chosen lands =
+            let l = openings_followed.cache_fails shape.geometry (size P A shape) images.committed f.phase.later Writeback f.site devices ph f.phase.devices_follow.agree lands in
+            goes_to (opening_at total left Caching) xt (Sync Cache) Fault read chosen images f.phase.later GoneThere (record devices { cache = synced_where lands devices.cache }) reading commit _ refl refl refl
+            (arrives P A shape images w n (n' (Sync Cache) Fault read) f (same (Sync Cache) Fault read) images.committed f.phase.later GoneThere (record devices { cache = synced_where lands devices.cache }) l no_gone) f.phase.devices_follow.fit no_gone known (inr (over total _))
+
+      module _ (ph : f.site.phase ≡ OpensThere Writeback Basing) (rd : HasReadAt Basing reading commit f.phase.later) (xt : x.task ≡ Some (Open opened_in, opening_at total left Basing)) where
+        pub origin_done : (read : List Bytes) (chosen : Chosen P A) → Goes P A shape (after_it (Sync Origin) Done chosen (record devices { origin = synced devices.origin })) (n' (Sync Origin) Done read)
+        origin_done read chosen =
+            let l = openings_followed.syncs_origin shape.geometry (size P A shape) images.committed f.phase.later Writeback f.site devices ph f.phase.devices_follow.agree in
+            goes_to (opening_at total left Basing) xt (Sync Origin) Done read chosen images f.phase.later (OpensThere Writeback Looking) (record devices { origin = synced devices.origin }) reading commit (opening_at total left Looking) refl refl refl
+            (arrives P A shape images w n (n' (Sync Origin) Done read) f (same (Sync Origin) Done read) images.committed f.phase.later (OpensThere Writeback Looking) (record devices { origin = synced devices.origin }) l (no_stand Looking)) f.phase.devices_follow.fit (no_stand Looking) known
+            (inl (record { total = total; left = left; stage = Looking; is = refl; phase_is = refl; read = rd }))
+
+        pub origin_fails : (read : List Bytes) (chosen : Chosen P A) (lands : ℕ → Bool) → Goes P A shape (after_it (Sync Origin) Fault chosen (record devices { origin = synced_where lands devices.origin })) (n' (Sync Origin) Fault read)
+        origin_fails read chosen lands =
+            let l = openings_followed.origin_fails shape.geometry (size P A shape) images.committed f.phase.later Writeback f.site devices ph f.phase.devices_follow.agree lands in
+            goes_to (opening_at total left Basing) xt (Sync Origin) Fault read chosen images f.phase.later GoneThere (record devices { origin = synced_where lands devices.origin }) reading commit _ refl refl refl
+            (arrives P A shape images w n (n' (Sync Origin) Fault read) f (same (Sync Origin) Fault read) images.committed f.phase.later GoneThere (record devices { origin = synced_where lands devices.origin }) l no_gone) f.phase.devices_follow.fit no_gone known (inr (over total _))
+
+      -- ---- the reading
+
+      module _ (ph : f.site.phase ≡ OpensThere Writeback Looking) (rd : HasReadAt Looking reading commit f.phase.later) (xt : x.task ≡ Some (Open opened_in, opening_at total left Looking)) where
+        none : commit ≡ None
+        none = rd.1
+
+        -- so far one image alone is known, on a settled device
+        so_far : HasReached shape.geometry images rd.0.0 device
+        so_far = subst (λ (c : Option RunningCommit). AtOpening shape.geometry images (Some rd.0.0) c device) none (subst (λ (r : Option (ReadSteps A)). AtOpening shape.geometry images r commit device) rd.0.1 known)
+
+        alone_now : images.running ≡ None
+        alone_now = ap (λ (i : Images). i.running) so_far.found.are
+
+        agree : DevicesAgree shape.geometry (size P A shape) images.committed None devices f.site.world.shared
+        agree = subst (λ (l : Option Stored). DevicesAgree shape.geometry (size P A shape) images.committed l devices f.site.world.shared) rd.2 f.phase.devices_follow.agree
+
+        -- nothing is read any more
+        look_stops : (got : Got) (read : List Bytes) (chosen : Chosen P A) (refusal : Refusal) → reading_then reading (Device (ReadMetadata left)) got chosen ≡ None → commit_then {P = P} {A = A} (Opens mode reading) commit (Device (ReadMetadata left)) got chosen ≡ None →
+            after (opening_at total left Looking) got ≡ record { job = Opening total; steps = []; answer = Rattle.wb_tasks.specs.declared.step.Answer.TheVariants.Refused refusal } → Goes P A shape (after_it (ReadMetadata left) got chosen devices) (n' (ReadMetadata left) got read)
+        look_stops got read chosen refusal er ec ep =
+            let l = openings_followed.look_stops shape.geometry (size P A shape) images.committed None Writeback f.site devices ph agree in
+            goes_to (opening_at total left Looking) xt (ReadMetadata left) got read chosen images None GoneThere devices None None _ er ec ep
+            (arrives P A shape images w n (n' (ReadMetadata left) got read) f (same (ReadMetadata left) got read) images.committed None GoneThere devices l no_gone) tt no_gone readable (inr (over total refusal))
+
+        -- there is more to read
+        look_on : (now : ReadSteps A) (read : List Bytes) (chosen : Chosen P A) → HasReached shape.geometry images now device → reading_then reading (Device (ReadMetadata left)) More chosen ≡ Some now → commit_then {P = P} {A = A} (Opens mode reading) commit (Device (ReadMetadata left)) More chosen ≡ None →
+            Goes P A shape (after_it (ReadMetadata left) More chosen devices) (n' (ReadMetadata left) More read)
+        look_on now read chosen k er ec =
+            goes_to (opening_at total left Looking) xt (ReadMetadata left) More read chosen images None (OpensThere Writeback Looking) devices (Some now) None (opening_at total (left - 1) Looking) er ec refl
+            (rests P A shape images w n (n' (ReadMetadata left) More read) f (same (ReadMetadata left) More read) images.committed None (OpensThere Writeback Looking) devices f.phase.devices_follow.idle ph agree) tt (no_stand Looking) k
+            (inl (record { total = total; left = left - 1; stage = Looking; is = refl; phase_is = refl; read = ((now, refl), refl, refl) }))
+
+        -- all was read: the abstract opening learns where each block is
+        abbrev learnt : Learnt
+        learnt = record { locations = f.site.world.shared.committed; clean = f.site.world.shared.committed_clean }
+
+        look_done : (stored : Rattle.wb_meta.specs.declared.read_steps.State.State A) (running : RunningCommit) (read : List Bytes) (chosen : Chosen P A) → HasReached shape.geometry images (AllRead stored) device → (next : Rattle.wb_devices.specs.Opened.HasNextRoot (AllRead stored) (Some running)) →
+            reading_then reading (Device (ReadMetadata left)) Done chosen ≡ Some (AllRead stored) → commit_then {P = P} {A = A} (Opens mode reading) commit (Device (ReadMetadata left)) Done chosen ≡ Some running → Goes P A shape (after_it (ReadMetadata left) Done chosen devices) (n' (ReadMetadata left) Done read)
+        look_done stored running read chosen k next er ec =
+            let is = read_is_committed shape.geometry k.found.committed device stored.root stored.tree stored.used.items k.found.read k.found.settled k.come k.on in
+            let one : images.committed ≡ k.found.committed = ap (λ (i : Images). i.committed) k.found.are in
+            let entries_are : stored.tree.entries ≡ images.committed.found.entries = is.1 ∙ ap (λ (s : Stored). s.found.entries) (sym one) in
+            let located_so : learnt.locations ≡ located stored.tree.entries = agree.images.committed_is ∙ ap (λ es. located es) (sym entries_are) in
+            let l : LeadsTo shape.geometry (size P A shape) images.committed None f.site (OpensThere Writeback (Rooting learnt)) devices = record {
+              event = Advances (Learns learnt);
+              may = (Writeback, Looking, ph, (refl, refl, tt));
+              phase_is = ap (λ (p : PhaseThere). (advance f.site.world p (Learns learnt)).phase) ph;
+              agrees = subst (λ (p : PhaseThere). DevicesAgree shape.geometry (size P A shape) images.committed None devices (advance f.site.world p (Learns learnt)).world.shared) (sym ph) agree;
+            } in
+            let t = root_begins A shape.geometry images device (AllRead stored) (Some running) k next in
+            let committed_same = same_one t.turn images t.now alone_now t.turned in
+            let v = arrives P A shape images w n (n' (ReadMetadata left) Done read) f (same (ReadMetadata left) Done read) images.committed None (OpensThere Writeback (Rooting learnt)) devices l (no_stand (Rooting learnt)) in
+            goes_to (opening_at total left Looking) xt (ReadMetadata left) Done read chosen t.now None (OpensThere Writeback (Rooting learnt)) devices (Some (AllRead stored)) (Some running) (opening_at total left (Rooting learnt)) er ec refl
+            (subst (λ (s : Stored). Arrived P A shape s None (OpensThere Writeback (Rooting learnt)) devices (n' (ReadMetadata left) Done read)) (sym committed_same) v) tt (no_stand (Rooting learnt)) t.kept
+            (inl (record {
+              total = total;
+              left = left;
+              stage = Rooting learnt;
+              is = refl;
+              phase_is = refl;
+              read = (
+                record {
+                  stored = stored;
+                  reading_is = refl;
+                  running = running;
+                  commit_is = refl;
+                  same = located_so;
+                  unclean = f.clean.images.0;
+                  bare = λ c block. nowhere stored.tree.entries (ap (λ es. Rattle.std.specs.List.count_by Rattle.std.specs.Prelude.is_some es) entries_are ∙ readable.fit (ap (λ (s : Stored). s.root.clean) one ∙ ap (λ r. r.clean) (sym is.0) ∙ c)) block;
+                },
+                refl,
+              );
+            }))
+
+        -- by what its step gives
+        pub looks : (got : Got) (read : List Bytes) (chosen : Chosen P A) → DoesRead shape.geometry left rd.0.0 device None got chosen → Goes P A shape (after_it (ReadMetadata left) got chosen devices) (n' (ReadMetadata left) got read)
+        looks got read (Reaches after' commit') (no_fault, inl more) = by_got got no_fault more.3
+          where
+            reached : HasReached shape.geometry images more.0 device
+            reached = record { found = so_far.found; come = more.1 (map newest device) (record { size = Rattle.std.proofs.lemmas.List.length-map device newest; here = λ place e. refl }) so_far.come; on = more.2 }
+
+            all_read : (now : ReadSteps A) → HasReached shape.geometry images now device → (next : Rattle.wb_devices.specs.Opened.HasNextRoot now commit') → after' ≡ Some now → Goes P A shape (after_it (ReadMetadata left) Done (Reaches after' commit') devices) (n' (ReadMetadata left) Done read)
+            all_read (AllRead stored) k next e = look_done stored next.next read (Reaches after' commit') k (subst (λ (c : Option RunningCommit). Rattle.wb_devices.specs.Opened.HasNextRoot (AllRead stored) c) next.commit_is next) e next.commit_is
+            all_read (Begun alloc global) k next e = absurd next.is_done
+            all_read (FirstSlotRead alloc global first) k next e = absurd next.is_done
+            all_read (RootFound global root loader) k next e = absurd next.is_done
+
+            by_got : (got : Got) → (got ≢ Fault) → HasCome shape.geometry left more.0 None got after' commit' → Goes P A shape (after_it (ReadMetadata left) got (Reaches after' commit') devices) (n' (ReadMetadata left) got read)
+            by_got More z h = look_on more.0 read (Reaches after' commit') reached h.1 h.3
+            by_got Done z h = all_read more.0 reached h.2 h.0
+            by_got (GotRefused refusal) z h = look_stops (GotRefused refusal) read (Reaches after' commit') refusal h.0 h.1 refl
+            by_got Fault z h = absurd (z refl)
+            by_got got z h = absurd h
+        looks got read (Reaches after' commit') (no_fault, inr more) = by_refusal more.0 more.3
+          where
+            by_refusal : (r : Refusal) → got ≡ got_of_refusal r → Goes P A shape (after_it (ReadMetadata left) got (Reaches after' commit') devices) (n' (ReadMetadata left) got read)
+            by_refusal (Io d) e = absurd (no_fault e)
+            by_refusal r e = look_stops got read (Reaches after' commit') r more.4 more.5 (ap (λ (v : Got). after (opening_at total left Looking) v) e)
+        looks got read chosen g = absurd g
+
+        pub look_fails : (read : List Bytes) → Goes P A shape (after_it (ReadMetadata left) Fault Plain devices) (n' (ReadMetadata left) Fault read)
+        look_fails read = look_stops Fault read Plain (Io Metadata) refl refl refl
+
+      -- ---- the root
+
+      -- what was known with the reading and the commit that it has
+      abbrev rooting : (i : Learnt) (h : HasLearnt reading commit i) → RootingKept shape.geometry images (AllRead h.stored) h.running device
+      rooting i h = subst (λ (c : Option RunningCommit). AtOpening shape.geometry images (Some (AllRead h.stored)) c device) h.commit_is (subst (λ (r : Option (ReadSteps A)). AtOpening shape.geometry images r commit device) h.reading_is known)
+
+      -- the same has been learnt while the commit goes on
+      learnt_still : (i : Learnt) (h : HasLearnt reading commit i) (running' : RunningCommit) → HasLearnt (Some (AllRead h.stored)) (Some running') i
+      learnt_still i h running' = record { stored = h.stored; reading_is = refl; running = running'; commit_is = refl; same = h.same; unclean = h.unclean; bare = h.bare }
+
+      -- the state that its root leads to
+      leads_to : (i : Learnt) (h : HasLearnt reading commit i) → i.locations ≡ locations (rooting i h).of.new
+      leads_to i h = h.same ∙ ap (λ es. located es) (sym (leads_so A shape.geometry images h.stored h.running device (rooting i h)))
+
+      old_is : (i : Learnt) (h : HasLearnt reading commit i) → (rooting i h).of.old ≡ images.committed
+      old_is i h = ap (λ (j : Images). j.committed) (sym (rooting i h).under.are)
+
+      -- a root that is written, or fails to be
+      module _ (i : Learnt) (ph : f.site.phase ≡ OpensThere Writeback (Rooting i)) (rd : HasReadAt (Rooting i) reading commit f.phase.later) (xt : x.task ≡ Some (Open opened_in, opening_at total left (Rooting i))) (new : List History) where
+        abbrev devices' : Devices (List History)
+        devices' = record devices { metadata = new }
+
+        abbrev k : RootingKept shape.geometry images (AllRead rd.0.stored) rd.0.running device
+        k = rooting i rd.0
+
+        pub root_done : (read : List Bytes) → DoesStep rd.0.running.image rd.0.running.steps device new → Goes P A shape (after_it WriteRoot Done (Puts new) devices') (n' WriteRoot Done read)
+        root_done read does =
+            let t = rooted_on A shape.geometry images (AllRead rd.0.stored) rd.0.running device new k does in
+            let goal = t.kept.of.new in
+            let same_new : goal ≡ k.of.new = ap (λ (c : Rattle.wb_roots.specs.Roots.Commit). c.new) t.of_is in
+            let old : t.kept.of.old ≡ images.committed = ap (λ (c : Rattle.wb_roots.specs.Roots.Commit). c.old) t.of_is ∙ old_is i rd.0 in
+            let read_so = subst (λ (s : Stored). Rattle.wb_roots.specs.Roots.MayBeReadAs shape.geometry s (Some goal) new) old (two_read shape.geometry t.kept.of new t.now _ t.kept.under) in
+            let leads : i.locations ≡ locations goal = leads_to i rd.0 ∙ ap locations (sym same_new) in
+            let l = openings_followed.roots i goal new leads shape.geometry (size P A shape) images.committed f.phase.later Writeback f.site devices ph f.phase.devices_follow.agree read_so in
+            let v = arrives P A shape images w n (n' WriteRoot Done read) f (same WriteRoot Done read) images.committed (Some goal) (OpensThere Writeback (Renewing i)) devices' l (no_stand (Renewing i)) in
+            goes_to (opening_at total left (Rooting i)) xt WriteRoot Done read (Puts new) t.now (Some goal) (OpensThere Writeback (Renewing i)) devices' (Some (AllRead rd.0.stored)) (Some _) (opening_at total left (Renewing i))
+            rd.0.reading_is (ap (λ (c : Option RunningCommit). led c Done) rd.0.commit_is) refl
+            (subst (λ (s : Stored). Arrived P A shape s (Some goal) (OpensThere Writeback (Renewing i)) devices' (n' WriteRoot Done read)) (sym t.committed_is) v) t.kept.under.fit_new (no_stand (Renewing i)) t.kept
+            (inl (record { total = total; left = left; stage = Renewing i; is = refl; phase_is = refl; read = (learnt_still i rd.0 _, (goal, refl, leads)) }))
+
+        pub root_fails : (read : List Bytes) → FailsStep rd.0.running.image rd.0.running.steps device new → Goes P A shape (after_it WriteRoot Fault (Puts new) devices') (n' WriteRoot Fault read)
+        root_fails read bad =
+            let goal = k.of.new in
+            let read_so = subst (λ (s : Stored). Rattle.wb_roots.specs.Roots.MayBeReadAs shape.geometry s (Some goal) new) (old_is i rd.0) (two_left shape.geometry k.of device images rd.0.running new k.under bad) in
+            let l = openings_followed.root_fails i goal new (leads_to i rd.0) shape.geometry (size P A shape) images.committed f.phase.later Writeback f.site devices ph f.phase.devices_follow.agree read_so in
+            let v = arrives P A shape images w n (n' WriteRoot Fault read) f (same WriteRoot Fault read) images.committed (Some goal) GoneThere devices' l no_gone in
+            goes_to (opening_at total left (Rooting i)) xt WriteRoot Fault read (Puts new) (Rattle.wb_runs.proofs.Underway.images_of k.of true) (Some goal) GoneThere devices' None None _
+            refl (ap (λ (c : Option RunningCommit). led c Fault) rd.0.commit_is) refl
+            (subst (λ (s : Stored). Arrived P A shape s (Some goal) GoneThere devices' (n' WriteRoot Fault read)) (sym (old_is i rd.0)) v) k.under.fit_new no_gone (both_left shape.geometry k.of device images rd.0.running new k.under bad) (inr (over total _))
+
+      -- and the sync after it
+      module _ (i : Learnt) (ph : f.site.phase ≡ OpensThere Writeback (Renewing i)) (rd : HasReadAt (Renewing i) reading commit f.phase.later) (xt : x.task ≡ Some (Open opened_in, opening_at total left (Renewing i))) (new : List History) where
+        abbrev renewed : Devices (List History)
+        renewed = record devices { metadata = new }
+
+        abbrev kept : RootingKept shape.geometry images (AllRead rd.0.stored) rd.0.running device
+        kept = rooting i rd.0
+
+        agree_so : DevicesAgree shape.geometry (size P A shape) images.committed (Some kept.of.new) devices f.site.world.shared
+        agree_so = with_root shape (size P A shape) images.committed kept.of.new f.phase.later i devices devices f.site.world.shared f.phase.devices_follow.agree rd.1 (leads_to i rd.0) refl refl
+            (subst (λ (s : Stored). Rattle.wb_roots.specs.Roots.MayBeReadAs shape.geometry s (Some kept.of.new) device) (old_is i rd.0) (two_read shape.geometry kept.of device images rd.0.running kept.under))
+
+        pub renew_done : (read : List Bytes) → DoesStep rd.0.running.image rd.0.running.steps device new → Goes P A shape (after_it (Sync Metadata) Done Plain renewed) (n' (Sync Metadata) Done read)
+        renew_done read does =
+            let t = rooted_on A shape.geometry images (AllRead rd.0.stored) rd.0.running device new kept does in
+            let goal = kept.of.new in
+            let new_is : t.kept.of.new ≡ goal = ap (λ (c : Rattle.wb_roots.specs.Roots.Commit). c.new) t.of_is in
+            let old : t.kept.of.old ≡ images.committed = ap (λ (c : Rattle.wb_roots.specs.Roots.Commit). c.old) t.of_is ∙ old_is i rd.0 in
+            let read_so = subst (λ (s : Stored). Rattle.wb_roots.specs.Roots.MayBeReadAs shape.geometry images.committed (Some s) new) new_is
+            (subst (λ (s : Stored). Rattle.wb_roots.specs.Roots.MayBeReadAs shape.geometry s (Some t.kept.of.new) new) old (two_read shape.geometry t.kept.of new t.now _ t.kept.under)) in
+            let l = openings_followed.renews i new shape.geometry (size P A shape) images.committed (Some goal) Writeback f.site devices ph agree_so read_so in
+            let v = arrives P A shape images w n (n' (Sync Metadata) Done read) f (same (Sync Metadata) Done read) images.committed (Some goal) (OpensThere Writeback (Answering i)) renewed l (no_stand (Answering i)) in
+            goes_to (opening_at total left (Renewing i)) xt (Sync Metadata) Done read Plain t.now (Some goal) (OpensThere Writeback (Answering i)) renewed (Some (AllRead rd.0.stored)) (Some _) (opening_at total left (Answering i))
+            rd.0.reading_is (ap (λ (c : Option RunningCommit). led c Done) rd.0.commit_is) refl
+            (subst (λ (s : Stored). Arrived P A shape s (Some goal) (OpensThere Writeback (Answering i)) renewed (n' (Sync Metadata) Done read)) (sym t.committed_is) v) kept.under.fit_new (no_stand (Answering i)) t.kept
+            (inl (record { total = total; left = left; stage = Answering i; is = refl; phase_is = refl; read = (learnt_still i rd.0 _, (goal, refl, leads_to i rd.0)) }))
+
+        pub renew_fails : (read : List Bytes) → FailsStep rd.0.running.image rd.0.running.steps device new → Goes P A shape (after_it (Sync Metadata) Fault Plain renewed) (n' (Sync Metadata) Fault read)
+        renew_fails read bad =
+            let goal = kept.of.new in
+            let read_so = subst (λ (s : Stored). Rattle.wb_roots.specs.Roots.MayBeReadAs shape.geometry s (Some goal) new) (old_is i rd.0) (two_left shape.geometry kept.of device images rd.0.running new kept.under bad) in
+            let l = openings_followed.renewing_fails i new shape.geometry (size P A shape) images.committed (Some goal) Writeback f.site devices ph agree_so read_so in
+            let v = arrives P A shape images w n (n' (Sync Metadata) Fault read) f (same (Sync Metadata) Fault read) images.committed (Some goal) GoneThere renewed l no_gone in
+            goes_to (opening_at total left (Renewing i)) xt (Sync Metadata) Fault read Plain (Rattle.wb_runs.proofs.Underway.images_of kept.of true) (Some goal) GoneThere renewed None None _
+            refl (ap (λ (c : Option RunningCommit). led c Fault) rd.0.commit_is) refl
+            (subst (λ (s : Stored). Arrived P A shape s (Some goal) GoneThere renewed (n' (Sync Metadata) Fault read)) (sym (old_is i rd.0)) v) kept.under.fit_new no_gone (both_left shape.geometry kept.of device images rd.0.running new kept.under bad) (inr (over total _))

@@ -1,0 +1,59 @@
+-- Lists of one thing, and lists of which one element changed.
+use Rattle.std.proofs.Common.{◌≡◌, ◌≢◌, ◌<◌, inl, inr, ℕ, zero, suc, List, [], ◌∷◌, Some, None, Option, refl, sym, ap, arith, slice_get, slice_set, replicate, map, Contains}
+use Rattle.std.proofs.lemmas.List.Elements.{Contains-append_cases}
+use Rattle.wb_types.proofs.Lists.{Contains-one}
+use Rattle.wb_tasks.specs.Plan.{Plan}
+use Rattle.wb_runs.specs.declared.job.Job.{Job}
+use Rattle.wb_runs.specs.declared.event.Event.TheVariants.{Start}
+use Rattle.wb_runs.specs.States.{State, Actor, resting}
+use Rattle.wb_runs.specs.Happenings.{DoesNotApply}
+
+pub set_other : {X : Type 0} (xs : List X) (i j : ℕ) (y : X) → j ≢ i → slice_get (slice_set xs i y) j ≡ slice_get xs j
+set_other [] i j y n = refl
+set_other (z ∷ xs) zero zero y n = absurd (n refl)
+set_other (z ∷ xs) zero (suc j) y n = refl
+set_other (z ∷ xs) (suc i) zero y n = refl
+set_other (z ∷ xs) (suc i) (suc j) y n = set_other xs i j y (λ e. n (ap suc e))
+
+pub set_there : {X : Type 0} (xs : List X) (i : ℕ) (x y : X) → slice_get xs i ≡ Some x → slice_get (slice_set xs i y) i ≡ Some y
+set_there [] i x y e = absurd (cc)
+set_there (z ∷ xs) zero x y e = refl
+set_there (z ∷ xs) (suc i) x y e = set_there xs i x y e
+
+-- what stands in a list of one thing
+pub replicated : {X : Type 0} (k i : ℕ) (x y : X) → slice_get (replicate k x) i ≡ Some y → y ≡ x
+replicated zero i x y e = absurd (cc)
+replicated (suc k) zero x y e = cc
+replicated (suc k) (suc i) x y e = replicated k i x y e
+
+pub replicated_there : {X : Type 0} (k i : ℕ) (x : X) → i < k → slice_get (replicate k x) i ≡ Some x
+replicated_there zero i x l = absurd (omega (arith, l))
+replicated_there (suc k) zero x l = refl
+replicated_there (suc k) (suc i) x l = replicated_there k i x (omega (arith, l))
+
+-- what a list has is its first element, or another one
+pub first_or : {X : Type 0} (x y : X) (xs : List X) (Is : Type 0) → Contains (x ∷ xs) y → (y ≡ x → Is) → (Contains xs y → Is) → Is
+first_or x y xs Is c first later = elim (Contains-append_cases (x ∷ []) xs y c) [ inl s ↦ first (Contains-one x y s) | inr r ↦ later r ]
+
+-- an actor of a list in which all rest
+pub rests : (actors : List Actor) (b : ℕ) (z : Actor) → slice_get (map (λ (x : Actor). resting) actors) b ≡ Some z → (z.task ≡ None) × ((x : Actor) × (slice_get actors b ≡ Some x))
+rests [] b z e = absurd (cc)
+rests (x ∷ xs) zero z e = let same : resting ≡ z = cc in (ap (λ (v : Actor). v.task) (sym same), (x, refl))
+rests (x ∷ xs) (suc b) z e = rests xs b z e
+
+pub there_rests : (actors : List Actor) (a : ℕ) (x : Actor) → slice_get actors a ≡ Some x → slice_get (map (λ (x : Actor). resting) actors) a ≡ Some resting
+there_rests [] a x e = absurd (cc)
+there_rests (z ∷ zs) zero x e = refl
+there_rests (z ∷ zs) (suc a) x e = there_rests zs a x e
+
+-- an actor to which a start applies has no task
+pub free : (P A : Type 0) (w : State P A) (a : ℕ) (job : Job) → (¬ DoesNotApply w (Start a job)) → (x : Actor) × (slice_get w.actors a ≡ Some x) × (x.task ≡ None)
+free P A w a job applies = at_actor (slice_get w.actors a) refl
+  where
+    at_task : (x : Actor) (t : Option (Job × Plan)) → slice_get w.actors a ≡ Some x → x.task ≡ t → x.task ≡ None
+    at_task x None e f = f
+    at_task x (Some doing) e f = absurd (applies (inr (inl (rw (e, f) tt))))
+
+    at_actor : (o : Option Actor) → slice_get w.actors a ≡ o → (x : Actor) × (slice_get w.actors a ≡ Some x) × (x.task ≡ None)
+    at_actor None e = absurd (applies (inl e))
+    at_actor (Some x) e = (x, e, at_task x x.task e refl)

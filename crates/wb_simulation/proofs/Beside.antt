@@ -1,0 +1,183 @@
+-- What a migration has read is what its source has still, where the device was synced, or another block was written.
+use Rattle.std.proofs.Common.{◌≡◌, ◌≢◌, ◌<◌, ◌≤◌, ◌+◌, ◌*◌, ◌%◌, ◌∙◌, ◌⊎◌, inl, inr, if◌then◌else◌, ℕ, zero, suc, Bool, true, false, List, [], ◌∷◌, Option, Some, None, refl, sym, ap, subst, arith, length, map, slice_get}
+use Rattle.std.proofs.lemmas.Bool.{cases_lt}
+use Rattle.std.proofs.lemmas.Nat.{mul-le}
+use Rattle.wb_types.specs.declared.extent.Extent.{Extent}
+use Rattle.wb_types.specs.declared.mode.Dev.{Dev}
+use Rattle.wb_types.specs.declared.mode.Dev.TheVariants.{Metadata, Cache, Origin}
+use Rattle.wb_types.specs.declared.number.OBlock.{OBlock}
+use Rattle.wb_disk.specs.Device.{Content, History, Gives, newest, added, grown, written}
+use Rattle.wb_disk.specs.Extents.{GivesEach, written_where}
+use Rattle.wb_words.specs.declared.word.Access.TheVariants.{Owned}
+use Rattle.wb_words.specs.declared.card.Hold.{Hold}
+use Rattle.wb_words.specs.declared.card.Hold.TheVariants.{Held}
+use Rattle.wb_words.specs.SharedWords.{Words}
+use Rattle.wb_words.specs.Cards.{owns, owners}
+use Rattle.wb_words.specs.Rule.{LockRule}
+use Rattle.wb_tasks.specs.Tables.{TaskJob, Migrating}
+use Rattle.wb_tasks.specs.Plan.{Plan}
+use Rattle.wb_tasks.specs.Ready.{Has, SuitsJob, HoldsBlocks, source_of}
+use Rattle.wb_tasks.specs.declared.step.DeviceStep.TheVariants.{Read, Write, Sync, ReadMetadata, WriteNode, WriteRoot}
+use Rattle.wb_tasks.specs.declared.step.Migration.{Migration}
+use Rattle.wb_tasks.specs.declared.step.Migration.TheVariants.{Promote, Demote, Clean}
+use Rattle.wb_tasks.specs.declared.step.Want.{Want}
+use Rattle.wb_tasks.specs.declared.step.Want.TheVariants.{Cell, Device, Desk, End}
+use Rattle.wb_devices.specs.declared.devices.Devices.{Devices}
+use Rattle.wb_devices.specs.Moving.{device_in}
+use Rattle.wb_link.specs.World.{Block, Mapped}
+use Rattle.wb_link.proofs.Lists.{get_set_other}
+use Rattle.wb_refines.specs.Data.{row, IsInBlock}
+use Rattle.wb_refines.specs.Translation.{location_at}
+use Rattle.wb_refines.specs.Migrations.{order_on, source}
+use Rattle.wb_refines.proofs.Holding.{is_one}
+use Rattle.wb_refines.proofs.Locks.{total_two}
+use Rattle.wb_runs.specs.declared.job.Job.{Job}
+use Rattle.wb_runs.specs.Happenings.{IsMade}
+use Rattle.wb_runs.specs.States.{Actor, with_device}
+use Rattle.wb_runs.specs.Holding.{cards_of, AllSuited, TaskSuits}
+use Rattle.wb_simulation.specs.Steps.{AreOfBlock}
+use Rattle.wb_simulation.specs.Behind.{HasRead}
+use Rattle.wb_simulation.proofs.Behind.{CarriesOthers, carried_with, card_there}
+
+-- ---- what reads give
+
+gives_newest : (old new : List History) (at : ℕ) (c : Content) → map newest new ≡ map newest old → Gives old at c → Gives new at c
+gives_newest [] new at c e g = let bad : None ≡ Some g.0 = g.1 in absurd (cc)
+gives_newest (h ∷ hs) [] at c e g = absurd (cc)
+gives_newest (h ∷ hs) (k ∷ ks) zero c e g =
+    let here : h ≡ g.0 = (let is : Some h ≡ Some g.0 = g.1 in cc) in
+    let same : newest k ≡ newest h = cc in
+    (k, refl, same ∙ ap newest here ∙ g.2)
+gives_newest (h ∷ hs) (k ∷ ks) (suc at) c e g = gives_newest hs ks at c (let later : map newest ks ≡ map newest hs = cc in later) (g.0, g.1, g.2)
+
+each_newest : (old new : List History) (at : ℕ) (cs : List Content) → map newest new ≡ map newest old → GivesEach old at cs → GivesEach new at cs
+each_newest old new at [] e g = tt
+each_newest old new at (c ∷ cs) e g = (gives_newest old new at c e g.0, each_newest old new (suc at) cs e g.1)
+
+has_newest : (size : ℕ) (old new : List History) (at : ℕ) (steps : List Want) (buffer : List Content) → map newest new ≡ map newest old → HasRead size old at steps buffer → HasRead size new at steps buffer
+has_newest size old new at (Device (Write device e) ∷ later) buffer same r = (r.0, each_newest old new _ buffer same r.1)
+has_newest size old new at [] buffer same r = tt
+has_newest size old new at (Cell step ∷ later) buffer same r = tt
+has_newest size old new at (Desk step ∷ later) buffer same r = tt
+has_newest size old new at (End answer ∷ later) buffer same r = tt
+has_newest size old new at (Device (Read device e) ∷ later) buffer same r = tt
+has_newest size old new at (Device (Sync device) ∷ later) buffer same r = tt
+has_newest size old new at (Device (ReadMetadata left) ∷ later) buffer same r = tt
+has_newest size old new at (Device (WriteNode number) ∷ later) buffer same r = tt
+has_newest size old new at (Device WriteRoot ∷ later) buffer same r = tt
+
+-- where each sector's newest content is the same, and what was mapped is, all that are carried are so still
+pub carries_newest : (size : ℕ) (devices devices' : Devices (List History)) (actors : List Actor) (a : ℕ) (blocks blocks' : ℕ → Block) → map newest devices'.origin ≡ map newest devices.origin → map newest devices'.cache ≡ map newest devices.cache → ((c : ℕ) → blocks c ≡ Mapped → blocks' c ≡ Mapped) →
+    CarriesOthers size devices devices' actors a blocks blocks'
+carries_newest size devices devices' actors a blocks blocks' origin cache mapped b z u c order n ez k =
+    carried_with size devices (record { 0 = c }) order (blocks c) z u k devices' (blocks' c) (mapped c) (has_newest size _ _ _ k.plan.steps z.buffer (side k.migration) k.buffer)
+  where
+    side : (m : Migration) → map newest (device_in (source_of m) devices') ≡ map newest (device_in (source_of m) devices)
+    side (Promote p) = origin
+    side Demote = cache
+    side Clean = cache
+
+-- ---- beside what is written
+
+beside_one : (device : List History) (i at : ℕ) (c : Content) → i ≢ at → slice_get (written device at c) i ≡ slice_get device i
+beside_one device i at c n = by (slice_get device at)
+  where
+    by : (h : Option History) → slice_get (grown h c device at) i ≡ slice_get device i
+    by None = refl
+    by (Some h) = get_set_other device at i (added h c) n
+
+beside_written : (lands : ℕ → Bool) (device : List History) (i at : ℕ) (cs : List Content) → (i < at) ⊎ (at + length cs ≤ i) → slice_get (written_where lands device at cs) i ≡ slice_get device i
+beside_written lands device i at [] away = refl
+beside_written lands device i at (c ∷ cs) away =
+    beside_written lands (if lands at then written device at c else device) i (suc at) cs (elim away [ inl l ↦ inl (omega (arith, l)) | inr l ↦ inr (omega (arith, l)) ]) ∙ by (lands at)
+  where
+    other : i ≢ at
+    other e = elim away [ inl l ↦ absurd (omega (arith, l, e)) | inr l ↦ absurd (omega (arith, l, e)) ]
+
+    by : (t : Bool) → slice_get (if t then written device at c else device) i ≡ slice_get device i
+    by true = beside_one device i at c other
+    by false = refl
+
+each_beside : (lands : ℕ → Bool) (device : List History) (from at : ℕ) (cs contents : List Content) → (from + length cs ≤ at) ⊎ (at + length contents ≤ from) → GivesEach device from cs → GivesEach (written_where lands device at contents) from cs
+each_beside lands device from at [] contents away g = tt
+each_beside lands device from at (c ∷ cs) contents away g = (
+  (g.0.0, beside_written lands device from at contents (elim away [ inl l ↦ inl (omega (arith, l)) | inr l ↦ inr l ]) ∙ g.0.1, g.0.2),
+  each_beside lands device (suc from) at cs contents (elim away [ inl l ↦ inl (omega (arith, l)) | inr l ↦ inr (omega (arith, l)) ]) g.1,
+)
+
+-- parts of two blocks share no sector
+parts_apart : (size p q i j m n : ℕ) → p ≢ q → i + m ≤ size → j + n ≤ size → (p * size + i + m ≤ q * size + j) ⊎ (q * size + j + n ≤ p * size + i)
+parts_apart size p q i j m n other l k = elim (cases_lt p q) [
+  | inl less ↦ inl (let step = rows size p q less in omega (arith, step, l))
+  | inr more ↦ elim (cases_lt q p) [
+    | inl less ↦ inr (let step = rows size q p less in omega (arith, step, k))
+    | inr same ↦ absurd (other (omega (arith, more, same)))
+  ]
+]
+  where
+    rows : (size p q : ℕ) → p < q → p * size + size ≤ q * size
+    rows size p q l = omega (arith, mul-le (p + 1) size q size (omega (arith, l)) (omega arith))
+
+-- ---- where an actor owns the block that it writes
+
+module _ (blocks : ℕ) (words : Words) (actors : List Actor) (a b : ℕ) (x z : Actor) (mine other : OBlock) (rule : LockRule blocks words (cards_of actors)) (n : b ≢ a) (ex : slice_get actors a ≡ Some x) (ez : slice_get actors b ≡ Some z) (inside : mine.0 < blocks) where
+  pub own_apart : x.card.hold ≡ Held Owned mine → z.card.hold ≡ Held Owned other → other.0 ≢ mine.0
+  own_apart h k e =
+      let lock = rule.cells mine.0 inside in
+      let two = total_two (owners mine.0) (cards_of actors) a b x.card z.card (λ f. n (sym f)) (card_there actors a x ex) (card_there actors b z ez) in
+      let here : owns mine.0 x.card.hold ≡ 1 = ap (λ (v : Hold). owns mine.0 v) h ∙ is_one mine in
+      let there : owns mine.0 z.card.hold ≡ 1 = ap (λ (v : Hold). owns mine.0 v) k ∙ ap (λ (i : ℕ). owns i (Held Owned other)) (sym e) ∙ is_one other in
+      let one = lock.one in
+      omega (arith, two, here, there, one)
+
+module _ (size blocks : ℕ) (words : Words) (devices : Devices (List History)) (actors : List Actor) (a : ℕ) (x : Actor) (mine : OBlock) (device : Dev) (e : Extent) (lands : ℕ → Bool) (contents : List Content) (states : ℕ → Block)
+    (rule : LockRule blocks words (cards_of actors)) (suited : AllSuited blocks actors) (ex : slice_get actors a ≡ Some x) (inside : mine.0 < blocks) (own : x.card.hold ≡ Held Owned mine) (in_block : IsInBlock size mine.0 device e) (count : length contents ≡ e.count) (h : HoldsBlocks device) where
+  -- the buffers of all others are what their sources have still
+  pub carries_written : CarriesOthers size devices (with_device device devices (written_where lands (device_in device devices) e.first contents)) actors a states states
+  carries_written b z u c order n ez k = carried_with size devices (record { 0 = c }) order (states c) z u k (with_device device devices (written_where lands (device_in device devices) e.first contents)) (states c) (λ m. m) (by k.migration refl k.made device refl h)
+    where
+      -- a promotion reads its own block of the origin
+      reads : device ≡ Origin → (steps : List Want) → k.plan.steps ≡ steps → HasRead size devices.origin k.part.block.0 steps z.buffer → HasRead size (written_where lands devices.origin e.first contents) k.part.block.0 steps z.buffer
+      reads o (Device (Write to r) ∷ later) s g = (g.0, each_beside lands devices.origin (k.part.block.0 * size + r.first % size) e.first z.buffer contents away g.1)
+        where
+          suits : SuitsJob blocks k.plan.job z.card k.plan.steps
+          suits = subst (λ (t : Option (Job × Plan)). TaskSuits blocks z.card t) k.task (suited b z ez)
+
+          theirs : z.card.hold ≡ Held Owned k.part.block
+          theirs = (subst (λ (ws : List Want). Has (Migrating k.migration k.part) z.card ws) s (subst (λ (j : TaskJob). SuitsJob blocks j z.card k.plan.steps) k.job suits).1).0
+
+          there : AreOfBlock size k.part.block.0 (Device (Write to r) ∷ later)
+          there = subst (λ (ws : List Want). AreOfBlock size k.part.block.0 ws) s k.of_block
+
+          away : (k.part.block.0 * size + r.first % size + length z.buffer ≤ e.first) ⊎ (e.first + length contents ≤ k.part.block.0 * size + r.first % size)
+          away =
+              let some = own_apart blocks words actors a b x z mine k.part.block rule n ex ez inside own theirs in
+              let f : e.first ≡ mine.0 * size + e.first % size = in_block.first ∙ ap (λ (d : Dev). row (location_at size d e) mine.0 * size + e.first % size) o in
+              let room = in_block.room in
+              let space = there.0.room in
+              let long = g.0 in
+              elim (parts_apart size k.part.block.0 mine.0 (r.first % size) (e.first % size) r.count e.count some space room) [
+                | inl l ↦ inl (omega (arith, l, f, long))
+                | inr l ↦ inr (omega (arith, l, f, count))
+              ]
+      reads o [] s g = tt
+      reads o (Cell step ∷ later) s g = tt
+      reads o (Desk step ∷ later) s g = tt
+      reads o (End answer ∷ later) s g = tt
+      reads o (Device (Read to r) ∷ later) s g = tt
+      reads o (Device (Sync to) ∷ later) s g = tt
+      reads o (Device (ReadMetadata left) ∷ later) s g = tt
+      reads o (Device (WriteNode number) ∷ later) s g = tt
+      reads o (Device WriteRoot ∷ later) s g = tt
+
+      Reads : Migration → Devices (List History) → Type 0
+      Reads m ds = HasRead size (device_in (source_of m) ds) (row (source (order_on k.part (record { 0 = c }) k.next) m) k.part.block.0) k.plan.steps z.buffer
+
+      by : (m : Migration) → k.migration ≡ m → IsMade m → (d : Dev) → device ≡ d → HoldsBlocks d → Reads k.migration (with_device device devices (written_where lands (device_in device devices) e.first contents))
+      by (Promote p) s made Cache f hd = subst (λ (q : Migration). Reads q (with_device device devices (written_where lands (device_in device devices) e.first contents))) (sym s)
+          (subst (λ (q : Dev). Reads (Promote p) (with_device q devices (written_where lands (device_in q devices) e.first contents))) (sym f) (subst (λ (q : Migration). Reads q devices) s k.buffer))
+      by (Promote p) s made Origin f hd = subst (λ (q : Migration). Reads q (with_device device devices (written_where lands (device_in device devices) e.first contents))) (sym s)
+          (subst (λ (q : Dev). Reads (Promote p) (with_device q devices (written_where lands (device_in q devices) e.first contents))) (sym f) (reads f k.plan.steps refl (subst (λ (q : Migration). Reads q devices) s k.buffer)))
+      by (Promote p) s made Metadata f hd = absurd hd
+      by Demote s made d f hd = absurd made
+      by Clean s made d f hd = absurd made
