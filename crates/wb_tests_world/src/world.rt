@@ -3,6 +3,7 @@
 mod flushes;
 mod line;
 mod openings;
+mod promotions;
 mod requests;
 mod runs;
 mod views;
@@ -10,6 +11,7 @@ mod views;
 use self::flushes::FLUSHES;
 use self::line::{Act, FIRST_SECTOR, Line, OPENING, READING, Row, Task, WRITING};
 use self::openings::{CRASHES, FAILURES, OPENINGS, ROOTS};
+use self::promotions::{PROMOTIONS, promoted};
 use self::requests::{FAILED_REQUESTS, REQUESTS, WRITE_AND_READ, WRITTEN_AND_GIVEN};
 use self::runs::ran;
 use self::views::VIEWS;
@@ -17,7 +19,7 @@ use std::alloc::Global;
 use std::test::Fail;
 use wb_disk::{Base, CrashChoice, NamedContent};
 use wb_runs::{Event, Job, What};
-use wb_tasks::{Got, Want};
+use wb_tasks::{Answer, Got, Migration, Want};
 use wb_types::{Content, Dev, Extent, Geometry, Mode, Refusal, SECTOR_BYTES};
 use wb_world::World;
 
@@ -62,6 +64,10 @@ fn event_of(alloc: Global, act: Act) -> Result<Event, Refusal> {
         Act::Write(actor, sectors) => Ok(Event::Start(actor, write(sectors, 7))),
         Act::WriteOf(actor, sectors, byte) => Ok(Event::Start(actor, write(sectors, byte))),
         Act::Flush(actor) => Ok(Event::Start(actor, Job::Flush)),
+        Act::Promote(actor, block, cache) => Ok(Event::Start(
+            actor,
+            Job::Migrate(Migration::Promote(cache), block),
+        )),
         Act::Step(actor) => Ok(Event::Step(actor)),
         Act::Fault(actor, base) => Ok(Event::FaultStep(actor, unnamed(alloc, base))),
         Act::FaultOf(actor, device, sector, position) => Ok(Event::FaultStep(
@@ -163,6 +169,25 @@ fn begins(world: &mut World, actor: usize, task: Task, count: usize) -> bool {
     does(world, start, What::Started) && steps_as(world, actor, task, count)
 }
 
+/// More steps than any task of a small world has.
+const MOST_STEPS: usize = 200;
+
+/// Whether a task starts, and its actor's steps lead to an answer that says done.
+fn finishes(world: &mut World, event: Event, actor: usize) -> bool {
+    if !does(world, event, What::Started) {
+        return false;
+    }
+    for _ in 0..MOST_STEPS {
+        if world.event(Event::Step(actor)).is_err() {
+            return false;
+        }
+        if let What::Stepped(Want::End(answer), _) = last(world) {
+            return answer == Answer::Done;
+        }
+    }
+    false
+}
+
 /// Whether a line goes as it says.
 fn goes(world: &mut World, alloc: Global, line: &Line) -> Result<bool, Refusal> {
     match line {
@@ -172,6 +197,10 @@ fn goes(world: &mut World, alloc: Global, line: &Line) -> Result<bool, Refusal> 
         }
         Line::Begins(actor, task, count) => Ok(begins(world, *actor, *task, *count)),
         Line::Steps(actor, task, count) => Ok(steps_as(world, *actor, *task, *count)),
+        Line::Finishes(act, actor) => {
+            let event = event_of(alloc, *act)?;
+            Ok(finishes(world, event, *actor))
+        }
         Line::Gives(byte) => Ok(has_read(world, *byte)),
         Line::Shows(at, byte) => Ok(shows(world, *at, *byte)),
         Line::Hides(at) => Ok(world.view(*at).is_none()),
@@ -258,6 +287,18 @@ fn flushes_go_as_their_rows_say(rt: HostRuntime) -> Result<(), Fail> {
 #[test]
 fn views_are_as_their_rows_say(rt: HostRuntime) -> Result<(), Fail> {
     compare(rt.alloc(), &VIEWS)
+}
+
+#[test]
+fn promotions_go_as_their_rows_say(rt: HostRuntime) -> Result<(), Fail> {
+    compare(rt.alloc(), &PROMOTIONS)
+}
+
+/// A list of events in which a block is promoted is run to its end.
+#[test]
+fn a_promotion_is_run_to_its_end(rt: HostRuntime) -> Result<(), Fail> {
+    assert!(rt; promoted(rt.alloc())?);
+    Ok(())
 }
 
 /// A list of events that is run goes to its end, and its trace tells what each of them did and what its reads were given.

@@ -3,7 +3,7 @@
 use wb_disk::Base;
 use wb_runs::What;
 use wb_tasks::{Answer, CellStep, DeskStep, DeviceStep, Got, Want};
-use wb_types::{Dev, Extent, Mode, OBlock};
+use wb_types::{CBlock, Dev, Extent, Mode, OBlock};
 use wb_words::{Access, Kind, Word};
 
 /// What is to happen.
@@ -17,6 +17,8 @@ pub enum Act {
     /// This one is of another byte.
     WriteOf(usize, Extent, u8),
     Flush(usize),
+    /// A block is promoted into a cache block.
+    Promote(usize, OBlock, CBlock),
     Step(usize),
     /// The actor's next step fails; what it syncs has landed, or not.
     Fault(usize, Base),
@@ -47,6 +49,8 @@ pub enum Line {
     Begins(usize, Task, usize),
     /// Its next steps are those.
     Steps(usize, Task, usize),
+    /// This starts, and this actor's steps then lead to an answer that says done.
+    Finishes(Act, usize),
     /// The last step read one sector full of this byte.
     Gives(u8),
     /// The target shows this sector full of this byte.

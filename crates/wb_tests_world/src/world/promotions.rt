@@ -1,0 +1,188 @@
+//! Blocks that are promoted: what the cache and the origin show of them after crashes, by events one at a time and by `run`.
+
+use super::line::{Act, FIRST_SECTOR, Line, Row};
+use super::{event_of, small};
+use std::alloc::Global;
+use wb_runs::{Event, Record, What};
+use wb_tasks::{Answer, Got, Want};
+use wb_types::{CBlock, Dev, Extent, Mode, OBlock, Refusal, SECTOR_BYTES};
+use wb_world::run;
+
+const BOTH_SECTORS: Extent = Extent { first: 0, count: 2 };
+
+const FIRST_BLOCK: OBlock = OBlock(0);
+
+const OPENED: Line = Line::Finishes(Act::Open(0, Mode::Writeback), 0);
+
+const WRITTEN: Line = Line::Finishes(Act::WriteOf(0, FIRST_SECTOR, 0x11), 0);
+
+const PROMOTED: Line = Line::Finishes(Act::Promote(0, FIRST_BLOCK, CBlock(0)), 0);
+
+const FLUSHED: Line = Line::Finishes(Act::Flush(0), 0);
+
+/// Behind a promotion this is written to the cache.
+const WRITTEN_AGAIN: Line = Line::Finishes(Act::WriteOf(0, BOTH_SECTORS, 0x22), 0);
+
+pub const PROMOTIONS: [Row; 4] = [
+    Row {
+        name: "a promoted block is shown from the cache, with what was written there",
+        lines: &[
+            OPENED,
+            WRITTEN,
+            PROMOTED,
+            Line::Opened(1, 1, 0),
+            Line::Shows(0, 0x11),
+            FLUSHED,
+            WRITTEN_AGAIN,
+            Line::Opened(2, 1, 1),
+            Line::Shows(0, 0x22),
+            Line::Shows(1, 0x22),
+            Line::Shows(2, 0),
+        ],
+    },
+    Row {
+        name: "after a crash each sector of the cache shows what it kept, and every block counts as dirty",
+        lines: &[
+            OPENED,
+            WRITTEN,
+            PROMOTED,
+            FLUSHED,
+            WRITTEN_AGAIN,
+            Line::Does(Act::CrashButOf(Dev::Cache, 1, 1), What::Stopped),
+            OPENED,
+            Line::Opened(3, 1, 1),
+            Line::Shows(0, 0x11),
+            Line::Shows(1, 0x22),
+        ],
+    },
+    Row {
+        name: "a block that no flush has covered is on the origin after a crash",
+        lines: &[
+            OPENED,
+            WRITTEN,
+            PROMOTED,
+            Line::Does(Act::Crash, What::Stopped),
+            OPENED,
+            Line::Opened(2, 0, 0),
+            Line::Shows(0, 0x11),
+        ],
+    },
+    Row {
+        name: "a cache block takes one promotion, and a block has one at a time",
+        lines: &[
+            OPENED,
+            Line::Does(Act::Promote(0, FIRST_BLOCK, CBlock(0)), What::Started),
+            Line::Does(
+                Act::Promote(1, OBlock(1), CBlock(0)),
+                What::Refused(Refusal::Busy),
+            ),
+            Line::Does(
+                Act::Promote(1, FIRST_BLOCK, CBlock(1)),
+                What::Refused(Refusal::Busy),
+            ),
+            Line::Does(
+                Act::Promote(1, OBlock(10), CBlock(1)),
+                What::Refused(Refusal::Busy),
+            ),
+            Line::Finishes(Act::Promote(1, OBlock(1), CBlock(1)), 1),
+            Line::Opened(1, 1, 0),
+        ],
+    },
+];
+
+/// What happens, and how many steps actor 0 then does up to its answer.
+#[derive(Clone, Copy)]
+struct Stretch {
+    act: Act,
+    steps: usize,
+}
+
+/// The same as events: a promotion reads and writes 64 sectors, the flush behind it one node, and so the opening reads one more.
+const STRETCHES: [Stretch; 8] = [
+    Stretch {
+        act: Act::Open(0, Mode::Writeback),
+        steps: 8,
+    },
+    Stretch {
+        act: Act::WriteOf(0, FIRST_SECTOR, 0x11),
+        steps: 10,
+    },
+    Stretch {
+        act: Act::Promote(0, FIRST_BLOCK, CBlock(0)),
+        steps: 137,
+    },
+    Stretch {
+        act: Act::Flush(0),
+        steps: 10,
+    },
+    Stretch {
+        act: Act::WriteOf(0, BOTH_SECTORS, 0x22),
+        steps: 12,
+    },
+    Stretch {
+        act: Act::CrashButOf(Dev::Cache, 1, 1),
+        steps: 0,
+    },
+    Stretch {
+        act: Act::Open(0, Mode::Writeback),
+        steps: 9,
+    },
+    Stretch {
+        act: Act::Read(0, BOTH_SECTORS),
+        steps: 10,
+    },
+];
+
+const GIVEN: [u8; 2] = [0x11, 0x22];
+
+fn events_of(alloc: Global) -> Result<Vec<Event>, Refusal> {
+    let mut events = Vec::new(alloc);
+    for stretch in STRETCHES {
+        let event = event_of(alloc, stretch.act)?;
+        events.reserve(1)?;
+        events.push_reserved(event);
+        for _ in 0..stretch.steps {
+            events.reserve(1)?;
+            events.push_reserved(Event::Step(0));
+        }
+    }
+    Ok(events)
+}
+
+/// How many of these are answers that say done.
+fn answers_done(records: &[Record]) -> usize {
+    records
+        .iter()
+        .filter(|record| record.what == What::Stepped(Want::End(Answer::Done), Got::Done))
+        .count()
+}
+
+/// Whether one of them was skipped or refused.
+fn went_astray(records: &[Record]) -> bool {
+    records.iter().any(|record| match record.what {
+        What::Skipped | What::Refused(_) => true,
+        What::Started | What::Stepped(_, _) | What::Stopped => false,
+    })
+}
+
+/// Whether the last reads were given sectors full of these bytes, in this order.
+fn give(records: &[Record], bytes: &[u8]) -> bool {
+    let mut left = bytes.iter();
+    for record in records {
+        for content in &record.read {
+            match left.next() {
+                Some(byte) if *content == [*byte; SECTOR_BYTES] => {}
+                _ => return false,
+            }
+        }
+    }
+    left.next().is_none()
+}
+
+/// Whether the run of these events goes to its end: seven tasks are answered done, and the read is given what each sector has kept.
+pub fn promoted(alloc: Global) -> Result<bool, Refusal> {
+    let events = events_of(alloc)?;
+    let trace = run(alloc, small()?, events)?;
+    let records = trace.records();
+    Ok(!went_astray(records) && answers_done(records) == 7 && give(records, &GIVEN))
+}
