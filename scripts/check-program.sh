@@ -448,7 +448,19 @@ check 'or kept' "$(replayed "$failed_write / stop new / open writeback / view 0 
 check 'what was flushed survives' \
   "$(replayed 'setup writeback 64 4 10 4 / start 0 w 0 2 22 / end 0 / start 0 flush / end 0 / stop old / open writeback / view 0 2')" \
   '0 done/0 done/open 3 0 0/0 22/1 22: 0'
-check 'a line of no replay' "$(replayed 'setup writeback 64 4 10 4 / start 0 promote 0 0')" 'bad line 2: 1'
+cached='setup writeback 64 4 10 4 / start 0 w 0 1 11 / end 0 / start 0 promote 0 0 / end 0 / start 0 flush / end 0'
+written_again="$cached / start 0 w 0 2 22 / end 0"
+check 'of a promoted block each sector of the cache keeps what the crash chose' \
+  "$(replayed "$written_again / stop old c:1:1 / open writeback / view 0 2")" '0 done/0 done/0 done/0 done/open 3 1 1/0 11/1 22: 0'
+check 'or what was flushed' "$(replayed "$written_again / stop old / open writeback / view 0 2")" '0 done/0 done/0 done/0 done/open 3 1 1/0 11/1 00: 0'
+check 'or what was written last' "$(replayed "$written_again / stop new / open writeback / view 0 2")" '0 done/0 done/0 done/0 done/open 3 1 1/0 22/1 22: 0'
+check 'or the second of three' "$(replayed "$written_again / stop old c:0:1 / open writeback / view 0 2")" '0 done/0 done/0 done/0 done/open 3 1 1/0 22/1 00: 0'
+flushed='start 0 flush / end 0'
+root_unsynced="$cached / $flushed / $flushed / $flushed / $flushed / $flushed / start 0 promote 5 1 / end 0 / start 0 flush / step 0 7"
+dones='0 done/0 done/0 done/0 done/0 done/0 done/0 done/0 done/0 done'
+check 'a root that was written and not synced is not found' "$(replayed "$root_unsynced / stop old / open writeback")" "$dones/open 8 1 1: 0"
+check 'or is' "$(replayed "$root_unsynced / stop new / open writeback")" "$dones/open 9 2 2: 0"
+check 'a line of no replay' "$(replayed 'setup writeback 64 4 10 4 / start 0 demote 0')" 'bad line 2: 1'
 check 'a setup that is refused' "$(replayed 'setup writeback 63 4 10 4')" 'refused 9 Geometry: 1'
 check 'a replay of no line' "$("$cache" replay </dev/null; echo $?)" 0
 has 'help explains replays' "$("$cache" replay --help)" 'setup writeback <block>'
