@@ -1,11 +1,12 @@
 //! Blocks that are promoted: what the cache and the origin show of them after crashes, by events one at a time and by `run`.
 
 use super::line::{Act, FIRST_SECTOR, Line, Row};
+use super::runs::give;
 use super::{event_of, small};
 use std::alloc::Global;
 use wb_runs::{Event, Record, What};
 use wb_tasks::{Answer, Got, Want};
-use wb_types::{CBlock, Dev, Extent, Mode, OBlock, Refusal, SECTOR_BYTES};
+use wb_types::{CBlock, Dev, Extent, Mode, OBlock, Refusal};
 use wb_world::run;
 
 const BOTH_SECTORS: Extent = Extent { first: 0, count: 2 };
@@ -163,20 +164,6 @@ fn went_astray(records: &[Record]) -> bool {
         What::Skipped | What::Refused(_) => true,
         What::Started | What::Stepped(_, _) | What::Stopped => false,
     })
-}
-
-/// Whether the last reads were given sectors full of these bytes, in this order.
-fn give(records: &[Record], bytes: &[u8]) -> bool {
-    let mut left = bytes.iter();
-    for record in records {
-        for content in &record.read {
-            match left.next() {
-                Some(byte) if *content == [*byte; SECTOR_BYTES] => {}
-                _ => return false,
-            }
-        }
-    }
-    left.next().is_none()
 }
 
 /// Whether the run of these events goes to its end: seven tasks are answered done, and the read is given what each sector has kept.

@@ -145,7 +145,7 @@ fn are_of(records: &[Record], parts: &[Part]) -> bool {
 }
 
 /// Whether these records gave contents that are each full of one of these bytes, in this order.
-fn give(records: &[Record], bytes: &[u8]) -> bool {
+pub fn give(records: &[Record], bytes: &[u8]) -> bool {
     let mut left = bytes.iter();
     for record in records {
         for content in &record.read {
