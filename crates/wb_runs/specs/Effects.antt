@@ -30,7 +30,7 @@ use Rattle.wb_tasks.specs.Plan.{Plan, table, after, device_of}
 use Rattle.wb_tasks.specs.declared.step.Answer.TheVariants.{Done as Finished}
 use Rattle.wb_tasks.specs.declared.step.DeviceStep.{DeviceStep}
 use Rattle.wb_tasks.specs.declared.step.DeviceStep.TheVariants.{Read as ReadExtent, Write as WriteExtent, Sync, ReadMetadata, WriteNode, WriteRoot}
-use Rattle.wb_tasks.specs.declared.step.DeskStep.TheVariants.{Map, ReleaseOrder, BeginCommit, EndCommit}
+use Rattle.wb_tasks.specs.declared.step.DeskStep.TheVariants.{Map, Unmap, ReleaseOrder, BeginCommit, EndCommit}
 use Rattle.wb_tasks.specs.declared.step.Want.{Want}
 use Rattle.wb_tasks.specs.declared.step.Want.TheVariants.{Cell, Device, Desk, End}
 use Rattle.wb_tasks.specs.declared.step.Got.{Got}
@@ -126,6 +126,7 @@ asked_desk chosen desk = desk
 
 abbrev pub desk_then : {P A : Type 0} → DeskState P → Want → Chosen P A → DeskState P
 desk_then desk (Desk (Map b c)) chosen = asked_desk chosen desk
+desk_then desk (Desk (Unmap b)) chosen = asked_desk chosen desk
 desk_then desk (Desk (ReleaseOrder b)) chosen = asked_desk chosen desk
 desk_then desk (Desk (BeginCommit clean most)) chosen = begun_desk chosen desk
 desk_then desk (Desk EndCommit) chosen = ended desk
@@ -219,9 +220,10 @@ abbrev pub dropped : OBlock → List Order → List Order
 dropped block [] = []
 dropped block (order ∷ orders) = if is_of block order then dropped block orders else order ∷ dropped block orders
 
--- An entry that comes ends its order, and so does whoever gives it up.
+-- An entry that comes or goes ends its order, and so does whoever gives it up.
 abbrev pub orders_then : List Order → Want → Got → List Order
 orders_then orders (Desk (Map b c)) Done = dropped b orders
+orders_then orders (Desk (Unmap b)) Done = dropped b orders
 orders_then orders (Desk (ReleaseOrder b)) Done = dropped b orders
 orders_then orders next got = orders
 

@@ -40,7 +40,7 @@ use Rattle.wb_words.specs.Effects.{result_of}
 use Rattle.wb_tasks.specs.declared.step.Answer.TheVariants.{Done as Finished}
 use Rattle.wb_tasks.specs.declared.step.DeviceStep.{DeviceStep}
 use Rattle.wb_tasks.specs.declared.step.DeviceStep.TheVariants.{Read as ReadExtent, Write as WriteExtent, Sync, ReadMetadata, WriteNode, WriteRoot}
-use Rattle.wb_tasks.specs.declared.step.DeskStep.TheVariants.{Map, ReleaseOrder, BeginCommit, EndCommit}
+use Rattle.wb_tasks.specs.declared.step.DeskStep.TheVariants.{Map, Unmap, ReleaseOrder, BeginCommit, EndCommit}
 use Rattle.wb_tasks.specs.declared.step.Want.{Want}
 use Rattle.wb_tasks.specs.declared.step.Want.TheVariants.{Cell, Device, Desk, End}
 use Rattle.wb_tasks.specs.declared.step.Got.{Got}
@@ -48,7 +48,7 @@ use Rattle.wb_tasks.specs.declared.step.Got.TheVariants.{Done, Fault, Refused as
 use Rattle.wb_devices.specs.declared.running.RunningCommit.{RunningCommit}
 use Rattle.wb_devices.specs.declared.devices.Devices.{Devices}
 use Rattle.wb_devices.specs.Moving.{device_in}
-use Rattle.wb_stage.specs.Asking.{HasBegun, IsGivenUp}
+use Rattle.wb_stage.specs.Asking.{DidUnmap, HasBegun, IsGivenUp}
 use Rattle.wb_devices.specs.Committing.{goes_on}
 use Rattle.wb_stage.specs.Stages.{is_all_done}
 use Rattle.wb_devices.specs.Opened.{HasCome, got_of_refusal}
@@ -64,7 +64,7 @@ use Rattle.wb_runs.specs.States.{Shape, State, Actor, Phase, Opens, OfTarget, Of
 -- What no record holds of what was free at it: into which extents a job's sectors are cut, in the order in which they are
 -- taken, and the cache block of an order that is given; a reading that has read nothing; how far it has come after a step, and the commit of the opening's root once all was
 -- read; what the metadata device is once a node or root was written; the commit that begins, and the tree to which its image
--- leads; the desk after it was asked to map a block or to give up an order; the policy of a desk that is opened.
+-- leads; the desk after it was asked to map a block, to unmap it or to give up an order; the policy of a desk that is opened.
 pub data Chosen (P A : Type 0) : Type 0 where
   Plain : Chosen P A
   Cut : List Extent → Chosen P A
@@ -149,17 +149,10 @@ AtWork w a on = OfSome (slice_get w.actors a) (λ x. OfSome x.task (λ doing. on
 abbrev pub HasTask : {P A : Type 0} → State P A → ℕ → Type 0
 HasTask w a = AtWork w a (λ job s. Unit {0})
 
--- blocks are migrated so as yet
-abbrev pub IsMade : Migration → Type 0
-IsMade (Promote cache) = Unit {0}
-IsMade Demote = ⊥
-IsMade Clean = ⊥
-
 -- A job is not started where this holds: an opening where a target stands that has not failed, or in a mode in which none is
--- opened yet; any other where no target stands, and a migration of a kind that is not made yet.
+-- opened yet; any other where no target stands.
 abbrev pub IsOutOfPlace : {P A : Type 0} → Phase P A → Job → Type 0
 IsOutOfPlace phase (Open mode) = OfTarget phase (λ t. t.words.fail ≡ 0) ⊎ (mode ≢ Writeback)
-IsOutOfPlace phase (Migrate migration block) = (¬ OfTarget phase (λ t. Unit {0})) ⊎ (¬ IsMade migration)
 IsOutOfPlace phase job = ¬ OfTarget phase (λ t. Unit {0})
 
 -- the device of a step may fail so
@@ -240,6 +233,11 @@ DoesMap b c desk Done (Asks new) = MayMap desk b c × IsChangedAt desk.tree new.
 DoesMap b c desk (GotRefused refusal) Plain = refusal ≡ Memory
 DoesMap b c desk got chosen = ⊥
 
+-- A block loses its entry where it has one and its order lets it go, and the desk stays where it has none.
+abbrev pub DoesUnmap : {P A : Type 0} → OBlock → DeskState P → Chosen P A → Type 0
+DoesUnmap block desk (Asks new) = DidUnmap (λ policy b. new.policy) block desk new
+DoesUnmap block desk chosen = ⊥
+
 -- an order is given up
 abbrev pub DoesRelease : {P A : Type 0} → Order → DeskState P → Chosen P A → Type 0
 DoesRelease order desk (Asks new) = IsGivenUp (Some order) desk new
@@ -251,7 +249,7 @@ DoesOpen phase commit (Opened policy) = OfReading phase (λ mode reading. IsDone
 DoesOpen phase commit chosen = ⊥
 
 -- What a step gives, what a read was given, one content a sector, and what was free at it. A read, write or migration moves sectors
--- of a device on which blocks stand. A migration asks the desk to map its block, or to give up its order.
+-- of a device on which blocks stand. A migration asks the desk to map its block, to unmap it, or to give up its order.
 abbrev pub Gives : {P A : Type 0} → Shape → State P A → Job → Want → Got → List Bytes → Chosen P A → Type 0
 Gives shape w job (Cell step) got read chosen = IsPlain read chosen × OfTarget w.phase (λ t. got ≡ got_of (result_of t.words step))
 Gives shape w (Read extent) (Device (ReadExtent device e)) got read chosen = HoldsBlocks device × (chosen ≡ Plain) × (got ≡ Done) × (length read ≡ e.count) × GivesEach (device_in device w.devices) e.first read
@@ -259,6 +257,7 @@ Gives shape w (Write extent content) (Device (WriteExtent device e)) got read ch
 Gives shape w (Migrate migration block) (Device (ReadExtent device e)) got read chosen = HoldsBlocks device × IsPlain read chosen × (got ≡ Done) × (e.first + e.count ≤ length (device_in device w.devices))
 Gives shape w (Migrate migration block) (Device (WriteExtent device e)) got read chosen = HoldsBlocks device × IsPlain read chosen × (got ≡ Done) × (e.first + e.count ≤ length (device_in device w.devices))
 Gives shape w (Migrate migration block) (Desk (Map b c)) got read chosen = (read ≡ []) × OfTarget w.phase (λ t. DoesMap b c t.desk got chosen)
+Gives shape w (Migrate migration block) (Desk (Unmap b)) got read chosen = (read ≡ []) × (got ≡ Done) × OfTarget w.phase (λ t. DoesUnmap b t.desk chosen)
 Gives shape w (Migrate migration block) (Desk (ReleaseOrder b)) got read chosen = (read ≡ []) × (got ≡ Done) × OfTarget w.phase (λ t. DoesRelease (order_for migration block) t.desk chosen)
 Gives shape w job (Device (Sync Metadata)) got read chosen = (read ≡ []) × (got ≡ Done) × DoesSync w.phase w.commit w.devices.metadata chosen
 Gives shape w job (Device (Sync device)) got read chosen = IsPlain read chosen × (got ≡ Done)

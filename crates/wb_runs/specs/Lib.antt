@@ -8,3 +8,4 @@ pub mod Progress
 pub mod Possible
 pub mod Latest
 pub mod Inside
+pub mod Sealed

@@ -8,4 +8,4 @@ pub mod Opened
 pub mod Noting
 pub mod Noted
 pub mod Laws
-pub mod Promoting
+pub mod Migrating

@@ -6,7 +6,7 @@ use Rattle.wb_words.specs.declared.step.CellStep.TheVariants.{Look, Release, Sea
 use Rattle.wb_words.specs.declared.word.Word.TheVariants.{Fail}
 use Rattle.wb_tasks.specs.Tables.{BlockRange}
 use Rattle.wb_tasks.specs.declared.step.DeviceStep.TheVariants.{Read, Write}
-use Rattle.wb_tasks.specs.declared.step.DeskStep.TheVariants.{Map, ReleaseOrder}
+use Rattle.wb_tasks.specs.declared.step.DeskStep.TheVariants.{Map, Unmap, ReleaseOrder}
 use Rattle.wb_tasks.specs.declared.step.Want.{Want}
 use Rattle.wb_tasks.specs.declared.step.Want.TheVariants.{Cell, Device, Desk}
 use Rattle.wb_refines.specs.Data.{IsInBlock}
@@ -41,19 +41,20 @@ abbrev pub IsNoWrite : List Want → Type 0
 IsNoWrite (Device (Write device e) ∷ later) = ⊥
 IsNoWrite steps = Unit {0}
 
--- what is left once a promotion's order is over: its seal, and its block to give back
+-- what is left once a promotion's or a demotion's order is over: its seal, and its block to give back
 abbrev pub IsTail : List Want → Type 0
 IsTail [] = Unit {0}
 IsTail (Cell (Seal block place dirty) ∷ later) = IsTail later
 IsTail (Cell (Release access block) ∷ later) = IsTail later
 IsTail steps = ⊥
 
--- A migration writes each extent that it has read, before it does anything else, and writes nothing else; once it has mapped its block, only
--- its seal and its block are left.
+-- A migration writes each extent that it has read, before it does anything else, and writes nothing else; once it has mapped or unmapped its
+-- block, only its seal and its block are left.
 abbrev pub ArePaired : ℕ → List Want → Type 0
 ArePaired size [] = Unit {0}
 ArePaired size (Device (Read device e) ∷ later) = IsWrittenNext size e later × ArePaired size later
 ArePaired size (Desk (Map block place) ∷ later) = IsTail later × IsNoWrite later × ArePaired size later
+ArePaired size (Desk (Unmap block) ∷ later) = IsTail later × IsNoWrite later × ArePaired size later
 ArePaired size (next ∷ later) = IsNoWrite later × ArePaired size later
 
 -- What is left is to let go of block and order, or to set the failed bit: it is to be refused.

@@ -1,5 +1,5 @@
 -- When a state of a run, where a target stands, is a state of the abstract world; and when what happens there is a run of that world.
-use Rattle.std.specs.Prelude.{◌≡◌, ◌≢◌, ◌⊎◌, ◌<◌, ◌+◌, ℕ, Bool, true, false, List, [], Option, Some, None, length, replicate, slice_get}
+use Rattle.std.specs.Prelude.{◌≡◌, ◌≢◌, ◌⊎◌, ◌<◌, ◌+◌, ◌*◌, ℕ, Bool, true, false, List, [], Option, Some, None, length, replicate, slice_get}
 use Rattle.wb_types.specs.declared.mode.Mode.TheVariants.{Writeback}
 use Rattle.wb_types.specs.declared.number.OBlock.{OBlock}
 use Rattle.wb_disk.specs.Device.{Content, History}
@@ -9,14 +9,14 @@ use Rattle.wb_words.specs.SharedWords.{Words}
 use Rattle.wb_policy.specs.declared.order.Order.{Order}
 use Rattle.wb_devices.specs.declared.devices.Devices.{Devices}
 use Rattle.wb_link.specs.Tables.{Script}
-use Rattle.wb_link.specs.World.{World, Shared, Block, Mapped, Reserved, begun, ended, given_back, Record, IsRun, after_all, Actor as AbstractActor}
+use Rattle.wb_link.specs.World.{World, Shared, Block, Mapped, Reserved, Quarantined, begun, ended, given_back, Record, IsRun, after_all, Actor as AbstractActor}
 use Rattle.wb_refines.specs.Models.{WordsAgree}
 use Rattle.wb_tasks.specs.Plan.{Plan}
 use Rattle.wb_tasks.specs.declared.step.Migration.{Migration}
 use Rattle.wb_runs.specs.declared.job.Job.TheVariants.{Migrate}
 use Rattle.wb_runs.specs.States.{Actor}
 use Rattle.wb_simulation.specs.Actors.{StandsFor}
-use Rattle.wb_simulation.specs.Behind.{StandsBehind, IsUncarried}
+use Rattle.wb_simulation.specs.Behind.{behind, StandsBehind, IsUncarried}
 use Rattle.wb_simulation.specs.Telling.{Telling, IsTold}
 
 -- a sector before anything was written; behind the end of a device there is nothing else
@@ -29,8 +29,8 @@ IsUnfinished None = ⊥
 IsUnfinished (Some script) = script.steps ≢ []
 
 -- These words, devices, actors, and whether the desk has a commit that runs, are those of the world. Blocks have so many sectors,
--- and images at most so many nodes. Behind those of the run there is an abstract actor for each cache block, which has the order that is live
--- there, if any is, and does the migration under it, whoever of the run's actors is at that.
+-- and images at most so many nodes. Behind those of the run there is an abstract actor for each of them and each cache block, which has the
+-- order that is live there, if that is its actor's, and does the migration under it.
 pub record Agrees (size most : ℕ) (words : Words) (committing : Bool) (orders : List (Option Order)) (devices : Devices (List History)) (actors : List Actor) (s : World) : Type 0 where
   pub words_agree : WordsAgree words s.shared
   pub origin : s.shared.origin ≡ by_block size zeros devices.origin
@@ -43,17 +43,17 @@ pub record Agrees (size most : ℕ) (words : Words) (committing : Bool) (orders 
   pub led : (a : ℕ) (y : AbstractActor) → slice_get s.actors a ≡ Some y → y.leads ≡ true → s.shared.committing ≡ true
   pub whole : (a : ℕ) (y : AbstractActor) → slice_get s.actors a ≡ Some y → y.leads ≡ true → IsUnfinished y.task → s.shared.broken ≡ false
   pub one_leads : (a b : ℕ) (y z : AbstractActor) → slice_get s.actors a ≡ Some y → slice_get s.actors b ≡ Some z → y.leads ≡ true → z.leads ≡ true → a ≡ b
-  pub many : length s.actors ≡ length actors + length orders
+  pub many : length s.actors ≡ length actors + length actors * length orders
   pub each : (a : ℕ) (x : Actor) (y : AbstractActor) → slice_get actors a ≡ Some x → slice_get s.actors a ≡ Some y → StandsFor size most words x y
-  -- which of the run's actors, if any, is at a migration onto each cache block
-  pub who : ℕ → Option ℕ
-  pub behind : (c : ℕ) (order : Option Order) (y : AbstractActor) → slice_get orders c ≡ Some order → slice_get s.actors (length actors + c) ≡ Some y → StandsBehind size words devices actors c order (s.shared.blocks c) (who c) y
-  pub within : (c a : ℕ) → who c ≡ Some a → c < length orders
-  pub one_each : (c d a : ℕ) → who c ≡ Some a → who d ≡ Some a → c ≡ d
-  pub carried : (a : ℕ) (x : Actor) (migration : Migration) (block : OBlock) (plan : Plan) → slice_get actors a ≡ Some x → x.task ≡ Some (Migrate migration block, plan) → (IsUncarried words plan.steps × ((c : ℕ) → who c ≢ Some a)) ⊎ ((c : ℕ) × (c < length orders) × (who c ≡ Some a))
+  -- of which cache block, if of any, each of the run's actors is at a migration
+  pub at : ℕ → Option ℕ
+  pub behind_each : (a c : ℕ) (x : Actor) (order : Option Order) (y : AbstractActor) → slice_get actors a ≡ Some x → slice_get orders c ≡ Some order → slice_get s.actors (behind (length actors) (length orders) a c) ≡ Some y → StandsBehind size words devices c order (at a) x y
+  pub within : (a c : ℕ) → at a ≡ Some c → c < length orders
+  pub carried : (a : ℕ) (x : Actor) (migration : Migration) (block : OBlock) (plan : Plan) → slice_get actors a ≡ Some x → x.task ≡ Some (Migrate migration block, plan) → (IsUncarried words plan.steps × (at a ≡ None)) ⊎ ((c : ℕ) × (at a ≡ Some c))
 
 -- What comes of the desk and of the images that the metadata stand for: they stay; a commit begins, from the desk's mapping; its root is
--- written, or not; it ends; a cache block is reserved for an order; an order ends by an entry of the mapping; it is given up.
+-- written, or not; it ends; a cache block is reserved for an order; an order ends by an entry of the mapping that comes, or by one that goes;
+-- it is given up.
 pub data Turn : Type 0 where
   Stays : Turn
   Begins : Turn
@@ -61,6 +61,7 @@ pub data Turn : Type 0 where
   Ends : Turn
   Reserves : (cache : ℕ) → Turn
   Maps : (block cache : ℕ) → Turn
+  Unmaps : (block cache : ℕ) → Turn
   GivesUp : (cache : ℕ) → Turn
 
 abbrev pub TurnedTo : Turn → (s t : Shared) → Type 0
@@ -72,6 +73,7 @@ TurnedTo turn s t = (t.committed ≡ s.committed) × (t.running ≡ s.running) �
 -- where each block is then
 abbrev pub mapping_by : Turn → Shared → Locations
 mapping_by (Maps block cache) s = changed s.mapping block (Some cache)
+mapping_by (Unmaps block cache) s = changed s.mapping block None
 mapping_by turn s = s.mapping
 
 -- and the state of each cache block
@@ -80,6 +82,7 @@ blocks_by Begins s = λ c. begun (s.blocks c)
 blocks_by Ends s = λ c. ended (s.blocks c)
 blocks_by (Reserves cache) s = changed s.blocks cache Reserved
 blocks_by (Maps block cache) s = changed s.blocks cache Mapped
+blocks_by (Unmaps block cache) s = changed s.blocks cache (Quarantined false)
 blocks_by (GivesUp cache) s = changed s.blocks cache (given_back (s.blocks cache))
 blocks_by turn s = s.blocks
 

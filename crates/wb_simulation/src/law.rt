@@ -3,7 +3,7 @@
 ghost use Rattle.wb_simulation.specs.Noted.{NotesFollowed};
 ghost use Rattle.wb_simulation.specs.Opened.{OpenedFollowed};
 ghost use Rattle.wb_simulation.specs.Sites.{ImagesFollowed, OpeningsFollowed};
-ghost use Rattle.wb_simulation.specs.Promoting.{PromotionsFollowed};
+ghost use Rattle.wb_simulation.specs.Migrating.{MigrationsFollowed};
 ghost use Rattle.wb_simulation.specs.Laws.{AnswersFollowed, CanAgree, CellStepsFollowed, ExtentStepsFollowed, FlushStepsFollowed, StartsFollowed};
 
 /// Each step of a read or a write on the shared words is some records of the abstract world, which stands for the whole state of the
@@ -29,10 +29,11 @@ pub fn flush_steps_are_followed()
     ensures { FlushStepsFollowed }
 {}
 
-/// So is a promotion, by the abstract actor of its cache block that stands behind those of the run: its start under an order that is
-/// given or kept, each step on the words, each read and write of an extent, done or failing, what it asks of the desk, and its answer.
-pub fn promotions_are_followed()
-    ensures { PromotionsFollowed }
+/// So is a promotion, a demotion or a write-back, by the abstract actor of its actor and cache block that stands behind those of the run: its
+/// start under an order that is given or kept, each step on the words, each read and write of an extent, done or failing, what it asks of
+/// the desk, and its answer.
+pub fn migrations_are_followed()
+    ensures { MigrationsFollowed }
 {}
 
 /// And there is a state that the abstract world stands for, whatever the sizes and however many actors: that of a target just made.
