@@ -1,4 +1,5 @@
 mod Steps
+mod Places
 mod Kept
 mod Behind
 mod Beside
@@ -7,12 +8,12 @@ mod Cells
 mod Among
 mod Carrying
 pub mod Found
-mod Promoting
+mod Migrating
 mod Copying
 mod Deciding
 mod Cut
 mod Ordering
-pub mod Promotions
+pub mod Migrations
 pub mod Followed
 pub mod Moving
 pub mod Starting
