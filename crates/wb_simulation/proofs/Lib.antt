@@ -1,4 +1,4 @@
-mod Steps
+pub mod Steps
 mod Places
 mod Kept
 mod Behind

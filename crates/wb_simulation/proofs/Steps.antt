@@ -38,7 +38,7 @@ place_told k dirty l = ap cached_at (half dirty) ∙ ap (λ (t : Bool). if t the
     half false = ap (λ v. (v + 0) / 2) (mul_comm 2 (k + 1)) ∙ div-mul-add (k + 1) 2 0 (omega arith) ∙ omega arith
 
 -- what is sealed anew tells the place that was seen
-seal_tells : (seal : ℕ) (dirty : Bool) → place_in (seal_word (place_in seal) dirty) ≡ place_in seal
+pub seal_tells : (seal : ℕ) (dirty : Bool) → place_in (seal_word (place_in seal) dirty) ≡ place_in seal
 seal_tells seal dirty = by_half (seal / 2) dirty
   where
     halved : (p bit : ℕ) → bit < 2 → (2 * (p + 1) + bit) / 2 ≡ suc p
