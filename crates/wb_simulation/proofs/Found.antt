@@ -180,3 +180,10 @@ by_found size most words committing orders devices actors a x s g f migration bl
     let job = same_job x.task (Migrate f.is.migration f.is.block) (Migrate migration block) f.is.plan plan f.is.task task in
     subst (λ (q : Plan). P migration block q) (same_plan x.task (Migrate f.is.migration f.is.block) (Migrate migration block) f.is.plan plan f.is.task task)
     (subst (λ (q : OBlock). P migration q f.is.plan) (ap (block_in block) job) (subst (λ (q : Migration). P q f.is.block f.is.plan) (ap (migration_in migration) job) is))
+
+-- And what holds of it by its job as it is told holds by its own.
+pub to_found : (size most : ℕ) (words : Words) (committing : Bool) (orders : List (Option Order)) (devices : Devices (List History)) (actors : List Actor) (a : ℕ) (x : Actor) (s : World) (g : Agrees size most words committing orders devices actors s) (f : IsFound size most words committing orders devices actors a x s g)
+    (migration : Migration) (block : OBlock) (plan : Plan) → x.task ≡ Some (Migrate migration block, plan) → (P : Migration → OBlock → Type 0) → P migration block → P f.is.migration f.is.block
+to_found size most words committing orders devices actors a x s g f migration block plan task P is =
+    let job = same_job x.task (Migrate migration block) (Migrate f.is.migration f.is.block) plan f.is.plan task f.is.task in
+    subst (λ (q : OBlock). P f.is.migration q) (ap (block_in f.is.block) job) (subst (λ (q : Migration). P q block) (ap (migration_in f.is.migration) job) is)
