@@ -10,6 +10,7 @@ mod Carrying
 pub mod Found
 mod Migrating
 mod Copying
+mod Dropping
 mod Deciding
 mod Cut
 mod Ordering
