@@ -97,7 +97,7 @@ module _ (size most : ℕ) (words : Words) (committing : Bool) (orders : List (O
       (let l = behind_within (length actors) (length orders) a c (is_inside actors a x ex) (is_inside orders c order eo) in let many = g.many in omega (arith, l, many))
 
   -- what stands behind the one of its place
-  stands_at : (b : ℕ) (y : AbstractActor) → slice_get s.actors b ≡ Some y → (k : IsBehindOne orders actors b) → StandsBehind size words devices k.c k.order (g.at k.a) k.x y
+  pub stands_at : (b : ℕ) (y : AbstractActor) → slice_get s.actors b ≡ Some y → (k : IsBehindOne orders actors b) → StandsBehind size words devices k.c k.order (g.at k.a) k.x y
   stands_at b y e k = g.behind_each k.a k.c k.x k.order y k.actor k.live (ap (λ (i : ℕ). slice_get s.actors i) (sym k.is) ∙ e)
 
   pub nobody_alone : (b : ℕ) (z : AbstractActor) → slice_get s.actors b ≡ Some z → is_alone z.task ≡ false
