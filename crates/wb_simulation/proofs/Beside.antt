@@ -26,7 +26,6 @@ use Rattle.wb_devices.specs.declared.devices.Devices.{Devices}
 use Rattle.wb_devices.specs.Moving.{device_in}
 use Rattle.wb_link.proofs.Lists.{get_set_other}
 use Rattle.wb_refines.specs.Data.{row, IsInBlock}
-use Rattle.wb_refines.specs.Translation.{location_at}
 use Rattle.wb_refines.specs.Migrations.{order_on, source}
 use Rattle.wb_refines.proofs.Holding.{is_one}
 use Rattle.wb_refines.proofs.Locks.{total_two}

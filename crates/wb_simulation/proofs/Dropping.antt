@@ -1,5 +1,5 @@
 -- What is live for each of the run's actors once the order of one of them is over.
-use Rattle.std.proofs.Common.{◌≡◌, ◌≢◌, ◌==◌, ◌∙◌, eq-eqb, inl, inr, if◌then◌else◌, ℕ, Bool, true, false, List, [], ◌∷◌, Option, Some, None, refl, sym, ap, subst, Contains, slice_get, slice_set}
+use Rattle.std.proofs.Common.{◌≡◌, ◌≢◌, ◌∙◌, eq-eqb, inl, inr, if◌then◌else◌, ℕ, Bool, true, false, List, [], ◌∷◌, Option, Some, None, refl, sym, ap, subst, Contains, slice_get, slice_set}
 use Rattle.std.proofs.lemmas.Bool.{cases_eq}
 use Rattle.wb_types.proofs.Lists.{Contains-first, Contains-behind}
 use Rattle.wb_types.specs.declared.number.OBlock.{OBlock}
@@ -7,14 +7,12 @@ use Rattle.wb_policy.specs.declared.order.Order.{Order}
 use Rattle.wb_tasks.specs.declared.step.Migration.{Migration}
 use Rattle.wb_tasks.specs.declared.step.Migration.TheVariants.{Promote, Demote, Clean}
 use Rattle.wb_stage.specs.Asking.{is_of}
-use Rattle.wb_link.specs.Tables.{Order as AbstractOrder}
 use Rattle.wb_link.proofs.Lists.{get_set_same, get_set_other}
 use Rattle.wb_runs.specs.States.{Actor}
 use Rattle.wb_runs.specs.Effects.{dropped}
 use Rattle.wb_runs.specs.Happenings.{order_for}
 use Rattle.wb_runs.proofs.Lists.{first_or}
 use Rattle.wb_runs.proofs.Owning.{dropped_is}
-use Rattle.wb_simulation.specs.Behind.{HasLive}
 use Rattle.wb_simulation.specs.Migrating.{AreOwned}
 use Rattle.wb_simulation.proofs.Behind.{IsNotOf, OthersOrdersStay, KeepsLive}
 

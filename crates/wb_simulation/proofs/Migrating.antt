@@ -1,9 +1,9 @@
 -- A migration's steps on the shared words are followed by the one behind.
-use Rattle.std.proofs.Common.{◌≡◌, ◌≢◌, ◌<◌, ◌+◌, ◌^◌, ◌==◌, ◌∙◌, ◌⊎◌, inl, inr, if◌then◌else◌, ℕ, Bool, true, false, List, [], ◌∷◌, Option, Some, None, refl, sym, ap, subst, arith, length, slice_get, slice_set}
+use Rattle.std.proofs.Common.{◌≡◌, ◌≢◌, ◌==◌, ◌∙◌, ◌⊎◌, inl, inr, if◌then◌else◌, ℕ, Bool, true, false, List, [], ◌∷◌, Option, Some, None, refl, sym, ap, subst, arith, length, slice_get}
 use Rattle.wb_types.specs.declared.number.OBlock.{OBlock}
 use Rattle.wb_types.specs.declared.number.CBlock.{CBlock}
 use Rattle.wb_disk.specs.Device.{History}
-use Rattle.wb_words.specs.SharedWords.{Words, flag, fail_word, word_at, place_in, dirty_in}
+use Rattle.wb_words.specs.SharedWords.{Words, flag, fail_word, word_at, place_in}
 use Rattle.wb_words.specs.Rule.{LockRule}
 use Rattle.wb_words.specs.Effects.{result_of, words_after, card_after}
 use Rattle.wb_words.proofs.Totals.{at_slice}
@@ -15,7 +15,7 @@ use Rattle.wb_words.specs.declared.step.CellResult.TheVariants.{Done as Won, Los
 use Rattle.wb_words.specs.declared.word.Word.TheVariants.{Cell as LockWord, Seal as SealWord, Number, Count as CountWord, Fail}
 use Rattle.wb_policy.specs.declared.order.Order.{Order}
 use Rattle.wb_tasks.specs.Tables.{BlockRange, Migrating, OnBlock}
-use Rattle.wb_tasks.specs.Plan.{Plan, want, after, got_of, first_step, work_of, onward, refused, may_take, exchange}
+use Rattle.wb_tasks.specs.Plan.{Plan, want, after, got_of, first_step, onward, refused, may_take, exchange}
 use Rattle.wb_tasks.specs.Ready.{Has, Suits}
 use Rattle.wb_tasks.specs.declared.step.DeskStep.TheVariants.{ReleaseOrder}
 use Rattle.wb_types.specs.declared.refusal.Refusal.TheVariants.{Failed, Busy}
@@ -23,13 +23,10 @@ use Rattle.wb_words.specs.declared.word.Access.{Access}
 use Rattle.wb_words.specs.declared.word.Access.TheVariants.{Owned}
 use Rattle.wb_tasks.proofs.Readiness.{keeps_ready, ends_holding_nothing, job_stays}
 use Rattle.wb_tasks.specs.declared.step.Answer.TheVariants.{Done as Finished}
-use Rattle.wb_link.proofs.Lists.{get_set_same}
 use Rattle.wb_refines.specs.Translation.{offsets}
-use Rattle.wb_simulation.specs.Steps.{IsPart}
 use Rattle.wb_simulation.proofs.Behind.{card_there}
 use Rattle.wb_tasks.specs.declared.step.Answer.{Answer}
 use Rattle.wb_tasks.specs.declared.step.Migration.{Migration}
-use Rattle.wb_tasks.specs.declared.step.Migration.TheVariants.{Promote, Demote, Clean}
 use Rattle.wb_tasks.specs.declared.step.Want.{Want}
 use Rattle.wb_tasks.specs.declared.step.Want.TheVariants.{Cell, Desk}
 use Rattle.wb_devices.specs.declared.devices.Devices.{Devices}

@@ -1,5 +1,5 @@
 -- A migration is followed, whatever it comes to.
-use Rattle.std.proofs.Common.{◌≡◌, ◌≤◌, ◌+◌, ◌∙◌, inl, inr, ℕ, Bool, List, [], ◌∷◌, Option, Some, None, refl, sym, ap, subst, length, slice_get, slice_set}
+use Rattle.std.proofs.Common.{◌≡◌, ◌≤◌, ◌+◌, ◌∙◌, inl, inr, ℕ, Bool, List, [], ◌∷◌, Option, Some, None, refl, sym, ap, subst, length, slice_get}
 use Rattle.wb_types.specs.declared.extent.Extent.{Extent}
 use Rattle.wb_types.specs.declared.mode.Dev.{Dev}
 use Rattle.wb_types.specs.declared.number.OBlock.{OBlock}
@@ -151,13 +151,15 @@ module _ (size most blocks : ℕ) (words : Words) (committing : Bool) (orders : 
       let promotes : f.is.migration ≡ Promote c = has.1.1.0.1 in
       let place : f.c ≡ c.0 = at_cache f.is.migration c f.c promotes f.is.fills in
       told_by size most blocks words committing orders devices actors a x migration block plan s ex task suits g (Desk (Map b c)) k.0 k.1 f
-      (λ m d p. (m ≡ Promote c) × (b ≡ d) × EndsOrder (Maps d.0 c.0) c.0 size most a s words committing orders devices actors x (record x { task = Some (Migrate m d, after p Done); orders = dropped b x.orders }) (PromoteOrder d c))
-      (promotes, its ∙ f.is.block_is,
-      subst (λ (o : Order). EndsOrder (Maps f.is.block.0 c.0) c.0 size most a s words committing orders devices actors x (left_so f k.0 b) o) (ap (λ (m : Migration). order_for m f.is.block) promotes)
-      (subst (λ (v : OBlock). EndsOrder (Maps f.is.block.0 c.0) c.0 size most a s words committing orders devices actors x (left_so f k.0 v) (order_for f.is.migration f.is.block)) (sym its)
-      (subst (λ (v : OBlock). EndsOrder (Maps v.0 c.0) c.0 size most a s words committing orders devices actors x (left_so f k.0 f.is.part.block) (order_for f.is.migration f.is.block)) f.is.block_is
-      (subst (λ (v : ℕ). EndsOrder (Maps f.is.part.block.0 v) v size most a s words committing orders devices actors x (left_so f k.0 f.is.part.block) (order_for f.is.migration f.is.block)) place
-      (mapped size most blocks words committing orders devices actors a x s g ex f k.0 c (steps ∙ ap (λ (v : OBlock). Desk (Map v c) ∷ k.0) its) (suits_there size most blocks words committing orders devices actors a x migration block plan s ex task suits g (Desk (Map b c)) k.0 k.1 f) owned)))))
+      (λ m d p. (m ≡ Promote c) × (b ≡ d) × EndsOrder (Maps d.0 c.0) c.0 size most a s words committing orders devices actors x (record x { task = Some (Migrate m d, after p Done); orders = dropped b x.orders }) (PromoteOrder d c)) (
+        promotes,
+        its ∙ f.is.block_is,
+        subst (λ (o : Order). EndsOrder (Maps f.is.block.0 c.0) c.0 size most a s words committing orders devices actors x (left_so f k.0 b) o) (ap (λ (m : Migration). order_for m f.is.block) promotes)
+            (subst (λ (v : OBlock). EndsOrder (Maps f.is.block.0 c.0) c.0 size most a s words committing orders devices actors x (left_so f k.0 v) (order_for f.is.migration f.is.block)) (sym its)
+            (subst (λ (v : OBlock). EndsOrder (Maps v.0 c.0) c.0 size most a s words committing orders devices actors x (left_so f k.0 f.is.part.block) (order_for f.is.migration f.is.block)) f.is.block_is
+            (subst (λ (v : ℕ). EndsOrder (Maps f.is.part.block.0 v) v size most a s words committing orders devices actors x (left_so f k.0 f.is.part.block) (order_for f.is.migration f.is.block)) place
+            (mapped size most blocks words committing orders devices actors a x s g ex f k.0 c (steps ∙ ap (λ (v : OBlock). Desk (Map v c) ∷ k.0) its) (suits_there size most blocks words committing orders devices actors a x migration block plan s ex task suits g (Desk (Map b c)) k.0 k.1 f) owned)))),
+      )
     where
       at_cache : (m : Migration) (c : CBlock) (d : ℕ) → m ≡ Promote c → Fills m (record { 0 = d }) → d ≡ c.0
       at_cache m c d e fills = let is : Fills (Promote c) (record { 0 = d }) = subst (λ (q : Migration). Fills q (record { 0 = d })) e fills in sym (ap (λ (v : CBlock). v.0) is)
@@ -181,12 +183,17 @@ module _ (size most blocks : ℕ) (words : Words) (committing : Bool) (orders : 
       let its : b ≡ f.is.part.block = has.1.1.0.0 in
       let demotes : f.is.migration ≡ Demote = has.1.1.0.1 in
       told_by size most blocks words committing orders devices actors a x migration block plan s ex task suits g (Desk (Unmap b)) k.0 k.1 f
-      (λ m d p. (m ≡ Demote) × (b ≡ d) × ((c : ℕ) × EndsOrder (Unmaps d.0 c) c size most a s words committing orders devices actors x (record x { task = Some (Migrate m d, after p Done); orders = dropped b x.orders }) (DemoteOrder d)))
-      (demotes, its ∙ f.is.block_is, (f.c,
-      subst (λ (o : Order). EndsOrder (Unmaps f.is.block.0 f.c) f.c size most a s words committing orders devices actors x (left_so f k.0 b) o) (ap (λ (m : Migration). order_for m f.is.block) demotes)
-      (subst (λ (v : OBlock). EndsOrder (Unmaps f.is.block.0 f.c) f.c size most a s words committing orders devices actors x (left_so f k.0 v) (order_for f.is.migration f.is.block)) (sym its)
-      (subst (λ (v : OBlock). EndsOrder (Unmaps v.0 f.c) f.c size most a s words committing orders devices actors x (left_so f k.0 f.is.part.block) (order_for f.is.migration f.is.block)) f.is.block_is
-      (unmapped size most blocks words committing orders devices actors a x s g ex f k.0 (steps ∙ ap (λ (v : OBlock). Desk (Unmap v) ∷ k.0) its) (suits_there size most blocks words committing orders devices actors a x migration block plan s ex task suits g (Desk (Unmap b)) k.0 k.1 f) owned)))))
+      (λ m d p. (m ≡ Demote) × (b ≡ d) × ((c : ℕ) × EndsOrder (Unmaps d.0 c) c size most a s words committing orders devices actors x (record x { task = Some (Migrate m d, after p Done); orders = dropped b x.orders }) (DemoteOrder d))) (
+        demotes,
+        its ∙ f.is.block_is,
+        (
+          f.c,
+          subst (λ (o : Order). EndsOrder (Unmaps f.is.block.0 f.c) f.c size most a s words committing orders devices actors x (left_so f k.0 b) o) (ap (λ (m : Migration). order_for m f.is.block) demotes)
+              (subst (λ (v : OBlock). EndsOrder (Unmaps f.is.block.0 f.c) f.c size most a s words committing orders devices actors x (left_so f k.0 v) (order_for f.is.migration f.is.block)) (sym its)
+              (subst (λ (v : OBlock). EndsOrder (Unmaps v.0 f.c) f.c size most a s words committing orders devices actors x (left_so f k.0 f.is.part.block) (order_for f.is.migration f.is.block)) f.is.block_is
+              (unmapped size most blocks words committing orders devices actors a x s g ex f k.0 (steps ∙ ap (λ (v : OBlock). Desk (Unmap v) ∷ k.0) its) (suits_there size most blocks words committing orders devices actors a x migration block plan s ex task suits g (Desk (Unmap b)) k.0 k.1 f) owned))),
+        ),
+      )
 
   order_is_given_up : AreOwned orders actors → want plan ≡ Desk (ReleaseOrder b) → (b ≡ block) × ((c : ℕ) × EndsOrder (GivesUp c) c size most a s words committing orders devices actors x (record x { task = Some (Migrate migration block, after plan Done); orders = dropped b x.orders }) (order_for migration block))
   order_is_given_up owned asked =
@@ -196,10 +203,14 @@ module _ (size most blocks : ℕ) (words : Words) (committing : Bool) (orders : 
       let has = has_there size most blocks words committing orders devices actors a x migration block plan s ex task suits g (Desk (ReleaseOrder b)) k.0 k.1 f in
       let its : b ≡ f.is.part.block = has.1 in
       told_by size most blocks words committing orders devices actors a x migration block plan s ex task suits g (Desk (ReleaseOrder b)) k.0 k.1 f
-      (λ m d p. (b ≡ d) × ((c : ℕ) × EndsOrder (GivesUp c) c size most a s words committing orders devices actors x (record x { task = Some (Migrate m d, after p Done); orders = dropped b x.orders }) (order_for m d)))
-      (its ∙ f.is.block_is, (f.c,
-      subst (λ (v : OBlock). EndsOrder (GivesUp f.c) f.c size most a s words committing orders devices actors x (left_so f k.0 v) (order_for f.is.migration f.is.block)) (sym its)
-      (given_up size most blocks words committing orders devices actors a x s g ex f k.0 (steps ∙ ap (λ (v : OBlock). Desk (ReleaseOrder v) ∷ k.0) its) (suits_there size most blocks words committing orders devices actors a x migration block plan s ex task suits g (Desk (ReleaseOrder b)) k.0 k.1 f) owned)))
+      (λ m d p. (b ≡ d) × ((c : ℕ) × EndsOrder (GivesUp c) c size most a s words committing orders devices actors x (record x { task = Some (Migrate m d, after p Done); orders = dropped b x.orders }) (order_for m d))) (
+        its ∙ f.is.block_is,
+        (
+          f.c,
+          subst (λ (v : OBlock). EndsOrder (GivesUp f.c) f.c size most a s words committing orders devices actors x (left_so f k.0 v) (order_for f.is.migration f.is.block)) (sym its)
+              (given_up size most blocks words committing orders devices actors a x s g ex f k.0 (steps ∙ ap (λ (v : OBlock). Desk (ReleaseOrder v) ∷ k.0) its) (suits_there size most blocks words committing orders devices actors a x migration block plan s ex task suits g (Desk (ReleaseOrder b)) k.0 k.1 f) owned),
+        ),
+      )
 
 -- nothing is left of a job on a block that answers
 nothing_left : (blocks : ℕ) (job : BlockJob) (plan : Plan) (card : Card) (answer : Answer) → plan.job ≡ OnBlock job → Suits blocks plan card → want plan ≡ End answer → plan.steps ≡ []
