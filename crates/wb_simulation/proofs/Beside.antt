@@ -1,7 +1,6 @@
 -- What a migration has read is what its source has still, where the device was synced, or another block was written.
 use Rattle.std.proofs.Common.{◌≡◌, ◌≢◌, ◌<◌, ◌≤◌, ◌+◌, ◌*◌, ◌/◌, ◌%◌, ◌∙◌, ◌⊎◌, inl, inr, if◌then◌else◌, ℕ, zero, suc, Bool, true, false, List, [], ◌∷◌, Option, Some, None, refl, sym, ap, subst, arith, length, map, slice_get}
 use Rattle.std.proofs.lemmas.Bool.{cases_lt}
-use Rattle.std.proofs.lemmas.Nat.{mul-le}
 use Rattle.wb_types.specs.declared.extent.Extent.{Extent}
 use Rattle.wb_types.specs.declared.mode.Dev.{Dev}
 use Rattle.wb_types.specs.declared.mode.Dev.TheVariants.{Metadata, Cache, Origin}
@@ -36,6 +35,7 @@ use Rattle.wb_runs.specs.States.{Actor, with_device}
 use Rattle.wb_runs.specs.Holding.{cards_of, AllSuited, TaskSuits}
 use Rattle.wb_simulation.specs.Steps.{AreOfBlock, IsTail}
 use Rattle.wb_simulation.specs.Behind.{HasRead}
+use Rattle.wb_simulation.proofs.Places.{rows}
 use Rattle.wb_simulation.proofs.Behind.{CarriesOthers, carried_with, card_there}
 
 -- ---- what reads give
@@ -112,9 +112,6 @@ parts_apart size p q i j m n other l k = elim (cases_lt p q) [
     | inr same ↦ absurd (other (omega (arith, more, same)))
   ]
 ]
-  where
-    rows : (size p q : ℕ) → p < q → p * size + size ≤ q * size
-    rows size p q l = omega (arith, mul-le (p + 1) size q size (omega (arith, l)) (omega arith))
 
 -- ---- where an actor owns the block that it writes
 

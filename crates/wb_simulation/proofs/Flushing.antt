@@ -168,9 +168,6 @@ module _ (size most : ℕ) (words : Words) (committing : Bool) (orders : List (O
   refused_plan GenerationEnd later answer clean nodes n = refl
   refused_plan refusal later answer clean nodes n = absurd n
 
-  refused_job : (refusal : Refusal) (later : List Want) (answer : Answer) (clean : Bool) (nodes : ℕ) → (after (flushing most (Desk (BeginCommit clean nodes) ∷ later) answer) (Refused refusal)).job ≡ Flushing [] most
-  refused_job refusal later answer clean nodes = refl
-
   pub is_refused : ¬ AreOutside x.task → (refusal : Refusal) (answer : Answer) → IsNoBegin refusal → IsFlushing size [] (flushing most (Desk (BeginCommit false most) ∷ []) answer) false y → On devices (after (flushing most (Desk (BeginCommit false most) ∷ []) answer) (Refused refusal))
   is_refused past refusal answer n is =
       let steps = refused_plan refusal [] answer false most n in

@@ -5,7 +5,7 @@ use Rattle.std.proofs.lemmas.Nat.{mul-le, div-add-mod'}
 use Rattle.wb_simulation.specs.Behind.{behind}
 
 -- one row more
-rows : (size p q : ℕ) → p < q → p * size + size ≤ q * size
+pub rows : (size p q : ℕ) → p < q → p * size + size ≤ q * size
 rows size p q l = omega (arith, mul-le (p + 1) size q size (omega (arith, l)) (omega arith))
 
 -- no two of them are the same

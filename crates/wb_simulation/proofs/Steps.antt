@@ -25,6 +25,7 @@ use Rattle.wb_words.specs.declared.step.CellStep.{CellStep}
 use Rattle.wb_words.specs.declared.step.CellStep.TheVariants.{Look, Take, Release, Seal, Finish, Count, SetFailed, SetSuspended}
 use Rattle.wb_refines.specs.Data.{IsInBlock}
 use Rattle.wb_refines.specs.Translation.{location_at}
+use Rattle.wb_refines.proofs.Tables.{at_place}
 use Rattle.wb_refines.specs.Migrations.{order_on, source, Fills, IsWhere}
 use Rattle.wb_simulation.specs.Behind.{target, AreCopiedAt}
 use Rattle.wb_simulation.specs.Steps.{IsOfBlock, IsPart, AreOfBlock, ArePaired, IsNoWrite}
@@ -148,7 +149,7 @@ module _ (size : ℕ) (part : BlockRange) (is : IsPart size part) where
   paired_extent c e = ap (λ n. (c.0 * n + e.first % n) % size) (sym is.sized) ∙ mod-mul-add c.0 size (e.first % size) (mod-lt e.first is.some)
 
   cached_extent : (c : CBlock) (e : Extent) → location_at size Cache (cache_extent part c e) ≡ Some c.0
-  cached_extent c e = ap (λ (n : ℕ). Some n) (ap (λ n. (c.0 * n + e.first % n) / size) (sym is.sized) ∙ div-mul-add c.0 size (e.first % size) (mod-lt e.first is.some))
+  cached_extent c e = subst (λ (n : ℕ). location_at n Cache (cache_extent part c e) ≡ Some c.0) (sym is.sized) (at_place part (subst (λ (n : ℕ). 0 < n) is.sized is.some) c e)
 
   copied_in : (c : CBlock) (es : List Extent) (ws : List Want) → AreOf es → Copies None (Some c.0) ws → Copies None (Some c.0) (copies part None (Some c) es ++ ws)
   copied_in c [] ws each w = w
