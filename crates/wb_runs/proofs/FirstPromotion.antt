@@ -1,5 +1,6 @@
 -- A run in which a promotion is answered done, its block in the cache.
 use Rattle.std.proofs.Common.{Global, ◌≡◌, ◌≢◌, ◌∙◌, ◌≤◌, ◌*◌, inl, inr, ℕ, zero, suc, false, List, [], ◌∷◌, ◌++◌, Option, Some, None, refl, sym, ap, subst, arith, length, slice_get, slice_set, get_or, map, replicate, is_some}
+use Rattle.wb_runs.proofs.Desks.{changed}
 use Rattle.std.proofs.lemmas.List.{length-map, length-replicate}
 use Rattle.std.proofs.lemmas.List.Elements.{All-cons, All-nil}
 use Rattle.std.proofs.lemmas.List.Sorted.{IsPermutation-refl}
@@ -95,15 +96,6 @@ no_cost : (n : ℕ) → cost_of (let xs : List (Option LiveOrder) = replicate n 
 no_cost zero = refl
 no_cost (suc n) = no_cost n
 
-changed : (m : Mapping) (block : ℕ) (v : Option Entry) → IsSound m → IsChangedAt m (changed_at m block v) block v
-changed m block v sound = record {
-  entries = refl;
-  forgets = changed-forgets m block v;
-  others = λ level index off. forgot_off block m.known level index off;
-  edited = edited-once m (changed_at m block v) block v sound (changed-sound m block v sound) refl (changed-forgets m block v);
-  sound = changed-sound m block v sound;
-}
-
 -- ---- the promotion
 
 module _ (P A : Type 0) (global : Global) (cache_blocks meta_sectors : ℕ) (within : IsWithinLimits 64 cache_blocks 1 meta_sectors) (threshold others : ℕ) (desk : DeskState P) (metadata cache origin : List History) (rest : List Actor)
@@ -160,7 +152,7 @@ module _ (P A : Type 0) (global : Global) (cache_blocks meta_sectors : ℕ) (wit
 
   pub promotes_run : IsRun shape before promotes
   promotes_run = (
-    (refl, (λ d. elim d [ inl gone ↦ absurd (cc) | inr more ↦ elim more [ inl task ↦ task | inr out ↦ elim out [ inl none ↦ none tt | inr unmade ↦ unmade tt ] ] ]), (whole_cut, may)),
+    (refl, (λ d. elim d [ inl gone ↦ absurd (cc) | inr more ↦ elim more [ inl task ↦ task | inr out ↦ out tt ] ]), (whole_cut, may)),
     (
       (refl, ((refl, refl), refl)),
       (

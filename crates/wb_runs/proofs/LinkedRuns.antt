@@ -402,12 +402,7 @@ module _ (P A : Type 0) (shape : Shape) where
   starts shown w n a (Migrate migration block) chosen l applies gives =
       let f = free P A w a (Migrate migration block) applies in
       subst (λ (o : Option Actor). Started_so shown w n a (Migrate migration block) chosen o) (sym f.1)
-      (served_starts w.phase w.actors n a f.0 (given shape f.0 (Migrate migration block) chosen) (Migrate migration block) _ chosen l f.1 f.2 refl (made migration (λ p. applies (inr (inr (inr p))))) tt (λ p. applies (inr (inr (inl p)))))
-    where
-      made : (m : _) → ¬ ¬ Rattle.wb_runs.specs.Happenings.IsMade m → Rattle.wb_runs.specs.Happenings.IsMade m
-      made (Promote c) f = tt
-      made Demote f = absurd (f (λ z. z))
-      made Clean f = absurd (f (λ z. z))
+      (served_starts w.phase w.actors n a f.0 (given shape f.0 (Migrate migration block) chosen) (Migrate migration block) _ chosen l f.1 f.2 refl tt tt (λ p. applies (inr (inr p))))
   starts shown w n a (Read extent) chosen l applies gives = absurd gives
   starts shown w n a (Write extent content) chosen l applies gives = absurd gives
 
