@@ -5,7 +5,6 @@ ghost use Rattle.wb_runs.specs.Possible.{CanFlush, CanOpen, CanPromote, CanSurvi
 ghost use Rattle.wb_runs.specs.Progress.{NeverStuck};
 ghost use Rattle.wb_runs.specs.Inside.{StepsStayInside};
 ghost use Rattle.wb_runs.specs.Holding.{WordsAreUsedRightly};
-ghost use Rattle.wb_runs.specs.Sealed.{SealsTellPlaces};
 
 /// In every run, over any policy: whatever a crash leaves of the metadata device, it represents a root of this geometry and a
 /// tree, so an opening finds one; and a root that is marked clean is one of a tree without entries.
@@ -68,10 +67,4 @@ pub fn a_block_can_be_promoted<P, A>()
 /// seal by a cache block that is, wherever blocks are cached.
 pub fn steps_stay_inside<P, A>()
     ensures { StepsStayInside P A }
-{}
-
-/// After every run where a target stands the seal of each block tells where the desk has it, in a cache block or on the origin, or some
-/// actor's next step seals it so.
-pub fn seals_tell_places<P, A>()
-    ensures { SealsTellPlaces P A }
 {}
