@@ -1,5 +1,5 @@
-//! Every interleaving of reads, writes, flushes, promotions and openings on three devices, one atomic step at a time, with failing steps
-//! and crashes: definitions and laws, no code but the records of what happened.
+//! Every interleaving of reads, writes, flushes, promotions, demotions, write-backs and openings on three devices, one atomic step at a
+//! time, with failing steps and crashes: definitions and laws, no code but the records of what happened.
 #![tactic(auto)]
 
 mod event;
