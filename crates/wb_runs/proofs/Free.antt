@@ -13,11 +13,9 @@ use Rattle.wb_meta.specs.Formats.{IsFormatted}
 use Rattle.wb_meta.specs.Reads.{sectors_read}
 use Rattle.wb_meta.specs.declared.read_steps.ReadSteps.{ReadSteps}
 use Rattle.wb_meta.specs.declared.read_steps.ReadSteps.TheVariants.{Begun, FirstSlotRead, RootFound, Done as AllRead}
-use Rattle.wb_policy.specs.declared.order.Order.TheVariants.{Promote as PromoteOrder}
 use Rattle.wb_tasks.specs.Plan.{Plan, want}
 use Rattle.wb_tasks.specs.Ready.{HoldsBlocks, IsOwnStep}
 use Rattle.wb_tasks.specs.Tables.{BlockJob, Reading, Writing, Migrating, OnBlock, whole_block}
-use Rattle.wb_tasks.specs.declared.step.Migration.TheVariants.{Promote, Demote, Clean}
 use Rattle.wb_tasks.specs.declared.step.Got.TheVariants.{Fault}
 use Rattle.wb_devices.specs.Moving.{device_in}
 use Rattle.wb_runs.specs.declared.job.Job.{Job}

@@ -1,5 +1,5 @@
 -- In every run each actor has what its task needs, and the words of the target that stands keep their rule.
-use Rattle.std.proofs.Common.{◌≡◌, ◌<◌, ◌*◌, ◌/◌, inl, inr, ℕ, List, [], ◌∷◌, Option, Some, None, refl, sym, ap, subst, slice_get, slice_set, arith, mul_comm}
+use Rattle.std.proofs.Common.{◌≡◌, ◌<◌, ◌*◌, ◌/◌, inr, ℕ, List, [], ◌∷◌, Option, Some, None, refl, sym, ap, subst, slice_get, slice_set, arith, mul_comm}
 use mathlib.Core.Option.{some}
 use lib.ListN.{get_elem?}
 use Rattle.wb_types.specs.declared.mode.Mode.{Mode}

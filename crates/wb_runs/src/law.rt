@@ -1,7 +1,7 @@
 //! The theorems over all runs.
 
 ghost use Rattle.wb_runs.specs.Headline.{AnswersCoverTheirSectors, EventsSkipRightly, MetadataAreRead, OpeningsRefuseByCause};
-ghost use Rattle.wb_runs.specs.Possible.{CanFlush, CanOpen, CanPromote, CanSurvive};
+ghost use Rattle.wb_runs.specs.Possible.{CanDemote, CanFlush, CanOpen, CanPromote, CanSurvive};
 ghost use Rattle.wb_runs.specs.Progress.{NeverStuck};
 ghost use Rattle.wb_runs.specs.Inside.{StepsStayInside};
 ghost use Rattle.wb_runs.specs.Holding.{WordsAreUsedRightly};
@@ -61,6 +61,12 @@ pub fn a_write_can_survive<P, A>()
 /// block stands in the cache, and its order is over.
 pub fn a_block_can_be_promoted<P, A>()
     ensures { CanPromote P A }
+{}
+
+/// And over the smallest origin one in which after that a demotion unmaps the block and is about to be answered done: the block stands nowhere,
+/// its order is over, and its cache block is in quarantine.
+pub fn a_block_can_be_demoted<P, A>()
+    ensures { CanDemote P A }
 {}
 
 /// After every run the cache and the origin have their sizes, and whoever has a task wants next a step on sectors that are there, or a
