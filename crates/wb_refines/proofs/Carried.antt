@@ -36,7 +36,7 @@ use Rattle.wb_refines.specs.Translation.{number_of, offsets}
 use Rattle.wb_refines.specs.Going.{WinsBeside}
 use Rattle.wb_refines.specs.Models.{TakesBeside, SameElse, SawSeal, SealAgrees, TellsPlace, WordsAgree, held_of, held_for, plan_of}
 use Rattle.wb_refines.specs.Migrations.{job_under, migration_wants, order_on, Fills, IsWhere}
-use Rattle.wb_refines.specs.Carried.{AnswersAlike, FollowsMigration, MigrationCellsFollowed}
+use Rattle.wb_refines.specs.Carried.{AnswersAlike, FindsWhere, FollowsMigration, MigrationCellsFollowed}
 use Rattle.wb_refines.proofs.Cells.{same, flag_of, own_seal, IsPlain, held_plain, saw_plain, failed_flag, counted_agree, sealed_agree}
 use Rattle.wb_refines.proofs.Holding.{keeps_owned}
 use Rattle.wb_refines.proofs.Locks.{own_wins}
@@ -86,9 +86,6 @@ module _ (actors : List Actor) (there : ℕ) (s : Shared) (part : BlockRange) (c
 
   abbrev of : Migration → List Want → Answer → Plan
   of migration steps answer = plan_of (Migrating migration part) steps answer
-
-  refused_alike : (refusal : Refusal) (answer : AbstractAnswer) → answer ≢ AnsweredDone → AnswersAlike (Refuses refusal) answer
-  refused_alike refusal answer n = n
 
   looks_fail : (migration : Migration) (block : OBlock) (answer : Answer) (told : AbstractAnswer) (buffer : Content) (words : Words) (card : Card) → WordsAgree words s → AnswersAlike answer told →
       Then migration (of migration (Cell (Look Fail) ∷ Cell (Look (LockWord block)) ∷ []) answer) card told buffer words (after (of migration (Cell (Look Fail) ∷ Cell (Look (LockWord block)) ∷ []) answer) (Word words.fail)) (looked Fail words.fail card)
@@ -275,26 +272,26 @@ module _ (actors : List Actor) (there : ℕ) (s : Shared) (part : BlockRange) (c
   }
 
   module _ (blocks : ℕ) (words : Words) (cards : List Card) (a : ℕ) (card : Card) (migration : Migration) (answer : Answer) (told : AbstractAnswer) (buffer : Content) (some : 0 < part.block_sectors) (rule : LockRule blocks words cards) (here : slice_get cards a ≡ Some card) (w : WordsAgree words s)
-      (fills : Fills migration c) (where_is : (seal : ℕ) → card.seal ≡ Some seal → IsWhere migration c (place_in seal)) (inside : part.block.0 < blocks) (alike : AnswersAlike answer told) where
+      (fills : Fills migration c) (inside : part.block.0 < blocks) (alike : AnswersAlike answer told) where
     abbrev Goal : CellStep → List Want → Type 0
     Goal step ws = Then migration (of migration (Cell step ∷ ws) answer) card told buffer (words_after words step) (after (of migration (Cell step ∷ ws) answer) (got_of (result_of words step))) (card_after words step card)
 
-    cell : (step : CellStep) (ws : List Want) → TakesBeside step actors cards there a → TellsPlace step → Has (Migrating migration part) card (Cell step ∷ ws) → SawSeal (of migration (Cell step ∷ ws) answer) (Cell step ∷ ws) card → Goal step ws
-    cell (Look Fail) ws below t h saw = subst (λ (v : List Want). Goal (Look Fail) v) (sym h.1) (looks_fail migration part.block answer told buffer words card w alike)
-    cell (Look (LockWord b)) ws below t h saw = subst (λ (v : List Want). Goal (Look (LockWord b)) v) (sym h.2) (subst (λ (v : OBlock). Goal (Look (LockWord v)) []) (sym h.1) (looks_lock migration answer told buffer words card w alike))
-    cell (Look (SealWord b)) ws below t h saw = subst (λ (v : OBlock). Goal (Look (SealWord v)) ws) (sym h.1) (looks_seal migration ws answer told buffer words card h.0 w alike)
-    cell (Look (Number b)) ws below t h saw = subst (λ (v : List Want). Goal (Look (Number b)) v) (sym saw.2) (subst (λ (v : OBlock). Goal (Look (Number v)) (work_of (OnBlock (Migrating migration part)) saw.0)) (sym h.1)
+    cell : (step : CellStep) (ws : List Want) → FindsWhere step migration c card → TakesBeside step actors cards there a → TellsPlace step → Has (Migrating migration part) card (Cell step ∷ ws) → SawSeal (of migration (Cell step ∷ ws) answer) (Cell step ∷ ws) card → Goal step ws
+    cell (Look Fail) ws where_is below t h saw = subst (λ (v : List Want). Goal (Look Fail) v) (sym h.1) (looks_fail migration part.block answer told buffer words card w alike)
+    cell (Look (LockWord b)) ws where_is below t h saw = subst (λ (v : List Want). Goal (Look (LockWord b)) v) (sym h.2) (subst (λ (v : OBlock). Goal (Look (LockWord v)) []) (sym h.1) (looks_lock migration answer told buffer words card w alike))
+    cell (Look (SealWord b)) ws where_is below t h saw = subst (λ (v : OBlock). Goal (Look (SealWord v)) ws) (sym h.1) (looks_seal migration ws answer told buffer words card h.0 w alike)
+    cell (Look (Number b)) ws where_is below t h saw = subst (λ (v : List Want). Goal (Look (Number b)) v) (sym saw.2) (subst (λ (v : OBlock). Goal (Look (Number v)) (work_of (OnBlock (Migrating migration part)) saw.0)) (sym h.1)
         (looks_number migration saw.0 answer told buffer words card some fills (where_is saw.0 saw.1) h.0 ((rule.knows a card (at_slice cards a card here)).seal Owned part.block saw.0 h.0 saw.1) w (own_wins blocks words cards actors there a card part.block rule inside here below h.0) alike))
-    cell (Look (CountWord kind)) ws below t h saw = absurd h.1.1
-    cell (Take access b seen) ws below t h saw = subst (λ (v : List Want). Goal (Take access b seen) v) (sym h.4) (subst (λ (v : Access). Goal (Take v b seen) (Cell (Look (SealWord b)) ∷ [])) (sym h.1) (subst (λ (v : OBlock). Goal (Take Owned v seen) (Cell (Look (SealWord v)) ∷ [])) (sym h.2) (takes migration seen answer told buffer words card h.0 w alike)))
-    cell (Release access b) ws below t h saw = subst (λ (v : Access). Goal (Release v b) ws) (sym h.1.1.0) (subst (λ (v : OBlock). Goal (Release Owned v) ws) (sym h.1.1.1) (gives_back migration ws answer told buffer words card h.1.1.2 w alike))
-    cell (Seal b place dirty) ws below t h saw = subst (λ (v : OBlock). Goal (Seal v place dirty) ws) (sym h.1.1.0) (seals migration place dirty ws answer told buffer words card (rest_plain (Migrating migration part) h.1.0 ws h.1.1.2) (let wide = rule.seals_are in omega (arith, wide, inside)) t w alike)
-    cell (Finish b) ws below t h saw = absurd (let bad : false ≡ true = h.1.1.1 in cc)
-    cell (Count kind) ws below t h saw = counts migration kind ws answer told buffer words card (rest_plain (Migrating migration part) h.1.0 ws h.1.1) w alike
-    cell SetFailed ws below t h saw = subst (λ (v : List Want). Goal SetFailed v) (sym h.1) (fails migration answer told buffer words card _ _ rule.logs.fail saw.0 saw.1 w alike)
-    cell SetSuspended ws below t h saw = absurd h.1.1
+    cell (Look (CountWord kind)) ws where_is below t h saw = absurd h.1.1
+    cell (Take access b seen) ws where_is below t h saw = subst (λ (v : List Want). Goal (Take access b seen) v) (sym h.4) (subst (λ (v : Access). Goal (Take v b seen) (Cell (Look (SealWord b)) ∷ [])) (sym h.1) (subst (λ (v : OBlock). Goal (Take Owned v seen) (Cell (Look (SealWord v)) ∷ [])) (sym h.2) (takes migration seen answer told buffer words card h.0 w alike)))
+    cell (Release access b) ws where_is below t h saw = subst (λ (v : Access). Goal (Release v b) ws) (sym h.1.1.0) (subst (λ (v : OBlock). Goal (Release Owned v) ws) (sym h.1.1.1) (gives_back migration ws answer told buffer words card h.1.1.2 w alike))
+    cell (Seal b place dirty) ws where_is below t h saw = subst (λ (v : OBlock). Goal (Seal v place dirty) ws) (sym h.1.1.0) (seals migration place dirty ws answer told buffer words card (rest_plain (Migrating migration part) h.1.0 ws h.1.1.2) (let wide = rule.seals_are in omega (arith, wide, inside)) t w alike)
+    cell (Finish b) ws where_is below t h saw = absurd (let bad : false ≡ true = h.1.1.1 in cc)
+    cell (Count kind) ws where_is below t h saw = counts migration kind ws answer told buffer words card (rest_plain (Migrating migration part) h.1.0 ws h.1.1) w alike
+    cell SetFailed ws where_is below t h saw = subst (λ (v : List Want). Goal SetFailed v) (sym h.1) (fails migration answer told buffer words card _ _ rule.logs.fail saw.0 saw.1 w alike)
+    cell SetSuspended ws where_is below t h saw = absurd h.1.1
 
 pub migration_cells_followed : MigrationCellsFollowed
 migration_cells_followed blocks words cards actors there a card s y part c next migration kept step later answer some rule here below w tells fills where_is suits m =
     subst (λ (v : Actor). FollowsMigration actors there s v (words_after words step) part c next migration kept (after (plan_of (Migrating migration part) (Cell step ∷ later) answer) (got_of (result_of words step))) (card_after words step card)) (sym m.is)
-    (cell actors there s part c next kept blocks words cards a card migration answer m.answer m.buffer some rule here w fills where_is suits.0 m.alike step later below tells suits.1 m.saw)
+    (cell actors there s part c next kept blocks words cards a card migration answer m.answer m.buffer some rule here w fills suits.0 m.alike step later where_is below tells suits.1 m.saw)

@@ -7,6 +7,8 @@ use Rattle.wb_words.specs.Rule.{LockRule}
 use Rattle.wb_words.specs.Effects.{result_of, words_after, card_after}
 use Rattle.wb_words.specs.declared.card.Card.{Card}
 use Rattle.wb_words.specs.declared.step.CellStep.{CellStep}
+use Rattle.wb_words.specs.declared.step.CellStep.TheVariants.{Look}
+use Rattle.wb_words.specs.declared.word.Word.TheVariants.{Number}
 use Rattle.wb_tasks.specs.Tables.{BlockRange, Migrating}
 use Rattle.wb_tasks.specs.Plan.{Plan, after, got_of}
 use Rattle.wb_tasks.specs.Ready.{Suits}
@@ -68,9 +70,14 @@ pub record FollowsMigration (actors : List Actor) (there : ℕ) (s : Shared) (y 
   pub same : SameElse s (shared_after s y y.task results)
   pub at : IsMigrationAt part c next migration kept plan card (gone y y.task results) ⊎ ((flag words.fail ≡ true) × HasKept part c next migration kept plan card (gone y y.task results))
 
--- A step of a migration on the shared words, which keep their rule. A demotion or write-back finds its block where its order says.
+-- When a number is looked at, and the block so taken, a demotion or write-back is to find it where its order says.
+abbrev pub FindsWhere : CellStep → Migration → CBlock → Card → Type 0
+FindsWhere (Look (Number block)) migration c card = (seal : ℕ) → card.seal ≡ Some seal → IsWhere migration c (place_in seal)
+FindsWhere step migration c card = Unit {0}
+
+-- A step of a migration on the shared words, which keep their rule.
 abbrev pub MigrationCellsFollowed : Type 0
 MigrationCellsFollowed = (blocks : ℕ) (words : Words) (cards : List Card) (actors : List Actor) (there a : ℕ) (card : Card) (s : Shared) (y : Actor) (part : BlockRange) (c : CBlock) (next : Option ℕ) (migration : Migration) (kept : Option Order) (step : CellStep) (later : List Want) (answer : Answer) →
-    0 < part.block_sectors → LockRule blocks words cards → slice_get cards a ≡ Some card → TakesBeside step actors cards there a → WordsAgree words s → TellsPlace step → Fills migration c → ((seal : ℕ) → card.seal ≡ Some seal → IsWhere migration c (place_in seal)) →
+    0 < part.block_sectors → LockRule blocks words cards → slice_get cards a ≡ Some card → TakesBeside step actors cards there a → WordsAgree words s → TellsPlace step → Fills migration c → FindsWhere step migration c card →
     Suits blocks (plan_of (Migrating migration part) (Cell step ∷ later) answer) card → IsMigrationAt part c next migration kept (plan_of (Migrating migration part) (Cell step ∷ later) answer) card y →
     FollowsMigration actors there s y (words_after words step) part c next migration kept (after (plan_of (Migrating migration part) (Cell step ∷ later) answer) (got_of (result_of words step))) (card_after words step card)

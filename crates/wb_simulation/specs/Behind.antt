@@ -1,6 +1,6 @@
 -- Behind the actors of the run stand, in the abstract world, for each of them as many more as there are cache blocks. One has the order
 -- that is the actor's and live on the cache block, and is at the migration of that block when the actor is at it.
-use Rattle.std.specs.Prelude.{◌≡◌, ◌≢◌, ◌⊎◌, ◌<◌, ◌+◌, ◌*◌, ◌%◌, ◌^◌, ℕ, true, false, List, [], ◌∷◌, Option, Some, None, Contains, length, slice_get}
+use Rattle.std.specs.Prelude.{◌≡◌, ◌≢◌, ◌⊎◌, ◌<◌, ◌+◌, ◌*◌, ◌%◌, ◌^◌, ℕ, true, false, List, [], ◌∷◌, Option, Some, None, Contains, length}
 use Rattle.wb_types.specs.declared.number.CBlock.{CBlock}
 use Rattle.wb_types.specs.declared.number.OBlock.{OBlock}
 use Rattle.wb_disk.specs.Device.{Content, History}
@@ -14,6 +14,7 @@ use Rattle.wb_tasks.specs.Ready.{source_of}
 use Rattle.wb_tasks.specs.declared.step.Answer.TheVariants.{Done as Finished}
 use Rattle.wb_tasks.specs.declared.step.DeviceStep.TheVariants.{Read, Write}
 use Rattle.wb_tasks.specs.declared.step.Migration.{Migration}
+use Rattle.wb_tasks.specs.declared.step.Migration.TheVariants.{Promote as PromoteInto}
 use Rattle.wb_tasks.specs.declared.step.Want.{Want}
 use Rattle.wb_tasks.specs.declared.step.Want.TheVariants.{Device}
 use Rattle.wb_devices.specs.declared.devices.Devices.{Devices}
@@ -60,11 +61,17 @@ abbrev pub HasRead : ℕ → List History → ℕ → List Want → List Content
 HasRead size list at (Device (Write device e) ∷ later) buffer = (length buffer ≡ e.count) × GivesEach list (at * size + e.first % size) buffer
 HasRead size list at steps buffer = Unit {0}
 
--- what is still to be read is where its source is
-abbrev pub AreReadAt : ℕ → Option ℕ → List Want → Type 0
-AreReadAt size location [] = Unit {0}
-AreReadAt size location (Device (Read device e) ∷ later) = (location_at size device e ≡ location) × AreReadAt size location later
-AreReadAt size location (next ∷ later) = AreReadAt size location later
+-- where a migration's sectors are written
+abbrev pub target : AbstractOrder → Migration → Option ℕ
+target order (PromoteInto c) = Some order.cache
+target order migration = None
+
+-- what is still to be read and written is at these places
+abbrev pub AreCopiedAt : ℕ → (from to : Option ℕ) → List Want → Type 0
+AreCopiedAt size from to [] = Unit {0}
+AreCopiedAt size from to (Device (Read device e) ∷ later) = (location_at size device e ≡ from) × AreCopiedAt size from to later
+AreCopiedAt size from to (Device (Write device e) ∷ later) = (location_at size device e ≡ to) × AreCopiedAt size from to later
+AreCopiedAt size from to (next ∷ later) = AreCopiedAt size from to later
 
 -- A migration of this actor, onto or out of this cache block or home from it, is what is left there of the task of the one behind: the same
 -- steps, under the same order, with what the actor's card counts. Live on the cache block is this order, if any.
@@ -87,7 +94,7 @@ pub record IsCarried (size : ℕ) (devices : Devices (List History)) (c : CBlock
   pub live : HasLive x.orders c.0 order kept
   pub has : IsUnder (order_for migration block) order (order_on part c None) kept plan
   pub at : IsMigrationAt part c None migration kept plan x.card y
-  pub reads : AreReadAt size (source (order_on part c None) migration) plan.steps
+  pub copies : AreCopiedAt size (source (order_on part c None) migration) (target (order_on part c None) migration) plan.steps
   pub buffer : HasRead size (device_in (source_of migration) devices) (row (source (order_on part c None) migration) part.block.0) plan.steps x.buffer
 
 -- who has no task, has still to look at the fail word, or has only to answer

@@ -1,6 +1,6 @@
 -- How a promotion, a demotion or a write-back of the run is followed in the abstract world, where a target stands: its start, each of its
 -- steps, and its answer. The abstract actor behind that is its actor's and the cache block's does it there.
-use Rattle.std.specs.Prelude.{◌≡◌, ◌≢◌, ◌≤◌, ◌<◌, ◌+◌, ◌^◌, ℕ, Bool, true, false, List, ◌∷◌, Option, Some, None, Contains, length, slice_get, slice_set}
+use Rattle.std.specs.Prelude.{◌≡◌, ◌≤◌, ◌<◌, ◌+◌, ◌^◌, ℕ, Bool, true, List, ◌∷◌, Option, Some, None, Contains, length, slice_get, slice_set}
 use Rattle.wb_types.specs.declared.extent.Extent.{Extent}
 use Rattle.wb_types.specs.declared.mode.Dev.{Dev}
 use Rattle.wb_types.specs.declared.number.OBlock.{OBlock}
@@ -35,7 +35,7 @@ use Rattle.wb_words.specs.declared.step.CellStep.{CellStep}
 use Rattle.wb_words.specs.declared.step.CellStep.TheVariants.{Look}
 use Rattle.wb_policy.specs.declared.order.Order.TheVariants.{Promote as PromoteOrder, Demote as DemoteOrder}
 use Rattle.wb_tasks.specs.declared.step.DeskStep.TheVariants.{Map, Unmap, ReleaseOrder}
-use Rattle.wb_tasks.specs.declared.step.Migration.TheVariants.{Promote, Demote, Clean}
+use Rattle.wb_tasks.specs.declared.step.Migration.TheVariants.{Promote, Demote}
 use Rattle.wb_stage.specs.Asking.{is_of}
 use Rattle.wb_link.specs.World.{World, Shared, Free, Mapped, Reserved, Apart}
 use Rattle.wb_link.specs.Tables.{Order as AbstractOrder}
@@ -45,6 +45,7 @@ use Rattle.wb_runs.specs.Happenings.{order_for}
 use Rattle.wb_runs.specs.Holding.{cards_of, AllSuited}
 use Rattle.wb_simulation.specs.Behind.{order_there}
 use Rattle.wb_simulation.specs.Worlds.{Agrees, Turn, Stays, Reserves, Maps, Unmaps, GivesUp, FollowsBy}
+
 -- no order that is live shares a block with this one
 abbrev pub IsUngiven : List (Option Order) → AbstractOrder → Type 0
 IsUngiven orders order = (c : ℕ) (o : Order) → slice_get orders c ≡ Some (Some o) → Apart (order_there c o) order
@@ -106,7 +107,7 @@ pub record MigrationsFollowed : Type 0 where
       (record x { task = Some (Migrate migration block, migrates size migration block cut); orders = order_for migration block ∷ x.orders })
   -- under the one that its actor keeps
   pub again : (size most : ℕ) (words : Words) (committing : Bool) (orders : List (Option Order)) (devices : Devices (List History)) (actors : List Actor) (a : ℕ) (x : Actor) (migration : Migration) (block : OBlock) (c : CBlock) (cut : List Extent) (s : World) →
-      slice_get actors a ≡ Some x → x.task ≡ None → x.card.hold ≡ Nothing → 0 < size → c.0 < 2 ^ 32 → IsCutInto (whole_block size block) cut → slice_get orders c.0 ≡ Some (Some (order_for migration block)) → Contains x.orders (order_for migration block) → AreOwned orders actors →
+      slice_get actors a ≡ Some x → x.task ≡ None → x.card.hold ≡ Nothing → 0 < size → c.0 < 2 ^ 32 → IsCutInto (whole_block size block) cut → slice_get orders c.0 ≡ Some (Some (order_for migration block)) → Contains x.orders (order_for migration block) →
       MayBeKept migration c.0 s.shared → Agrees size most words committing orders devices actors s →
       Carried Stays size most a s words committing orders devices actors (begun (Migrate migration block) (migrates size migration block cut) x)
   pub cells : (size most blocks : ℕ) (words : Words) (committing : Bool) (orders : List (Option Order)) (devices : Devices (List History)) (actors : List Actor) (a : ℕ) (x : Actor) (migration : Migration) (block : OBlock) (plan : Plan) (step : CellStep) (s : World) →
@@ -121,10 +122,10 @@ pub record MigrationsFollowed : Type 0 where
       Carried Stays size most a s words committing orders devices actors (after_step (Migrate migration block) plan Fault x)
   -- a write takes it from there
   pub write_done : (size most blocks : ℕ) (words : Words) (committing : Bool) (orders : List (Option Order)) (devices : Devices (List History)) (actors : List Actor) (a : ℕ) (x : Actor) (migration : Migration) (block : OBlock) (plan : Plan) (device : Dev) (e : Extent) (s : World) →
-      LockRule blocks words (cards_of actors) → AllSuited blocks actors → AreOwned orders actors → slice_get actors a ≡ Some x → x.task ≡ Some (Migrate migration block, plan) → Suits blocks plan x.card → want plan ≡ Device (WriteExtent device e) → e.first + e.count ≤ length (device_in device devices) → Agrees size most words committing orders devices actors s →
+      LockRule blocks words (cards_of actors) → AllSuited blocks actors → slice_get actors a ≡ Some x → x.task ≡ Some (Migrate migration block, plan) → Suits blocks plan x.card → want plan ≡ Device (WriteExtent device e) → e.first + e.count ≤ length (device_in device devices) → Agrees size most words committing orders devices actors s →
       Carried Stays size most a s words committing orders (with_device device devices (written_each (device_in device devices) e.first x.buffer)) actors (after_step (Migrate migration block) plan Done x)
   pub write_fails : (size most blocks : ℕ) (words : Words) (committing : Bool) (orders : List (Option Order)) (devices : Devices (List History)) (actors : List Actor) (a : ℕ) (x : Actor) (migration : Migration) (block : OBlock) (plan : Plan) (device : Dev) (e : Extent) (lands : ℕ → Bool) (s : World) →
-      LockRule blocks words (cards_of actors) → AllSuited blocks actors → AreOwned orders actors → slice_get actors a ≡ Some x → x.task ≡ Some (Migrate migration block, plan) → Suits blocks plan x.card → want plan ≡ Device (WriteExtent device e) → e.first + e.count ≤ length (device_in device devices) → Agrees size most words committing orders devices actors s →
+      LockRule blocks words (cards_of actors) → AllSuited blocks actors → slice_get actors a ≡ Some x → x.task ≡ Some (Migrate migration block, plan) → Suits blocks plan x.card → want plan ≡ Device (WriteExtent device e) → e.first + e.count ≤ length (device_in device devices) → Agrees size most words committing orders devices actors s →
       Carried Stays size most a s words committing orders (with_device device devices (written_where lands (device_in device devices) e.first x.buffer)) actors (after_step (Migrate migration block) plan Fault x)
   -- A promotion's order is over once its block is mapped, a demotion's once it is unmapped; and each where it is given up.
   pub maps : (size most blocks : ℕ) (words : Words) (committing : Bool) (orders : List (Option Order)) (devices : Devices (List History)) (actors : List Actor) (a : ℕ) (x : Actor) (migration : Migration) (block : OBlock) (b : OBlock) (c : CBlock) (plan : Plan) (s : World) →
