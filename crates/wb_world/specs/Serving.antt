@@ -190,7 +190,6 @@ IsAskable commit job EndCommit = is_all_done commit ≡ true
 IsAskable commit job (Map block place) = Migrates job
 IsAskable commit job (Unmap block) = Migrates job
 IsAskable commit job (ReleaseOrder block) = Migrates job
-IsAskable commit job step = ⊥
 
 -- A step of a job can be done. No opening is answered done over a target.
 abbrev pub IsPossible : Devices (List History) → Option RunningCommit → Job → Want → Type 0
