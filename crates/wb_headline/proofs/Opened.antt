@@ -1,5 +1,5 @@
 -- An opening that is answered is followed.
-use Rattle.std.proofs.Common.{◌≡◌, ◌≢◌, ◌∙◌, ◌≤◌, ◌+◌, ◌^◌, ◌⊎◌, inl, inr, ℕ, Bool, true, false, if◌then◌else◌, List, [], ◌∷◌, Option, Some, None, refl, sym, ap, subst, arith, length, map, replicate, slice_get, slice_set, Contains, is_some}
+use Rattle.std.proofs.Common.{◌≡◌, ◌≢◌, ◌∙◌, ◌≤◌, ◌+◌, ◌*◌, ◌^◌, ◌⊎◌, inl, inr, ℕ, Bool, true, false, if◌then◌else◌, List, [], ◌∷◌, Option, Some, None, refl, sym, ap, subst, arith, length, map, replicate, slice_get, slice_set, Contains, is_some}
 use Rattle.std.proofs.lemmas.List.{length-replicate, length-set, length-map}
 use Rattle.std.specs.List.{count_by}
 use Rattle.wb_types.proofs.Lists.{set_cases}
@@ -143,7 +143,7 @@ module _ (P A : Type 0) (shape : Shape) (images : Images) (devices : Devices (Li
 
       agrees_now : Agrees (size P A shape) (most P A shape) (target_over shape mode policy stored).words false (live_orders (target_over shape mode policy stored).desk) devices (slice_set actors a y) site_now.world
       agrees_now =
-          let many_then : length (slice_set actors a y) + shape.geometry.cache_blocks ≡ length f.site.world.actors = ap (λ k. k + shape.geometry.cache_blocks) (length-set actors a y ∙ f.sized.actors_many) ∙ sym f.as_many in
+          let many_then : length (slice_set actors a y) + length (slice_set actors a y) * shape.geometry.cache_blocks ≡ length f.site.world.actors = ap (λ k. k + k * shape.geometry.cache_blocks) (length-set actors a y ∙ f.sized.actors_many) ∙ sym f.as_many in
           let few : shape.geometry.cache_blocks ≤ 2 ^ 32 = (let l = shape.geometry.within.cache_to in omega (arith, l)) in
           subst (λ (os : List (Option Order)). Agrees (size P A shape) (most P A shape) (target_over shape mode policy stored).words false os devices (slice_set actors a y) site_now.world) (sym (no_orders_live shape.geometry.cache_blocks))
           (subst (λ (k : ℕ). Agrees (size P A shape) (most P A shape) (target_over shape mode policy stored).words false (replicate shape.geometry.cache_blocks None) devices (slice_set actors a y) (record { shared = opened_on f.site.world.shared Writeback i blocks_now; actors = replicate k idle })) many_then

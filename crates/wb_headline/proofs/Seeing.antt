@@ -113,8 +113,9 @@ module _ (P : Type 0) (desk : DeskState P) (kept : DeskInvariant unknowing desk)
     where
       by : (c : ℕ) (order : Order) → IsMappedAt (holdings desk) block.0 c → Names (holdings desk) (state desk.space.blocks c) c order → IsFrom block order
       by c (PromoteOrder b k) at n = tt
-      by c (Replace old x k) at (same, (new, inl old_at)) = same_block old block (one_there (holdings desk) old.0 block.0 c old_at at)
-      by c (Replace old x k) at (same, (new, inr gone)) =
-          absurd (subst (λ (v : Block). IsClaimed v) (get_or_from_slice_get desk.space.blocks c Mapped Free (mapped_state unknowing desk block.0 c kept at)) gone.1)
+      by c (Replace old x k) at n = elim n.2 [
+        | inl there ↦ same_block old block (one_there (holdings desk) old.0 block.0 c there at)
+        | inr gone ↦ absurd (subst (λ (v : Block). IsClaimed v) (get_or_from_slice_get desk.space.blocks c Mapped Free (mapped_state unknowing desk block.0 c kept at)) gone.1)
+      ]
       by c (DemoteOrder b) at n = same_block b block (one_there (holdings desk) b.0 block.0 c n at)
       by c (CleanOrder b) at n = same_block b block (one_there (holdings desk) b.0 block.0 c n at)
