@@ -26,3 +26,7 @@ mod Promise
 mod Carrying
 mod Owned
 mod Migrations
+mod Seeing
+mod Carried
+mod Placed
+mod Stubs

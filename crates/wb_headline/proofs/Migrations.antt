@@ -136,7 +136,7 @@ module _ (P A : Type 0) (shape : Shape) (t : Target P) (commit : Option RunningC
   f = b.goes.followed
 
   told : x.card.hold ≡ Held Own block → ((place : Option CBlock) (dirty : Bool) → want plan ≢ Cell (Seal block place dirty)) → number_of (place_in (word_at t.words.seals block)) ≡ place_of t.desk.tree.entries block.0
-  told = held_tells P A shape t commit devices actors n b a x migration block plan ex xt
+  told = held_tells P A shape t commit devices actors n b a x (Migrate migration block) plan ex xt block
 
   suits : Suits shape.geometry.origin_blocks plan x.card
   suits = subst (λ (o : Option (Job × Plan)). TaskSuits shape.geometry.origin_blocks x.card o) xt (b.used.suited a x ex)

@@ -204,6 +204,10 @@ module _ (size : ℕ) (some : 0 < size) (plan : Plan) (card : Card) (is : WriteP
         by (inl n) = absurd n
         by (inr w) = (w.0, w.1, w.2.0, w.2.1)
 
+    -- and it owns that block
+    pub holds_it : (blocks : ℕ) → Suits blocks plan card → card.hold ≡ Held Owned is.part.block
+    holds_it blocks suits = (subst (λ (us : List Want). Has (Writing is.part) card us) first.1 (subst (λ (q : TaskJob). SuitsJob blocks q card plan.steps) is.job suits).1).0
+
     extent_on : WritePlaced size (after plan Done) card
     extent_on = record {
       part = is.part;
