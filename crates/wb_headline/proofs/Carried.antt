@@ -1,5 +1,5 @@
 -- Where a migration of the run is carried in the abstract world: whoever is past its look at the fail word, and has not only to answer.
-use Rattle.std.proofs.Common.{◌≡◌, ◌≢◌, ◌∙◌, ◌<◌, ◌+◌, ◌*◌, inl, inr, ℕ, zero, suc, Bool, List, [], ◌∷◌, Option, Some, None, refl, sym, ap, subst, arith, length, mul_comm, slice_get}
+use Rattle.std.proofs.Common.{◌≡◌, ◌≢◌, ◌∙◌, ◌<◌, ◌≤◌, ◌+◌, ◌*◌, inl, inr, ℕ, zero, suc, Bool, List, [], ◌∷◌, Option, Some, None, refl, sym, ap, subst, arith, length, mul_comm, slice_get}
 use Rattle.std.proofs.Math.Nat.{mul-le-mul_right}
 use Rattle.std.proofs.lemmas.Option.{slice_get_within, some_pair_parts}
 use Rattle.wb_types.specs.declared.number.OBlock.{OBlock}
@@ -46,7 +46,7 @@ module _ (size most blocks : ℕ) (words : Words) (committing : Bool) (orders : 
     pub block_is : part.block ≡ block
 
   module _ (next : Want) (e : next ≡ want plan) (not : (answer : Answer) → next ≢ End answer) (out : (ws : List Want) → IsOutside (next ∷ ws) → ⊥) where
-    first : (ws : List Want) × (plan.steps ≡ next ∷ ws)
+    abbrev first : (ws : List Want) × (plan.steps ≡ next ∷ ws)
     first = begins_by plan next (sym e) not
 
     at : (c : ℕ) × (g.at a ≡ Some c)
@@ -68,7 +68,7 @@ module _ (size most blocks : ℕ) (words : Words) (committing : Bool) (orders : 
         let is = (g.behind_each a c x order.0 y.0 ex order.1 y.1).carried at.1 in
         by is.migration is.block is.plan is.part (sym xt ∙ is.task) is.job is.block_is
       where
-        by : (m : Migration) (b : OBlock) (p : Plan) (part : BlockRange) → Some (Migrate migration block, plan) ≡ Some (Migrate m b, p) → p.job ≡ OnBlock (Migrating m part) → part.block ≡ b → Carried
+        by : (m : Migration) (b : OBlock) (p : Plan) (part : BlockRange) → ◌≡◌ {A = Option (Job × Plan)} (Some (Migrate migration block, plan)) (Some (Migrate m b, p)) → p.job ≡ OnBlock (Migrating m part) → part.block ≡ b → Carried
         by m b p part same job block_is =
             let parts = some_pair_parts (Migrate migration block) (Migrate m b) plan p same in
             let jobs : Migrate migration block ≡ Migrate m b = parts.0 in

@@ -29,4 +29,3 @@ mod Migrations
 mod Seeing
 mod Carried
 mod Placed
-mod Stubs

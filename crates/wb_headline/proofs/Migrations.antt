@@ -135,8 +135,8 @@ module _ (P A : Type 0) (shape : Shape) (t : Target P) (commit : Option RunningC
   f : Followed P A shape b.goes.images (standing P A shape b.goes.images t commit devices actors n) n
   f = b.goes.followed
 
-  told : x.card.hold ≡ Held Own block → ((place : Option CBlock) (dirty : Bool) → want plan ≢ Cell (Seal block place dirty)) → number_of (place_in (word_at t.words.seals block)) ≡ place_of t.desk.tree.entries block.0
-  told = held_tells P A shape t commit devices actors n b a x (Migrate migration block) plan ex xt block
+  place_told : x.card.hold ≡ Held Own block → ((place : Option CBlock) (dirty : Bool) → want plan ≢ Cell (Seal block place dirty)) → number_of (place_in (word_at t.words.seals block)) ≡ place_of t.desk.tree.entries block.0
+  place_told = held_tells P A shape t commit devices actors n b a x (Migrate migration block) plan ex xt block
 
   suits : Suits shape.geometry.origin_blocks plan x.card
   suits = subst (λ (o : Option (Job × Plan)). TaskSuits shape.geometry.origin_blocks x.card o) xt (b.used.suited a x ex)
@@ -162,8 +162,8 @@ module _ (P A : Type 0) (shape : Shape) (t : Target P) (commit : Option RunningC
 
   -- where it looks at a seal or a number, the seal tells where its order has the block
   sees : (step : CellStep) → Cell step ≡ want plan → SeesWhere t.words (live_orders t.desk) migration block step
-  sees (Look (SealWord o)) e = seal_tells_order P t.desk b.goes.known.is.kept t.words migration block (told (looks_seal (size P A shape) (most P A shape) shape.geometry.origin_blocks t.words t.desk.space.committing (live_orders t.desk) devices actors f.site.world agrees a x migration block plan ex xt suits o e) (λ place dirty q. absurd (let bad : Cell (Look (SealWord o)) ≡ Cell (Seal block place dirty) = e ∙ q in cc)))
-  sees (Look (Number o)) e = seal_tells_order P t.desk b.goes.known.is.kept t.words migration block (told (looks_number (size P A shape) (most P A shape) shape.geometry.origin_blocks t.words t.desk.space.committing (live_orders t.desk) devices actors f.site.world agrees a x migration block plan ex xt suits o e) (λ place dirty q. absurd (let bad : Cell (Look (Number o)) ≡ Cell (Seal block place dirty) = e ∙ q in cc)))
+  sees (Look (SealWord o)) e = seal_tells_order P t.desk b.goes.known.is.kept t.words migration block (place_told (looks_seal (size P A shape) (most P A shape) shape.geometry.origin_blocks t.words t.desk.space.committing (live_orders t.desk) devices actors f.site.world agrees a x migration block plan ex xt suits o e) (λ place dirty q. absurd (let bad : Cell (Look (SealWord o)) ≡ Cell (Seal block place dirty) = e ∙ q in cc)))
+  sees (Look (Number o)) e = seal_tells_order P t.desk b.goes.known.is.kept t.words migration block (place_told (looks_number (size P A shape) (most P A shape) shape.geometry.origin_blocks t.words t.desk.space.committing (live_orders t.desk) devices actors f.site.world agrees a x migration block plan ex xt suits o e) (λ place dirty q. absurd (let bad : Cell (Look (Number o)) ≡ Cell (Seal block place dirty) = e ∙ q in cc)))
   sees (Look Fail) e = tt
   sees (Look (LockWord o)) e = tt
   sees (Look (CountWord kind)) e = tt
@@ -285,7 +285,7 @@ module _ (P A : Type 0) (shape : Shape) (t : Target P) (commit : Option RunningC
       (read_done P A shape b.goes.images t commit devices actors n b.goes.known f a x ex migration block plan xt suits doing noted job_is d ext read e g.3)))
   any_step (Device (WriteExtent d ext)) got read chosen e g = subst (λ (v : Got). To (Device (WriteExtent d ext)) v read chosen) (sym g.2)
       (subst (λ (c : Chosen P A). To (Device (WriteExtent d ext)) Done read c) (sym g.1.1)
-      (write_done P A shape b.goes.images t commit devices actors n b.goes.known f a x ex migration block plan xt suits doing noted job_is d ext read g.0 e g.3))
+      (write_done P A shape b.goes.images t commit devices actors n b.goes.known f a x ex migration block plan xt suits doing noted job_is b.used.here b.used.suited d ext read g.0 e g.3))
   any_step (Desk (Map bl c)) got read chosen e g = by_map bl c got read chosen e g.1
   any_step (Desk (ReleaseOrder bl)) got read chosen e g = subst (λ (v : Got). To (Desk (ReleaseOrder bl)) v read chosen) (sym g.1) (by_release bl read chosen e g.2)
   any_step (End answer) got read chosen e g = subst (λ (c : Chosen P A). To (End answer) got read c) (sym g.0.1)
@@ -406,11 +406,11 @@ module _ (P A : Type 0) (shape : Shape) (t : Target P) (commit : Option RunningC
   images_stay Clean c s s' d = d
 
   module _ (migration : Migration) (block : OBlock) (cut : List Extent) (cuts : IsCutInto (whole_block (size P A shape) block) cut) where
-    abbrev job : Job
-    job = Migrate migration block
+    abbrev begun_job : Job
+    begun_job = Migrate migration block
 
     abbrev n' : Notes
-    n' = put n a (Some (begun n job))
+    n' = put n a (Some (begun n begun_job))
 
     some : 0 < size P A shape
     some = omega (arith, shape.geometry.within.block_from)
@@ -419,24 +419,24 @@ module _ (P A : Type 0) (shape : Shape) (t : Target P) (commit : Option RunningC
     small c l = let many = kept.slots in let limit = t.desk.geometry.within.cache_to in omega (arith, l, many, limit)
 
     sized : (y : Actor) → Sized P A shape (slice_set actors a y) n'
-    sized y = record { actors_many = length-set actors a y ∙ g.sized.actors_many; doings_many = length-set n.doings a (Some (begun n job)) ∙ g.sized.doings_many; sectors = g.sized.sectors }
+    sized y = record { actors_many = length-set actors a y ∙ g.sized.actors_many; doings_many = length-set n.doings a (Some (begun n begun_job)) ∙ g.sized.doings_many; sectors = g.sized.sectors }
 
     -- it is noted to be at its job, while nobody is told of it there
-    notes_then : (turn : Turn) (orders' : List (Option Order)) (y : Actor) (h : FollowsBy turn (Carries (length actors)) (size P A shape) (most P A shape) a g.site.world t.words t.desk.space.committing orders' devices (slice_set actors a y)) → y.task ≡ Some (job, table (task_job shape job cut)) →
+    notes_then : (turn : Turn) (orders' : List (Option Order)) (y : Actor) (h : FollowsBy turn (Carries (length actors)) (size P A shape) (most P A shape) a g.site.world t.words t.desk.space.committing orders' devices (slice_set actors a y)) → y.task ≡ Some (begun_job, table (task_job shape begun_job cut)) →
         NotesAgree (size P A shape) n' (after_all g.site.world h.records) (told g.notes h.records)
     notes_then turn orders' y h task =
         let s' = after_all g.site.world h.records in
         let is_there = Rattle.wb_runs.proofs.Lists.set_there actors a x y ex in
         let z = there s'.actors a (let m = h.agrees.many in let l = slice_get_within (slice_set actors a y) a y is_there in omega (arith, m, l)) in
-        let rests : IsAside t.words (table (task_job shape job cut)) z.0 = subst (λ (o : Option (Job × Plan)). IsBusyAt (size P A shape) (most P A shape) t.words o y.card z.0) task (h.agrees.each a y z.0 is_there z.1).at in
-        notes_followed.aside (size P A shape) n s' (told g.notes h.records) a z.0 (Some (begun n job)) (carried_notes P A shape b.goes.images t commit devices actors n b.goes.known g a x ex turn t.words t.desk.space.committing orders' devices (slice_set actors a y) h) z.1 rests.nothing
+        let rests : IsAside t.words (table (task_job shape begun_job cut)) z.0 = subst (λ (o : Option (Job × Plan)). IsBusyAt (size P A shape) (most P A shape) t.words o y.card z.0) task (h.agrees.each a y z.0 is_there z.1).at in
+        notes_followed.aside (size P A shape) n s' (told g.notes h.records) a z.0 (Some (begun n begun_job)) (carried_notes P A shape b.goes.images t commit devices actors n b.goes.known g a x ex turn t.words t.desk.space.committing orders' devices (slice_set actors a y) h) z.1 rests.nothing
 
     -- a migration under an order that is given with it
     under_given : (c : CBlock) → MayReserve t.desk c (order_for migration block) →
-        Goes P A shape (record { devices = devices; commit = commit; phase = phase_given {P = P} {A = A} (Stands t) job (Orders cut c); actors = slice_set actors a (given {P = P} {A = A} shape x job (Orders cut c)) }) n'
+        Goes P A shape (record { devices = devices; commit = commit; phase = phase_given {P = P} {A = A} (Stands t) begun_job (Orders cut c); actors = slice_set actors a (given {P = P} {A = A} shape x begun_job (Orders cut c)) }) n'
     under_given c may =
         let order = order_for migration block in
-        let y : Actor = given {P = P} {A = A} shape x job (Orders cut c) in
+        let y : Actor = given {P = P} {A = A} shape x begun_job (Orders cut c) in
         let desk' = reserved t.desk c order false in
         let s = g.site.world.shared in
         let less = slice_get_within t.desk.orders.slots c.0 None may.give.vacant in
@@ -457,10 +457,10 @@ module _ (P A : Type 0) (shape : Shape) (t : Target P) (commit : Option RunningC
 
     -- one under the order that its actor has kept
     again : Contains x.orders (order_for migration block) →
-        Goes P A shape (record { devices = devices; commit = commit; phase = Stands t; actors = slice_set actors a (given {P = P} {A = A} shape x job (Cut cut)) }) n'
+        Goes P A shape (record { devices = devices; commit = commit; phase = Stands t; actors = slice_set actors a (given {P = P} {A = A} shape x begun_job (Cut cut)) }) n'
     again has =
         let l = b.keeping.owned.live a x (order_for migration block) ex has in
-        let y : Actor = given {P = P} {A = A} shape x job (Cut cut) in
+        let y : Actor = given {P = P} {A = A} shape x begun_job (Cut cut) in
         let here = slot_there t.desk.orders.slots l.cache.0 l.live l.there ∙ ap (λ (q : Order). Some (Some q)) l.same in
         let h = migrations_followed.again (size P A shape) (most P A shape) t.words t.desk.space.committing (live_orders t.desk) devices actors a x migration block l.cache cut g.site.world ex xt holds some (small l.cache.0 (slot_within t.desk.orders.slots l.cache.0 l.live l.there)) cuts here has
             (may_be_kept migration block l.cache.0 here) g.phase.agrees in

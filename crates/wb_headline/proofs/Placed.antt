@@ -1,6 +1,7 @@
 -- Whatever a write has still to write or to seal is where the seal tells that it has seen.
 use Rattle.std.proofs.Common.{◌≡◌, ◌≢◌, ◌∙◌, ◌<◌, ◌+◌, ◌*◌, ◌/◌, ◌%◌, ◌==◌, ◌++◌, ◌⊎◌, if◌then◌else◌, inl, inr, ℕ, Bool, true, false, cond, List, [], ◌∷◌, Option, Some, None, refl, sym, ap, subst, arith, map, slice_get, slice_set}
-use Rattle.std.proofs.Math.Nat.{div-mul-add, mod-lt}
+use Rattle.std.proofs.Math.Nat.{mod-lt}
+use Rattle.std.proofs.lemmas.Nat.{div-mul-add}
 use Rattle.std.proofs.lemmas.Bool.{eq-eqb}
 use Rattle.wb_types.proofs.Lists.{set_cases}
 use Rattle.wb_types.specs.declared.extent.Extent.{Extent}
@@ -193,7 +194,7 @@ module _ (size : ℕ) (some : 0 < size) (plan : Plan) (card : Card) (is : WriteP
       has = (subst (λ (q : TaskJob). SuitsJob blocks q card plan.steps) is.job suits).1
 
   module _ (device : Dev) (extent : Extent) (e : Device (WriteExtent device extent) ≡ want plan) where
-    first : (ws : List Want) × (plan.steps ≡ Device (WriteExtent device extent) ∷ ws)
+    abbrev first : (ws : List Want) × (plan.steps ≡ Device (WriteExtent device extent) ∷ ws)
     first = begins_by plan (Device (WriteExtent device extent)) (sym e) (λ answer q. absurd (cc))
 
     -- it is written where the block's seal tells that it is
@@ -251,18 +252,18 @@ module _ (P A : Type 0) (shape : Shape) where
   some = omega (arith, shape.geometry.within.block_from)
 
   -- a task that is no write is left so
+  other_job : (job : Job) (plan : Plan) (card : Card) → ((extent : Extent) (content : Bytes) → job ≡ Write extent content → ⊥) → JobPlaced (block_size shape) job plan card
+  other_job (Write extent content) plan card n = absurd (n extent content refl)
+  other_job (Read extent) plan card n = tt
+  other_job Flush plan card n = tt
+  other_job (Open mode) plan card n = tt
+  other_job (Migrate migration block) plan card n = tt
+
   no_write : (job : Job) (plan : Plan) (card : Card) (next : Want) (got : Got) → ((extent : Extent) (content : Bytes) → job ≡ Write extent content → ⊥) → TaskPlaced (block_size shape) card (task_then (Some (job, plan)) next got)
   no_write job plan card (End answer) got n = tt
-  no_write job plan card (Cell step) got n = by_job job (after plan got) n
-    where
-      by_job : (job : Job) (plan : Plan) → ((extent : Extent) (content : Bytes) → job ≡ Write extent content → ⊥) → JobPlaced (block_size shape) job plan card
-      by_job (Write extent content) plan n = absurd (n extent content refl)
-      by_job (Read extent) plan n = tt
-      by_job Flush plan n = tt
-      by_job (Open mode) plan n = tt
-      by_job (Migrate migration block) plan n = tt
-  no_write job plan card (Device step) got n = no_write job plan card (Cell SetFailed) got n
-  no_write job plan card (Desk step) got n = no_write job plan card (Cell SetFailed) got n
+  no_write job plan card (Cell step) got n = other_job job (after plan got) card n
+  no_write job plan card (Device step) got n = other_job job (after plan got) card n
+  no_write job plan card (Desk step) got n = other_job job (after plan got) card n
 
   module _ (w : State P A) (a : ℕ) (x : Actor) (ex : slice_get w.actors a ≡ Some x) (all : AllPlaced (block_size shape) w.actors) (plan : Plan) (suits : Suits shape.geometry.origin_blocks plan x.card) where
     abbrev At : Job → Want → Got → Type 0

@@ -105,7 +105,7 @@ module _ (P A : Type 0) (shape : Shape) where
   -- what a write writes is beside the orders that live
   module _ (t : Target P) (commit : Option RunningCommit) (devices : Devices (List History)) (actors : List Actor) (n : Notes) (b : Whole (at_target t commit devices actors) n) (a : ℕ) (x : Actor) (extent : Extent) (content : Bytes) (plan : Plan) (ex : slice_get actors a ≡ Some x) (xt : x.task ≡ Some (Write extent content, plan))
       (doing : Doing) (claim : JobClaim shape (Write extent content) plan doing) (device : Dev) (e : Extent) (next : Device (WriteExtent device e) ≡ want plan) where
-    own_block : OBlock
+    abbrev own_block : OBlock
     own_block = record { 0 = extent.first / block_size shape }
 
     placed : WritePlaced (block_size shape) plan x.card
