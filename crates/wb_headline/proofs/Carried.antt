@@ -27,11 +27,7 @@ use Rattle.wb_simulation.specs.Behind.{behind, IsCarried}
 use Rattle.wb_simulation.specs.Steps.{IsOutside}
 use Rattle.wb_simulation.specs.Worlds.{Agrees}
 use Rattle.wb_simulation.proofs.Followed.{begins_by}
-
-there : {X : Type 0} (xs : List X) (i : ℕ) → i < length xs → (x : X) × (slice_get xs i ≡ Some x)
-there [] i l = absurd (omega (arith, l))
-there (x ∷ xs) zero l = (x, refl)
-there (x ∷ xs) (suc i) l = there xs i (omega (arith, l))
+use Rattle.wb_headline.proofs.Allowed.{there}
 
 behind_within : (actors caches a c : ℕ) → a < actors → c < caches → behind actors caches a c < actors + actors * caches
 behind_within actors caches a c l m = let rows : (a + 1) * caches ≤ actors * caches = mul-le-mul_right caches (omega (arith, l)) in omega (arith, rows, m)

@@ -77,6 +77,7 @@ use Rattle.wb_simulation.proofs.Migrations.{migrations_followed}
 use Rattle.wb_simulation.proofs.Noted.{notes_followed}
 use Rattle.wb_simulation.proofs.Opening.{images_followed}
 use Rattle.wb_headline.specs.Desks.{order_of, orders_of, live_orders, block_there, DeskAgrees}
+use Rattle.wb_headline.proofs.Allowed.{there}
 use Rattle.wb_headline.proofs.Carried.{own, looks_seal, looks_number}
 use Rattle.wb_headline.proofs.Carrying.{cells, read_done, read_fails, write_done, write_fails, map_refused, answers, carried_notes, sized_plain}
 use Rattle.wb_headline.proofs.Desking.{desk_maps, desk_reserves, desk_releases, desk_stays, desk_unmaps}
@@ -339,11 +340,6 @@ cache_there k (Replace old x c) = refl
 cache_there k (DemoteOrder x) = refl
 cache_there k (CleanOrder x) = refl
 
-there : {X : Type 0} (xs : List X) (i : ℕ) → i < length xs → (x : X) × (slice_get xs i ≡ Some x)
-there [] i l = absurd (omega (arith, l))
-there (x ∷ xs) zero l = (x, refl)
-there (x ∷ xs) (suc i) l = there xs i (omega (arith, l))
-
 module _ (P A : Type 0) (shape : Shape) (t : Target P) (commit : Option RunningCommit) (devices : Devices (List History)) (actors : List Actor) (n : Notes) (b : Whole P A shape (at_target P A shape t commit devices actors) n) (a : ℕ) (x : Actor) (ex : slice_get actors a ≡ Some x) (xt : x.task ≡ None) where
   g : Followed P A shape b.goes.images (standing P A shape b.goes.images t commit devices actors n) n
   g = b.goes.followed
@@ -443,7 +439,7 @@ module _ (P A : Type 0) (shape : Shape) (t : Target P) (commit : Option RunningC
         let many_slots = kept.slots in
         let many_blocks = kept.blocks in
         let law = migrations_followed.starts (size P A shape) (most P A shape) t.words t.desk.space.committing (live_orders t.desk) devices actors a x migration block c cut g.site.world ex xt holds some (small c.0 less) cuts (vacant_there t.desk.orders.slots c.0 may.give.vacant) (ungiven order c may)
-            (are_owned P t.desk actors are_orders b.keeping.owned) (may_be_given migration block c may) g.phase.agrees in
+        (are_owned P t.desk actors are_orders b.keeping.owned) (may_be_given migration block c may) g.phase.agrees in
         let live : LiveOrder = record { order = order; sectors = Rattle.wb_desk.specs.Desks.sectors_asked t.desk.geometry order; threshold = t.desk.threshold; number = t.desk.orders.given; waits = false } in
         let h = subst (λ (os : List (Option Order)). FollowsBy (given_by migration c.0) (Carries (length actors)) (size P A shape) (most P A shape) a g.site.world t.words t.desk.space.committing os devices (slice_set actors a y)) (sym (orders_set t.desk.orders.slots c.0 (Some live))) law in
         let s' = (after_all g.site.world h.records).shared in
@@ -463,7 +459,7 @@ module _ (P A : Type 0) (shape : Shape) (t : Target P) (commit : Option RunningC
         let y : Actor = given {P = P} {A = A} shape x begun_job (Cut cut) in
         let here = slot_there t.desk.orders.slots l.cache.0 l.live l.there ∙ ap (λ (q : Order). Some (Some q)) l.same in
         let h = migrations_followed.again (size P A shape) (most P A shape) t.words t.desk.space.committing (live_orders t.desk) devices actors a x migration block l.cache cut g.site.world ex xt holds some (small l.cache.0 (slot_within t.desk.orders.slots l.cache.0 l.live l.there)) cuts here has
-            (may_be_kept migration block l.cache.0 here) g.phase.agrees in
+        (may_be_kept migration block l.cache.0 here) g.phase.agrees in
         stays_on P A shape b.goes.images t commit devices actors n b.goes.known g a x ex (Carries (length actors)) t.words devices (slice_set actors a y) n' h tt (notes_then Stays (live_orders t.desk) y h refl) (sized y) refl
 
   -- any start
