@@ -127,7 +127,7 @@ pub record StandsAlone (entries : List (Option Entry)) (at : ℕ) (entry : Entry
 alone_later : (e : Option Entry) (entries : List (Option Entry)) (at : ℕ) (entry : Entry) (block : ℕ) → StandsAlone (e ∷ entries) (suc at) entry block → StandsAlone entries at entry block
 alone_later e entries at entry block s = record { there = s.there; is = s.is; alone = λ i other there is. let same = s.alone (suc i) other there is in omega (arith, same) }
 
-none_from : (entries : List (Option Entry)) (first block : ℕ) → ((i : ℕ) (other : Entry) → slice_index_or entries i None ≡ Some other → other.origin.0 ≢ block) → cached_from block first entries ≡ None
+pub none_from : (entries : List (Option Entry)) (first block : ℕ) → ((i : ℕ) (other : Entry) → slice_index_or entries i None ≡ Some other → other.origin.0 ≢ block) → cached_from block first entries ≡ None
 none_from [] first block none = refl
 none_from (None ∷ entries) first block none = none_from entries (suc first) block (λ i. none (suc i))
 none_from (Some e ∷ entries) first block none =

@@ -33,6 +33,7 @@ use Rattle.wb_orders.specs.Orders.{AreOrders, order_at}
 use Rattle.wb_desk.specs.Desks.{DeskState, DeskInvariant, MayReserve, NamesWhatIs, IsRight, holdings}
 use Rattle.wb_desk.specs.Calls.{reserved, released}
 use Rattle.wb_desk.specs.Entries.{Brings, MayMap, mapped, unmapped, entry_of}
+use Rattle.wb_desk.proofs.Entering.{entrance}
 use Rattle.wb_desk.proofs.Leaving.{mapped_state}
 use Rattle.wb_stage.specs.Asking.{DidUnmap}
 use Rattle.wb_tasks.specs.Tables.{BlockRange, Migrating, OnBlock, whole_block}
@@ -83,7 +84,7 @@ use Rattle.wb_headline.proofs.Carrying.{cells, read_done, read_fails, write_done
 use Rattle.wb_headline.proofs.Desking.{desk_maps, desk_reserves, desk_releases, desk_stays, desk_unmaps}
 use Rattle.wb_headline.proofs.Following.{size, most, Sized, Followed, Goes}
 use Rattle.wb_headline.proofs.Owned.{are_owned, has_gone, taken_there}
-use Rattle.wb_headline.proofs.Seeing.{live_here, named, seal_tells_order, slot_there, slot_within, stands_alone, stands_there}
+use Rattle.wb_headline.proofs.Seeing.{live_here, named, seal_tells_order, slot_there, slot_within, stands_alone, stands_there, unmapped_there}
 use Rattle.wb_headline.proofs.Targets.{standing, actor_is, leads_on, stays_on}
 use Rattle.wb_headline.proofs.Whole.{Whole, Stepped_to, Faulted_to, at_target, held_tells, MigrationsGo}
 
@@ -105,31 +106,6 @@ vacant_there [] c e = absurd (cc)
 vacant_there (None ∷ slots) zero e = refl
 vacant_there (Some o ∷ slots) zero e = absurd (cc)
 vacant_there (s ∷ slots) (suc c) e = vacant_there slots c e
-
--- ---- where nothing is mapped
-
-nowhere_from : (entries : List (Option Entry)) (first block : ℕ) → IsUnmapped (origins entries) block → cached_from block first entries ≡ None
-nowhere_from [] first block u = refl
-nowhere_from (None ∷ entries) first block u = nowhere_from entries (suc first) block (λ at. u (suc at))
-nowhere_from (Some e ∷ entries) first block u = by (nowhere_from entries (suc first) block (λ at. u (suc at))) (e.origin.0 == block) refl
-  where
-    by : cached_from block (suc first) entries ≡ None → (t : Bool) → (e.origin.0 == block) ≡ t → (if t then Some first else cached_from block (suc first) entries) ≡ None
-    by rest true is = absurd (u 0 (ap (λ (k : ℕ). Some (Some k)) (eqb-true e.origin.0 block is)))
-    by rest false is = rest
-
-no_entry : (e : Option Entry) → is_some e ≡ false → e ≡ None
-no_entry None s = refl
-no_entry (Some e) s = absurd (cc)
-
--- what an order brings is unmapped as long as it lives
-brought_unmapped : (mapping : Rattle.wb_policy.specs.Law.Holdings) (state : Block) (c : ℕ) (b : OBlock) (slot : Option LiveOrder) (live : LiveOrder) → slot ≡ Some live → NamesWhatIs mapping state c slot → Brings b live.order → IsUnmapped mapping b.0
-brought_unmapped mapping state c b slot live there names brings = by live.order (subst (λ (o : Option LiveOrder). NamesWhatIs mapping state c o) there names) brings
-  where
-    by : (o : Order) → Rattle.wb_desk.specs.Desks.Names mapping state c o → Brings b o → IsUnmapped mapping b.0
-    by (PromoteOrder x k) n h = subst (λ (o : OBlock). IsUnmapped mapping o.0) h n.2
-    by (Replace v x k) n h = subst (λ (o : OBlock). IsUnmapped mapping o.0) h n.1
-    by (DemoteOrder x) n h = absurd h
-    by (CleanOrder x) n h = absurd h
 
 module _ (P A : Type 0) (shape : Shape) (t : Target P) (commit : Option RunningCommit) (devices : Devices (List History)) (actors : List Actor) (n : Notes) (b : Whole P A shape (at_target P A shape t commit devices actors) n) (a : ℕ) (x : Actor) (migration : Migration) (block : OBlock) (plan : Plan) (doing : Doing) (ex : slice_get actors a ≡ Some x) (xt : x.task ≡ Some (Migrate migration block, plan))
     (noted : slice_get n.doings a ≡ Some (Some doing)) (job_is : doing.job ≡ Migrate migration block) where
@@ -193,20 +169,14 @@ module _ (P A : Type 0) (shape : Shape) (t : Target P) (commit : Option RunningC
       let s = f.site.world.shared in
       let s' = (after_all f.site.world g.records).shared in
       let room = slice_get_within t.desk.space.blocks c.0 Reserved may.reserved in
-      let many_blocks = b.goes.known.is.kept.blocks in
-      let less : c.0 < t.desk.geometry.cache_blocks = omega (arith, room, many_blocks) in
-      let right = b.goes.known.is.kept.each c.0 less in
-      let free = (let is = get_or_from_slice_get t.desk.space.blocks c.0 Reserved Free may.reserved in
-      let r = subst (λ (v : Block). IsRight (holdings t.desk) c.0 (slice_index_or t.desk.tree.entries c.0 None) v (order_at t.desk.orders.slots c.0)) is right in
-      no_entry (slice_index_or t.desk.tree.entries c.0 None) (sym r.filled)) in
-      let none = nowhere_from t.desk.tree.entries 0 bl.0 (brought_unmapped (holdings t.desk) (state t.desk.space.blocks c.0) c.0 bl (order_at t.desk.orders.slots c.0) may.live may.there right.stands may.brings) in
+      let en = entrance unknowing t.desk bl c b.goes.known.is.kept may in
       let readable = kept_readable shape.geometry b.goes.images devices.metadata P A (Stands t) commit b.goes.known in
       subst (λ (v : Actor). Goes P A shape (record { devices = devices; commit = commit; phase = Stands (record { words = t.words; desk = desk' }); actors = slice_set actors a v }) n) (sym (actor_is P A shape (Stands t) devices x job plan (Desk (Map bl c)) Done xt))
       (leads_on P A shape b.goes.images t commit devices actors n b.goes.known f a x ex (Maps bl.0 c.0) (Carries (length actors)) (record { words = t.words; desk = desk' }) commit devices (slice_set actors a y) n b.goes.images g tt
       (carried_notes P A shape b.goes.images t commit devices actors n b.goes.known f a x ex (Maps bl.0 c.0) t.words t.desk.space.committing (live_orders desk') devices (slice_set actors a y) g)
       (sized_plain P A shape b.goes.images t commit devices actors n b.goes.known f a x ex y)
       (mapped_stands P shape.geometry b.goes.images t.desk commit devices.metadata bl c tree policy b.goes.known may changed)
-      (desk_maps P t.desk s s' f.phase.desk bl c tree policy room (let m = b.goes.known.is.kept.mapping.size in omega (arith, less, m)) none free changed g.desk.0 g.desk.1)
+      (desk_maps P t.desk s s' f.phase.desk bl c tree policy room (let l = en.inside in let m = b.goes.known.is.kept.mapping.size in omega (arith, l, m)) (unmapped_there P t.desk b.goes.known.is.kept bl.0 en.unmapped) en.none changed g.desk.0 g.desk.1)
       (images_followed.stay shape.geometry b.goes.images.committed (later_of b.goes.images) devices.metadata devices.metadata s s' f.phase.images_agree g.turned readable.read)
       (λ state e. g.turned.1 ∙ f.phase.running state e))
 
@@ -378,7 +348,7 @@ module _ (P A : Type 0) (shape : Shape) (t : Target P) (commit : Option RunningC
   may_be_given : (m : Migration) (block : OBlock) (c : CBlock) → MayReserve t.desk c (order_for m block) → MayBeGiven m block.0 c.0 g.site.world.shared
   may_be_given (Promote k) block c may = (
     ap (λ (v : CBlock). v.0) (sym may.lawful.0),
-    ap (λ (m : ℕ → Option ℕ). m block.0) g.phase.desk.mapping ∙ nowhere_from t.desk.tree.entries 0 block.0 may.lawful.2,
+    ap (λ (m : ℕ → Option ℕ). m block.0) g.phase.desk.mapping ∙ unmapped_there P t.desk kept block.0 may.lawful.2,
     g.phase.desk.blocks c.0 ∙ ap block_there (ap (λ (v : CBlock). state t.desk.space.blocks v.0) may.lawful.0 ∙ get_or_from_slice_get t.desk.space.blocks k.0 Free Free may.lawful.1),
   )
   may_be_given Demote block c may = mapped_here block c.0 may.lawful

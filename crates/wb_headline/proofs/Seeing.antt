@@ -31,7 +31,7 @@ use Rattle.wb_simulation.specs.Laws.{IsFrom, IsBesideOrders}
 use Rattle.wb_simulation.specs.Migrating.{SealTells}
 use Rattle.wb_simulation.proofs.Opened.{found_at}
 use Rattle.wb_headline.specs.Desks.{order_of, orders_of, live_orders}
-use Rattle.wb_headline.proofs.Desking.{StandsAlone, alone_there}
+use Rattle.wb_headline.proofs.Desking.{StandsAlone, alone_there, none_from}
 
 -- ---- orders by cache block
 
@@ -82,6 +82,9 @@ module _ (P : Type 0) (desk : DeskState P) (kept : DeskInvariant unknowing desk)
 
   pub stands_there : (b c : ℕ) → IsMappedAt (holdings desk) b c → place_of desk.tree.entries b ≡ Some c
   stands_there b c at = let s = stands_alone b c at in alone_there desk.tree.entries c s.0 b s.1
+
+  pub unmapped_there : (b : ℕ) → IsUnmapped (holdings desk) b → place_of desk.tree.entries b ≡ None
+  unmapped_there b u = none_from desk.tree.entries 0 b (λ i other t is. u i (there desk.tree.entries i other t ∙ ap (λ (k : ℕ). Some (Some k)) is))
 
   mapped_there : (b c : ℕ) → place_of desk.tree.entries b ≡ Some c → IsMappedAt (holdings desk) b c
   mapped_there b c e =
