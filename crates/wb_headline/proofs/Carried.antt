@@ -1,5 +1,5 @@
 -- Where a migration of the run is carried in the abstract world: whoever is past its look at the fail word, and has not only to answer.
-use Rattle.std.proofs.Common.{◌≡◌, ◌≢◌, ◌∙◌, ◌<◌, ◌≤◌, ◌+◌, ◌*◌, inl, inr, ℕ, zero, suc, Bool, List, [], ◌∷◌, Option, Some, None, refl, sym, ap, subst, arith, length, mul_comm, slice_get}
+use Rattle.std.proofs.Common.{◌≡◌, ◌≢◌, ◌∙◌, ◌<◌, ◌≤◌, ◌+◌, ◌*◌, inl, inr, ℕ, Bool, List, [], ◌∷◌, Option, Some, sym, ap, subst, arith, length, slice_get}
 use Rattle.std.proofs.Math.Nat.{mul-le-mul_right}
 use Rattle.std.proofs.lemmas.Option.{slice_get_within, some_pair_parts}
 use Rattle.wb_types.specs.declared.number.OBlock.{OBlock}
@@ -19,11 +19,11 @@ use Rattle.wb_tasks.specs.declared.step.Migration.{Migration}
 use Rattle.wb_tasks.specs.declared.step.Want.{Want}
 use Rattle.wb_tasks.specs.declared.step.Want.TheVariants.{Cell, End}
 use Rattle.wb_devices.specs.declared.devices.Devices.{Devices}
-use Rattle.wb_link.specs.World.{World, Actor as AbstractActor}
+use Rattle.wb_link.specs.World.{World}
 use Rattle.wb_runs.specs.declared.job.Job.{Job}
 use Rattle.wb_runs.specs.declared.job.Job.TheVariants.{Migrate}
 use Rattle.wb_runs.specs.States.{Actor}
-use Rattle.wb_simulation.specs.Behind.{behind, IsCarried}
+use Rattle.wb_simulation.specs.Behind.{behind}
 use Rattle.wb_simulation.specs.Steps.{IsOutside}
 use Rattle.wb_simulation.specs.Worlds.{Agrees}
 use Rattle.wb_simulation.proofs.Followed.{begins_by}

@@ -1,9 +1,7 @@
 -- Whatever comes of a promotion, a demotion or a write-back is followed.
-use Rattle.std.proofs.Common.{if◌then◌else◌, ◌≡◌, ◌≢◌, ◌∙◌, ◌<◌, ◌≤◌, ◌+◌, ◌==◌, ◌^◌, inl, inr, ℕ, zero, suc, Bool, true, false, List, [], ◌∷◌, Option, Some, None, refl, sym, ap, subst, arith, get_or, length, is_some, slice_get, slice_index_or, slice_set, Contains}
-use Rattle.std.proofs.lemmas.Bool.{eqb-true}
+use Rattle.std.proofs.Common.{◌≡◌, ◌≢◌, ◌∙◌, ◌<◌, ◌≤◌, ◌+◌, ◌^◌, inl, inr, ℕ, zero, suc, Bool, true, false, List, [], ◌∷◌, Option, Some, None, refl, sym, ap, subst, arith, get_or, length, slice_get, slice_set, Contains}
 use Rattle.std.proofs.lemmas.List.{length-set}
 use Rattle.std.proofs.lemmas.Option.{get_or_from_slice_get, slice_get_within}
-use Rattle.wb_types.specs.declared.entry.Entry.{Entry}
 use Rattle.wb_types.specs.declared.extent.Extent.{Extent}
 use Rattle.wb_types.specs.declared.mode.Dev.{Dev}
 use Rattle.wb_types.specs.declared.mode.Dev.TheVariants.{Metadata, Cache, Origin}
@@ -19,10 +17,9 @@ use Rattle.wb_words.specs.declared.word.Word.TheVariants.{Cell as LockWord, Seal
 use Rattle.wb_words.specs.declared.card.Hold.TheVariants.{Nothing, Held}
 use Rattle.wb_words.specs.declared.step.CellStep.{CellStep}
 use Rattle.wb_words.specs.declared.step.CellStep.TheVariants.{Look, Take, Release, Seal, Finish, Count, SetFailed, SetSuspended}
-use Rattle.wb_policy.specs.Law.{origins, IsMappedAt, IsUnmapped}
+use Rattle.wb_policy.specs.Law.{IsMappedAt}
 use Rattle.wb_policy.specs.declared.order.Order.{Order}
 use Rattle.wb_policy.specs.declared.order.Order.TheVariants.{Promote as PromoteOrder, Replace, Demote as DemoteOrder, Clean as CleanOrder}
-use Rattle.wb_space.specs.declared.block.Block.{Block}
 use Rattle.wb_space.specs.declared.block.Block.TheVariants.{Free, Mapped, Reserved}
 use Rattle.wb_space.specs.Blocks.{state}
 use Rattle.wb_tree.specs.Mapping.{Mapping}
@@ -30,9 +27,9 @@ use Rattle.wb_tree.specs.Edits.{IsChangedAt}
 use Rattle.wb_orders.specs.declared.live_order.LiveOrder.{LiveOrder}
 use Rattle.wb_orders.specs.Named.{first_of, second_of, IsNamed}
 use Rattle.wb_orders.specs.Orders.{AreOrders, order_at}
-use Rattle.wb_desk.specs.Desks.{DeskState, DeskInvariant, MayReserve, NamesWhatIs, IsRight, holdings}
+use Rattle.wb_desk.specs.Desks.{DeskState, DeskInvariant, MayReserve, holdings}
 use Rattle.wb_desk.specs.Calls.{reserved, released}
-use Rattle.wb_desk.specs.Entries.{Brings, MayMap, mapped, unmapped, entry_of}
+use Rattle.wb_desk.specs.Entries.{MayMap, mapped, unmapped, entry_of}
 use Rattle.wb_desk.proofs.Entering.{entrance}
 use Rattle.wb_desk.proofs.Leaving.{mapped_state}
 use Rattle.wb_stage.specs.Asking.{DidUnmap}
@@ -57,7 +54,7 @@ use Rattle.wb_runs.specs.declared.event.What.TheVariants.{Started}
 use Rattle.wb_runs.specs.States.{Shape, State, Actor, Target, Stands}
 use Rattle.wb_runs.specs.Happenings.{Chosen, Plain, Cut, Orders, Asks, Gives, Falters, MayFailAt, StartGives, DoesMap, DoesUnmap, DoesRelease, order_for, task_job}
 use Rattle.wb_runs.specs.Effects.{actor_then, phase_given, given, dropped}
-use Rattle.wb_runs.specs.Headline.{cached_from, place_of}
+use Rattle.wb_runs.specs.Headline.{place_of}
 use Rattle.wb_runs.specs.Holding.{TaskSuits}
 use Rattle.wb_runs.specs.Inside.{StepInside}
 use Rattle.wb_runs.specs.Clerk.{Notes, Doing, noted_step, put, begun}

@@ -1,6 +1,6 @@
 -- Where a desk has a block, and what its live orders say of that: a seal that tells it tells where an order has the block, and what is
 -- written there is beside other orders.
-use Rattle.std.proofs.Common.{◌≡◌, ◌≢◌, ◌∙◌, ◌<◌, ◌+◌, ◌/◌, inl, inr, ℕ, zero, suc, List, [], ◌∷◌, Option, Some, None, refl, sym, ap, subst, arith, IsSome, get_or, length, slice_get, slice_index_or}
+use Rattle.std.proofs.Common.{◌≡◌, ◌∙◌, ◌<◌, ◌/◌, inl, inr, ℕ, zero, suc, List, [], ◌∷◌, Option, Some, None, refl, sym, ap, subst, arith, IsSome, length, slice_get, slice_index_or}
 use Rattle.std.proofs.lemmas.Option.{get_or_from_slice_get}
 use Rattle.wb_types.specs.declared.entry.Entry.{Entry}
 use Rattle.wb_types.specs.declared.extent.Extent.{Extent}
@@ -9,7 +9,7 @@ use Rattle.wb_types.specs.declared.mode.Dev.TheVariants.{Metadata, Cache, Origin
 use Rattle.wb_types.specs.declared.number.OBlock.{OBlock}
 use Rattle.wb_types.specs.declared.number.CBlock.{CBlock}
 use Rattle.wb_words.specs.SharedWords.{Words, word_at, place_in}
-use Rattle.wb_policy.specs.Law.{Holdings, origins, IsMappedAt, IsUnmapped}
+use Rattle.wb_policy.specs.Law.{Holdings, IsMappedAt, IsUnmapped}
 use Rattle.wb_policy.specs.declared.order.Order.{Order}
 use Rattle.wb_policy.specs.declared.order.Order.TheVariants.{Promote as PromoteOrder, Replace, Demote as DemoteOrder, Clean as CleanOrder}
 use Rattle.wb_space.specs.declared.block.Block.{Block}
@@ -18,7 +18,7 @@ use Rattle.wb_space.specs.Blocks.{state, IsClaimed}
 use Rattle.wb_orders.specs.declared.live_order.LiveOrder.{LiveOrder}
 use Rattle.wb_orders.specs.Orders.{order_at}
 use Rattle.wb_desk.specs.Desks.{DeskState, DeskInvariant, Names, NamesWhatIs, holdings}
-use Rattle.wb_desk.proofs.Leaving.{entry_there, mapped_state, mapped_within}
+use Rattle.wb_desk.proofs.Leaving.{entry_there, mapped_state}
 use Rattle.wb_desk.proofs.Seen.{there}
 use Rattle.wb_tasks.specs.declared.step.Migration.{Migration}
 use Rattle.wb_tasks.specs.declared.step.Migration.TheVariants.{Promote, Demote, Clean}

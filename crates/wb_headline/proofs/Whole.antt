@@ -33,7 +33,7 @@ use Rattle.wb_runs.specs.declared.event.What.{What}
 use Rattle.wb_runs.specs.declared.event.What.TheVariants.{Skipped, Refused, Started, Stepped, Stopped}
 use Rattle.wb_runs.specs.States.{Shape, State, Actor, Target, Phase, Stands, Gone, Opens, block_size, start, sector_count}
 use Rattle.wb_runs.specs.Happenings.{Chosen, Cut, Happening, OfSome, DoesNotApply, Gives, Falters, MayFailAt, StartGives, MayBe, block_range}
-use Rattle.wb_runs.specs.Effects.{device_done, device_failed, phase_then, actor_then, stepped, with_actor, job_of, given, cleared, phase_given, started, after_what, after_happening, after_all, IsRun}
+use Rattle.wb_runs.specs.Effects.{device_done, device_failed, stepped, with_actor, job_of, given, cleared, phase_given, started, after_what, after_happening, after_all, IsRun}
 use Rattle.wb_runs.specs.Clerk.{Notes, Doing, noted_step, noted_what, put, begun, starting}
 use Rattle.wb_runs.specs.Headline.{place_of, shown, note_happening, noted}
 use Rattle.wb_runs.specs.Holding.{TaskSuits}
