@@ -29,3 +29,4 @@ mod Migrations
 mod Seeing
 mod Carried
 mod Placed
+mod Telling
