@@ -24,7 +24,7 @@ use Rattle.wb_runs.specs.declared.job.Job.{Job}
 use Rattle.wb_runs.specs.declared.job.Job.TheVariants.{Migrate}
 use Rattle.wb_runs.specs.States.{Actor}
 use Rattle.wb_simulation.specs.Behind.{behind}
-use Rattle.wb_simulation.specs.Steps.{IsOutside}
+use Rattle.wb_simulation.specs.Steps.{AreOfBlock, IsOutside}
 use Rattle.wb_simulation.specs.Worlds.{Agrees}
 use Rattle.wb_simulation.proofs.Followed.{begins_by}
 use Rattle.wb_headline.proofs.Allowed.{there}
@@ -40,6 +40,7 @@ module _ (size most blocks : ℕ) (words : Words) (committing : Bool) (orders : 
     pub part : BlockRange
     pub job : plan.job ≡ OnBlock (Migrating kind part)
     pub block_is : part.block ≡ block
+    pub of_block : AreOfBlock size part.block.0 plan.steps
 
   module _ (next : Want) (e : next ≡ want plan) (not : (answer : Answer) → next ≢ End answer) (out : (ws : List Want) → IsOutside (next ∷ ws) → ⊥) where
     abbrev first : (ws : List Want) × (plan.steps ≡ next ∷ ws)
@@ -62,14 +63,14 @@ module _ (size most blocks : ℕ) (words : Words) (committing : Bool) (orders : 
         let less = slice_get_within actors a x ex in
         let y = there s.actors (behind (length actors) (length orders) a c) (subst (λ (k : ℕ). behind (length actors) (length orders) a c < k) (sym g.many) (behind_within (length actors) (length orders) a c less within)) in
         let is = (g.behind_each a c x order.0 y.0 ex order.1 y.1).carried at.1 in
-        by is.migration is.block is.plan is.part (sym xt ∙ is.task) is.job is.block_is
+        by is.migration is.block is.plan is.part (sym xt ∙ is.task) is.job is.block_is is.of_block
       where
-        by : (m : Migration) (b : OBlock) (p : Plan) (part : BlockRange) → ◌≡◌ {A = Option (Job × Plan)} (Some (Migrate migration block, plan)) (Some (Migrate m b, p)) → p.job ≡ OnBlock (Migrating m part) → part.block ≡ b → Carried
-        by m b p part same job block_is =
+        by : (m : Migration) (b : OBlock) (p : Plan) (part : BlockRange) → ◌≡◌ {A = Option (Job × Plan)} (Some (Migrate migration block, plan)) (Some (Migrate m b, p)) → p.job ≡ OnBlock (Migrating m part) → part.block ≡ b → AreOfBlock size part.block.0 p.steps → Carried
+        by m b p part same job block_is of_block =
             let parts = some_pair_parts (Migrate migration block) (Migrate m b) plan p same in
             let jobs : Migrate migration block ≡ Migrate m b = parts.0 in
             let blocks : block ≡ b = cc in
-            record { kind = m; part = part; job = ap (λ (q : Plan). q.job) parts.1 ∙ job; block_is = block_is ∙ sym blocks }
+            record { kind = m; part = part; job = ap (λ (q : Plan). q.job) parts.1 ∙ job; block_is = block_is ∙ sym blocks; of_block = subst (λ (q : Plan). AreOfBlock size part.block.0 q.steps) (sym parts.1) of_block }
 
     -- so the step is one of its own
     pub own : (m : Migration) × (part : BlockRange) × IsOwnStep (OnBlock (Migrating m part)) next

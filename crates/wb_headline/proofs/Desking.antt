@@ -104,7 +104,7 @@ one_entered (Some e ∷ entries) first (suc at) entry block l none free = by (λ
         by_entry false is = refl
     by later false same = behind later
 
-located_entered : (entries : List (Option Entry)) (at : ℕ) (entry : Entry) → at < length entries → place_of entries entry.origin.0 ≡ None → slice_index_or entries at None ≡ None →
+pub located_entered : (entries : List (Option Entry)) (at : ℕ) (entry : Entry) → at < length entries → place_of entries entry.origin.0 ≡ None → slice_index_or entries at None ≡ None →
     (block : ℕ) → changed (located entries) entry.origin.0 (Some at) block ≡ located (slice_set entries at (Some entry)) block
 located_entered entries at entry l none free block = elim (cases_eq block entry.origin.0) [
   | inl e ↦ ap (changed (located entries) entry.origin.0 (Some at)) e ∙ changed_same (located entries) entry.origin.0 (Some at)
@@ -165,7 +165,7 @@ left_none (None ∷ entries) (suc at) entry block zero other s there is = absurd
 left_none (Some e ∷ entries) (suc at) entry block zero other s there is = let here : Some e ≡ Some other = there in let same = s.alone 0 other here is in omega (arith, same)
 left_none (x ∷ entries) (suc at) entry block (suc i) other s there is = left_none entries at entry block i other (alone_later x entries at entry block s) there is
 
-located_left : (entries : List (Option Entry)) (at : ℕ) (entry : Entry) (block : ℕ) → StandsAlone entries at entry block → (b : ℕ) → changed (located entries) block None b ≡ located (slice_set entries at None) b
+pub located_left : (entries : List (Option Entry)) (at : ℕ) (entry : Entry) (block : ℕ) → StandsAlone entries at entry block → (b : ℕ) → changed (located entries) block None b ≡ located (slice_set entries at None) b
 located_left entries at entry block s b = elim (cases_eq b block) [
   | inl e ↦ ap (changed (located entries) block None) e ∙ changed_same (located entries) block None
       ∙ sym (ap (λ k. place_of (slice_set entries at None) k) e ∙ none_from (slice_set entries at None) 0 block (λ i other there. left_none entries at entry block i other s there))

@@ -30,3 +30,4 @@ mod Seeing
 mod Carried
 mod Placed
 mod Telling
+mod Keeping

@@ -19,7 +19,8 @@ use Rattle.wb_tasks.specs.declared.step.Migration.{Migration}
 use Rattle.wb_tasks.specs.declared.step.Migration.TheVariants.{Promote, Demote, Clean}
 use Rattle.wb_runs.specs.States.{Actor}
 use Rattle.wb_runs.specs.Happenings.{order_for}
-use Rattle.wb_runs.proofs.Owning.{Owned, of_named}
+use Rattle.wb_runs.specs.Effects.{dropped}
+use Rattle.wb_runs.proofs.Owning.{Owned, of_named, owned_over}
 use Rattle.wb_simulation.specs.Migrating.{AreOwned}
 use Rattle.wb_headline.specs.Desks.{live_orders}
 use Rattle.wb_headline.proofs.Seeing.{live_here, slot_there}
@@ -48,6 +49,12 @@ module _ (P : Type 0) (desk : DeskState P) (actors : List Actor) (are : AreOrder
   taken_there =
       let l = owned.live a x (order_for m b) ex mine in
       (l, (are_owned P desk actors are owned).apart l.cache.0 c (order_for m b) (order_for m b) b (slot_there desk.orders.slots l.cache.0 l.live l.there ∙ ap (λ (q : Order). Some (Some q)) l.same) there (for_block m b b refl) (for_block m b b refl))
+
+  -- it is over
+  pub over : (bl : OBlock) → bl ≡ b → (desk' : DeskState P) → desk'.orders.slots ≡ slice_set desk.orders.slots c None → (y : Actor) → y.orders ≡ dropped bl x.orders → Owned desk' (slice_set actors a y)
+  over bl same desk' slots y drops =
+      let l = taken_there.0 in
+      owned_over P desk actors a x y ex owned (order_for m b) bl l.cache l.live mine l.there l.same (for_block m b bl same) drops desk' (slots ∙ ap (λ (k : ℕ). slice_set desk.orders.slots k None) (sym taken_there.1))
 
 -- What comes of a desk whose block leaves by its demotion, under which it stood in this cache block.
 pub record HasGone {P : Type 0} (desk : DeskState P) (c : CBlock) (new : DeskState P) : Type 0 where
