@@ -4,8 +4,10 @@ use Rattle.std.proofs.Common.{if◌then◌else◌, ◌≡◌, ◌≢◌, ◌∙�
 use Rattle.std.proofs.lemmas.Bool.{cases_eq}
 use Rattle.wb_types.proofs.Lists.{set_cases}
 use Rattle.wb_types.specs.declared.entry.Entry.{Entry}
+use Rattle.wb_types.specs.declared.geometry.Geometry.{Geometry}
 use Rattle.wb_types.specs.declared.number.OBlock.{OBlock}
 use Rattle.wb_types.specs.declared.number.CBlock.{CBlock}
+use Rattle.wb_types.specs.declared.refusal.Refusal.{Refusal}
 use Rattle.wb_disk.specs.Device.{Content as Bytes, History}
 use Rattle.wb_contents.proofs.Positions.{changed_same, changed_other}
 use Rattle.wb_words.specs.declared.word.Access.{Access}
@@ -21,6 +23,7 @@ use Rattle.wb_words.specs.SharedWords.{Words, word_at, place_in, seal_word}
 use Rattle.wb_words.specs.Cards.{failing_at}
 use Rattle.wb_words.specs.Effects.{result_of, words_after, card_after}
 use Rattle.wb_words.specs.Rule.{LockRule}
+use Rattle.wb_tree.specs.Edits.{IsChangedAt}
 use Rattle.wb_policy.specs.Law.{IsMappedAt}
 use Rattle.wb_policy.specs.declared.order.Order.{Order}
 use Rattle.wb_policy.specs.declared.order.Order.TheVariants.{Demote as DemoteOrder}
@@ -28,10 +31,11 @@ use Rattle.wb_orders.specs.Orders.{AreOrders}
 use Rattle.wb_desk.specs.Desks.{DeskState, IsLive, holdings}
 use Rattle.wb_desk.specs.Calls.{released}
 use Rattle.wb_desk.specs.Commits.{commit_ended}
-use Rattle.wb_desk.specs.Entries.{entry_of}
-use Rattle.wb_desk.proofs.Entering.{entrance}
-use Rattle.wb_stage.specs.Asking.{DidUnmap}
-use Rattle.wb_tasks.specs.Tables.{BlockJob, Reading, Writing, Migrating, OnBlock, Flushing, Opening, TaskJob}
+use Rattle.wb_desk.specs.Entries.{entry_of, mapped, MayMap}
+use Rattle.wb_desk.proofs.Entering.{entrance, named_inside}
+use Rattle.wb_desk.proofs.Leaving.{mapped_within}
+use Rattle.wb_stage.specs.Asking.{DidUnmap, IsGivenUp}
+use Rattle.wb_tasks.specs.Tables.{BlockJob, Reading, Writing, Migrating, OnBlock, Flushing, Opening, TaskJob, access_of, range_of}
 use Rattle.wb_tasks.specs.Plan.{Plan, want, after, after_fault, after_fault_of, after_refusal, first_step, later_steps, lets_go, got_of}
 use Rattle.wb_tasks.specs.Ready.{Has, MayTake, Suits, SuitsJob, IsOwnStep, IsJobs, block_of}
 use Rattle.wb_tasks.proofs.Readiness.{is_own_step, is_ready}
@@ -62,6 +66,7 @@ use Rattle.wb_runs.proofs.Lists.{set_other, set_there}
 use Rattle.wb_runs.proofs.Metadata.{MetadataKept, unknowing}
 use Rattle.wb_runs.proofs.Owning.{Owned, owned_same}
 use Rattle.wb_simulation.specs.Actors.{IsDoing, IsRequestAt}
+use Rattle.wb_simulation.specs.Opened.{located}
 use Rattle.wb_simulation.specs.Steps.{AreOfBlock}
 use Rattle.wb_simulation.proofs.Followed.{begins_by, doing_of}
 use Rattle.wb_simulation.proofs.Migrations.{migrations_followed}
@@ -207,7 +212,7 @@ module _ (P A : Type 0) (shape : Shape) (images : Images) (t : Target P) (commit
       sees : (j : BlockJob) → Has j x.card (Cell step ∷ first.0) → (b : OBlock) → step ≡ Look (SealWord b) → number_of (place_in (word_at t.words.seals b)) ≡ place_of t.desk.tree.entries b.0
       sees j has b is = by (k.tells b)
         where
-          has_it : (x.card.hold ≡ Held (Rattle.wb_tasks.specs.Tables.access_of j) (block_of j)) × (b ≡ block_of j)
+          has_it : (x.card.hold ≡ Held (access_of j) (block_of j)) × (b ≡ block_of j)
           has_it = subst (λ (s : CellStep). Has j x.card (Cell s ∷ first.0)) is has
 
           by : Tells t.words t.desk.tree.entries actors b → number_of (place_in (word_at t.words.seals b)) ≡ place_of t.desk.tree.entries b.0
@@ -219,7 +224,7 @@ module _ (P A : Type 0) (shape : Shape) (images : Images) (t : Target P) (commit
                 not_sealing (Cell step) e (λ o p d q. absurd (let bad : Cell (Look (SealWord b)) ≡ Cell (Seal o p d) = ap (λ (v : CellStep). Cell v) (sym is) ∙ q in cc)) b place (subst (λ (v : Actor). SealsNext b place v.task) same s))
             | inr away ↦ (
                 let z_owns = sealing_owns c z ez b place s in
-                owned_alone shape.geometry.origin_blocks t.words actors rule c a z x ez ex (λ q. away (sym q)) b z_owns.0 z_owns.1 (Rattle.wb_tasks.specs.Tables.access_of j) (has_it.0 ∙ ap (λ (o : OBlock). Held (Rattle.wb_tasks.specs.Tables.access_of j) o) (sym has_it.1)))
+                owned_alone shape.geometry.origin_blocks t.words actors rule c a z x ez ex (λ q. away (sym q)) b z_owns.0 z_owns.1 (access_of j) (has_it.0 ∙ ap (λ (o : OBlock). Held (access_of j) o) (sym has_it.1)))
           ])
 
       after_words : RightWhere (place_of t.desk.tree.entries) (card_after t.words step x.card) (after plan (got_of (result_of t.words step))).steps
@@ -299,3 +304,165 @@ module _ (P A : Type 0) (shape : Shape) (images : Images) (t : Target P) (commit
                     let same : o ≡ b = cc in other (ap (λ (v : OBlock). v.0) (sym same))),
               )
           ]
+
+      told : Told step
+      told = by step refl
+        where
+          by : (s : CellStep) → step ≡ s → Told s
+          by (Seal o place dirty) is = by_seal o place dirty is
+          by (Look w) is = subst Told is (not_by (λ o p d q. absurd (let bad : Look w ≡ Seal o p d = sym is ∙ q in cc)))
+          by (Take access o seen) is = subst Told is (not_by (λ b p d q. absurd (let bad : Take access o seen ≡ Seal b p d = sym is ∙ q in cc)))
+          by (Release access o) is = subst Told is (not_by (λ b p d q. absurd (let bad : Release access o ≡ Seal b p d = sym is ∙ q in cc)))
+          by (Finish o) is = subst Told is (not_by (λ b p d q. absurd (let bad : Finish o ≡ Seal b p d = sym is ∙ q in cc)))
+          by (Count kind) is = subst Told is (not_by (λ b p d q. absurd (let bad : Count kind ≡ Seal b p d = sym is ∙ q in cc)))
+          by SetFailed is = subst Told is (not_by (λ b p d q. absurd (let bad : SetFailed ≡ Seal b p d = sym is ∙ q in cc)))
+          by SetSuspended is = subst Told is (not_by (λ b p d q. absurd (let bad : SetSuspended ≡ Seal b p d = sym is ∙ q in cc)))
+
+      pub cell_keeps : KeepingAt (record { words = words_after t.words step; desk = t.desk }) (slice_set actors a (y (Cell step) (got_of (result_of t.words step))))
+      cell_keeps =
+          let got = got_of (result_of t.words step) in
+          going t_words (y (Cell step) got) (owned_same P t.desk actors a x (y (Cell step) got) ex k.owned t.desk refl refl) (λ c z m ez access b h. refl) told
+          (mine t.desk.tree.entries (Cell step) got (Some (job, after plan got)) refl after_words)
+
+    -- ---- on a device
+
+    module _ (step : DeviceStep) (e : Device step ≡ want plan) (got : Got) (gave : (j : BlockJob) → plan.job ≡ OnBlock j → (got ≡ Done) ⊎ (got ≡ Fault)) where
+      after_device : RightWhere (place_of t.desk.tree.entries) x.card (after plan got).steps
+      after_device = by plan.job refl
+        where
+          first : (ws : List Want) × (plan.steps ≡ Device step ∷ ws)
+          first = begins_by plan (Device step) (sym e) (λ v q. absurd (cc))
+
+          failed : (j : BlockJob) (s : DeviceStep) (here : Option ℕ) → IsJobs j s → SealsRight here (after_fault_of (OnBlock j) s)
+          failed j (ReadExtent d ext) here i = lets_go_right here j (access_of j) (range_of j).block
+          failed j (WriteExtent d ext) here i = tt
+          failed (Reading part) s here i = absurd i
+          failed (Writing part) s here i = absurd i
+          failed (Migrating m part) s here i = absurd i
+
+          of_block : (j : BlockJob) → plan.job ≡ OnBlock j → (got ≡ Done) ⊎ (got ≡ Fault) → RightWhere (place_of t.desk.tree.entries) x.card (after plan got).steps
+          of_block j is (inl done) access b h = subst (λ (g : Got). SealsRight (place_of t.desk.tree.entries b.0) (after plan g).steps) (sym done)
+              (subst (λ (us : List Want). SealsRight (place_of t.desk.tree.entries b.0) (later_steps us)) (sym first.1) (subst (λ (us : List Want). SealsRight (place_of t.desk.tree.entries b.0) us) first.1 (right access b h)))
+          of_block j is (inr fault) access b h = subst (λ (g : Got). SealsRight (place_of t.desk.tree.entries b.0) (after plan g).steps) (sym fault)
+              (subst (λ (v : Want). SealsRight (place_of t.desk.tree.entries b.0) (after_fault plan v).steps) e
+              (subst (λ (q : TaskJob). SealsRight (place_of t.desk.tree.entries b.0) (after_fault_of q step)) (sym is) (failed j step (place_of t.desk.tree.entries b.0) (own (OnBlock j) (Device step) is e))))
+
+          by : (q : TaskJob) → plan.job ≡ q → RightWhere (place_of t.desk.tree.entries) x.card (after plan got).steps
+          by (OnBlock j) is = of_block j is (gave j is)
+          by (Flushing serves m) is = holds_none x.card (after plan got).steps (place_of t.desk.tree.entries) (subst (λ (q : TaskJob). SuitsJob shape.geometry.origin_blocks q x.card plan.steps) is suits).0
+          by (Opening left) is = holds_none x.card (after plan got).steps (place_of t.desk.tree.entries) (subst (λ (q : TaskJob). SuitsJob shape.geometry.origin_blocks q x.card plan.steps) is suits).0
+
+      pub device_keeps : KeepingAt t (slice_set actors a (y (Device step) got))
+      device_keeps = plainly t (y (Device step) got) refl (λ b. refl) (not_sealing (Device step) e (λ b p d q. absurd (cc))) (owned_same P t.desk actors a x (y (Device step) got) ex k.owned t.desk refl refl)
+          (mine t.desk.tree.entries (Device step) got (Some (job, after plan got)) refl after_device)
+
+    -- ---- its answer
+
+    pub answer_keeps : (answer : Answer) (got : Got) → End answer ≡ want plan → KeepingAt t (slice_set actors a (y (End answer) got))
+    answer_keeps answer got e = plainly t (y (End answer) got) refl (λ b. refl) (not_sealing (End answer) e (λ b p d q. absurd (cc))) (owned_same P t.desk actors a x (y (End answer) got) ex k.owned t.desk refl refl)
+        (mine t.desk.tree.entries (End answer) got None refl tt)
+
+    -- ---- at the desk
+
+    -- where it is asked of who holds nothing, and the entries stay
+    desk_plain : (step : DeskStep) (got : Got) (desk' : DeskState P) → Desk step ≡ want plan → x.card.hold ≡ Nothing → ((b : ℕ) → place_of desk'.tree.entries b ≡ place_of t.desk.tree.entries b) → Owned desk' (slice_set actors a (y (Desk step) got)) → KeepingAt (record { words = t.words; desk = desk' }) (slice_set actors a (y (Desk step) got))
+    desk_plain step got desk' e none places owned = plainly (record { words = t.words; desk = desk' }) (y (Desk step) got) refl places (not_sealing (Desk step) e (λ b p d q. absurd (cc))) owned
+        (mine desk'.tree.entries (Desk step) got (Some (job, after plan got)) refl (holds_none x.card (after plan got).steps (place_of desk'.tree.entries) none))
+
+    -- A block that is mapped or unmapped is sealed so next.
+    module _ (step : DeskStep) (e : Desk step ≡ want plan) (b : OBlock) (place : Option CBlock) (desk' : DeskState P) (inside : b.0 < shape.geometry.origin_blocks) (holds : x.card.hold ≡ Held Own b) (here : number_of place ≡ place_of desk'.tree.entries b.0) (elsewhere : (i : ℕ) → i ≢ b.0 → place_of desk'.tree.entries i ≡ place_of t.desk.tree.entries i)
+        (sealed : (answer : Answer) → (dirty : Bool) × (first_step (after plan Done).steps answer ≡ Cell (Seal b place dirty))) (still : SealsRight (place_of desk'.tree.entries b.0) (after plan Done).steps) (owned : Owned desk' (slice_set actors a (y (Desk step) Done))) where
+      moved : KeepingAt (record { words = t.words; desk = desk' }) (slice_set actors a (y (Desk step) Done))
+      moved = going (record { words = t.words; desk = desk' }) (y (Desk step) Done) owned
+          (λ c z away ez access o h. elsewhere o.0 (λ same. owned_alone shape.geometry.origin_blocks t.words actors rule a c x z ex ez away b inside holds access (h ∙ (λ i. Held access (record { 0 = same i })))))
+          tells
+          (mine desk'.tree.entries (Desk step) Done (Some (job, after plan Done)) refl now)
+        where
+          now : RightWhere (place_of desk'.tree.entries) x.card (after plan Done).steps
+          now access o h =
+              let both : Held Own b ≡ Held access o = sym holds ∙ h in
+              let same : b ≡ o = cc in
+              subst (λ (v : OBlock). SealsRight (place_of desk'.tree.entries v.0) (after plan Done).steps) same still
+
+          task_is : (y (Desk step) Done).task ≡ Some (job, after plan Done)
+          task_is = ap (λ (o : Option (Job × Plan)). Rattle.wb_runs.specs.Effects.task_then o (Desk step) Done) xt
+
+          tells : (o : OBlock) → Untold (record { words = t.words; desk = desk' }) o ⊎ Tells t.words desk'.tree.entries (slice_set actors a (y (Desk step) Done)) o
+          tells o = elim (cases_eq o.0 b.0) [
+            | inl same ↦ inr (inr (
+                place,
+                here ∙ ap (place_of desk'.tree.entries) (sym same),
+                (a, (y (Desk step) Done, set_there actors a x (y (Desk step) Done) ex, subst (λ (task : Option (Job × Plan)). SealsNext o place task) (sym task_is) (let s = sealed plan.answer in (s.0, s.1 ∙ (λ i. Cell (Seal (record { 0 = sym same i }) place s.0)))))),
+              ))
+            | inr other ↦ inl (refl, elsewhere o.0 other, not_sealing (Desk step) e (λ v p d q. absurd (cc)) o)
+          ]
+
+  module _ (m : Migration) (block : OBlock) (plan : Plan) (xt : x.task ≡ Some (Migrate m block, plan)) where
+    abbrev job : Job
+    job = Migrate m block
+
+    are : AreOrders t.desk.orders
+    are = known.is.orders
+
+    its : Suits shape.geometry.origin_blocks plan x.card
+    its = suits job plan xt
+
+    map_keeps : (bl : OBlock) (c : CBlock) (new : DeskState P) → Desk (Map bl c) ≡ want plan → MayMap t.desk bl c → IsChangedAt t.desk.tree new.tree c.0 (Some (entry_of bl)) → new ≡ mapped t.desk c new.tree new.policy → KeepingAt (record { words = t.words; desk = new }) (slice_set actors a (y job plan xt (Desk (Map bl c)) Done))
+    map_keeps bl c new e may changed is =
+        let law = migrations_followed.maps (size P A shape) (most P A shape) shape.geometry.origin_blocks t.words t.desk.space.committing (live_orders t.desk) devices actors a x m block bl c plan f.site.world (are_owned P t.desk actors are k.owned) ex xt its (sym e) f.phase.agrees in
+        let en = entrance unknowing t.desk bl c known.is.kept may in
+        let holds : x.card.hold ≡ Held Own bl = ready job plan xt (Desk (Map bl c)) e in
+        let less = en.inside in
+        let size_is = known.is.kept.mapping.size in
+        let entered = located_entered t.desk.tree.entries c.0 (entry_of bl) (omega (arith, less, size_is)) (unmapped_there P t.desk known.is.kept bl.0 en.unmapped) en.none in
+        let here : Some c.0 ≡ place_of new.tree.entries bl.0 = sym (changed_same (located t.desk.tree.entries) bl.0 (Some c.0)) ∙ entered bl.0 ∙ ap (λ (es : List (Option Entry)). place_of es bl.0) (sym changed.entries) in
+        let first = begins_by plan (Desk (Map bl c)) (sym e) (λ v q. absurd (cc)) in
+        let r : IsSealed bl (Some c) first.0 × SealsRight (Some c.0) first.0 = subst (λ (us : List Want). SealsRight (place_of t.desk.tree.entries bl.0) us) first.1 (right job plan xt Own bl holds) in
+        let inside = named_inside unknowing t.desk c.0 bl.0 en.live known.is.kept are en.there en.named in
+        moved job plan xt (Map bl c) e bl (Some c) new (subst (λ (g : Geometry). bl.0 < g.origin_blocks) known.is.geometry inside) holds here
+        (λ i not. ap (λ (es : List (Option Entry)). place_of es i) changed.entries ∙ sym (entered i) ∙ changed_other (located t.desk.tree.entries) bl.0 i (Some c.0) not)
+        (λ answer. subst (λ (us : List Want). (dirty : Bool) × (first_step (later_steps us) answer ≡ Cell (Seal bl (Some c) dirty))) (sym first.1) (sealed_next bl (Some c) first.0 answer r.0))
+        (subst (λ (o : Option ℕ). SealsRight o (after plan Done).steps) here (subst (λ (us : List Want). SealsRight (Some c.0) (later_steps us)) (sym first.1) r.1))
+        (over P t.desk actors are k.owned a x ex (Promote c) block c.0 law.2.live law.2.mine bl law.1 new (ap (λ (d : DeskState P). d.orders.slots) is) (y job plan xt (Desk (Map bl c)) Done) refl)
+
+    unmap_keeps : (bl : OBlock) (new : DeskState P) → Desk (Unmap bl) ≡ want plan → DidUnmap (λ policy o. new.policy) bl t.desk new → KeepingAt (record { words = t.words; desk = new }) (slice_set actors a (y job plan xt (Desk (Unmap bl)) Done))
+    unmap_keeps bl new e did =
+        let law = migrations_followed.unmaps (size P A shape) (most P A shape) shape.geometry.origin_blocks t.words t.desk.space.committing (live_orders t.desk) devices actors a x m block bl plan f.site.world (are_owned P t.desk actors are k.owned) ex xt its (sym e) f.phase.agrees in
+        let c = law.2.0 in
+        let at = named P t.desk known.is.kept c (DemoteOrder block) law.2.1.live in
+        let at_bl : IsMappedAt (holdings t.desk) bl.0 c = subst (λ (o : OBlock). IsMappedAt (holdings t.desk) o.0 c) (sym law.1) at in
+        let l = taken_there P t.desk actors are k.owned a x ex Demote block c law.2.1.live law.2.1.mine in
+        let gone = has_gone P t.desk new block c at l.0 l.1 (subst (λ (o : OBlock). DidUnmap (λ policy o. new.policy) o t.desk new) law.1 did) in
+        let alone = stands_alone P t.desk known.is.kept bl.0 c at_bl in
+        let holds : x.card.hold ≡ Held Own bl = ready job plan xt (Desk (Unmap bl)) e in
+        let left = located_left t.desk.tree.entries c alone.0 bl.0 alone.1 in
+        let here : None ≡ place_of new.tree.entries bl.0 = sym (changed_same (located t.desk.tree.entries) bl.0 None) ∙ left bl.0 ∙ ap (λ (es : List (Option Entry)). place_of es bl.0) (sym gone.changed.entries) in
+        let first = begins_by plan (Desk (Unmap bl)) (sym e) (λ v q. absurd (cc)) in
+        let r : IsSealed bl None first.0 × SealsRight None first.0 = subst (λ (us : List Want). SealsRight (place_of t.desk.tree.entries bl.0) us) first.1 (right job plan xt Own bl holds) in
+        let inside = (mapped_within unknowing t.desk bl.0 c known.is.kept at_bl).1 in
+        moved job plan xt (Unmap bl) e bl None new (subst (λ (g : Geometry). bl.0 < g.origin_blocks) known.is.geometry inside) holds here
+        (λ i not. ap (λ (es : List (Option Entry)). place_of es i) gone.changed.entries ∙ sym (left i) ∙ changed_other (located t.desk.tree.entries) bl.0 i None not)
+        (λ answer. subst (λ (us : List Want). (dirty : Bool) × (first_step (later_steps us) answer ≡ Cell (Seal bl None dirty))) (sym first.1) (sealed_next bl None first.0 answer r.0))
+        (subst (λ (o : Option ℕ). SealsRight o (after plan Done).steps) here (subst (λ (us : List Want). SealsRight None (later_steps us)) (sym first.1) r.1))
+        (over P t.desk actors are k.owned a x ex Demote block c law.2.1.live law.2.1.mine bl law.1 new (ap (λ (d : DeskState P). d.orders.slots) gone.is ∙ gone.slots new.tree new.policy) (y job plan xt (Desk (Unmap bl)) Done) refl)
+
+    release_keeps : (bl : OBlock) (new : DeskState P) → Desk (ReleaseOrder bl) ≡ want plan → IsGivenUp (Some (order_for m block)) t.desk new → KeepingAt (record { words = t.words; desk = new }) (slice_set actors a (y job plan xt (Desk (ReleaseOrder bl)) Done))
+    release_keeps bl new e d =
+        let law = migrations_followed.gives_up (size P A shape) (most P A shape) shape.geometry.origin_blocks t.words t.desk.space.committing (live_orders t.desk) devices actors a x m block bl plan f.site.world (are_owned P t.desk actors are k.owned) ex xt its (sym e) f.phase.agrees in
+        let l = taken_there P t.desk actors are k.owned a x ex m block law.1.0 law.1.1.live law.1.1.mine in
+        let is : new ≡ released t.desk (record { 0 = law.1.0 }) = d.0 l.0 ∙ ap (λ (i : ℕ). released t.desk (record { 0 = i })) l.1 in
+        desk_plain job plan xt (ReleaseOrder bl) Done new e (ready job plan xt (Desk (ReleaseOrder bl)) e) (λ i. ap (λ (q : DeskState P). place_of q.tree.entries i) is)
+        (over P t.desk actors are k.owned a x ex m block law.1.0 law.1.1.live law.1.1.mine bl law.0 new (ap (λ (q : DeskState P). q.orders.slots) is) (y job plan xt (Desk (ReleaseOrder bl)) Done) refl)
+
+    -- the desk has no memory for its entry
+    map_refused_keeps : (bl : OBlock) (c : CBlock) (refusal : Refusal) → Desk (Map bl c) ≡ want plan → KeepingAt t (slice_set actors a (y job plan xt (Desk (Map bl c)) (GotRefused refusal)))
+    map_refused_keeps bl c refusal e = plainly t (y job plan xt (Desk (Map bl c)) (GotRefused refusal)) refl (λ i. refl) (not_sealing job plan xt (Desk (Map bl c)) e (λ o p d q. absurd (cc))) (owned_same P t.desk actors a x (y job plan xt (Desk (Map bl c)) (GotRefused refusal)) ex k.owned t.desk refl refl)
+        (mine job plan xt t.desk.tree.entries (Desk (Map bl c)) (GotRefused refusal) (Some (job, after plan (GotRefused refusal))) refl left)
+      where
+        left : RightWhere (place_of t.desk.tree.entries) x.card (after plan (GotRefused refusal)).steps
+        left access o h = subst (λ (v : Want). SealsRight (place_of t.desk.tree.entries o.0) (after_refusal plan v refusal).steps) e (by plan.job refl)
+          where
+            by : (q : TaskJob) → plan.job ≡ q → SealsRight (place_of t.desk.tree.entries o.0) (lets_go plan.job)
+            by (OnBlock j) is = subst (λ (q : TaskJob). SealsRight (place_of t.desk.tree.entries o.0) (lets_go q)) (sym is) (lets_go_right (place_of t.desk.tree.entries o.0) j (access_of j) (range_of j).block)
+            by (Flushing serves n) is = absurd (let none = (subst (λ (q : TaskJob). SuitsJob shape.geometry.origin_blocks q x.card plan.steps) is its).0 in let bad : Nothing ≡ Held access o = sym none ∙ h in cc)
+            by (Opening left) is = absurd (let none = (subst (λ (q : TaskJob). SuitsJob shape.geometry.origin_blocks q x.card plan.steps) is its).0 in let bad : Nothing ≡ Held access o = sym none ∙ h in cc)
