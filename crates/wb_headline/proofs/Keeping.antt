@@ -151,7 +151,7 @@ module _ (P A : Type 0) (shape : Shape) (images : Images) (t : Target P) (commit
   Untold t' b = (word_at t'.words.seals b ≡ word_at t.words.seals b) × (place_of t'.desk.tree.entries b.0 ≡ place_of t.desk.tree.entries b.0) × ((place : Option CBlock) → SealsNext b place x.task → ⊥)
 
   -- who goes on keeps what is kept
-  going : (t' : Target P) (y : Actor) → Owned t'.desk (slice_set actors a y) → ((c : ℕ) (z : Actor) → c ≢ a → slice_get actors c ≡ Some z → (access : Access) (b : OBlock) → z.card.hold ≡ Held access b → place_of t'.desk.tree.entries b.0 ≡ place_of t.desk.tree.entries b.0) →
+  pub going : (t' : Target P) (y : Actor) → Owned t'.desk (slice_set actors a y) → ((c : ℕ) (z : Actor) → c ≢ a → slice_get actors c ≡ Some z → (access : Access) (b : OBlock) → z.card.hold ≡ Held access b → place_of t'.desk.tree.entries b.0 ≡ place_of t.desk.tree.entries b.0) →
       ((b : OBlock) → Untold t' b ⊎ Tells t'.words t'.desk.tree.entries (slice_set actors a y) b) → TaskRight t'.desk.tree.entries y.card y.task → KeepingAt t' (slice_set actors a y)
   going t' y owned others tells mine = record {
     owned = owned;
@@ -172,26 +172,26 @@ module _ (P A : Type 0) (shape : Shape) (images : Images) (t : Target P) (commit
       ]
 
   -- where it seals nothing next, and neither words nor places change
-  plainly : (t' : Target P) (y : Actor) → t'.words.seals ≡ t.words.seals → ((b : ℕ) → place_of t'.desk.tree.entries b ≡ place_of t.desk.tree.entries b) → ((b : OBlock) (place : Option CBlock) → SealsNext b place x.task → ⊥) → Owned t'.desk (slice_set actors a y) → TaskRight t'.desk.tree.entries y.card y.task → KeepingAt t' (slice_set actors a y)
+  pub plainly : (t' : Target P) (y : Actor) → t'.words.seals ≡ t.words.seals → ((b : ℕ) → place_of t'.desk.tree.entries b ≡ place_of t.desk.tree.entries b) → ((b : OBlock) (place : Option CBlock) → SealsNext b place x.task → ⊥) → Owned t'.desk (slice_set actors a y) → TaskRight t'.desk.tree.entries y.card y.task → KeepingAt t' (slice_set actors a y)
   plainly t' y seals places not owned mine = going t' y owned (λ c z n e access b h. places b.0) (λ b. inl (ap (λ (s : List ℕ). word_at s b) seals, places b.0, not b)) mine
 
   module _ (job : Job) (plan : Plan) (xt : x.task ≡ Some (job, plan)) where
-    suits : Suits shape.geometry.origin_blocks plan x.card
+    pub suits : Suits shape.geometry.origin_blocks plan x.card
     suits = subst (λ (o : Option (Job × Plan)). TaskSuits shape.geometry.origin_blocks x.card o) xt (all_suited a x ex)
 
     right : RightWhere (place_of t.desk.tree.entries) x.card plan.steps
     right = subst (λ (o : Option (Job × Plan)). TaskRight t.desk.tree.entries x.card o) xt (k.right a x ex)
 
-    own : (q : TaskJob) (next : Want) → plan.job ≡ q → next ≡ want plan → IsOwnStep q next
+    pub own : (q : TaskJob) (next : Want) → plan.job ≡ q → next ≡ want plan → IsOwnStep q next
     own q next j e = subst (λ (v : Want). IsOwnStep q v) (sym e) (subst (λ (r : TaskJob). IsOwnStep r (want plan)) j (is_own_step shape.geometry.origin_blocks plan x.card suits))
 
-    ready : (next : Want) → next ≡ want plan → MayTake shape.geometry.origin_blocks x.card next
+    pub ready : (next : Want) → next ≡ want plan → MayTake shape.geometry.origin_blocks x.card next
     ready next e = subst (λ (v : Want). MayTake shape.geometry.origin_blocks x.card v) (sym e) (is_ready shape.geometry.origin_blocks plan x.card suits)
 
     not_sealing : (next : Want) → next ≡ want plan → ((b : OBlock) (place : Option CBlock) (dirty : Bool) → next ≢ Cell (Seal b place dirty)) → (b : OBlock) (place : Option CBlock) → SealsNext b place x.task → ⊥
     not_sealing next e not b place s = let q = subst (λ (o : Option (Job × Plan)). SealsNext b place o) xt s in not b place q.0 (e ∙ q.1)
 
-    holds_none : (card : Card) (steps : List Want) (places : ℕ → Option ℕ) → card.hold ≡ Nothing → RightWhere places card steps
+    pub holds_none : (card : Card) (steps : List Want) (places : ℕ → Option ℕ) → card.hold ≡ Nothing → RightWhere places card steps
     holds_none card steps places none access b h = absurd (let bad : Nothing ≡ Held access b = sym none ∙ h in cc)
 
     -- what it is then
@@ -365,7 +365,7 @@ module _ (P A : Type 0) (shape : Shape) (images : Images) (t : Target P) (commit
     -- ---- at the desk
 
     -- where it is asked of who holds nothing, and the entries stay
-    desk_plain : (step : DeskStep) (got : Got) (desk' : DeskState P) → Desk step ≡ want plan → x.card.hold ≡ Nothing → ((b : ℕ) → place_of desk'.tree.entries b ≡ place_of t.desk.tree.entries b) → Owned desk' (slice_set actors a (y (Desk step) got)) → KeepingAt (record { words = t.words; desk = desk' }) (slice_set actors a (y (Desk step) got))
+    pub desk_plain : (step : DeskStep) (got : Got) (desk' : DeskState P) → Desk step ≡ want plan → x.card.hold ≡ Nothing → ((b : ℕ) → place_of desk'.tree.entries b ≡ place_of t.desk.tree.entries b) → Owned desk' (slice_set actors a (y (Desk step) got)) → KeepingAt (record { words = t.words; desk = desk' }) (slice_set actors a (y (Desk step) got))
     desk_plain step got desk' e none places owned = plainly (record { words = t.words; desk = desk' }) (y (Desk step) got) refl places (not_sealing (Desk step) e (λ b p d q. absurd (cc))) owned
         (mine desk'.tree.entries (Desk step) got (Some (job, after plan got)) refl (holds_none x.card (after plan got).steps (place_of desk'.tree.entries) none))
 
@@ -407,7 +407,7 @@ module _ (P A : Type 0) (shape : Shape) (images : Images) (t : Target P) (commit
     its : Suits shape.geometry.origin_blocks plan x.card
     its = suits job plan xt
 
-    map_keeps : (bl : OBlock) (c : CBlock) (new : DeskState P) → Desk (Map bl c) ≡ want plan → MayMap t.desk bl c → IsChangedAt t.desk.tree new.tree c.0 (Some (entry_of bl)) → new ≡ mapped t.desk c new.tree new.policy → KeepingAt (record { words = t.words; desk = new }) (slice_set actors a (y job plan xt (Desk (Map bl c)) Done))
+    pub map_keeps : (bl : OBlock) (c : CBlock) (new : DeskState P) → Desk (Map bl c) ≡ want plan → MayMap t.desk bl c → IsChangedAt t.desk.tree new.tree c.0 (Some (entry_of bl)) → new ≡ mapped t.desk c new.tree new.policy → KeepingAt (record { words = t.words; desk = new }) (slice_set actors a (y job plan xt (Desk (Map bl c)) Done))
     map_keeps bl c new e may changed is =
         let law = migrations_followed.maps (size P A shape) (most P A shape) shape.geometry.origin_blocks t.words t.desk.space.committing (live_orders t.desk) devices actors a x m block bl c plan f.site.world (are_owned P t.desk actors are k.owned) ex xt its (sym e) f.phase.agrees in
         let en = entrance unknowing t.desk bl c known.is.kept may in
@@ -425,7 +425,7 @@ module _ (P A : Type 0) (shape : Shape) (images : Images) (t : Target P) (commit
         (subst (λ (o : Option ℕ). SealsRight o (after plan Done).steps) here (subst (λ (us : List Want). SealsRight (Some c.0) (later_steps us)) (sym first.1) r.1))
         (over P t.desk actors are k.owned a x ex (Promote c) block c.0 law.2.live law.2.mine bl law.1 new (ap (λ (d : DeskState P). d.orders.slots) is) (y job plan xt (Desk (Map bl c)) Done) refl)
 
-    unmap_keeps : (bl : OBlock) (new : DeskState P) → Desk (Unmap bl) ≡ want plan → DidUnmap (λ policy o. new.policy) bl t.desk new → KeepingAt (record { words = t.words; desk = new }) (slice_set actors a (y job plan xt (Desk (Unmap bl)) Done))
+    pub unmap_keeps : (bl : OBlock) (new : DeskState P) → Desk (Unmap bl) ≡ want plan → DidUnmap (λ policy o. new.policy) bl t.desk new → KeepingAt (record { words = t.words; desk = new }) (slice_set actors a (y job plan xt (Desk (Unmap bl)) Done))
     unmap_keeps bl new e did =
         let law = migrations_followed.unmaps (size P A shape) (most P A shape) shape.geometry.origin_blocks t.words t.desk.space.committing (live_orders t.desk) devices actors a x m block bl plan f.site.world (are_owned P t.desk actors are k.owned) ex xt its (sym e) f.phase.agrees in
         let c = law.2.0 in
@@ -446,7 +446,7 @@ module _ (P A : Type 0) (shape : Shape) (images : Images) (t : Target P) (commit
         (subst (λ (o : Option ℕ). SealsRight o (after plan Done).steps) here (subst (λ (us : List Want). SealsRight None (later_steps us)) (sym first.1) r.1))
         (over P t.desk actors are k.owned a x ex Demote block c law.2.1.live law.2.1.mine bl law.1 new (ap (λ (d : DeskState P). d.orders.slots) gone.is ∙ gone.slots new.tree new.policy) (y job plan xt (Desk (Unmap bl)) Done) refl)
 
-    release_keeps : (bl : OBlock) (new : DeskState P) → Desk (ReleaseOrder bl) ≡ want plan → IsGivenUp (Some (order_for m block)) t.desk new → KeepingAt (record { words = t.words; desk = new }) (slice_set actors a (y job plan xt (Desk (ReleaseOrder bl)) Done))
+    pub release_keeps : (bl : OBlock) (new : DeskState P) → Desk (ReleaseOrder bl) ≡ want plan → IsGivenUp (Some (order_for m block)) t.desk new → KeepingAt (record { words = t.words; desk = new }) (slice_set actors a (y job plan xt (Desk (ReleaseOrder bl)) Done))
     release_keeps bl new e d =
         let law = migrations_followed.gives_up (size P A shape) (most P A shape) shape.geometry.origin_blocks t.words t.desk.space.committing (live_orders t.desk) devices actors a x m block bl plan f.site.world (are_owned P t.desk actors are k.owned) ex xt its (sym e) f.phase.agrees in
         let l = taken_there P t.desk actors are k.owned a x ex m block law.1.0 law.1.1.live law.1.1.mine in
@@ -455,7 +455,7 @@ module _ (P A : Type 0) (shape : Shape) (images : Images) (t : Target P) (commit
         (over P t.desk actors are k.owned a x ex m block law.1.0 law.1.1.live law.1.1.mine bl law.0 new (ap (λ (q : DeskState P). q.orders.slots) is) (y job plan xt (Desk (ReleaseOrder bl)) Done) refl)
 
     -- the desk has no memory for its entry
-    map_refused_keeps : (bl : OBlock) (c : CBlock) (refusal : Refusal) → Desk (Map bl c) ≡ want plan → KeepingAt t (slice_set actors a (y job plan xt (Desk (Map bl c)) (GotRefused refusal)))
+    pub map_refused_keeps : (bl : OBlock) (c : CBlock) (refusal : Refusal) → Desk (Map bl c) ≡ want plan → KeepingAt t (slice_set actors a (y job plan xt (Desk (Map bl c)) (GotRefused refusal)))
     map_refused_keeps bl c refusal e = plainly t (y job plan xt (Desk (Map bl c)) (GotRefused refusal)) refl (λ i. refl) (not_sealing job plan xt (Desk (Map bl c)) e (λ o p d q. absurd (cc))) (owned_same P t.desk actors a x (y job plan xt (Desk (Map bl c)) (GotRefused refusal)) ex k.owned t.desk refl refl)
         (mine job plan xt t.desk.tree.entries (Desk (Map bl c)) (GotRefused refusal) (Some (job, after plan (GotRefused refusal))) refl left)
       where

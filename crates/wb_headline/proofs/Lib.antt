@@ -31,3 +31,4 @@ mod Carried
 mod Placed
 mod Telling
 mod Keeping
+mod Kept
