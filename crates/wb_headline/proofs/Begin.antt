@@ -29,7 +29,6 @@ use Rattle.wb_headline.proofs.Events.{Reached, start_reached, event_reaches}
 use Rattle.wb_headline.proofs.Unclean.{NeverClean, IsPlainTask}
 use Rattle.wb_headline.proofs.Following.{many, size, Followed, Goes}
 use Rattle.wb_headline.proofs.Placed.{TaskPlaced}
-use Rattle.wb_headline.proofs.Stubs.{keeping_start}
 use Rattle.wb_headline.proofs.Whole.{Whole}
 
 -- a tree without entries has no block
@@ -123,6 +122,6 @@ module _ (P A : Type 0) (shape : Shape) (metadata : List History) (f : IsFormatt
       tasks = λ a x e. subst (λ (v : Actor). PlanInside shape v.task) (sym (replicated shape.actors a resting x e)) tt;
     };
     asked = nobody;
-    keeping = keeping_start P A shape metadata;
+    keeping = λ a x e. ap (λ (v : Actor). v.orders) (replicated shape.actors a resting x e);
     placed = λ a x e. subst (λ (v : Actor). TaskPlaced (block_size shape) v.card v.task) (sym (replicated shape.actors a resting x e)) tt;
   }

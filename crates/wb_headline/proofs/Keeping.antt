@@ -140,7 +140,7 @@ seals_same words SetSuspended n = refl
 module _ (P A : Type 0) (shape : Shape) (images : Images) (t : Target P) (commit : Option RunningCommit) (devices : Devices (List History)) (actors : List Actor) (n : Notes) (known : MetadataKept {P = P} {A = A} shape.geometry images (Stands t) commit devices.metadata)
     (f : Followed P A shape images (standing P A shape images t commit devices actors n) n) (rule : LockRule shape.geometry.origin_blocks t.words (cards_of actors)) (all_suited : AllSuited shape.geometry.origin_blocks actors) (k : KeepingAt t actors) (a : ℕ) (x : Actor) (ex : slice_get actors a ≡ Some x) where
   -- whoever is to seal a block owns it
-  sealing_owns : (c : ℕ) (z : Actor) → slice_get actors c ≡ Some z → (b : OBlock) (place : Option CBlock) → SealsNext b place z.task → (b.0 < shape.geometry.origin_blocks) × (z.card.hold ≡ Held Own b)
+  pub sealing_owns : (c : ℕ) (z : Actor) → slice_get actors c ≡ Some z → (b : OBlock) (place : Option CBlock) → SealsNext b place z.task → (b.0 < shape.geometry.origin_blocks) × (z.card.hold ≡ Held Own b)
   sealing_owns c z ez b place s = by_task z.task (all_suited c z ez) s
     where
       by_task : (task : Option (Job × Plan)) → TaskSuits shape.geometry.origin_blocks z.card task → SealsNext b place task → (b.0 < shape.geometry.origin_blocks) × (z.card.hold ≡ Held Own b)

@@ -32,3 +32,4 @@ mod Placed
 mod Telling
 mod Keeping
 mod Kept
+mod Made

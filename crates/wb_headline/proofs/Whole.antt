@@ -1,5 +1,6 @@
 -- Every run is followed.
 use Rattle.std.proofs.Common.{◌≡◌, ◌≢◌, ◌∙◌, ◌<◌, ◌/◌, arith, inl, inr, ℕ, Bool, List, [], ◌∷◌, Option, Some, None, refl, sym, ap, subst, length, slice_get, slice_set}
+use Rattle.std.proofs.lemmas.Bool.{cases_eq}
 use Rattle.std.proofs.lemmas.Option.{some_pair_parts}
 use Rattle.wb_types.specs.declared.extent.Extent.{Extent}
 use Rattle.wb_types.specs.declared.mode.Mode.{Mode}
@@ -19,7 +20,7 @@ use Rattle.wb_tasks.specs.declared.step.Migration.{Migration}
 use Rattle.wb_types.specs.declared.number.OBlock.{OBlock}
 use Rattle.wb_tasks.specs.declared.step.Want.{Want}
 use Rattle.wb_tasks.specs.declared.step.DeviceStep.TheVariants.{Write as WriteExtent}
-use Rattle.wb_tasks.specs.declared.step.Want.TheVariants.{Cell, Device}
+use Rattle.wb_tasks.specs.declared.step.Want.TheVariants.{Cell, Desk, Device, End}
 use Rattle.wb_refines.specs.Translation.{number_of}
 use Rattle.wb_tasks.specs.declared.step.Got.{Got}
 use Rattle.wb_tasks.specs.declared.step.Got.TheVariants.{Fault}
@@ -33,11 +34,11 @@ use Rattle.wb_runs.specs.declared.event.What.{What}
 use Rattle.wb_runs.specs.declared.event.What.TheVariants.{Skipped, Refused, Started, Stepped, Stopped}
 use Rattle.wb_runs.specs.States.{Shape, State, Actor, Target, Phase, Stands, Gone, Opens, block_size, start, sector_count}
 use Rattle.wb_runs.specs.Happenings.{Chosen, Cut, Happening, OfSome, DoesNotApply, Gives, Falters, MayFailAt, StartGives, MayBe, block_range}
-use Rattle.wb_runs.specs.Effects.{device_done, device_failed, stepped, with_actor, job_of, given, cleared, phase_given, started, after_what, after_happening, after_all, IsRun}
+use Rattle.wb_runs.specs.Effects.{device_done, device_failed, stepped, with_actor, job_of, given, cleared, phase_given, started, after_what, after_happening, after_all, IsRun, phase_then, actor_then}
 use Rattle.wb_runs.specs.Clerk.{Notes, Doing, noted_step, noted_what, put, begun, starting}
 use Rattle.wb_runs.specs.Headline.{place_of, shown, note_happening, noted}
 use Rattle.wb_runs.specs.Holding.{TaskSuits}
-use Rattle.wb_runs.specs.Sealed.{SealsNext, number_of as number_here}
+use Rattle.wb_runs.specs.Sealed.{SealsNext, Tells, number_of as number_here}
 use Rattle.wb_runs.proofs.Lists.{free, there_rests}
 use Rattle.wb_runs.proofs.MetadataRuns.{IsKnown}
 use Rattle.wb_runs.proofs.Using.{UsedRightly, used_what}
@@ -51,7 +52,11 @@ use Rattle.wb_headline.proofs.Following.{Goes}
 use Rattle.wb_headline.specs.Desks.{live_orders}
 use Rattle.wb_headline.proofs.Placed.{AllPlaced, TaskPlaced, WritePlaced, holds_it, placed_what, written_there}
 use Rattle.wb_headline.proofs.Seeing.{beside_orders}
-use Rattle.wb_headline.proofs.Stubs.{Keeping, keeping_what, held_seal_tells, card_at}
+use Rattle.wb_runs.proofs.Ruling.{card_at}
+use Rattle.wb_headline.proofs.Keeping.{Keeping, sealing_owns}
+use Rattle.wb_headline.proofs.Kept.{fault_keeps, none_goes, none_rest, none_set, start_keeps, step_keeps}
+use Rattle.wb_headline.proofs.Made.{opening_keeps}
+use Rattle.wb_headline.proofs.Telling.{owned_alone}
 use Rattle.wb_headline.proofs.Crashing.{crash_goes}
 use Rattle.wb_headline.proofs.Opens.{opening_steps, opening_faults}
 use Rattle.wb_headline.proofs.Starts.{read_starts, write_starts, flush_starts, opening_starts}
@@ -65,7 +70,7 @@ module _ (P A : Type 0) (shape : Shape) where
     pub linked : Linked {P = P} {A = A} shape w.phase w.actors n
     pub inside : Inside shape w
     pub asked : AllAsked (sector_count shape) n.doings
-    pub keeping : Keeping P A shape w.phase w.actors
+    pub keeping : Keeping w.phase w.actors
     pub placed : AllPlaced (block_size shape) w.actors
 
   known_of : (w : State P A) (n : Notes) → Whole w n → IsKnown P A shape w
@@ -92,7 +97,7 @@ module _ (P A : Type 0) (shape : Shape) where
   module _ (t : Target P) (commit : Option RunningCommit) (devices : Devices (List History)) (actors : List Actor) (n : Notes) (b : Whole (at_target t commit devices actors) n) (a : ℕ) (x : Actor) (job : Job) (plan : Plan) (ex : slice_get actors a ≡ Some x) (xt : x.task ≡ Some (job, plan)) where
     -- whoever owns a block, and does not seal it next, has in its seal where the desk has it
     pub held_tells : (block : OBlock) → x.card.hold ≡ Held Owned block → ((place : Option CBlock) (dirty : Bool) → want plan ≢ Cell (Seal block place dirty)) → number_of (place_in (word_at t.words.seals block)) ≡ place_of t.desk.tree.entries block.0
-    held_tells block holds not = same_number (place_in (word_at t.words.seals block)) ∙ held_seal_tells P A shape t actors b.used b.keeping a x ex block Owned holds (λ place q. by_task x.task xt place q)
+    held_tells block holds not = same_number (place_in (word_at t.words.seals block)) ∙ by (b.keeping.tells block)
       where
         same_number : (place : Option CBlock) → number_of place ≡ number_here place
         same_number None = refl
@@ -101,6 +106,17 @@ module _ (P A : Type 0) (shape : Shape) where
         by_task : (task : Option (Job × Plan)) → task ≡ Some (job, plan) → (place : Option CBlock) → SealsNext block place task → ⊥
         by_task None e place q = q
         by_task (Some doing) e place q = (let parts = some_pair_parts doing.0 job doing.1 plan e in not place q.0 (ap want (sym parts.1) ∙ q.1))
+
+        by : Tells t.words t.desk.tree.entries actors block → number_here (place_in (word_at t.words.seals block)) ≡ place_of t.desk.tree.entries block.0
+        by (inl told) = told
+        by (inr (place, at, (c, (z, ez, sealed)))) = absurd (elim (cases_eq c a) [
+          | inl here ↦ (
+              let both : Some z ≡ Some x = sym ez ∙ ap (slice_get actors) here ∙ ex in
+              let same : z ≡ x = cc in by_task x.task xt place (subst (λ (v : Actor). SealsNext block place v.task) same sealed))
+          | inr away ↦ (
+              let z_owns = sealing_owns P A shape b.goes.images t commit devices actors n b.goes.known b.goes.followed b.used.here b.used.suited b.keeping a x ex c z ez block place sealed in
+              owned_alone shape.geometry.origin_blocks t.words actors b.used.here c a z x ez ex (λ q. away (sym q)) block z_owns.0 z_owns.1 Owned holds)
+        ])
 
   -- what a write writes is beside the orders that live
   module _ (t : Target P) (commit : Option RunningCommit) (devices : Devices (List History)) (actors : List Actor) (n : Notes) (b : Whole (at_target t commit devices actors) n) (a : ℕ) (x : Actor) (extent : Extent) (content : Bytes) (plan : Plan) (ex : slice_get actors a ≡ Some x) (xt : x.task ≡ Some (Write extent content, plan))
@@ -281,6 +297,118 @@ module _ (P A : Type 0) (shape : Shape) where
         let x = free P A w a job applies in
         start_by_phase w w.phase refl n b a x.0 job chosen x.1 x.2 (λ o. applies (inr (inr o))) (subst (λ (o : Option Actor). StartGives shape w.phase o job Started chosen) x.1 g)
 
+    -- ---- orders and seals
+
+    keep_by_phase : (devices : Devices (List History)) (commit : Option RunningCommit) (phase : Phase P A) (actors : List Actor) (n : Notes) → Whole (record { devices = devices; commit = commit; phase = phase; actors = actors }) n → (a : ℕ) (x : Actor) (job : Job) (plan : Plan) → slice_get actors a ≡ Some x → x.task ≡ Some (job, plan) →
+        (next : Want) (got : Got) (read : List Bytes) (chosen : Chosen P A) → next ≡ want plan → Gives shape (record { devices = devices; commit = commit; phase = phase; actors = actors }) job next got read chosen → Keeping (phase_then shape phase next got chosen) (slice_set actors a (actor_then shape phase devices x next got))
+    keep_by_phase devices commit (Stands t) actors n b a x job plan ex xt next got read chosen e g = step_keeps P A shape b.goes.images t commit devices actors n b.goes.known b.goes.followed b.used.here b.used.suited b.keeping a x ex job plan xt next got read chosen e g
+    keep_by_phase devices commit Gone actors n b a x job plan ex xt next got read chosen e g = none_goes P A shape Gone devices actors a x next got ex b.keeping
+    keep_by_phase devices commit (Opens mode reading) actors n b a x job plan ex xt next got read chosen e g = by job xt next e g (subst (λ (o : Option (Job × Plan)). TaskHere {P = P} {A = A} (Opens mode reading) o) xt (b.linked.here a x ex))
+      where
+        by : (j : Job) → x.task ≡ Some (j, plan) → (v : Want) → v ≡ want plan → Gives shape (record { devices = devices; commit = commit; phase = Opens mode reading; actors = actors }) j v got read chosen → InPhase {P = P} {A = A} (Opens mode reading) j → Keeping (phase_then {P = P} {A = A} shape (Opens mode reading) v got chosen) (slice_set actors a (actor_then {P = P} {A = A} shape (Opens mode reading) devices x v got))
+        by (Open opened_in) jt (End answer) e g h = opening_keeps P A shape b.goes.images devices commit mode reading actors n b.goes.known b.goes.followed b.linked.alone b.keeping a x ex opened_in plan jt b.inside.cache b.inside.origin got read answer chosen e g
+        by (Open opened_in) jt (Cell step) e g h = none_goes P A shape (Opens mode reading) devices actors a x (Cell step) got ex b.keeping
+        by (Open opened_in) jt (Device step) e g h = none_goes P A shape (Opens mode reading) devices actors a x (Device step) got ex b.keeping
+        by (Open opened_in) jt (Desk step) e g h = none_goes P A shape (Opens mode reading) devices actors a x (Desk step) got ex b.keeping
+        by (Read extent) jt v e g h = absurd h
+        by (Write extent content) jt v e g h = absurd h
+        by Flush jt v e g h = absurd h
+        by (Migrate migration block) jt v e g h = absurd h
+
+    keep_fault : (devices : Devices (List History)) (commit : Option RunningCommit) (phase : Phase P A) (actors : List Actor) (n : Notes) → Whole (record { devices = devices; commit = commit; phase = phase; actors = actors }) n → (a : ℕ) (x : Actor) (job : Job) (plan : Plan) → slice_get actors a ≡ Some x → x.task ≡ Some (job, plan) → (choice : Choice) (next : Want) (chosen : Chosen P A) → next ≡ want plan → MayFailAt devices choice next →
+        Keeping (phase_then shape phase next Fault chosen) (slice_set actors a (actor_then shape phase devices x next Fault))
+    keep_fault devices commit (Stands t) actors n b a x job plan ex xt choice (Device step) chosen e m = fault_keeps P A shape b.goes.images t commit devices actors n b.goes.known b.goes.followed b.used.here b.used.suited b.keeping a x ex job plan xt step chosen e
+    keep_fault devices commit Gone actors n b a x job plan ex xt choice (Device step) chosen e m = none_goes P A shape Gone devices actors a x (Device step) Fault ex b.keeping
+    keep_fault devices commit (Opens mode reading) actors n b a x job plan ex xt choice (Device step) chosen e m = none_goes P A shape (Opens mode reading) devices actors a x (Device step) Fault ex b.keeping
+    keep_fault devices commit phase actors n b a x job plan ex xt choice (Cell step) chosen e m = absurd m
+    keep_fault devices commit phase actors n b a x job plan ex xt choice (Desk step) chosen e m = absurd m
+    keep_fault devices commit phase actors n b a x job plan ex xt choice (End answer) chosen e m = absurd m
+
+    abbrev Keeps : State P A → Type 0
+    Keeps w = Keeping w.phase w.actors
+
+    keep_steps : (w : State P A) (n : Notes) → Whole w n → (a : ℕ) (next : Want) (got : Got) (read : List Bytes) (chosen : Chosen P A) (o : Option Actor) → slice_get w.actors a ≡ o → OfSome o (λ x. OfSome x.task (λ doing. (next ≡ want doing.1) × Gives shape w doing.0 next got read chosen)) →
+        Keeps (with_actor w o (λ x. stepped shape w a x next got chosen (λ step. device_done (job_of x.task) x.buffer step chosen)))
+    keep_steps w n b a next got read chosen None e h = absurd h
+    keep_steps w n b a next got read chosen (Some x) e h = by x.task refl h
+      where
+        by : (t : Option (Job × Plan)) → x.task ≡ t → OfSome t (λ doing. (next ≡ want doing.1) × Gives shape w doing.0 next got read chosen) → Keeping (phase_then shape w.phase next got chosen) (slice_set w.actors a (actor_then shape w.phase w.devices x next got))
+        by None xt h = absurd h
+        by (Some task) xt h = keep_by_phase w.devices w.commit w.phase w.actors n b a x task.0 task.1 e xt next got read chosen h.0 h.1
+
+    keep_faults : (w : State P A) (n : Notes) → Whole w n → (a : ℕ) (choice : Choice) (next : Want) (chosen : Chosen P A) (o : Option Actor) → slice_get w.actors a ≡ o → OfSome o (λ x. OfSome x.task (λ doing. (next ≡ want doing.1) × MayFailAt w.devices choice next × Falters w choice next chosen)) →
+        Keeps (with_actor w o (λ x. stepped shape w a x next Fault chosen (λ step. device_failed (lands (device_of step) choice) (job_of x.task) x.buffer step chosen)))
+    keep_faults w n b a choice next chosen None e h = absurd h
+    keep_faults w n b a choice next chosen (Some x) e h = by x.task refl h
+      where
+        by : (t : Option (Job × Plan)) → x.task ≡ t → OfSome t (λ doing. (next ≡ want doing.1) × MayFailAt w.devices choice next × Falters w choice next chosen) → Keeping (phase_then shape w.phase next Fault chosen) (slice_set w.actors a (actor_then shape w.phase w.devices x next Fault))
+        by None xt h = absurd h
+        by (Some task) xt h = keep_fault w.devices w.commit w.phase w.actors n b a x task.0 task.1 e xt choice next chosen h.0 h.1
+
+    keep_opening : (w : State P A) (a : ℕ) (x : Actor) (mode : Mode) (chosen : Chosen P A) → slice_get w.actors a ≡ Some x → Keeps (started shape w a (Open mode) chosen)
+    keep_opening w a x mode chosen ex =
+        let c = cleared w (Open mode) in
+        subst (λ (o : Option Actor). Keeps (with_actor c o (λ y. record c { phase = phase_given c.phase (Open mode) chosen; actors = slice_set c.actors a (given shape y (Open mode) chosen) }))) (sym (there_rests w.actors a x ex))
+        (none_set c.actors a (given shape Rattle.wb_runs.specs.States.resting (Open mode) chosen) refl (none_rest w.actors))
+
+    keep_at_target : (t : Target P) (commit : Option RunningCommit) (devices : Devices (List History)) (actors : List Actor) (n : Notes) → Whole (at_target t commit devices actors) n → (a : ℕ) (x : Actor) (job : Job) (chosen : Chosen P A) → slice_get actors a ≡ Some x → x.task ≡ None → (¬ Rattle.wb_runs.specs.Happenings.IsOutOfPlace {P = P} {A = A} (Stands t) job) →
+        StartGives shape (Stands t) (Some x) job Started chosen → cleared (at_target t commit devices actors) job ≡ at_target t commit devices actors → Keeps (started shape (at_target t commit devices actors) a job chosen)
+    keep_at_target t commit devices actors n b a x job chosen ex xt place g same =
+        let w = at_target t commit devices actors in
+        subst (λ (c : State P A). Keeps (with_actor c (slice_get c.actors a) (λ y. record c { phase = phase_given c.phase job chosen; actors = slice_set c.actors a (given shape y job chosen) }))) (sym same)
+        (subst (λ (o : Option Actor). Keeps (with_actor w o (λ y. record w { phase = phase_given w.phase job chosen; actors = slice_set w.actors a (given shape y job chosen) }))) (sym ex)
+        (start_keeps P A shape b.goes.images t commit devices actors n b.goes.known b.goes.followed b.used.here b.used.suited b.keeping a x ex xt job chosen g))
+
+    keep_start : (w : State P A) (phase : Phase P A) → w.phase ≡ phase → (n : Notes) → Whole w n → (a : ℕ) (x : Actor) (job : Job) (chosen : Chosen P A) → slice_get w.actors a ≡ Some x → x.task ≡ None → (¬ Rattle.wb_runs.specs.Happenings.IsOutOfPlace phase job) → StartGives shape phase (Some x) job Started chosen → Keeps (started shape w a job chosen)
+    keep_start w phase e n b a x (Open mode) chosen ex xt place g = keep_opening w a x mode chosen ex
+    keep_start w (Stands t) e n b a x (Read extent) chosen ex xt place g =
+        let is : record { devices = w.devices; commit = w.commit; phase = Stands t; actors = w.actors } ≡ w = λ i. record w { phase = sym e i } in
+        subst (λ (v : State P A). Keeps (started shape v a (Read extent) chosen)) is (keep_at_target t w.commit w.devices w.actors n (subst (λ (v : State P A). Whole v n) (sym is) b) a x (Read extent) chosen ex xt place g refl)
+    keep_start w (Stands t) e n b a x (Write extent content) chosen ex xt place g =
+        let is : record { devices = w.devices; commit = w.commit; phase = Stands t; actors = w.actors } ≡ w = λ i. record w { phase = sym e i } in
+        subst (λ (v : State P A). Keeps (started shape v a (Write extent content) chosen)) is (keep_at_target t w.commit w.devices w.actors n (subst (λ (v : State P A). Whole v n) (sym is) b) a x (Write extent content) chosen ex xt place g refl)
+    keep_start w (Stands t) e n b a x Flush chosen ex xt place g =
+        let is : record { devices = w.devices; commit = w.commit; phase = Stands t; actors = w.actors } ≡ w = λ i. record w { phase = sym e i } in
+        subst (λ (v : State P A). Keeps (started shape v a Flush chosen)) is (keep_at_target t w.commit w.devices w.actors n (subst (λ (v : State P A). Whole v n) (sym is) b) a x Flush chosen ex xt place g refl)
+    keep_start w (Stands t) e n b a x (Migrate m block) chosen ex xt place g =
+        let is : record { devices = w.devices; commit = w.commit; phase = Stands t; actors = w.actors } ≡ w = λ i. record w { phase = sym e i } in
+        subst (λ (v : State P A). Keeps (started shape v a (Migrate m block) chosen)) is (keep_at_target t w.commit w.devices w.actors n (subst (λ (v : State P A). Whole v n) (sym is) b) a x (Migrate m block) chosen ex xt place g refl)
+    keep_start w Gone e n b a x (Read extent) chosen ex xt place g = absurd (place (λ z. z))
+    keep_start w Gone e n b a x (Write extent content) chosen ex xt place g = absurd (place (λ z. z))
+    keep_start w Gone e n b a x Flush chosen ex xt place g = absurd (place (λ z. z))
+    keep_start w Gone e n b a x (Migrate m block) chosen ex xt place g = absurd (place (λ z. z))
+    keep_start w (Opens mode reading) e n b a x (Read extent) chosen ex xt place g = absurd (place (λ z. z))
+    keep_start w (Opens mode reading) e n b a x (Write extent content) chosen ex xt place g = absurd (place (λ z. z))
+    keep_start w (Opens mode reading) e n b a x Flush chosen ex xt place g = absurd (place (λ z. z))
+    keep_start w (Opens mode reading) e n b a x (Migrate m block) chosen ex xt place g = absurd (place (λ z. z))
+
+    keep_starts : (w : State P A) (n : Notes) → Whole w n → (a : ℕ) (job : Job) (chosen : Chosen P A) → (¬ DoesNotApply w (Start a job)) → StartGives shape w.phase (slice_get w.actors a) job Started chosen → Keeps (started shape w a job chosen)
+    keep_starts w n b a job chosen applies g =
+        let x = free P A w a job applies in
+        keep_start w w.phase refl n b a x.0 job chosen x.1 x.2 (λ o. applies (inr (inr o))) (subst (λ (o : Option Actor). StartGives shape w.phase o job Started chosen) x.1 g)
+
+    keep_what : (w : State P A) (n : Notes) → Whole w n → (event : Event) (what : What) (read : List Bytes) (chosen : Chosen P A) → MayBe shape w event what read chosen → Keeps (after_what shape w event what chosen)
+    keep_what w n b (Start a job) Started read chosen h = keep_starts w n b a job chosen h.1 h.2
+    keep_what w n b (Step a) (Stepped next got) read chosen h = keep_steps w n b a next got read chosen (slice_get w.actors a) refl h
+    keep_what w n b (FaultStep a choice) (Stepped next got) read chosen h = subst (λ (g : Got). Keeps (after_what shape w (FaultStep a choice) (Stepped next g) chosen)) (sym h.1) (keep_faults w n b a choice next chosen (slice_get w.actors a) refl h.2)
+    keep_what w n b (Stop choice) Stopped read chosen h = none_rest w.actors
+    keep_what w n b (Start a job) Skipped read chosen h = b.keeping
+    keep_what w n b (Start a job) (Refused refusal) read chosen h = b.keeping
+    keep_what w n b (Step a) Skipped read chosen h = b.keeping
+    keep_what w n b (Step a) (Refused refusal) read chosen h = b.keeping
+    keep_what w n b (FaultStep a choice) Skipped read chosen h = b.keeping
+    keep_what w n b (FaultStep a choice) (Refused refusal) read chosen h = b.keeping
+    keep_what w n b (Stop choice) Skipped read chosen h = b.keeping
+    keep_what w n b (Stop choice) (Refused refusal) read chosen h = b.keeping
+    keep_what w n b (Start a job) (Stepped next got) read chosen h = b.keeping
+    keep_what w n b (Start a job) Stopped read chosen h = b.keeping
+    keep_what w n b (Step a) Started read chosen h = b.keeping
+    keep_what w n b (Step a) Stopped read chosen h = b.keeping
+    keep_what w n b (FaultStep a choice) Started read chosen h = b.keeping
+    keep_what w n b (FaultStep a choice) Stopped read chosen h = b.keeping
+    keep_what w n b (Stop choice) Started read chosen h = b.keeping
+    keep_what w n b (Stop choice) (Stepped next got) read chosen h = b.keeping
+
     -- ---- every event
 
     goes_what : (w : State P A) (n : Notes) → Whole w n → (event : Event) (what : What) (read : List Bytes) (chosen : Chosen P A) → MayBe shape w event what read chosen → Goes P A shape (after_what shape w event what chosen) (noted_what shape (shown shape (after_what shape w event what chosen)) n event what read)
@@ -318,7 +446,7 @@ module _ (P A : Type 0) (shape : Shape) where
           linked = links_what P A shape (shown shape (after_happening shape w h)) w n event what read h.chosen known b.used b.linked m;
           inside = inside_what P A shape w n event what read h.chosen (base_of w n b) b.inside m;
           asked = what_asked (sector_count shape) shape (shown shape (after_happening shape w h)) n event what read (b.goes.followed.notes_agree.as_many ∙ b.goes.followed.sized.sectors) b.asked;
-          keeping = keeping_what P A shape w n event what read h.chosen (base_of w n b) b.inside b.keeping m;
+          keeping = keep_what w n b event what read h.chosen m;
           placed = placed_what P A shape w b.used b.placed event what read h.chosen m;
         }
 
