@@ -296,13 +296,13 @@ module _ (P A : Type 0) (shape : Shape) (images : Images) (t : Target P) (commit
                 let is_right : number_of place ≡ place_of t.desk.tree.entries o.0 = (subst (λ (s : CellStep). SealsRight (place_of t.desk.tree.entries o.0) (Cell s ∷ first.0)) is (subst (λ (us : List Want). SealsRight (place_of t.desk.tree.entries o.0) us) first.1 (right Own o mine.1))).0 in
                 inr (inl (ap (λ (v : Option ℕ). number_of (place_in (unwrap_or v 0))) put ∙ ap number_of (seal_told o place dirty is) ∙ is_right ∙ ap (place_of t.desk.tree.entries) (sym same))))
             | inr other ↦ inl (
-                ap (λ (v : Option ℕ). unwrap_or v 0) (set_other t.words.seals o.0 b.0 (seal_word place dirty) other),
-                refl,
-                λ p sealed. (
-                    let q = subst (λ (task : Option (Job × Plan)). SealsNext b p task) xt sealed in
-                    let both : Cell (Seal o place dirty) ≡ Cell (Seal b p q.0) = is_next ∙ q.1 in
-                    let same : o ≡ b = cc in other (ap (λ (v : OBlock). v.0) (sym same))),
-              )
+              ap (λ (v : Option ℕ). unwrap_or v 0) (set_other t.words.seals o.0 b.0 (seal_word place dirty) other),
+              refl,
+              λ p sealed. (
+                  let q = subst (λ (task : Option (Job × Plan)). SealsNext b p task) xt sealed in
+                  let both : Cell (Seal o place dirty) ≡ Cell (Seal b p q.0) = is_next ∙ q.1 in
+                  let same : o ≡ b = cc in other (ap (λ (v : OBlock). v.0) (sym same))),
+            )
           ]
 
       told : Told step
@@ -390,10 +390,10 @@ module _ (P A : Type 0) (shape : Shape) (images : Images) (t : Target P) (commit
           tells : (o : OBlock) → Untold (record { words = t.words; desk = desk' }) o ⊎ Tells t.words desk'.tree.entries (slice_set actors a (y (Desk step) Done)) o
           tells o = elim (cases_eq o.0 b.0) [
             | inl same ↦ inr (inr (
-                place,
-                here ∙ ap (place_of desk'.tree.entries) (sym same),
-                (a, (y (Desk step) Done, set_there actors a x (y (Desk step) Done) ex, subst (λ (task : Option (Job × Plan)). SealsNext o place task) (sym task_is) (let s = sealed plan.answer in (s.0, s.1 ∙ (λ i. Cell (Seal (record { 0 = sym same i }) place s.0)))))),
-              ))
+              place,
+              here ∙ ap (place_of desk'.tree.entries) (sym same),
+              (a, (y (Desk step) Done, set_there actors a x (y (Desk step) Done) ex, subst (λ (task : Option (Job × Plan)). SealsNext o place task) (sym task_is) (let s = sealed plan.answer in (s.0, s.1 ∙ (λ i. Cell (Seal (record { 0 = sym same i }) place s.0)))))),
+            ))
             | inr other ↦ inl (refl, elsewhere o.0 other, not_sealing (Desk step) e (λ v p d q. absurd (cc)) o)
           ]
 

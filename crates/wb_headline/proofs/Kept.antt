@@ -138,9 +138,6 @@ module _ (P A : Type 0) (shape : Shape) (images : Images) (t : Target P) (commit
     abbrev After : Want → Got → Chosen P A → Type 0
     After next got chosen = Keeping (phase_then {P = P} {A = A} shape (Stands t) next got chosen) (slice_set actors a (actor_then {P = P} {A = A} shape (Stands t) devices x next got))
 
-
-
-
     -- a commit begins, or does not
     begins_keeps : (clean : Bool) (most : ℕ) (got : Got) (chosen : Chosen P A) → Desk (BeginCommit clean most) ≡ want plan → DoesBegin most t.desk got chosen → After (Desk (BeginCommit clean most)) got chosen
     begins_keeps clean most got chosen e d = desk_plain P A shape images t commit devices actors n known f rule all_suited k a x ex job plan xt (BeginCommit clean most) got (begun_desk chosen t.desk) e
