@@ -460,7 +460,14 @@ root_unsynced="$cached / $flushed / $flushed / $flushed / $flushed / $flushed / 
 dones='0 done/0 done/0 done/0 done/0 done/0 done/0 done/0 done/0 done'
 check 'a root that was written and not synced is not found' "$(replayed "$root_unsynced / stop old / open writeback")" "$dones/open 8 1 1: 0"
 check 'or is' "$(replayed "$root_unsynced / stop new / open writeback")" "$dones/open 9 2 2: 0"
-check 'a line of no replay' "$(replayed 'setup writeback 64 4 10 4 / start 0 demote 0')" 'bad line 2: 1'
+half_demoted="$cached / start 0 w 0 1 22 / end 0 / start 0 flush / end 0 / start 0 w 0 1 33 / end 0 / start 1 demote 0 / step 1 7"
+check 'a half-done demotion may lose what was not flushed' "$(replayed "$half_demoted / stop old / open writeback / view 0 1")" '0 done/0 done/0 done/0 done/0 done/0 done/open 4 1 1/0 22: 0'
+check 'or keep it' "$(replayed "$half_demoted / stop new / open writeback / view 0 1")" '0 done/0 done/0 done/0 done/0 done/0 done/open 4 1 1/0 33: 0'
+check 'a cache block is in quarantine until a later commit has ended' \
+  "$(replayed "$cached / start 1 flush / step 1 2 / start 0 demote 0 / end 0 / end 1 / start 0 promote 5 0 / start 0 promote 5 1 / end 0 / start 0 flush / end 0 / start 0 promote 6 0 / end 0")" \
+  '0 done/0 done/0 done/0 done/1 done/0 refused 3 Busy/0 done/0 done/0 done: 0'
+check 'a block that was written back stays cached' "$(replayed "$cached / start 0 w 0 1 22 / end 0 / start 0 clean 0 / end 0 / stop old / open writeback / view 0 1")" '0 done/0 done/0 done/0 done/0 done/open 3 1 1/0 11: 0'
+check 'a line of no replay' "$(replayed 'setup writeback 64 4 10 4 / start 0 replace 0 5')" 'bad line 2: 1'
 check 'a setup that is refused' "$(replayed 'setup writeback 63 4 10 4')" 'refused 9 Geometry: 1'
 check 'a replay of no line' "$("$cache" replay </dev/null; echo $?)" 0
 has 'help explains replays' "$("$cache" replay --help)" 'setup writeback <block>'

@@ -207,7 +207,7 @@ module _ {P : Type 0} (knows : P → Holdings → Type 0) where
       ap (λ (x : List (Option Entry)). count_by is_some x + 1) changed.entries
       ∙ one_less d.tree.entries c (omega (arith, (mapped_within d b c i at).0, i.mapping.size)) (entry_there d.tree.entries b c at)
 
-  unmapped_kept : (d : DeskState P) (b : OBlock) (c : CBlock) (tree : Mapping) (policy : P) → DeskInvariant knows d → IsMappedAt (holdings d) b.0 c.0 → IsRemoved (order_at d.orders.slots c.0)
+  pub unmapped_kept : (d : DeskState P) (b : OBlock) (c : CBlock) (tree : Mapping) (policy : P) → DeskInvariant knows d → IsMappedAt (holdings d) b.0 c.0 → IsRemoved (order_at d.orders.slots c.0)
       → IsChangedAt d.tree tree c.0 None → knows policy (origins tree.entries) → DeskInvariant knows (unmapped d c tree policy)
   unmapped_kept d b c tree policy i at removed changed known = record {
     mapping = subst (λ (x : List (Option Entry)). IsMapping d.geometry.cache_blocks d.geometry.origin_blocks x) (sym changed.entries)

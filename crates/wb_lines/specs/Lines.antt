@@ -12,7 +12,7 @@ use Rattle.wb_lines.specs.declared.line.TheConstants.{ACTORS}
 use Rattle.wb_lines.specs.declared.line.Line.{Line}
 use Rattle.wb_lines.specs.declared.line.Line.TheVariants.{Nothing, Start, Step, End, Fault, Stop, Open, View}
 use Rattle.wb_lines.specs.declared.line.Task.{Task}
-use Rattle.wb_lines.specs.declared.line.Task.TheVariants.{Read, Write, Flush, Promote}
+use Rattle.wb_lines.specs.declared.line.Task.TheVariants.{Read, Write, Flush, Promote, Demote, Clean}
 use Rattle.wb_lines.specs.declared.setup.Setup.{Setup}
 
 -- one of the actors
@@ -66,12 +66,19 @@ abbrev pub SpellsBlocks : List (List ℕ) → ℕ → ℕ → Type 0
 SpellsBlocks (one ∷ other ∷ []) block cache = SpellsBlock one block × SpellsBlock other cache
 SpellsBlocks words block cache = ⊥
 
--- The words of a task: `r S N`, `w S N hh`, `flush` or `promote b c`.
+-- a block of the origin, and nothing behind it
+abbrev pub SpellsOnlyBlock : List (List ℕ) → ℕ → Type 0
+SpellsOnlyBlock (word ∷ []) block = SpellsBlock word block
+SpellsOnlyBlock words block = ⊥
+
+-- The words of a task: `r S N`, `w S N hh`, `flush`, `promote b c`, `demote b` or `clean b`.
 abbrev pub SpellsTask : List (List ℕ) → Task → Type 0
 SpellsTask (name ∷ words) (Read at count) = (name ≡ codes "r") × SpellsSectors words at.0 count
 SpellsTask (name ∷ words) (Write at count fill) = (name ≡ codes "w") × SpellsFill words at.0 count fill
 SpellsTask (name ∷ words) Flush = (name ≡ codes "flush") × (words ≡ [])
 SpellsTask (name ∷ words) (Promote block cache) = (name ≡ codes "promote") × SpellsBlocks words block cache
+SpellsTask (name ∷ words) (Demote block) = (name ≡ codes "demote") × SpellsOnlyBlock words block
+SpellsTask (name ∷ words) (Clean block) = (name ≡ codes "clean") × SpellsOnlyBlock words block
 SpellsTask words task = ⊥
 
 -- how many steps: one where no number stands

@@ -4,7 +4,7 @@ ghost use Rattle.std.specs.Prelude.{◌≡◌, ◌≢◌, ◌∷◌, ℕ, [], If
 ghost use Rattle.wb_types.specs.declared.refusal.Refusal.TheVariants.{Memory};
 ghost use Rattle.wb_table.specs.Words.{words_of};
 ghost use Rattle.wb_disk.specs.declared.crash_choice.Base.{Base as Kept};
-ghost use Rattle.wb_lines.specs.Lines.{Asks, SpellsActor, SpellsBlock, SpellsBlocks, SpellsEnd, SpellsFault, SpellsStart, SpellsStep, SpellsSteps, SpellsTask};
+ghost use Rattle.wb_lines.specs.Lines.{Asks, SpellsActor, SpellsBlock, SpellsBlocks, SpellsEnd, SpellsFault, SpellsOnlyBlock, SpellsStart, SpellsStep, SpellsSteps, SpellsTask};
 ghost use Rattle.wb_lines.specs.declared.line.Line.{Line as Asked};
 ghost use Rattle.wb_lines.specs.declared.line.Task.{Task as Told};
 
@@ -28,6 +28,10 @@ pub enum Task {
     Flush,
     /// `promote b c`: copies this block of the origin into this cache block, and maps it.
     Promote { block: u32, cache: u32 },
+    /// `demote b`: copies this block home where it is dirty, and unmaps it.
+    Demote { block: u32 },
+    /// `clean b`: copies this block home where it is dirty.
+    Clean { block: u32 },
 }
 
 /// What a line asks.
@@ -227,6 +231,14 @@ fn read_task(mut words: SplitSpaces<'_>) -> Option<Task>
             let (block, cache) = read_blocks(words)?;
             Some(Task::Promote { block, cache })
         }
+        "demote" => {
+            let block = read_last_block(words)?;
+            Some(Task::Demote { block })
+        }
+        "clean" => {
+            let block = read_last_block(words)?;
+            Some(Task::Clean { block })
+        }
         _ => None,
     }
 }
@@ -240,6 +252,16 @@ fn read_blocks(mut words: SplitSpaces<'_>) -> Option<(u32, u32)>
     let cache = read_block(words.next()?)?;
     words.expect_end()?;
     Some((block, cache))
+}
+
+/// Reads a block of the origin, and nothing behind it.
+fn read_last_block(mut words: SplitSpaces<'_>) -> Option<u32>
+    ensures found { IfSome result (λ read. SpellsOnlyBlock (words_of words.entry.0.now) read) }
+    ensures none { IfNone result ((block : ℕ) → ¬ SpellsOnlyBlock (words_of words.entry.0.now) block) }
+{
+    let block = read_block(words.next()?)?;
+    words.expect_end()?;
+    Some(block)
 }
 
 /// Reads the number of a block.

@@ -1,5 +1,5 @@
 -- Recency as the library's list keeps it.
-use Rattle.std.proofs.Common.{◌≡◌, ℕ, ◌<◌, ◌-◌, Bool, true, false, List, [], ◌∷◌, ◌++◌, length, take, reverse, nat_eq, ◌==◌, Option, Some, None, refl, sym, ap, arith}
+use Rattle.std.proofs.Common.{◌≡◌, ℕ, ◌<◌, ◌≤◌, ◌-◌, Bool, true, false, List, [], ◌∷◌, ◌++◌, length, take, reverse, nat_eq, ◌==◌, Option, Some, None, refl, sym, ap, arith}
 use Rattle.std.specs.Map.{lookup_entry, remove_entry}
 use Rattle.std.specs.Option.{option_map_or}
 use Rattle.std.specs.List.{find}
@@ -24,6 +24,15 @@ unremoved test (e ∷ es) h = kept test e es (test e.0) refl h (λ g. unremoved 
 
 nat_same : (a b : ℕ) → nat_eq a b ≡ true → a ≡ b
 nat_same a b h = grind (arith, nat_tests)
+
+-- what is removed makes the list no longer
+pub removed_within : {K V : Type 0} (test : K → Bool) (es : List (K × V)) → length (remove_entry test es) ≤ length es
+removed_within test [] = omega arith
+removed_within test (e ∷ es) = by (test e.0) refl (removed_within test es)
+  where
+    by : (b : Bool) → test e.0 ≡ b → length (remove_entry test es) ≤ length es → length (remove_entry test (e ∷ es)) ≤ length (e ∷ es)
+    by true t rest = rw t (omega arith)
+    by false t rest = rw t (omega (arith, rest))
 
 -- what is put is the most recent, and no other goes out while there is room
 pub put-is : (c : LruCache ℕ ℕ) (block at : ℕ) → length c.entries < c.cap → put_entries nat_eq c block at ≡ newly_mapped block at c.entries

@@ -1,15 +1,16 @@
 //! The mapped blocks in the order of their last use.
 
-ghost use Rattle.std.specs.Prelude.{◌≡◌, [], IfOk, IfErr, OnOk, OnErr, is_some, nat_eq};
+ghost use Rattle.std.specs.Prelude.{◌≡◌, [], IfOk, IfErr, OnOk, OnErr, is_some, map, nat_eq};
 ghost use Rattle.std.specs.Map.{lookup};
 ghost use Rattle.std.specs.Option.{option_map};
-ghost use Rattle.wb_policy.specs.Recency.{used, newly_mapped, no_longer_mapped, least_recent, is_idle, is_dirty_and_idle};
+ghost use Rattle.wb_policy.specs.Recency.{used, mapped_in_order, newly_mapped, no_longer_mapped, least_recent, is_idle, is_dirty_and_idle};
 
 use crate::Tick;
 use crate::situation::{is_busy, is_dirty};
 use lru::LruCache;
 use std::alloc::Global;
 use std::marker::Model;
+use std::num::NonZeroUsize;
 use wb_types::{CBlock, OBlock, Refusal};
 
 /// The mapped origin blocks with their cache blocks, the most recently used first.
@@ -35,6 +36,28 @@ impl Recency {
         ensures refused { IfErr result (λ e. e ≡ Refusal.Memory) }
     {
         let blocks = LruCache::unbounded(alloc)?;
+        Ok(Recency { blocks })
+    }
+
+    /// These blocks are mapped one after the other, each with its hint, which is of no account here, and its cache block. The table is made
+    /// for them all at once, and grows with those that follow. `Memory` where there is none.
+    pub(crate) fn of(alloc: Global, placed: &[(u8, (u32, u32))]) -> Result<Recency, Refusal>
+        ensures value { IfOk result (λ r. r ≡ mapped_in_order [] (map (λ p. (p.1.1, p.1.0)) placed.now)) }
+        ensures refused { IfErr result (λ e. e ≡ Refusal.Memory) }
+    {
+        let Some(room) = NonZeroUsize::new(placed.len()) else {
+            return Recency::new(alloc);
+        };
+        let mut blocks = LruCache::new(alloc, room)?;
+        for number in 0..placed.len() {
+            let (_, (at, block)) = placed[number];
+            match blocks.put(block, at) {
+                Ok(_) => {}
+                Err(_) => return Err(Refusal::Memory),
+            }
+        }
+        let _fits = blocks.len();
+        blocks.resize(NonZeroUsize::MAX);
         Ok(Recency { blocks })
     }
 

@@ -205,11 +205,7 @@ fn placed(alloc: Global, mapping: &[Option<Entry>]) -> Result<Recency, Refusal>
 {
     let mut blocks = mapped_blocks(alloc, mapping)?;
     blocks.sort()?;
-    let mut recency = Recency::new(alloc)?;
-    for number in 0..blocks.len() {
-        let (_, (at, block)) = blocks[number];
-        recency.insert(OBlock(block), CBlock(at))?;
-    }
+    let recency = Recency::of(alloc, blocks.as_slice())?;
     Ok(recency)
 }
 

@@ -87,9 +87,6 @@ module _ (actors : List Actor) (there : ℕ) (s : Shared) (part : BlockRange) (c
   abbrev of : Migration → List Want → Answer → Plan
   of migration steps answer = plan_of (Migrating migration part) steps answer
 
-  refused_alike : (refusal : Refusal) (answer : AbstractAnswer) → answer ≢ AnsweredDone → AnswersAlike (Refuses refusal) answer
-  refused_alike refusal answer n = n
-
   looks_fail : (migration : Migration) (block : OBlock) (answer : Answer) (told : AbstractAnswer) (buffer : Content) (words : Words) (card : Card) → WordsAgree words s → AnswersAlike answer told →
       Then migration (of migration (Cell (Look Fail) ∷ Cell (Look (LockWord block)) ∷ []) answer) card told buffer words (after (of migration (Cell (Look Fail) ∷ Cell (Look (LockWord block)) ∷ []) answer) (Word words.fail)) (looked Fail words.fail card)
   looks_fail migration block answer told buffer words card w alike = by_test (words.fail == 0) (flag_of words.fail (words.fail == 0) refl)

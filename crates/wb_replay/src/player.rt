@@ -216,6 +216,16 @@ fn job_of(task: Task) -> (Given, u64, Job) {
             0,
             Job::Migrate(Migration::Promote(CBlock(cache)), OBlock(block)),
         ),
+        Task::Demote { block } => (
+            Given::Other,
+            0,
+            Job::Migrate(Migration::Demote, OBlock(block)),
+        ),
+        Task::Clean { block } => (
+            Given::Other,
+            0,
+            Job::Migrate(Migration::Clean, OBlock(block)),
+        ),
     }
 }
 

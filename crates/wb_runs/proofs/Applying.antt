@@ -1,5 +1,6 @@
 -- Whether an event applies is decided, and so is whether a promotion may be given its order.
-use Rattle.std.proofs.Common.{◌≡◌, ◌≢◌, ◌∙◌, ◌≤◌, ◌<◌, ◌+◌, ◌^◌, inl, inr, ℕ, zero, suc, Bool, true, false, List, [], ◌∷◌, Option, Some, None, Contains, refl, sym, ap, subst, arith, length, slice_get}
+use Rattle.std.proofs.Common.{◌≡◌, ◌≢◌, ◌≤◌, ◌<◌, ◌+◌, ◌^◌, inl, inr, ℕ, zero, suc, Bool, true, false, List, [], ◌∷◌, Option, Some, None, Contains, refl, sym, ap, subst, arith, length, slice_get}
+use Rattle.wb_tasks.specs.declared.step.Migration.{Migration}
 use Rattle.std.specs.Prelude.{All}
 use Rattle.std.proofs.lemmas.Bool.{cases_eq, cases_lt}
 use Rattle.std.proofs.lemmas.List.Elements.{All-cons, All-nil, All-from_recursion, recursion_from_All}
@@ -15,14 +16,14 @@ use Rattle.wb_types.specs.declared.number.CBlock.{CBlock}
 use Rattle.wb_types.specs.declared.number.OBlock.{OBlock}
 use Rattle.wb_types.proofs.Lists.{Contains-first, Contains-behind}
 use Rattle.wb_policy.specs.declared.order.Order.{Order}
-use Rattle.wb_policy.specs.declared.order.Order.TheVariants.{Promote as PromoteOrder}
-use Rattle.wb_policy.specs.Law.{Holdings, IsUnmapped}
+use Rattle.wb_policy.specs.declared.order.Order.TheVariants.{Promote as PromoteOrder, Demote as DemoteOrder, Clean as CleanOrder}
+use Rattle.wb_policy.specs.Law.{Holdings, IsUnmapped, IsMappedAt}
 use Rattle.wb_space.specs.declared.block.Block.{Block}
 use Rattle.wb_space.specs.declared.block.Block.TheVariants.{Free, Mapped, Reserved, Quarantined}
 use Rattle.wb_orders.specs.declared.live_order.LiveOrder.{LiveOrder}
 use Rattle.wb_orders.specs.Named.{first_of, second_of}
-use Rattle.wb_orders.specs.Orders.{cost_of}
-use Rattle.wb_desk.specs.Desks.{DeskState, holdings, sectors_asked}
+use Rattle.wb_orders.specs.Orders.{cost_of, MayGive}
+use Rattle.wb_desk.specs.Desks.{DeskState, holdings, sectors_asked, IsLawful}
 use Rattle.wb_tasks.specs.declared.step.Migration.TheVariants.{Promote, Demote, Clean}
 use Rattle.wb_tasks.specs.Plan.{device_of}
 use Rattle.wb_tasks.specs.declared.step.Want.{Want}
@@ -32,10 +33,10 @@ use Rattle.wb_devices.specs.Moving.{device_in}
 use Rattle.wb_runs.specs.declared.job.Job.{Job}
 use Rattle.wb_runs.specs.declared.job.Job.TheVariants.{Read, Write, Flush, Open, Migrate}
 use Rattle.wb_runs.specs.States.{Phase, Stands, Gone, Opens}
-use Rattle.wb_runs.specs.Happenings.{MayFailAt, MayStop, MayOrder, IsOutOfPlace}
+use Rattle.wb_runs.specs.Happenings.{MayFailAt, MayStop, MayOrder, IsOutOfPlace, order_for}
 use Rattle.wb_runs.proofs.Spelling.{Decided, two_of, at_most}
 use Rattle.wb_runs.proofs.Lists.{first_or}
-use Rattle.wb_runs.proofs.Desks.{one_order}
+use Rattle.wb_runs.proofs.Desks.{one_order, found_where}
 
 one_device : (a b : Dev) → Decided (a ≡ b)
 one_device Metadata Metadata = inl refl
@@ -143,11 +144,9 @@ out_of_place (Opens m r) (Open mode) = elim (is_writeback mode) [
 out_of_place (Stands t) (Read extent) = inr (λ o. o tt)
 out_of_place (Stands t) (Write extent content) = inr (λ o. o tt)
 out_of_place (Stands t) Flush = inr (λ o. o tt)
-out_of_place (Stands t) (Migrate (Promote c) block) = inr (λ o. elim o [ inl f ↦ f tt | inr n ↦ n tt ])
-out_of_place (Stands t) (Migrate Demote block) = inl (inr (λ f. f))
-out_of_place (Stands t) (Migrate Clean block) = inl (inr (λ f. f))
-out_of_place Gone (Migrate migration block) = inl (inl (λ f. f))
-out_of_place (Opens m r) (Migrate migration block) = inl (inl (λ f. f))
+out_of_place (Stands t) (Migrate migration block) = inr (λ o. o tt)
+out_of_place Gone (Migrate migration block) = inl (λ f. f)
+out_of_place (Opens m r) (Migrate migration block) = inl (λ f. f)
 out_of_place Gone (Read extent) = inl (λ f. f)
 out_of_place Gone (Write extent content) = inl (λ f. f)
 out_of_place Gone Flush = inl (λ f. f)
@@ -208,17 +207,34 @@ is_unmapped (o ∷ os) block = elim (two_of (is_other o block) (is_unmapped os b
     each here rest zero = here
     each here rest (suc at) = rest at
 
--- whether a promotion's order may be given
-pub may_promote : {P : Type 0} (desk : DeskState P) (block : OBlock) (c : CBlock) → Decided (MayOrder desk (PromoteOrder block c))
-may_promote {P} desk block c = elim (two_of (two_of (not_passthrough desk.mode) (two_of (is_free_block (slice_get desk.space.blocks c.0)) (is_unmapped (holdings desk) block.0)))
-    (two_of (two_of (is_vacant (slice_get desk.orders.slots c.0)) (two_of (is_idle (slice_get desk.orders.busy (first_of order).0)) (is_idle (slice_get desk.orders.busy (second_of order).0))))
-    (two_of (at_most (cost_of desk.orders.slots + sectors_asked desk.geometry order) desk.threshold) (below (desk.orders.given + 1) (2 ^ 64))))) [
-      | inl d ↦ inl (c, record { mode = d.0.0; lawful = (refl, d.0.1.0, d.0.1.1); give = record { vacant = d.1.0.0; idle = (d.1.0.1.0, d.1.0.1.1); room = d.1.1.0; countable = d.1.1.1 } })
-      | inr none ↦ inr (λ may. none (
-        (may.1.mode, (may.1.lawful.1, may.1.lawful.2)),
-        ((ap (λ (k : CBlock). slice_get desk.orders.slots k.0) (sym may.1.lawful.0) ∙ may.1.give.vacant, may.1.give.idle), (may.1.give.room, may.1.give.countable)),
-      ))
+-- whether the desk may give an order that takes this cache block
+may_give : {P : Type 0} (desk : DeskState P) (c : CBlock) (order : Order) → Decided (MayGive desk.orders c order (sectors_asked desk.geometry order) desk.threshold)
+may_give desk c order = elim (two_of (two_of (is_vacant (slice_get desk.orders.slots c.0)) (two_of (is_idle (slice_get desk.orders.busy (first_of order).0)) (is_idle (slice_get desk.orders.busy (second_of order).0))))
+    (two_of (at_most (cost_of desk.orders.slots + sectors_asked desk.geometry order) desk.threshold) (below (desk.orders.given + 1) (2 ^ 64)))) [
+      | inl d ↦ inl (record { vacant = d.0.0; idle = (d.0.1.0, d.0.1.1); room = d.1.0; countable = d.1.1 })
+      | inr none ↦ inr (λ give. none ((give.vacant, give.idle), (give.room, give.countable)))
     ]
-  where
-    order : Order
-    order = PromoteOrder block c
+
+-- whether a promotion's order may be given
+may_promote : {P : Type 0} (desk : DeskState P) (block : OBlock) (c : CBlock) → Decided (MayOrder desk (PromoteOrder block c))
+may_promote desk block c = elim (two_of (two_of (not_passthrough desk.mode) (two_of (is_free_block (slice_get desk.space.blocks c.0)) (is_unmapped (holdings desk) block.0))) (may_give desk c (PromoteOrder block c))) [
+  | inl d ↦ inl (c, record { mode = d.0.0; lawful = (refl, d.0.1.0, d.0.1.1); give = d.1 })
+  | inr none ↦ inr (λ may. none (
+    (may.1.mode, (may.1.lawful.1, may.1.lawful.2)),
+    subst (λ (k : CBlock). MayGive desk.orders k (PromoteOrder block c) (sectors_asked desk.geometry (PromoteOrder block c)) desk.threshold) may.1.lawful.0 may.1.give,
+  ))
+]
+
+-- whether one of a block's order may be given that takes the cache block where it stands
+may_where : {P : Type 0} (desk : DeskState P) (block : OBlock) (order : Order) → ((cache : CBlock) → IsMappedAt (holdings desk) block.0 cache.0 → IsLawful desk cache order) →
+    ((cache : CBlock) → IsLawful desk cache order → IsMappedAt (holdings desk) block.0 cache.0) → Decided (MayOrder desk order)
+may_where desk block order to from = elim (two_of (not_passthrough desk.mode) (found_where (holdings desk) block.0 (λ c. MayGive desk.orders (record { 0 = c }) order (sectors_asked desk.geometry order) desk.threshold) (λ c. may_give desk (record { 0 = c }) order))) [
+  | inl d ↦ inl (record { 0 = d.1.0 }, record { mode = d.0; lawful = to (record { 0 = d.1.0 }) d.1.1; give = d.1.2 })
+  | inr none ↦ inr (λ may. none (may.1.mode, (may.0.0, from may.0 may.1.lawful, may.1.give)))
+]
+
+-- whether a migration's order may be given
+pub may_order : {P : Type 0} (desk : DeskState P) (migration : Migration) (block : OBlock) → Decided (MayOrder desk (order_for migration block))
+may_order desk (Promote c) block = may_promote desk block c
+may_order desk Demote block = may_where desk block (DemoteOrder block) (λ cache at. at) (λ cache at. at)
+may_order desk Clean block = may_where desk block (CleanOrder block) (λ cache at. at) (λ cache at. at)

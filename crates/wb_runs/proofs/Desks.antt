@@ -1,14 +1,19 @@
--- What is known of a desk and its metadata stays known when an order is given, given up, or ends since its block was mapped.
-use Rattle.std.proofs.Common.{◌≡◌, ◌∙◌, inl, inr, ℕ, zero, suc, false, List, [], ◌∷◌, Option, Some, None, refl, sym, ap, subst, slice_set}
+-- What is known of a desk and its metadata stays known when an order is given, given up, or ends since its block was mapped or unmapped.
+use Rattle.std.proofs.Common.{◌≡◌, ◌∙◌, inl, inr, if◌then◌else◌, ℕ, zero, suc, Bool, true, false, List, [], ◌∷◌, Option, Some, None, refl, sym, ap, subst, slice_set}
 use Rattle.std.specs.Prelude.{◌+◌}
+use Rattle.wb_types.specs.declared.entry.Entry.{Entry}
+use Rattle.wb_tree.proofs.Stored.Edited.{edited-once}
+use Rattle.wb_tree.proofs.Branching.Edits.{changed_at, changed-forgets, changed-sound, forgot_off}
+use Rattle.wb_policy.specs.Law.{Holdings, IsMappedAt}
+use Rattle.wb_desk.proofs.Leaving.{unmapped_kept, found_there}
 use Rattle.std.proofs.lemmas.Bool.{cases_eq, cases_Bool}
 use Rattle.wb_runs.proofs.Spelling.{Decided}
 use Rattle.wb_types.specs.declared.geometry.Geometry.{Geometry}
 use Rattle.wb_types.specs.declared.number.OBlock.{OBlock}
 use Rattle.wb_types.specs.declared.number.CBlock.{CBlock}
 use Rattle.wb_disk.specs.Device.{History}
-use Rattle.wb_tree.specs.Mapping.{Mapping}
-use Rattle.wb_tree.specs.Edits.{IsChangedAt}
+use Rattle.wb_tree.specs.Mapping.{Mapping, IsSound}
+use Rattle.wb_tree.specs.Edits.{IsChangedAt, IsEdited}
 use Rattle.wb_tree.proofs.Stored.Edited.{edited-more}
 use Rattle.wb_meta.proofs.Round.{stored_edited}
 use Rattle.wb_policy.specs.declared.order.Order.{Order}
@@ -16,12 +21,12 @@ use Rattle.wb_policy.specs.declared.order.Order.TheVariants.{Promote, Replace, D
 use Rattle.wb_orders.specs.declared.live_order.LiveOrder.{LiveOrder}
 use Rattle.wb_orders.specs.Orders.{Orders, AreOrders, order_at, without_order, unmarked}
 use Rattle.wb_orders.proofs.Calls.{given_kept, over_kept}
-use Rattle.wb_desk.specs.Desks.{DeskState, MayReserve, IsLive, sectors_asked}
+use Rattle.wb_desk.specs.Desks.{DeskState, MayReserve, IsLive, DeskInvariant, sectors_asked, holdings}
 use Rattle.wb_desk.specs.Calls.{reserved, released}
-use Rattle.wb_desk.specs.Entries.{MayMap, entry_of, mapped}
+use Rattle.wb_desk.specs.Entries.{MayMap, MayUnmap, IsRemoved, Removes, entry_of, mapped, unmapped, is_replacement, orders_past}
 use Rattle.wb_desk.proofs.Kept.{reserved_kept, released_kept}
 use Rattle.wb_desk.proofs.Entering.{mapped_kept}
-use Rattle.wb_stage.specs.Asking.{IsGivenUp}
+use Rattle.wb_stage.specs.Asking.{IsGivenUp, DidUnmap}
 use Rattle.wb_devices.specs.declared.running.RunningCommit.{RunningCommit}
 use Rattle.wb_runs.proofs.Images.{Images}
 use Rattle.wb_runs.proofs.Metadata.{unknowing, Standing, AtDesk}
@@ -110,6 +115,70 @@ is_live desk order = elim (is_in order desk.orders.slots) [
   | inr none ↦ inr (λ l. none (record { cache = l.cache.0; live = l.live; there = l.there; is = record { same = l.same; taken = l.taken } }))
 ]
 
+is_at : (o : Option ℕ) (block : ℕ) → Decided (Some o ≡ Some (Some block))
+is_at None block = inr (λ e. absurd (cc))
+is_at (Some b) block = elim (cases_eq b block) [
+  | inl e ↦ inl (ap (λ (k : ℕ). Some (Some k)) e)
+  | inr n ↦ inr (λ e. n (let same : Some b ≡ Some block = cc in cc))
+]
+
+-- whether a block stands in a cache block of which something holds that is decided
+pub found_where : (mapping : Holdings) (block : ℕ) (Holds : ℕ → Type 0) → ((c : ℕ) → Decided (Holds c)) → Decided ((c : ℕ) × IsMappedAt mapping block c × Holds c)
+found_where [] block Holds holds = inr (λ f. absurd (let e = f.1 in cc))
+found_where (o ∷ os) block Holds holds = elim (found_where os block (λ c. Holds (suc c)) (λ c. holds (suc c))) [
+  | inl f ↦ inl (suc f.0, f.1, f.2)
+  | inr none ↦ elim (is_at o block) [
+    | inl here ↦ elim (holds 0) [
+      | inl h ↦ inl (0, here, h)
+      | inr not ↦ inr (λ f. by f.0 f.1 f.2 (λ m h. not h) none)
+    ]
+    | inr elsewhere ↦ inr (λ f. by f.0 f.1 f.2 (λ m h. elsewhere m) none)
+  ]
+]
+  where
+    by : (c : ℕ) → IsMappedAt (o ∷ os) block c → Holds c → (Some o ≡ Some (Some block) → Holds 0 → ⊥) → (¬ ((c : ℕ) × IsMappedAt os block c × Holds (suc c))) → ⊥
+    by zero m h first none = first m h
+    by (suc c) m h first none = none (c, m, h)
+
+removes : (order : Order) → Decided (Removes order)
+removes (Promote b c) = inr (λ r. r)
+removes (Replace v x c) = inl tt
+removes (Demote b) = inl tt
+removes (Clean b) = inr (λ r. r)
+
+is_removed : (o : Option LiveOrder) → Decided (IsRemoved o)
+is_removed None = inl tt
+is_removed (Some o) = elim (cases_Bool o.waits) [
+  | inl w ↦ inr (λ r. absurd (let f = r.0 in cc))
+  | inr t ↦ elim (removes o.order) [ inl r ↦ inl (t, r) | inr n ↦ inr (λ r. n r.1) ]
+]
+
+-- whether a block may be unmapped is decided
+pub is_unmappable : {P : Type 0} (desk : DeskState P) (b : OBlock) → Decided (MayUnmap desk b)
+is_unmappable desk b = elim (found_where (holdings desk) b.0 (λ c. IsRemoved (order_at desk.orders.slots c)) (λ c. is_removed (order_at desk.orders.slots c))) [
+  | inl f ↦ inl (record { cache = record { 0 = f.0 }; mapped = f.1; removed = f.2 })
+  | inr none ↦ inr (λ may. none (may.cache.0, may.mapped, may.removed))
+]
+
+-- an entry of a sound tree may come or go
+pub changed : (m : Mapping) (block : ℕ) (v : Option Entry) → IsSound m → IsChangedAt m (changed_at m block v) block v
+changed m block v sound = record {
+  entries = refl;
+  forgets = changed-forgets m block v;
+  others = λ level index off. forgot_off block m.known level index off;
+  edited = edited-once m (changed_at m block v) block v sound (changed-sound m block v sound) refl (changed-forgets m block v);
+  sound = changed-sound m block v sound;
+}
+
+-- so a desk can do what it is asked where a block is to lose its entry
+pub can_unmap : {P : Type 0} (desk : DeskState P) (b : OBlock) → DeskInvariant unknowing desk → IsSound desk.tree → (new : DeskState P) × DidUnmap (λ policy block. new.policy) b desk new
+can_unmap {P} desk b kept sound = elim (is_unmappable desk b) [
+  | inl may ↦
+      let new = unmapped desk may.cache (changed_at desk.tree may.cache.0 None) desk.policy in
+      (new, (λ other. subst (λ (c : CBlock). IsChangedAt desk.tree new.tree c.0 None × (new ≡ unmapped desk c new.tree new.policy)) (found_there unknowing desk b may.cache kept may.mapped other) (changed desk.tree may.cache.0 None sound, refl), λ not. absurd (not may)))
+  | inr none ↦ (desk, (λ may. absurd (none may), λ not. refl))
+]
+
 module _ (P : Type 0) (g : Geometry) (images : Images) (desk : DeskState P) (commit : Option RunningCommit) (device : List History) where
   -- the same metadata, of another desk with the same tree, space and generation
   same_standing : (desk' : DeskState P) → desk'.tree ≡ desk.tree → desk'.space.places ≡ desk.space.places → desk'.space.committing ≡ desk.space.committing → desk'.generation ≡ desk.generation → Standing g images desk commit device → Standing g images desk' commit device
@@ -138,6 +207,33 @@ module _ (P : Type 0) (g : Geometry) (images : Images) (desk : DeskState P) (com
         busy = committing ∙ l.busy;
       }
 
+  -- the same metadata, of another desk whose tree was edited, with the same places and generation
+  edited_stands : (desk' : DeskState P) → IsEdited desk.tree desk'.tree → IsSound desk'.tree → desk'.space.places ≡ desk.space.places → desk'.space.committing ≡ desk.space.committing → desk'.generation ≡ desk.generation → Standing g images desk commit device → Standing g images desk' commit device
+  edited_stands desk' edited sound places committing generation s = by_commit commit s
+    where
+      by_commit : (commit : Option RunningCommit) → Standing g images desk commit device → Standing g images desk' commit device
+      by_commit None (inl q) = inl (record {
+        stored = q.stored;
+        are = q.are;
+        used = q.used;
+        stores = stored_edited desk.tree desk'.tree device q.stored q.used q.stores edited sound;
+        places = ap (λ (p : Rattle.wb_space.specs.Places.PlacesInUse). p.committed) places ∙ q.places;
+        generation = generation ∙ q.generation;
+        same = q.same;
+        fit = q.fit;
+        idle = committing ∙ q.idle;
+      })
+      by_commit None (inr b) = inr (record { readable = b.readable; busy = committing ∙ b.busy })
+      by_commit (Some c) l = record {
+        of = l.of;
+        under = l.under;
+        edited = edited-more l.of.tree desk.tree desk'.tree l.edited edited;
+        entries = l.entries;
+        places = ap (λ (p : Rattle.wb_space.specs.Places.PlacesInUse). p.running) places ∙ l.places;
+        generation = l.generation ∙ ap (λ (n : ℕ). n + 1) (sym generation);
+        busy = committing ∙ l.busy;
+      }
+
   pub mapped_stands : (b : OBlock) (c : CBlock) (tree : Mapping) (policy : P) → AtDesk g images desk commit device → MayMap desk b c → IsChangedAt desk.tree tree c.0 (Some (entry_of b)) → AtDesk g images (mapped desk c tree policy) commit device
   mapped_stands b c tree policy k may changed = record {
     is = record {
@@ -146,31 +242,35 @@ module _ (P : Type 0) (g : Geometry) (images : Images) (desk : DeskState P) (com
       orders = orders_over desk.orders c may.live k.is.orders may.there may.taken;
       sound = changed.sound;
     };
-    stands = by_commit commit k.stands;
+    stands = edited_stands (mapped desk c tree policy) changed.edited changed.sound refl refl refl k.stands;
   }
+
+  -- its order is over once a block has left its cache block, but a replacement's
+  orders_past_kept : (c : CBlock) (o : Option LiveOrder) → order_at desk.orders.slots c.0 ≡ o → IsRemoved o → AreOrders desk.orders → AreOrders (orders_past o desk.orders c)
+  orders_past_kept c None there removed a = a
+  orders_past_kept c (Some o) there removed a = by (is_replacement o.order)
     where
-      by_commit : (commit : Option RunningCommit) → Standing g images desk commit device → Standing g images (mapped desk c tree policy) commit device
-      by_commit None (inl q) = inl (record {
-        stored = q.stored;
-        are = q.are;
-        used = q.used;
-        stores = stored_edited desk.tree tree device q.stored q.used q.stores changed.edited changed.sound;
-        places = q.places;
-        generation = q.generation;
-        same = q.same;
-        fit = q.fit;
-        idle = q.idle;
-      })
-      by_commit None (inr b) = inr (record { readable = b.readable; busy = b.busy })
-      by_commit (Some c) l = record {
-        of = l.of;
-        under = l.under;
-        edited = edited-more l.of.tree desk.tree tree l.edited changed.edited;
-        entries = l.entries;
-        places = l.places;
-        generation = l.generation;
-        busy = l.busy;
-      }
+      by : (t : Bool) → AreOrders (if t then desk.orders else without_order desk.orders c)
+      by true = a
+      by false = orders_over desk.orders c o a there removed.0
+
+  left_stands : (c : CBlock) (tree : Mapping) (policy : P) (b : OBlock) → AtDesk g images desk commit device → IsMappedAt (holdings desk) b.0 c.0 → IsRemoved (order_at desk.orders.slots c.0) → IsChangedAt desk.tree tree c.0 None → AtDesk g images (unmapped desk c tree policy) commit device
+  left_stands c tree policy b k at removed changed = record {
+    is = record {
+      geometry = k.is.geometry;
+      kept = unmapped_kept unknowing desk b c tree policy k.is.kept at removed changed tt;
+      orders = orders_past_kept c (order_at desk.orders.slots c.0) refl removed k.is.orders;
+      sound = changed.sound;
+    };
+    stands = edited_stands (unmapped desk c tree policy) changed.edited changed.sound refl refl refl k.stands;
+  }
+
+  -- a block loses its entry, or there is none to lose
+  pub unmapped_stands : (b : OBlock) (new : DeskState P) → AtDesk g images desk commit device → DidUnmap (λ policy block. new.policy) b desk new → AtDesk g images new commit device
+  unmapped_stands b new k did = elim (is_unmappable desk b) [
+    | inl may ↦ let left = did.0 may in subst (λ (d : DeskState P). AtDesk g images d commit device) (sym left.1) (left_stands may.cache new.tree new.policy b k may.mapped may.removed left.0)
+    | inr none ↦ subst (λ (d : DeskState P). AtDesk g images d commit device) (sym (did.1 none)) k
+  ]
 
   -- an order is given
   pub reserved_stands : (c : CBlock) (order : Order) → AtDesk g images desk commit device → MayReserve desk c order → AtDesk g images (reserved desk c order false) commit device

@@ -1,5 +1,6 @@
 -- A run in which a promotion is answered done, its block in the cache.
 use Rattle.std.proofs.Common.{Global, ◌≡◌, ◌≢◌, ◌∙◌, ◌≤◌, ◌*◌, inl, inr, ℕ, zero, suc, false, List, [], ◌∷◌, ◌++◌, Option, Some, None, refl, sym, ap, subst, arith, length, slice_get, slice_set, get_or, map, replicate, is_some}
+use Rattle.wb_runs.proofs.Desks.{changed}
 use Rattle.std.proofs.lemmas.List.{length-map, length-replicate}
 use Rattle.std.proofs.lemmas.List.Elements.{All-cons, All-nil}
 use Rattle.std.proofs.lemmas.List.Sorted.{IsPermutation-refl}
@@ -16,9 +17,7 @@ use Rattle.wb_words.specs.declared.word.Access.TheVariants.{Owned}
 use Rattle.wb_words.specs.declared.word.Word.TheVariants.{Cell as LockWord, Seal as SealWord, Number, Fail}
 use Rattle.wb_words.specs.declared.step.CellStep.TheVariants.{Look, Take, Release, Seal}
 use Rattle.wb_tree.specs.Mapping.{Mapping, IsSound}
-use Rattle.wb_tree.specs.Edits.{IsChangedAt}
-use Rattle.wb_tree.proofs.Stored.Edited.{edited-once}
-use Rattle.wb_tree.proofs.Branching.Edits.{changed_at, changed-forgets, changed-sound, forgot_off}
+use Rattle.wb_tree.proofs.Branching.Edits.{changed_at}
 use Rattle.wb_meta.specs.Formats.{IsFormatted}
 use Rattle.wb_meta.specs.Reads.{sectors_read}
 use Rattle.wb_meta.specs.declared.read_steps.ReadSteps.{ReadSteps}
@@ -52,21 +51,21 @@ use Rattle.wb_runs.proofs.Formatted.{HasNoTree, formatted_none}
 use Rattle.wb_runs.proofs.FirstFlush.{happened}
 use Rattle.wb_runs.proofs.FirstOpening.{happenings as first_opening, is_run as opens_run, target as opened_target, rooted_metadata as opened_metadata, opened_is, known as opened_known, run_append, after_append}
 
-abbrev whole : Extent
+abbrev pub whole : Extent
 whole = record { first = 0; count = 64 }
 
-whole_cut : IsCutInto whole (whole ∷ [])
+pub whole_cut : IsCutInto whole (whole ∷ [])
 whole_cut = record { each_once = IsPermutation-refl (sectors_of (whole ∷ [])); none_empty = All-cons (λ (e : Extent). 1 ≤ e.count) whole [] (omega arith) (All-nil (λ (e : Extent). 1 ≤ e.count)) }
 
-abbrev order : Order
+abbrev pub order : Order
 order = PromoteOrder first_block first_cache_block
 
-abbrev job : Job
+abbrev pub job : Job
 job = Migrate (Promote first_cache_block) first_block
 
 -- ---- the first of some elements
 
-one_there : {X : Type 0} (xs : List X) (i : ℕ) (d x : X) → slice_get xs i ≡ Some x → get_or xs i d ≡ x
+pub one_there : {X : Type 0} (xs : List X) (i : ℕ) (d x : X) → slice_get xs i ≡ Some x → get_or xs i d ≡ x
 one_there [] i d x e = absurd (cc)
 one_there (y ∷ xs) zero d x e = cc
 one_there (y ∷ xs) (suc i) d x e = one_there xs i d x e
@@ -75,7 +74,7 @@ stands_first : (es : List (Option Entry)) (n : ℕ) → es ≡ replicate n None 
 stands_first es zero e l = absurd (omega (arith, l))
 stands_first es (suc n) e l = ap (λ (xs : List (Option Entry)). place_of (slice_set xs 0 (Some (entry_of first_block))) 0) e
 
-replicated_first : {X : Type 0} (n : ℕ) (x : X) → 1 ≤ n → slice_get (replicate n x) 0 ≡ Some x
+pub replicated_first : {X : Type 0} (n : ℕ) (x : X) → 1 ≤ n → slice_get (replicate n x) 0 ≡ Some x
 replicated_first zero x l = absurd (omega (arith, l))
 replicated_first (suc n) x l = refl
 
@@ -91,18 +90,9 @@ none_mapped es n e b at m = by_count n at (subst (λ (xs : List (Option Entry)).
     by_count (suc n) zero m = absurd (cc)
     by_count (suc n) (suc at) m = by_count n at m
 
-no_cost : (n : ℕ) → cost_of (let xs : List (Option LiveOrder) = replicate n None in xs) ≡ 0
+pub no_cost : (n : ℕ) → cost_of (let xs : List (Option LiveOrder) = replicate n None in xs) ≡ 0
 no_cost zero = refl
 no_cost (suc n) = no_cost n
-
-changed : (m : Mapping) (block : ℕ) (v : Option Entry) → IsSound m → IsChangedAt m (changed_at m block v) block v
-changed m block v sound = record {
-  entries = refl;
-  forgets = changed-forgets m block v;
-  others = λ level index off. forgot_off block m.known level index off;
-  edited = edited-once m (changed_at m block v) block v sound (changed-sound m block v sound) refl (changed-forgets m block v);
-  sound = changed-sound m block v sound;
-}
 
 -- ---- the promotion
 
@@ -125,10 +115,10 @@ module _ (P A : Type 0) (global : Global) (cache_blocks meta_sectors : ℕ) (wit
   abbrev ordered : DeskState P
   ordered = reserved desk first_cache_block order false
 
-  abbrev tree : Mapping
+  abbrev pub tree : Mapping
   tree = changed_at desk.tree 0 (Some (entry_of first_block))
 
-  abbrev done : DeskState P
+  abbrev pub done : DeskState P
   done = mapped ordered first_cache_block tree desk.policy
 
   abbrev pub promotes : List (Happening P A)
@@ -160,7 +150,7 @@ module _ (P A : Type 0) (global : Global) (cache_blocks meta_sectors : ℕ) (wit
 
   pub promotes_run : IsRun shape before promotes
   promotes_run = (
-    (refl, (λ d. elim d [ inl gone ↦ absurd (cc) | inr more ↦ elim more [ inl task ↦ task | inr out ↦ elim out [ inl none ↦ none tt | inr unmade ↦ unmade tt ] ] ]), (whole_cut, may)),
+    (refl, (λ d. elim d [ inl gone ↦ absurd (cc) | inr more ↦ elim more [ inl task ↦ task | inr out ↦ out tt ] ]), (whole_cut, may)),
     (
       (refl, ((refl, refl), refl)),
       (
@@ -211,31 +201,31 @@ module _ (P A : Type 0) (global : Global) (cache_blocks meta_sectors : ℕ) (wit
 
 module _ (P A : Type 0) (policy : P) (alloc : A) (global : Global) (cache_blocks meta_sectors : ℕ) (within : IsWithinLimits 64 cache_blocks 1 meta_sectors) (threshold others : ℕ) (metadata : List History) (room : 64 ≤ threshold)
     (formatted : IsFormatted (one_block cache_blocks meta_sectors within) metadata) (size : length metadata ≡ meta_sectors) where
-  abbrev shape' : Shape
+  abbrev pub shape' : Shape
   shape' = record { geometry = one_block cache_blocks meta_sectors within; threshold = threshold; actors = suc others }
 
-  abbrev others_rest : List Actor
+  abbrev pub others_rest : List Actor
   others_rest = replicate others resting
 
-  abbrev zeros : List History
+  abbrev pub zeros : List History
   zeros = replicate (cache_sector_count shape') blank
 
-  abbrev sectors : List History
+  abbrev pub sectors : List History
   sectors = replicate 64 blank
 
-  abbrev none : HasNoTree shape'.geometry metadata
+  abbrev pub none : HasNoTree shape'.geometry metadata
   none = formatted_none shape'.geometry metadata formatted
 
-  abbrev opening : List (Happening P A)
+  abbrev pub opening : List (Happening P A)
   opening = first_opening P A policy alloc global shape' metadata zeros sectors none size others_rest
 
-  abbrev desk : DeskState P
+  abbrev pub desk : DeskState P
   desk = (opened_target P A policy alloc global shape' metadata zeros sectors none size others_rest).desk
 
-  entries : desk.tree.entries ≡ replicate cache_blocks None
+  pub entries : desk.tree.entries ≡ replicate cache_blocks None
   entries = (opened_known P A policy alloc global shape' metadata zeros sectors none size others_rest).entries
 
-  may_reserve : MayReserve desk first_cache_block order
+  pub may_reserve : MayReserve desk first_cache_block order
   may_reserve = record {
     mode = λ e. absurd (cc);
     lawful = (refl, free_first desk.tree.entries cache_blocks entries within.cache_from, none_mapped desk.tree.entries cache_blocks entries 0);
@@ -247,29 +237,32 @@ module _ (P A : Type 0) (policy : P) (alloc : A) (global : Global) (cache_blocks
     };
   }
 
-  sound : IsSound desk.tree
+  pub sound : IsSound desk.tree
   sound = (opened_known P A policy alloc global shape' metadata zeros sectors none size others_rest).known.is.sound
 
-  cache_long : 64 ≤ length (synced zeros)
+  pub cache_long : 64 ≤ length (synced zeros)
   cache_long = omega (arith, length-map zeros (λ (h : History). Rattle.wb_disk.specs.Device.only (Rattle.wb_disk.specs.Device.newest h)), length-replicate (64 * cache_blocks) blank, within.cache_from)
 
-  abbrev promoting : List (Happening P A)
+  abbrev pub promoting : List (Happening P A)
   promoting = promotes P A global cache_blocks meta_sectors within threshold others desk (opened_metadata P A policy alloc global shape' metadata zeros sectors none size others_rest) (synced zeros) (synced sectors) (all_resting others_rest) may_reserve sound cache_long (omega arith)
 
-  abbrev from : State P A
+  abbrev pub from : State P A
   from = before P A global cache_blocks meta_sectors within threshold others desk (opened_metadata P A policy alloc global shape' metadata zeros sectors none size others_rest) (synced zeros) (synced sectors) (all_resting others_rest) may_reserve sound cache_long (omega arith)
 
-  opened_from : after_all shape' (start shape' metadata) opening ≡ from
+  pub opened_from : after_all shape' (start shape' metadata) opening ≡ from
   opened_from = opened_is P A policy alloc global shape' metadata zeros sectors none size others_rest
 
-  then_is : after_all shape' (start shape' metadata) (opening ++ promoting) ≡ after_all shape' from promoting
+  pub then_is : after_all shape' (start shape' metadata) (opening ++ promoting) ≡ after_all shape' from promoting
   then_is = after_append shape' (start shape' metadata) opening promoting ∙ ap (λ (w : State P A). after_all shape' w promoting) opened_from
+
+  pub first_run : IsRun shape' (start shape' metadata) (opening ++ promoting)
+  first_run = run_append shape' (start shape' metadata) opening promoting (opens_run P A policy alloc global shape' metadata zeros sectors none size others_rest)
+      (subst (λ (w : State P A). IsRun shape' w promoting) (sym opened_from) (promotes_run P A global cache_blocks meta_sectors within threshold others desk (opened_metadata P A policy alloc global shape' metadata zeros sectors none size others_rest) (synced zeros) (synced sectors) (all_resting others_rest) may_reserve sound cache_long (omega arith)))
 
   pub promotes_all : Promotes P A shape' metadata
   promotes_all = record {
     happenings = opening ++ promoting;
-    is_run = run_append shape' (start shape' metadata) opening promoting (opens_run P A policy alloc global shape' metadata zeros sectors none size others_rest)
-        (subst (λ (w : State P A). IsRun shape' w promoting) (sym opened_from) (promotes_run P A global cache_blocks meta_sectors within threshold others desk (opened_metadata P A policy alloc global shape' metadata zeros sectors none size others_rest) (synced zeros) (synced sectors) (all_resting others_rest) may_reserve sound cache_long (omega arith)));
+    is_run = first_run;
     answers = subst (λ (w : State P A). AboutToAnswer job w) (sym then_is) (promotes_done P A global cache_blocks meta_sectors within threshold others desk (opened_metadata P A policy alloc global shape' metadata zeros sectors none size others_rest) (synced zeros) (synced sectors) (all_resting others_rest) may_reserve sound cache_long (omega arith));
     stands = subst (λ (w : State P A). OfTarget w.phase (λ target. (place_of target.desk.tree.entries 0 ≡ Some 0) × (order_at target.desk.orders.slots 0 ≡ None))) (sym then_is)
         (promotes_stands P A global cache_blocks meta_sectors within threshold others desk (opened_metadata P A policy alloc global shape' metadata zeros sectors none size others_rest) (synced zeros) (synced sectors) (all_resting others_rest) may_reserve sound cache_long (omega arith) entries);

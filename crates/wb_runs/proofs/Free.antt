@@ -13,11 +13,9 @@ use Rattle.wb_meta.specs.Formats.{IsFormatted}
 use Rattle.wb_meta.specs.Reads.{sectors_read}
 use Rattle.wb_meta.specs.declared.read_steps.ReadSteps.{ReadSteps}
 use Rattle.wb_meta.specs.declared.read_steps.ReadSteps.TheVariants.{Begun, FirstSlotRead, RootFound, Done as AllRead}
-use Rattle.wb_policy.specs.declared.order.Order.TheVariants.{Promote as PromoteOrder}
 use Rattle.wb_tasks.specs.Plan.{Plan, want}
 use Rattle.wb_tasks.specs.Ready.{HoldsBlocks, IsOwnStep}
 use Rattle.wb_tasks.specs.Tables.{BlockJob, Reading, Writing, Migrating, OnBlock, whole_block}
-use Rattle.wb_tasks.specs.declared.step.Migration.TheVariants.{Promote, Demote, Clean}
 use Rattle.wb_tasks.specs.declared.step.Got.TheVariants.{Fault}
 use Rattle.wb_devices.specs.Moving.{device_in}
 use Rattle.wb_runs.specs.declared.job.Job.{Job}
@@ -26,7 +24,7 @@ use Rattle.wb_runs.specs.declared.event.Event.{Event}
 use Rattle.wb_runs.specs.declared.event.Event.TheVariants.{Start, Step, FaultStep, Stop}
 use Rattle.wb_runs.specs.declared.event.What.TheVariants.{Skipped, Refused, Started, Stepped, Stopped}
 use Rattle.wb_runs.specs.States.{Shape, State, Actor, Target, Phase, Stands, Gone, Opens, OfTarget, block_size, start}
-use Rattle.wb_runs.specs.Happenings.{Plain, Cut, Orders, Happening, OfSome, AtWork, MayFailAt, DoesNotApply, Gives, Falters, MigrationStarts, extent_refusal, block_range, orders_in}
+use Rattle.wb_runs.specs.Happenings.{Plain, Cut, Orders, Happening, OfSome, AtWork, MayFailAt, DoesNotApply, Gives, Falters, MigrationStarts, extent_refusal, block_range, orders_in, order_for}
 use Rattle.wb_runs.specs.Effects.{after_all, IsRun}
 use Rattle.wb_runs.specs.Headline.{GivesSomething}
 use Rattle.wb_runs.specs.Holding.{TaskSuits}
@@ -37,9 +35,9 @@ use Rattle.wb_runs.proofs.Claims.{JobClaim, TaskClaim, Noted, noted_of}
 use Rattle.wb_runs.proofs.Linking.{IsOpeningJob, IsServed, InPhase, TaskHere}
 use Rattle.wb_runs.proofs.InsideRuns.{run_inside}
 use Rattle.wb_runs.proofs.Making.{desk_begins}
-use Rattle.wb_runs.proofs.Applying.{may_stop, may_fail_at, out_of_place, has_order, may_promote}
+use Rattle.wb_runs.proofs.Applying.{may_stop, may_fail_at, out_of_place, has_order, may_order}
 use Rattle.wb_runs.proofs.Points.{FlushJob, FlushTask, OpenJob, OpenTask, Going}
-use Rattle.wb_runs.proofs.Giving.{CanGive, CanFalter, read_gives, write_gives, promotion_gives, block_falters, flush_gives, flush_falters, open_gives, open_falters}
+use Rattle.wb_runs.proofs.Giving.{CanGive, CanFalter, read_gives, write_gives, migration_gives, block_falters, flush_gives, flush_falters, open_gives, open_falters}
 use Rattle.wb_runs.proofs.Progressing.{Kept, run_kept, own_step}
 
 -- ---- who has a task
@@ -120,9 +118,7 @@ module _ (P A : Type 0) (shape : Shape) (policy : P) (first : ReadSteps A) (begi
         stands : (t : Target P) → AtDesk shape.geometry kept.base.known.images t.desk w.commit w.devices.metadata → (leader : ℕ) → (job : Job) → IsServed job → FlushJob w.commit (a ≡ leader) job k.plan → JobClaim shape job k.plan claim.doing → CanGive {P = P} {A = A} shape (At (Stands t)) job (want k.plan)
         stands t known leader (Read extent) s f c = read_gives P A shape w.devices w.commit w.actors t known.is.kept sizes extent (block_range shape extent c.cut) (want k.plan) (own (Reading (block_range shape extent c.cut)) c.is_job) inside
         stands t known leader (Write extent content) s f c = write_gives P A shape w.devices w.commit w.actors t known.is.kept sizes extent content (block_range shape extent c.cut) (want k.plan) (own (Writing (block_range shape extent c.cut)) c.is_job) inside
-        stands t known leader (Migrate (Promote cache) block) s f c = promotion_gives P A shape w.devices w.commit w.actors t known.is.kept sizes cache block f.0 (want k.plan) (own (Migrating (Promote cache) f.0) f.1) inside
-        stands t known leader (Migrate Demote block) s f c = absurd s
-        stands t known leader (Migrate Clean block) s f c = absurd s
+        stands t known leader (Migrate migration block) s f c = migration_gives P A shape w.devices w.commit w.actors t known.is.kept sizes known.is.sound migration block f.0 (want k.plan) (own (Migrating migration f.0) f.1) inside
         stands t known leader Flush s f c = subst (λ (p : Plan). CanGive {P = P} {A = A} shape (At (Stands t)) Flush (want p)) (sym f.is)
             (flush_gives P A shape w.devices w.commit w.actors t kept.base.known.images known f.most f.answer f.point f.at)
         stands t known leader (Open mode) s f c = absurd s
@@ -188,20 +184,18 @@ module _ (P A : Type 0) (shape : Shape) (policy : P) (first : ReadSteps A) (begi
       by_refusal None e = record { what = Started; read = []; chosen = Cut (pieces 1 extent); may = (refl, applies, (e, pieces_cut 1 extent (omega arith))) }
   starts w a Flush applies = record { what = Started; read = []; chosen = Plain; may = (refl, applies, tt) }
   starts w a (Open mode) applies = record { what = Started; read = []; chosen = Plain; may = (refl, applies, tt) }
-  starts w a (Migrate (Promote c) block) applies = by_phase w.phase refl
+  starts w a (Migrate migration block) applies = by_phase w.phase refl
     where
-      by_phase : (phase : Phase P A) → w.phase ≡ phase → HasHappening shape w (Start a (Migrate (Promote c) block))
-      by_phase (Stands t) e = elim (has_order (orders_in (slice_get w.actors a)) (PromoteOrder block c)) [
-        | inl kept ↦ record { what = Started; read = []; chosen = Cut (pieces 1 (whole_block (block_size shape) block)); may = (refl, applies, subst (λ (p : Phase P A). MigrationStarts (whole_block (block_size shape) block) p (orders_in (slice_get w.actors a)) (PromoteOrder block c) Started (Cut (pieces 1 (whole_block (block_size shape) block)))) (sym e) (pieces_cut 1 (whole_block (block_size shape) block) (omega arith), kept)) }
-        | inr none ↦ elim (may_promote t.desk block c) [
-          | inl may ↦ record { what = Started; read = []; chosen = Orders (pieces 1 (whole_block (block_size shape) block)) may.0; may = (refl, applies, subst (λ (p : Phase P A). MigrationStarts (whole_block (block_size shape) block) p (orders_in (slice_get w.actors a)) (PromoteOrder block c) Started (Orders (pieces 1 (whole_block (block_size shape) block)) may.0)) (sym e) (pieces_cut 1 (whole_block (block_size shape) block) (omega arith), may.1)) }
-          | inr never ↦ record { what = Refused Busy; read = []; chosen = Plain; may = (refl, applies, subst (λ (p : Phase P A). MigrationStarts (whole_block (block_size shape) block) p (orders_in (slice_get w.actors a)) (PromoteOrder block c) (Refused Busy) Plain) (sym e) (none, never)) }
+      by_phase : (phase : Phase P A) → w.phase ≡ phase → HasHappening shape w (Start a (Migrate migration block))
+      by_phase (Stands t) e = elim (has_order (orders_in (slice_get w.actors a)) (order_for migration block)) [
+        | inl kept ↦ record { what = Started; read = []; chosen = Cut (pieces 1 (whole_block (block_size shape) block)); may = (refl, applies, subst (λ (p : Phase P A). MigrationStarts (whole_block (block_size shape) block) p (orders_in (slice_get w.actors a)) (order_for migration block) Started (Cut (pieces 1 (whole_block (block_size shape) block)))) (sym e) (pieces_cut 1 (whole_block (block_size shape) block) (omega arith), kept)) }
+        | inr none ↦ elim (may_order t.desk migration block) [
+          | inl may ↦ record { what = Started; read = []; chosen = Orders (pieces 1 (whole_block (block_size shape) block)) may.0; may = (refl, applies, subst (λ (p : Phase P A). MigrationStarts (whole_block (block_size shape) block) p (orders_in (slice_get w.actors a)) (order_for migration block) Started (Orders (pieces 1 (whole_block (block_size shape) block)) may.0)) (sym e) (pieces_cut 1 (whole_block (block_size shape) block) (omega arith), may.1)) }
+          | inr never ↦ record { what = Refused Busy; read = []; chosen = Plain; may = (refl, applies, subst (λ (p : Phase P A). MigrationStarts (whole_block (block_size shape) block) p (orders_in (slice_get w.actors a)) (order_for migration block) (Refused Busy) Plain) (sym e) (none, never)) }
         ]
       ]
-      by_phase Gone e = absurd (applies (inr (inr (inl (λ o. subst (λ (p : Phase P A). OfTarget p (λ t. Unit {0})) e o)))))
-      by_phase (Opens mode reading) e = absurd (applies (inr (inr (inl (λ o. subst (λ (p : Phase P A). OfTarget p (λ t. Unit {0})) e o)))))
-  starts w a (Migrate Demote block) applies = absurd (applies (inr (inr (inr (λ f. f)))))
-  starts w a (Migrate Clean block) applies = absurd (applies (inr (inr (inr (λ f. f)))))
+      by_phase Gone e = absurd (applies (inr (inr (λ o. subst (λ (p : Phase P A). OfTarget p (λ t. Unit {0})) e o))))
+      by_phase (Opens mode reading) e = absurd (applies (inr (inr (λ o. subst (λ (p : Phase P A). OfTarget p (λ t. Unit {0})) e o))))
 
   start_happens : (w : State P A) (a : ℕ) (job : Job) → HasHappening shape w (Start a job)
   start_happens w a job = by_actor (slice_get w.actors a) refl

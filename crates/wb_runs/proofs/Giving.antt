@@ -1,5 +1,6 @@
 -- Whoever has a task can do its next step, and every event has a happening.
 use Rattle.std.proofs.Common.{◌≡◌, ◌∙◌, ◌⊎◌, ◌≤◌, ◌<◌, ◌+◌, ◌^◌, ◌&&◌, ◌==◌, inl, inr, ℕ, zero, suc, Bool, true, false, List, [], ◌∷◌, Option, Some, None, refl, sym, ap, subst, arith, length, slice_get, is_none, is_some}
+use Rattle.wb_tree.specs.Mapping.{IsSound}
 use Rattle.std.proofs.lemmas.Bool.{cases_lt, cases_Bool}
 use Rattle.std.proofs.lemmas.Option.{slice_get-get_or, slice_get_cases, slice_get_past}
 use Rattle.wb_types.proofs.Truth.{yes}
@@ -8,7 +9,6 @@ use Rattle.wb_types.specs.declared.geometry.Geometry.{Geometry}
 use Rattle.wb_types.specs.declared.mode.Mode.{Mode}
 use Rattle.wb_types.specs.declared.mode.Dev.{Dev}
 use Rattle.wb_types.specs.declared.mode.Dev.TheVariants.{Metadata}
-use Rattle.wb_types.specs.declared.number.CBlock.{CBlock}
 use Rattle.wb_types.specs.declared.number.OBlock.{OBlock}
 use Rattle.wb_types.specs.declared.number.Place.{Place}
 use Rattle.wb_types.specs.declared.refusal.Refusal.TheVariants.{Busy, Memory, GenerationEnd}
@@ -59,7 +59,7 @@ use Rattle.wb_runs.proofs.Spelled.{IsSmall, node_spelling, spelled_node}
 use Rattle.wb_runs.proofs.Rooted.{Fits, comes_next, rooted, root_does}
 use Rattle.wb_runs.proofs.Underway.{Underway}
 use Rattle.wb_runs.proofs.Metadata.{AtDesk, AtOpening, unknowing}
-use Rattle.wb_runs.proofs.Desks.{is_live}
+use Rattle.wb_runs.proofs.Desks.{is_live, can_unmap}
 use Rattle.wb_runs.proofs.Plans.{plan_of}
 use Rattle.wb_runs.proofs.Readings.{generation_fits, can_read}
 use Rattle.wb_runs.proofs.Points.{Runs, FlushPoint, ToLook, ToBegin, ToSyncCache, ToSyncOrigin, ToWriteNodes, ToWriteRoot, ToSyncRoot, ToEnd, ToSetFailed, ToAnswer, flush_left, AtFlush, OpenPoint, AtFirst, AtCache, AtOrigin, AtRead, AtRoot, AtRootSync, AtEnd, AtRefusal, open_left, open_answer, AtOpen}
@@ -256,24 +256,21 @@ module _ (P A : Type 0) (shape : Shape) (devices : Devices (List History)) (comm
       write_gives extent content part (Device WriteRoot) i s = absurd i
       write_gives extent content part (Desk step) i s = absurd i
 
-      -- a promotion's step; where it asks for its entry there may be no memory for that
-      pub promotion_gives : (c : CBlock) (block : OBlock) (part : BlockRange) (next : Want) → IsOwnStep (OnBlock (Migrating (Promote c) part)) next → StepInside shape next → CanGive shape w (Migrate (Promote c) block) next
-      promotion_gives c block part (Cell step) i s = cell_gives (Migrate (Promote c) block) step
-      promotion_gives c block part (Device (ReadExtent d e)) i s = let h = subst HoldsBlocks (sym i) tt in record { got = Done; read = []; chosen = Plain; gives = (h, (refl, refl), refl, omega (arith, s, sizes d h)) }
-      promotion_gives c block part (Device (WriteExtent d e)) i s = let h = subst HoldsBlocks (sym i) tt in record { got = Done; read = []; chosen = Plain; gives = (h, (refl, refl), refl, omega (arith, s, sizes d h)) }
-      promotion_gives c block part (Desk (Map b place)) i s = record { got = GotRefused Memory; read = []; chosen = Plain; gives = (refl, refl) }
-      promotion_gives c block part (Desk (ReleaseOrder b)) i s = let r = gives_up t.desk (order_for (Promote c) block) kept in record { got = Done; read = []; chosen = Asks r.0; gives = (refl, refl, r.1) }
-      promotion_gives c block part (End answer) i s = record { got = Done; read = []; chosen = Plain; gives = ((refl, refl), refl) }
-      promotion_gives c block part (Desk (Unmap b)) i s = absurd (no_demotion i.1)
-        where
-          no_demotion : Promote c ≡ Demote → ⊥
-          no_demotion e = cc
-      promotion_gives c block part (Desk (BeginCommit clean most)) i s = absurd i
-      promotion_gives c block part (Desk EndCommit) i s = absurd i
-      promotion_gives c block part (Device (Sync d)) i s = absurd i
-      promotion_gives c block part (Device (ReadMetadata k)) i s = absurd i
-      promotion_gives c block part (Device (WriteNode k)) i s = absurd i
-      promotion_gives c block part (Device WriteRoot) i s = absurd i
+      -- a migration's step; where a promotion asks for its entry there may be no memory for that
+      pub migration_gives : IsSound t.desk.tree → (migration : Migration) (block : OBlock) (part : BlockRange) (next : Want) → IsOwnStep (OnBlock (Migrating migration part)) next → StepInside shape next → CanGive shape w (Migrate migration block) next
+      migration_gives sound migration block part (Cell step) i s = cell_gives (Migrate migration block) step
+      migration_gives sound migration block part (Device (ReadExtent d e)) i s = let h = subst HoldsBlocks (sym i) (source_holds migration) in record { got = Done; read = []; chosen = Plain; gives = (h, (refl, refl), refl, omega (arith, s, sizes d h)) }
+      migration_gives sound migration block part (Device (WriteExtent d e)) i s = let h = subst HoldsBlocks (sym i) (target_holds migration) in record { got = Done; read = []; chosen = Plain; gives = (h, (refl, refl), refl, omega (arith, s, sizes d h)) }
+      migration_gives sound migration block part (Desk (Map b place)) i s = record { got = GotRefused Memory; read = []; chosen = Plain; gives = (refl, refl) }
+      migration_gives sound migration block part (Desk (Unmap b)) i s = let r = can_unmap t.desk b kept sound in record { got = Done; read = []; chosen = Asks r.0; gives = (refl, refl, r.1) }
+      migration_gives sound migration block part (Desk (ReleaseOrder b)) i s = let r = gives_up t.desk (order_for migration block) kept in record { got = Done; read = []; chosen = Asks r.0; gives = (refl, refl, r.1) }
+      migration_gives sound migration block part (End answer) i s = record { got = Done; read = []; chosen = Plain; gives = ((refl, refl), refl) }
+      migration_gives sound migration block part (Desk (BeginCommit clean most)) i s = absurd i
+      migration_gives sound migration block part (Desk EndCommit) i s = absurd i
+      migration_gives sound migration block part (Device (Sync d)) i s = absurd i
+      migration_gives sound migration block part (Device (ReadMetadata k)) i s = absurd i
+      migration_gives sound migration block part (Device (WriteNode k)) i s = absurd i
+      migration_gives sound migration block part (Device WriteRoot) i s = absurd i
 
     -- where a step of a job of a block fails
     pub block_falters : (job : BlockJob) (choice : Choice) (next : Want) → IsOwnStep (OnBlock job) next → Rattle.wb_runs.specs.Happenings.MayFailAt devices choice next → CanFalter w choice next

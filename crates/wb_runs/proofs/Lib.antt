@@ -35,6 +35,7 @@ mod FirstOpening
 mod FirstLife
 mod Surviving
 mod FirstPromotion
+mod FirstDemotion
 mod Bounds
 pub mod InsideRuns
 mod Points

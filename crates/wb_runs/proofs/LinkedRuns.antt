@@ -12,7 +12,6 @@ use Rattle.wb_meta.specs.declared.read_steps.ReadSteps.{ReadSteps}
 use Rattle.wb_meta.specs.declared.read_steps.ReadSteps.TheVariants.{Begun, FirstSlotRead, RootFound, Done as AllRead}
 use Rattle.wb_tasks.specs.Plan.{Plan, want, table, device_of}
 use Rattle.wb_tasks.specs.Ready.{Suits}
-use Rattle.wb_tasks.specs.declared.step.Migration.TheVariants.{Promote, Demote, Clean}
 use Rattle.wb_tasks.specs.declared.step.Answer.{Answer}
 use Rattle.wb_tasks.specs.declared.step.Answer.TheVariants.{Done as Finished, Refused as Refuses}
 use Rattle.wb_tasks.specs.declared.step.DeviceStep.{DeviceStep}
@@ -27,7 +26,7 @@ use Rattle.wb_runs.specs.declared.event.Event.TheVariants.{Start, Step, FaultSte
 use Rattle.wb_runs.specs.declared.event.What.{What}
 use Rattle.wb_runs.specs.declared.event.What.TheVariants.{Skipped, Refused, Started, Stepped, Stopped}
 use Rattle.wb_runs.specs.States.{Shape, State, Actor, Phase, Stands, Gone, Opens, OfTarget, resting, start}
-use Rattle.wb_runs.specs.Happenings.{Chosen, Plain, Cut, Orders, Begins, Reaches, Puts, Commits, Asks, Opened, Happening, OfSome, Gives, MayFailAt, Falters, DoesNotApply, DoesOpen, StartGives, MayBe, IsOutOfPlace, task_job}
+use Rattle.wb_runs.specs.Happenings.{Chosen, Plain, Cut, Orders, Begins, Reaches, Puts, Commits, Asks, Opened, Happening, OfSome, Gives, MayFailAt, Falters, DoesNotApply, StartGives, MayBe, task_job}
 use Rattle.wb_runs.specs.Effects.{phase_then, phase_opened, phase_given, task_then, actor_then, stepped, with_actor, cleared, given, job_of, cut_of, device_done, device_failed, all_resting, after_what, after_happening, after_all, IsRun}
 use Rattle.wb_runs.specs.Clerk.{Notes, Doing, noted_step, noted_what, finished_note, begun, nobody, put, formatted}
 use Rattle.wb_runs.specs.Headline.{RefusedBy, RefusedRightly, RefusesByCause, AllRefuseByCause, IsCovered, DoingCovers, AnswerCovers, AllCover, SkipsRightly, AllSkipRightly, note_happening, noted}
@@ -402,12 +401,7 @@ module _ (P A : Type 0) (shape : Shape) where
   starts shown w n a (Migrate migration block) chosen l applies gives =
       let f = free P A w a (Migrate migration block) applies in
       subst (λ (o : Option Actor). Started_so shown w n a (Migrate migration block) chosen o) (sym f.1)
-      (served_starts w.phase w.actors n a f.0 (given shape f.0 (Migrate migration block) chosen) (Migrate migration block) _ chosen l f.1 f.2 refl (made migration (λ p. applies (inr (inr (inr p))))) tt (λ p. applies (inr (inr (inl p)))))
-    where
-      made : (m : _) → ¬ ¬ Rattle.wb_runs.specs.Happenings.IsMade m → Rattle.wb_runs.specs.Happenings.IsMade m
-      made (Promote c) f = tt
-      made Demote f = absurd (f (λ z. z))
-      made Clean f = absurd (f (λ z. z))
+      (served_starts w.phase w.actors n a f.0 (given shape f.0 (Migrate migration block) chosen) (Migrate migration block) _ chosen l f.1 f.2 refl tt tt (λ p. applies (inr (inr p))))
   starts shown w n a (Read extent) chosen l applies gives = absurd gives
   starts shown w n a (Write extent content) chosen l applies gives = absurd gives
 

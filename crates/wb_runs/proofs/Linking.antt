@@ -23,7 +23,7 @@ use Rattle.wb_tasks.specs.declared.step.Got.TheVariants.{Done, Fault}
 use Rattle.wb_runs.specs.declared.job.Job.{Job}
 use Rattle.wb_runs.specs.declared.job.Job.TheVariants.{Read, Write, Flush, Open, Migrate}
 use Rattle.wb_runs.specs.States.{Shape, State, Actor, Phase, Stands, Gone, Opens, OfTarget}
-use Rattle.wb_runs.specs.Happenings.{Chosen, Gives, IsMade, block_range}
+use Rattle.wb_runs.specs.Happenings.{Chosen, Gives, block_range}
 use Rattle.wb_runs.specs.Effects.{task_then}
 use Rattle.wb_runs.specs.Clerk.{Notes, Doing, put, failing, device_note, noted_step, enter_each, entering, sector_for}
 use Rattle.wb_runs.proofs.Lists.{set_other, set_there}
@@ -36,10 +36,9 @@ abbrev pub IsOpeningJob : Job → Type 0
 IsOpeningJob (Open mode) = Unit {0}
 IsOpeningJob job = ⊥
 
--- requests, flushes and migrations of the kinds that are made are at work where a target stands, openings where one is at work
+-- requests, flushes and migrations are at work where a target stands, openings where one is at work
 abbrev pub IsServed : Job → Type 0
 IsServed (Open mode) = ⊥
-IsServed (Migrate migration block) = IsMade migration
 IsServed job = Unit {0}
 
 abbrev pub InPhase : {P A : Type 0} → Phase P A → Job → Type 0

@@ -9,7 +9,7 @@ use Rattle.wb_policy.specs.declared.order.Order.{Order}
 use Rattle.wb_policy.specs.declared.order.Order.TheVariants.{Promote as PromoteOrder, Replace, Demote as DemoteOrder, Clean as CleanOrder}
 use Rattle.wb_tasks.specs.declared.step.Migration.{Migration}
 use Rattle.wb_tasks.specs.declared.step.Migration.TheVariants.{Promote, Demote, Clean}
-use Rattle.wb_tasks.specs.declared.step.DeskStep.TheVariants.{Map, ReleaseOrder}
+use Rattle.wb_tasks.specs.declared.step.DeskStep.TheVariants.{Map, Unmap, ReleaseOrder}
 use Rattle.wb_tasks.specs.declared.step.Want.{Want}
 use Rattle.wb_tasks.specs.declared.step.Want.TheVariants.{Desk}
 use Rattle.wb_tasks.specs.declared.step.Got.{Got}
@@ -47,6 +47,7 @@ dropped_had b (o ∷ os) order c = by_test (is_of b o) (dropped_had b os order) 
 -- a step leaves the orders of its actor, or ends one
 pub orders_left : (g : Geometry) (orders : List Order) (next : Want) (got : Got) → OrdersInside g orders → OrdersInside g (orders_then orders next got)
 orders_left g orders (Desk (Map b c)) Done i = λ order m. i order (dropped_had b orders order m)
+orders_left g orders (Desk (Unmap b)) Done i = λ order m. i order (dropped_had b orders order m)
 orders_left g orders (Desk (ReleaseOrder b)) Done i = λ order m. i order (dropped_had b orders order m)
 orders_left g orders next got i = i
 

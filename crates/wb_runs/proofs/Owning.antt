@@ -1,19 +1,18 @@
 -- The orders that actors have live on the desk, and no two actors have one.
-use Rattle.std.proofs.Common.{◌≡◌, ◌≢◌, ◌∙◌, ◌<◌, ◌||◌, inl, inr, ℕ, zero, suc, Bool, true, false, if◌then◌else◌, List, [], ◌∷◌, Option, Some, None, refl, sym, ap, subst, arith, length, slice_get, slice_set, get_or-set_same, get_or-set_other, Contains}
+use Rattle.std.proofs.Common.{◌≡◌, ◌≢◌, ◌∙◌, inl, inr, ℕ, Bool, true, false, if◌then◌else◌, List, [], ◌∷◌, Option, Some, None, refl, sym, ap, subst, arith, slice_get, slice_set, get_or-set_same, get_or-set_other, Contains}
 use Rattle.std.proofs.lemmas.Bool.{cases_eq}
 use Rattle.std.proofs.lemmas.Option.{get_or_from_slice_get, slice_get_within}
 use Rattle.wb_types.specs.declared.number.OBlock.{OBlock}
 use Rattle.wb_types.specs.declared.number.CBlock.{CBlock}
 use Rattle.wb_types.proofs.Lists.{Contains-first, Contains-behind}
-use Rattle.wb_tree.specs.Mapping.{Mapping}
 use Rattle.wb_policy.specs.declared.order.Order.{Order}
 use Rattle.wb_policy.specs.declared.order.Order.TheVariants.{Promote, Replace, Demote, Clean}
 use Rattle.wb_orders.specs.declared.live_order.LiveOrder.{LiveOrder}
 use Rattle.wb_orders.specs.Named.{first_of, IsNamed}
 use Rattle.wb_orders.specs.Orders.{AreOrders, order_at}
 use Rattle.wb_desk.specs.Desks.{DeskState, IsLive, MayReserve}
-use Rattle.wb_desk.specs.Calls.{reserved, released}
-use Rattle.wb_desk.specs.Entries.{Brings, MayMap, mapped}
+use Rattle.wb_desk.specs.Calls.{reserved}
+use Rattle.wb_desk.specs.Entries.{Brings}
 use Rattle.wb_stage.specs.Asking.{is_of}
 use Rattle.wb_runs.specs.States.{Actor}
 use Rattle.wb_runs.specs.Effects.{dropped}

@@ -28,10 +28,10 @@ use Rattle.wb_devices.specs.Opened.{HasCome}
 use Rattle.wb_runs.specs.declared.job.Job.{Job}
 use Rattle.wb_runs.specs.declared.job.Job.TheVariants.{Read, Write, Flush, Open, Migrate}
 use Rattle.wb_runs.specs.States.{Shape, State, Target, Phase, Stands, Gone, Opens, OfTarget, OfReading, with_device}
-use Rattle.wb_runs.specs.Happenings.{Chosen, Plain, Cut, Orders, Begins, Reaches, Puts, Commits, Asks, Opened, DoesPut, DoesSync, DoesRead, DoesBegin, DoesMap, DoesRelease, DoesOpen, Gives, order_for}
+use Rattle.wb_runs.specs.Happenings.{Chosen, Plain, Cut, Orders, Begins, Reaches, Puts, Commits, Asks, Opened, DoesPut, DoesSync, DoesRead, DoesBegin, DoesMap, DoesRelease, DoesOpen, Gives, order_for, DoesUnmap}
 use Rattle.wb_runs.specs.Effects.{device_done, devices_then, commit_then, phase_then}
 use Rattle.wb_runs.proofs.Images.{Images, Turns, stays}
-use Rattle.wb_runs.proofs.Desks.{mapped_stands, given_up_stands}
+use Rattle.wb_runs.proofs.Desks.{mapped_stands, given_up_stands, unmapped_stands}
 use Rattle.wb_runs.proofs.Underway.{Readable, Found, led_on, sync_does, sync_found, found_readable}
 use Rattle.wb_runs.proofs.Metadata.{AtDesk, HasReached, Rooting, AtOpening, MetadataKept, begins_over, ends_over, root_begins, target_stands, kept_readable}
 
@@ -224,6 +224,13 @@ module _ (P A : Type 0) (shape : Shape) where
   map_keeps i Gone commit m b c got chosen k s = absurd s
   map_keeps i (Opens mode reading) commit m b c got chosen k s = absurd s
 
+  pub unmap_keeps : (i : Images) (phase : Phase P A) (commit : Option RunningCommit) (m : List History) (b : _) (got : Got) (chosen : Chosen P A) → K i phase commit m → OfTarget phase (λ t. DoesUnmap b t.desk chosen) →
+      T i (phase_then shape phase (Desk (Unmap b)) got chosen) (commit_then phase commit (Desk (Unmap b)) got chosen) m
+  unmap_keeps i (Stands t) commit m b got (Asks new) k s = same i (phase_then shape (Stands t) (Desk (Unmap b)) got (Asks new)) commit m (unmapped_stands P shape.geometry i t.desk commit m b new k s)
+  unmap_keeps i (Stands t) commit m b got chosen k s = absurd s
+  unmap_keeps i Gone commit m b got chosen k s = absurd s
+  unmap_keeps i (Opens mode reading) commit m b got chosen k s = absurd s
+
   pub release_keeps : (i : Images) (phase : Phase P A) (commit : Option RunningCommit) (m : List History) (b : _) (order : Order) (got : Got) (chosen : Chosen P A) → K i phase commit m → OfTarget phase (λ t. DoesRelease order t.desk chosen) →
       T i (phase_then shape phase (Desk (ReleaseOrder b)) got chosen) (commit_then phase commit (Desk (ReleaseOrder b)) got chosen) m
   release_keeps i (Stands t) commit m b order got (Asks new) k s = same i (phase_then shape (Stands t) (Desk (ReleaseOrder b)) got (Asks new)) commit m (given_up_stands P shape.geometry i t.desk commit m new order k s)
@@ -330,12 +337,12 @@ module _ (P A : Type 0) (shape : Shape) where
     map_fact (Open mode) b c g = absurd g
     map_fact (Migrate migration block) b c g = g.1
 
-    pub no_unmap : (job : Job) (b : _) → G job (Desk (Unmap b)) → ⊥
-    no_unmap (Read x) b g = g
-    no_unmap (Write x y) b g = g
-    no_unmap Flush b g = g
-    no_unmap (Open mode) b g = g
-    no_unmap (Migrate migration block) b g = g
+    pub unmap_fact : (job : Job) (b : _) → G job (Desk (Unmap b)) → OfTarget w.phase (λ t. DoesUnmap b t.desk chosen)
+    unmap_fact (Read x) b g = absurd g
+    unmap_fact (Write x y) b g = absurd g
+    unmap_fact Flush b g = absurd g
+    unmap_fact (Open mode) b g = absurd g
+    unmap_fact (Migrate migration block) b g = g.2
 
     pub release_fact : (job : Job) (b : _) → G job (Desk (ReleaseOrder b)) → (order : Order) × OfTarget w.phase (λ t. DoesRelease order t.desk chosen)
     release_fact (Read x) b g = absurd g
@@ -401,7 +408,7 @@ module _ (P A : Type 0) (shape : Shape) where
     done_kept i buffer job (Desk (BeginCommit clean most)) k g = begin_commit i w.phase w.commit m clean most got chosen k (begin_fact job clean most g)
     done_kept i buffer job (Desk EndCommit) k g = end_commit i w.phase w.commit m got chosen k (end_fact job g)
     done_kept i buffer job (Desk (Map b c)) k g = map_keeps i w.phase w.commit m b c got chosen k (map_fact job b c g)
-    done_kept i buffer job (Desk (Unmap b)) k g = absurd (no_unmap job b g)
+    done_kept i buffer job (Desk (Unmap b)) k g = unmap_keeps i w.phase w.commit m b got chosen k (unmap_fact job b g)
     done_kept i buffer job (Desk (ReleaseOrder b)) k g = let f = release_fact job b g in release_keeps i w.phase w.commit m b f.0 got chosen k f.1
     done_kept i buffer job (End answer) k g = elim (answer_fact job answer g) [
       | inl e ↦ subst (λ (ch : Chosen P A). T i (phase_then shape w.phase (End answer) got ch) (commit_then w.phase w.commit (End answer) got ch) m) (sym e) (answer_plain i w.phase w.commit m answer got k)

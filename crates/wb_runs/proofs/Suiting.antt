@@ -27,7 +27,7 @@ use Rattle.wb_runs.specs.declared.job.Job.{Job}
 use Rattle.wb_runs.specs.declared.job.Job.TheVariants.{Read, Write, Flush, Open, Migrate}
 use Rattle.wb_runs.specs.States.{Shape, State, Phase, Stands, Gone, Opens, OfTarget, OfReading}
 use Rattle.wb_runs.specs.Happenings.{Chosen, Plain, Cut, Orders, Begins, Reaches, Puts, Commits, Asks, Opened, DoesRead, DoesBegin, DoesMap, Gives}
-use Rattle.wb_runs.proofs.Stepping.{metadata_fact, begin_fact, map_fact, no_unmap, sync_fact, node_fact, root_fact}
+use Rattle.wb_runs.proofs.Stepping.{metadata_fact, begin_fact, map_fact, sync_fact, node_fact, root_fact}
 
 -- ---- results
 
@@ -155,6 +155,13 @@ module _ (P A : Type 0) (shape : Shape) (w : State P A) (got : Got) (read : List
   released_done (Open mode) b g = absurd g
   released_done (Migrate migration block) b g = g.1
 
+  unmapped_done : (job : Job) (b : _) → Gives shape w job (Desk (Unmap b)) got read chosen → got ≡ Done
+  unmapped_done (Read x) b g = absurd g
+  unmapped_done (Write x c) b g = absurd g
+  unmapped_done Flush b g = absurd g
+  unmapped_done (Open mode) b g = absurd g
+  unmapped_done (Migrate migration block) b g = g.1
+
   -- each result fits the step that gave it
   pub gives_fits : (job : Job) (next : Want) → IsStep next → Gives shape w job next got read chosen → Fits next got
   gives_fits job (Cell step) i g = on_words w.phase step (word_given job step g)
@@ -175,6 +182,6 @@ module _ (P A : Type 0) (shape : Shape) (w : State P A) (got : Got) (read : List
   gives_fits job (Desk (BeginCommit clean most)) i g = on_desk w.phase clean most (begin_fact P A shape w got read chosen job clean most g)
   gives_fits job (Desk EndCommit) i g = done_fits (Desk EndCommit) got tt (end_given job g)
   gives_fits job (Desk (Map b c)) i g = map_given w.phase b c (map_fact P A shape w got read chosen job b c g)
-  gives_fits job (Desk (Unmap b)) i g = absurd (no_unmap P A shape w got read chosen job b g)
+  gives_fits job (Desk (Unmap b)) i g = done_fits (Desk (Unmap b)) got tt (unmapped_done job b g)
   gives_fits job (Desk (ReleaseOrder b)) i g = done_fits (Desk (ReleaseOrder b)) got tt (released_done job b g)
   gives_fits job (End answer) i g = absurd i

@@ -1,5 +1,5 @@
 -- In every run each actor has what its task needs, and the words of the target that stands keep their rule.
-use Rattle.std.proofs.Common.{◌≡◌, ◌<◌, ◌*◌, ◌/◌, inl, inr, ℕ, List, [], ◌∷◌, Option, Some, None, refl, sym, ap, subst, slice_get, slice_set, arith, mul_comm}
+use Rattle.std.proofs.Common.{◌≡◌, ◌<◌, ◌*◌, ◌/◌, inr, ℕ, List, [], ◌∷◌, Option, Some, None, refl, sym, ap, subst, slice_get, slice_set, arith, mul_comm}
 use mathlib.Core.Option.{some}
 use lib.ListN.{get_elem?}
 use Rattle.wb_types.specs.declared.mode.Mode.{Mode}
@@ -401,7 +401,7 @@ module _ (P A : Type 0) (shape : Shape) where
       let inside = order_inside k.images w.phase w.commit w.devices.metadata (slice_get w.actors a) migration block chosen k.known kept gives in
       subst (λ (o : Option Actor). Started_so w a (Migrate migration block) chosen o) (sym f.1)
       (over (starts_task w.phase w.actors a f.0 (given {P = P} {A = A} shape f.0 (Migrate migration block) chosen) f.1 refl (block_inside migration block inside, (holds_nothing w f.0 a u f.1 f.2, refl))
-      (given_orders migration block f.0.orders chosen inside (u.orders a f.0 f.1)) (λ m. applies (inr (inr (inl m)))) u))
+      (given_orders migration block f.0.orders chosen inside (u.orders a f.0 f.1)) (λ m. applies (inr (inr m))) u))
     where
       over : {actors : List Actor} → UsedRightly w.phase actors → UsedRightly (phase_given w.phase (Migrate migration block) chosen) actors
       over {actors} u = record { suited = u.suited; here = same_here w.phase (Migrate migration block) chosen actors u.here; orders = u.orders }

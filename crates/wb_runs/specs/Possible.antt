@@ -1,13 +1,14 @@
 -- That the promises are not empty: runs that pass through what they speak of.
-use Rattle.std.specs.Prelude.{◌≡◌, ◌≤◌, ◌∷◌, ℕ, suc, List, [], Some, None, length, slice_get}
+use Rattle.std.specs.Prelude.{false, ◌≡◌, ◌≤◌, ◌∷◌, ℕ, suc, List, [], Some, None, length, slice_get}
 use Rattle.wb_types.specs.Limits.{IsWithinLimits}
 use Rattle.wb_types.specs.declared.extent.Extent.{Extent}
 use Rattle.wb_types.specs.declared.geometry.Geometry.{Geometry}
 use Rattle.wb_types.specs.declared.mode.Dev.TheVariants.{Origin}
 use Rattle.wb_types.specs.declared.number.OBlock.{OBlock}
 use Rattle.wb_types.specs.declared.number.CBlock.{CBlock}
+use Rattle.wb_space.specs.declared.block.Block.TheVariants.{Quarantined}
 use Rattle.wb_orders.specs.Orders.{order_at}
-use Rattle.wb_tasks.specs.declared.step.Migration.TheVariants.{Promote}
+use Rattle.wb_tasks.specs.declared.step.Migration.TheVariants.{Promote, Demote}
 use Rattle.wb_disk.specs.Device.{Content as Bytes, History}
 use Rattle.wb_meta.specs.Formats.{IsFormatted}
 use Rattle.wb_meta.specs.Reads.{sectors_read}
@@ -108,3 +109,16 @@ abbrev pub CanPromote : (P A : Type 0) → Type 0
 CanPromote P A = (policy : P) (reading : ReadSteps A) → sectors_read reading ≡ 0 → (cache_blocks meta_sectors : ℕ) (within : IsWithinLimits 64 cache_blocks 1 meta_sectors) (threshold others : ℕ) (metadata : List History) → 64 ≤ threshold
     → IsFormatted (one_block cache_blocks meta_sectors within) metadata → length metadata ≡ meta_sectors
     → Promotes P A (record { geometry = one_block cache_blocks meta_sectors within; threshold = threshold; actors = suc others }) metadata
+
+-- A run after which a demotion of the first block, which was promoted before, is answered done at the next step of the first actor: the block
+-- stands nowhere, no order lives on its cache block, and that is in quarantine until a commit that has still to begin has ended.
+pub record Demotes (P A : Type 0) (shape : Shape) (metadata : List History) : Type 0 where
+  pub happenings : List (Happening P A)
+  pub is_run : IsRun shape (start shape metadata) happenings
+  pub answers : AboutToAnswer (Migrate Demote first_block) (after_all shape (start shape metadata) happenings)
+  pub stands : OfTarget (after_all shape (start shape metadata) happenings).phase (λ target. (place_of target.desk.tree.entries 0 ≡ None) × (order_at target.desk.orders.slots 0 ≡ None) × (slice_get target.desk.space.blocks 0 ≡ Some (Quarantined false false)))
+
+abbrev pub CanDemote : (P A : Type 0) → Type 0
+CanDemote P A = (policy : P) (reading : ReadSteps A) → sectors_read reading ≡ 0 → (cache_blocks meta_sectors : ℕ) (within : IsWithinLimits 64 cache_blocks 1 meta_sectors) (threshold others : ℕ) (metadata : List History) → 64 ≤ threshold
+    → IsFormatted (one_block cache_blocks meta_sectors within) metadata → length metadata ≡ meta_sectors
+    → Demotes P A (record { geometry = one_block cache_blocks meta_sectors within; threshold = threshold; actors = suc others }) metadata

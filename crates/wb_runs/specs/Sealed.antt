@@ -1,5 +1,5 @@
 -- That the seal of a block tells where the desk has it.
-use Rattle.std.specs.Prelude.{◌≡◌, ◌×◌, ◌⊎◌, ℕ, Bool, List, Option, Some, None, slice_get}
+use Rattle.std.specs.Prelude.{◌≡◌, ◌⊎◌, ℕ, Bool, List, Option, Some, None, slice_get}
 use Rattle.wb_types.specs.declared.entry.Entry.{Entry}
 use Rattle.wb_types.specs.declared.number.OBlock.{OBlock}
 use Rattle.wb_types.specs.declared.number.CBlock.{CBlock}

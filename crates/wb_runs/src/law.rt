@@ -1,11 +1,10 @@
 //! The theorems over all runs.
 
 ghost use Rattle.wb_runs.specs.Headline.{AnswersCoverTheirSectors, EventsSkipRightly, MetadataAreRead, OpeningsRefuseByCause};
-ghost use Rattle.wb_runs.specs.Possible.{CanFlush, CanOpen, CanPromote, CanSurvive};
+ghost use Rattle.wb_runs.specs.Possible.{CanDemote, CanFlush, CanOpen, CanPromote, CanSurvive};
 ghost use Rattle.wb_runs.specs.Progress.{NeverStuck};
 ghost use Rattle.wb_runs.specs.Inside.{StepsStayInside};
 ghost use Rattle.wb_runs.specs.Holding.{WordsAreUsedRightly};
-ghost use Rattle.wb_runs.specs.Sealed.{SealsTellPlaces};
 
 /// In every run, over any policy: whatever a crash leaves of the metadata device, it represents a root of this geometry and a
 /// tree, so an opening finds one; and a root that is marked clean is one of a tree without entries.
@@ -64,14 +63,14 @@ pub fn a_block_can_be_promoted<P, A>()
     ensures { CanPromote P A }
 {}
 
+/// And over the smallest origin one in which after that a demotion unmaps the block and is about to be answered done: the block stands nowhere,
+/// its order is over, and its cache block is in quarantine.
+pub fn a_block_can_be_demoted<P, A>()
+    ensures { CanDemote P A }
+{}
+
 /// After every run the cache and the origin have their sizes, and whoever has a task wants next a step on sectors that are there, or a
 /// seal by a cache block that is, wherever blocks are cached.
 pub fn steps_stay_inside<P, A>()
     ensures { StepsStayInside P A }
-{}
-
-/// After every run where a target stands the seal of each block tells where the desk has it, in a cache block or on the origin, or some
-/// actor's next step seals it so.
-pub fn seals_tell_places<P, A>()
-    ensures { SealsTellPlaces P A }
 {}

@@ -1,5 +1,5 @@
-//! Every interleaving of reads, writes, flushes, promotions and openings on three devices, one atomic step at a time, with failing steps
-//! and crashes: definitions and laws, no code but the records of what happened.
+//! Every interleaving of reads, writes, flushes, promotions, demotions, write-backs and openings on three devices, one atomic step at a
+//! time, with failing steps and crashes: definitions and laws, no code but the records of what happened.
 #![tactic(auto)]
 
 mod event;
@@ -9,7 +9,7 @@ mod law;
 pub use event::{Event, Record, What};
 pub use job::Job;
 pub use law::{
-    a_block_can_be_promoted, a_flush_can_be_done, a_target_can_be_opened, a_write_can_survive,
-    answers_cover_their_sectors, events_skip_rightly, metadata_are_read, never_stuck,
-    openings_refuse_by_cause, steps_stay_inside, words_are_used_rightly,
+    a_block_can_be_demoted, a_block_can_be_promoted, a_flush_can_be_done, a_target_can_be_opened,
+    a_write_can_survive, answers_cover_their_sectors, events_skip_rightly, metadata_are_read,
+    never_stuck, openings_refuse_by_cause, steps_stay_inside, words_are_used_rightly,
 };

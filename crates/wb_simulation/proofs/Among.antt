@@ -1,5 +1,5 @@
 -- One actor goes on, and all others are as they were.
-use Rattle.std.proofs.Common.{bit_or, ◌≡◌, ◌≢◌, ◌<◌, ◌+◌, ◌-◌, ◌==◌, ◌∙◌, inl, inr, cond, if◌then◌else◌, ℕ, Bool, true, false, List, Option, Some, None, refl, sym, ap, subst, arith, length, slice_get, slice_set, ◌⊎◌}
+use Rattle.std.proofs.Common.{bit_or, ◌≡◌, ◌≢◌, ◌+◌, ◌*◌, ◌==◌, ◌∙◌, inl, inr, cond, if◌then◌else◌, ℕ, Bool, true, false, List, Option, Some, None, refl, sym, ap, subst, arith, length, slice_get, slice_set, ◌⊎◌}
 use Rattle.std.proofs.lemmas.Bool.{cases_eq, cases_lt}
 use Rattle.std.proofs.lemmas.List.{length-set}
 use Rattle.wb_disk.specs.Device.{History}
@@ -12,7 +12,7 @@ use Rattle.wb_words.specs.declared.step.CellStep.TheVariants.{Look, Take, Releas
 use Rattle.wb_policy.specs.declared.order.Order.{Order}
 use Rattle.wb_devices.specs.declared.devices.Devices.{Devices}
 use Rattle.wb_link.specs.Tables.{Got}
-use Rattle.wb_link.specs.World.{World, Shared, Block, Nothing, Actor as AbstractActor, is_alone}
+use Rattle.wb_link.specs.World.{World, Shared, Nothing, Actor as AbstractActor, is_alone}
 use Rattle.wb_link.proofs.Lists.{get_set_same, get_set_other}
 use Rattle.wb_refines.specs.Going.{records, shared_after, gone, MayGo}
 use Rattle.wb_refines.specs.Models.{WordsAgree, BelowBeside}
@@ -29,9 +29,10 @@ use Rattle.wb_runs.specs.Holding.{cards_of}
 use Rattle.wb_simulation.specs.Actors.{StandsFor}
 use Rattle.wb_simulation.specs.Telling.{Telling, IsTold}
 use Rattle.wb_simulation.specs.Worlds.{zeros, Agrees, Turn, Stays, TurnedTo, DeskTurnedTo, FollowsBy, Follows, IsUnfinished}
-use Rattle.wb_simulation.specs.Behind.{StandsBehind, HasKept, IsUncarried, AreOutside}
+use Rattle.wb_simulation.specs.Behind.{behind, StandsBehind, HasKept, IsCarried, IsUncarried, AreOutside}
 use Rattle.wb_simulation.proofs.Kept.{stands_on}
-use Rattle.wb_simulation.proofs.Behind.{is_inside, there_is, IsNoMigration, no_migration, StaysOutside, CarriesOthers, uncarried_on, card_there, behind_kept, behind_among, carried_below}
+use Rattle.wb_simulation.proofs.Behind.{is_inside, there_is, IsNoMigration, no_migration, StaysOutside, CarriesOthers, cases_at, keeps_live, unused_going, stands_behind, uncarried_on, card_there, behind_among, carried_below}
+use Rattle.wb_simulation.proofs.Places.{behind_within, is_behind}
 
 -- the failed bit is never cleared
 pub failed_stays : (words : Words) (step : CellStep) (failures suspensions : ℕ) → words.fail ≡ fail_word failures suspensions → flag words.fail ≡ true → flag (words_after words step).fail ≡ true
@@ -59,9 +60,19 @@ failed_stays words SetSuspended f z e t = ap (λ v. flag (bit_or v 2)) e ∙ by_
 
 -- ---- who is there
 
+-- it stands behind this actor of the run, for this cache block
+pub record IsBehindOne (orders : List (Option Order)) (actors : List Actor) (b : ℕ) : Type 0 where
+  pub a : ℕ
+  pub c : ℕ
+  pub x : Actor
+  pub order : Option Order
+  pub actor : slice_get actors a ≡ Some x
+  pub live : slice_get orders c ≡ Some order
+  pub is : b ≡ behind (length actors) (length orders) a c
+
 -- An abstract actor is one of the run's, or stands behind them.
 pub record AtPlace (orders : List (Option Order)) (actors : List Actor) (b : ℕ) : Type 0 where
-  pub place : ((x : Actor) × (slice_get actors b ≡ Some x)) ⊎ ((c : ℕ) × (order : Option Order) × (slice_get orders c ≡ Some order) × (b ≡ length actors + c))
+  pub place : ((x : Actor) × (slice_get actors b ≡ Some x)) ⊎ IsBehindOne orders actors b
 
 module _ (size most : ℕ) (words : Words) (committing : Bool) (orders : List (Option Order)) (devices : Devices (List History)) (actors : List Actor) (s : World) (g : Agrees size most words committing orders devices actors s) where
   pub at_place : (b : ℕ) (y : AbstractActor) → slice_get s.actors b ≡ Some y → AtPlace orders actors b
@@ -70,8 +81,10 @@ module _ (size most : ℕ) (words : Words) (committing : Bool) (orders : List (O
     | inr l ↦
         let inside = is_inside s.actors b y e in
         let many = g.many in
-        let there = there_is orders (b - length actors) (omega (arith, inside, many, l)) in
-        record { place = inr (b - length actors, there.0, there.1, omega (arith, l)) }
+        let k = is_behind (length actors) (length orders) b l (omega (arith, inside, many)) in
+        let x = there_is actors k.a k.actor in
+        let o = there_is orders k.c k.cache in
+        record { place = inr (record { a = k.a; c = k.c; x = x.0; order = o.0; actor = x.1; live = o.1; is = k.is }) }
   ]
 
   -- each of the run's actors is there
@@ -79,56 +92,60 @@ module _ (size most : ℕ) (words : Words) (committing : Bool) (orders : List (O
   own_there a x e = there_is s.actors a (let l = is_inside actors a x e in let many = g.many in omega (arith, l, many))
 
   -- and so is each one behind
-  pub behind_there : (c : ℕ) (order : Option Order) → slice_get orders c ≡ Some order → (y : AbstractActor) × (slice_get s.actors (length actors + c) ≡ Some y)
-  behind_there c order e = there_is s.actors (length actors + c) (let l = is_inside orders c order e in let many = g.many in omega (arith, l, many))
+  pub behind_there : (a c : ℕ) (x : Actor) (order : Option Order) → slice_get actors a ≡ Some x → slice_get orders c ≡ Some order → (y : AbstractActor) × (slice_get s.actors (behind (length actors) (length orders) a c) ≡ Some y)
+  behind_there a c x order ex eo = there_is s.actors (behind (length actors) (length orders) a c)
+      (let l = behind_within (length actors) (length orders) a c (is_inside actors a x ex) (is_inside orders c order eo) in let many = g.many in omega (arith, l, many))
+
+  -- what stands behind the one of its place
+  pub stands_at : (b : ℕ) (y : AbstractActor) → slice_get s.actors b ≡ Some y → (k : IsBehindOne orders actors b) → StandsBehind size words devices k.c k.order (g.at k.a) k.x y
+  stands_at b y e k = g.behind_each k.a k.c k.x k.order y k.actor k.live (ap (λ (i : ℕ). slice_get s.actors i) (sym k.is) ∙ e)
 
   pub nobody_alone : (b : ℕ) (z : AbstractActor) → slice_get s.actors b ≡ Some z → is_alone z.task ≡ false
   nobody_alone b z e = elim (at_place b z e).place [
     | inl x ↦ (g.each b x.0 z x.1 e).among_others
-    | inr c ↦ behind_among size words devices actors c.0 c.1 (s.shared.blocks c.0) (g.who c.0) z (g.behind c.0 c.1 z c.2 (ap (λ (i : ℕ). slice_get s.actors i) (sym c.3) ∙ e))
+    | inr k ↦ behind_among size words devices k.c k.order (g.at k.a) k.x z (stands_at b z e k)
   ]
 
   -- Whoever holds a block beside this one has a card that counts it, and not this actor's, which is at a task past its look at the fail word.
   module _ (a there : ℕ) (x : Actor) (ex : slice_get actors a ≡ Some x) (inside : ¬ AreOutside x.task) (own : a ≢ there → (y : AbstractActor) → slice_get s.actors a ≡ Some y → y.held ≢ Nothing → ⊥)
-      (carries : (c : ℕ) → length actors + c ≢ there → g.who c ≡ Some a → (migration : Migration) (block : OBlock) (plan : Plan) → x.task ≡ Some (Migrate migration block, plan) → ⊥) where
+      (carries : (c : ℕ) → behind (length actors) (length orders) a c ≢ there → g.at a ≡ Some c → (migration : Migration) (block : OBlock) (plan : Plan) → x.task ≡ Some (Migrate migration block, plan) → ⊥) where
     pub below_beside : BelowBeside s.actors (cards_of actors) there a
     below_beside b y n e held = elim (at_place b y e).place [
       | inl z ↦ elim (cases_eq b a) [
         | inl same ↦ absurd (own (λ f. n (same ∙ f)) y (ap (λ (i : ℕ). slice_get s.actors i) (sym same) ∙ e) held)
         | inr other ↦ (b, z.0.card, other, card_there actors b z.0 z.1, (g.each b z.0 y z.1 e).below)
       ]
-      | inr c ↦ behind c.0 c.1 (g.who c.0) refl (λ f. n (c.3 ∙ f)) (g.behind c.0 c.1 y c.2 (ap (λ (i : ℕ). slice_get s.actors i) (sym c.3) ∙ e))
+      | inr k ↦ elim (cases_at (g.at k.a) k.c) [ inl f ↦ carried k f ((stands_at b y e k).carried f) | inr f ↦ elim ((stands_at b y e k).unused f).holds [ inl none ↦ absurd (held none) | inr h ↦ kept k h ] ]
     ]
       where
         Found : Type 0
         Found = (d : ℕ) × (card : Card) × (d ≢ a) × (slice_get (cards_of actors) d ≡ Some card) × IsBelow y card
 
-        kept : (order : Option Order) → HasKept words actors order y → Found
-        kept order k = elim (cases_eq k.keeper a) [
-          | inl same ↦
-              let here : Some k.x ≡ Some x = sym k.at ∙ ap (λ (i : ℕ). slice_get actors i) same ∙ ex in
-              let is : k.x ≡ x = cc in
-              absurd (inside (subst (λ (v : Actor). AreOutside v.task) is k.outside))
-          | inr other ↦ (k.keeper, k.x.card, other, card_there actors k.keeper k.x k.at, k.below)
+        -- the same actor, where it is this one
+        is_it : (k : IsBehindOne orders actors b) → k.a ≡ a → k.x ≡ x
+        is_it k same = let here : Some k.x ≡ Some x = sym k.actor ∙ ap (λ (i : ℕ). slice_get actors i) same ∙ ex in let is : k.x ≡ x = cc in is
+
+        kept : (k : IsBehindOne orders actors b) → HasKept words k.x y → Found
+        kept k h = elim (cases_eq k.a a) [
+          | inl same ↦ absurd (inside (subst (λ (v : Actor). AreOutside v.task) (is_it k same) h.outside))
+          | inr other ↦ (k.a, k.x.card, other, card_there actors k.a k.x k.actor, h.below)
         ]
 
-        behind : (c : ℕ) (order : Option Order) (who : Option ℕ) → g.who c ≡ who → length actors + c ≢ there → StandsBehind size words devices actors c order (s.shared.blocks c) who y → Found
-        behind c order None is away st = elim st.holds [ inl none ↦ absurd (held none) | inr k ↦ kept order k ]
-        behind c order (Some d) is away st =
-            let other : d ≢ a = (λ f.
-            let here : Some st.0 ≡ Some x = sym st.1 ∙ ap (λ (i : ℕ). slice_get actors i) f ∙ ex in
-            let same : st.0 ≡ x = cc in
-            carries c away (is ∙ ap (λ (i : ℕ). Some i) f) st.2.migration st.2.block st.2.plan (ap (λ (v : Actor). v.task) (sym same) ∙ st.2.task)) in
-            (d, st.0.card, other, card_there actors d st.0 st.1, carried_below size devices (record { 0 = c }) order (s.shared.blocks c) st.0 y st.2)
+        carried : (k : IsBehindOne orders actors b) → g.at k.a ≡ Some k.c → IsCarried size devices (record { 0 = k.c }) k.order k.x y → Found
+        carried k f h = elim (cases_eq k.a a) [
+          | inl same ↦ absurd (carries k.c (λ q. n (k.is ∙ ap (λ (i : ℕ). behind (length actors) (length orders) i k.c) same ∙ q)) (ap g.at (sym same) ∙ f) h.migration h.block h.plan (ap (λ (v : Actor). v.task) (sym (is_it k same)) ∙ h.task))
+          | inr other ↦ (k.a, k.x.card, other, card_there actors k.a k.x k.actor, carried_below size devices (record { 0 = k.c }) k.order k.x y h)
+        ]
 
 -- ---- one goes on
 
--- That all others stay as they are: this one is at no migration before and after it.
-pub record OthersStay (size : ℕ) (words : Words) (devices devices' : Devices (List History)) (actors : List Actor) (a : ℕ) (x x' : Actor) (blocks blocks' : ℕ → Block) : Type 0 where
+-- That all others stay as they are: this one is at no migration before and after it, and has the same orders.
+pub record OthersStay (size : ℕ) (words : Words) (devices devices' : Devices (List History)) (orders : List (Option Order)) (actors : List Actor) (a : ℕ) (x x' : Actor) : Type 0 where
   pub before : IsNoMigration x.task
   pub still : IsNoMigration x'.task
+  pub ordered : x'.orders ≡ x.orders
   pub outside : StaysOutside words x x'
-  pub carries : CarriesOthers size devices devices' actors a blocks blocks'
+  pub carries : CarriesOthers size devices devices' orders actors a
 
 module _ (size most : ℕ) (words words' : Words) (up : flag words.fail ≡ true → flag words'.fail ≡ true) (committing : Bool) (orders : List (Option Order)) (devices : Devices (List History)) (actors : List Actor) (a : ℕ) (x x' : Actor) (s : World) (y : AbstractActor)
     (g : Agrees size most words committing orders devices actors s) (ex : slice_get actors a ≡ Some x) (ey : slice_get s.actors a ≡ Some y) where
@@ -144,24 +161,30 @@ module _ (size most : ℕ) (words words' : Words) (up : flag words.fail ≡ true
   ]
 
   -- nobody behind is another one then
-  pub behind_on : (y' : AbstractActor) (devices' : Devices (List History)) (blocks' : ℕ → Block) → OthersStay size words devices devices' actors a x x' s.shared.blocks blocks' →
-      (c : ℕ) (order : Option Order) (u : AbstractActor) → slice_get orders c ≡ Some order → slice_get (slice_set s.actors a y') (length (slice_set actors a x') + c) ≡ Some u → StandsBehind size words' devices' (slice_set actors a x') c order (blocks' c) (g.who c) u
-  behind_on y' devices' blocks' o c order u eo eu =
+  pub behind_on : (y' : AbstractActor) (devices' : Devices (List History)) → OthersStay size words devices devices' orders actors a x x' →
+      (b c : ℕ) (z : Actor) (order : Option Order) (u : AbstractActor) → slice_get (slice_set actors a x') b ≡ Some z → slice_get orders c ≡ Some order → slice_get (slice_set s.actors a y') (behind (length (slice_set actors a x')) (length orders) b c) ≡ Some u → StandsBehind size words' devices' c order (g.at b) z u
+  behind_on y' devices' o b c z order u ez eo eu =
       let l = is_inside actors a x ex in
-      let n : length actors + c ≢ a = (λ f. absurd (omega (arith, l, f))) in
-      let there : slice_get s.actors (length actors + c) ≡ Some u = sym (get_set_other s.actors a (length actors + c) y' n) ∙ ap (λ (k : ℕ). slice_get (slice_set s.actors a y') (k + c)) (sym (length-set actors a x')) ∙ eu in
-      let st = g.behind c order u eo there in
-      behind_kept size words words' up devices devices' actors a x x' ex s.shared.blocks blocks' o.outside o.carries c order u (g.who c) (not_here c order (g.who c) st) st
+      let n : behind (length actors) (length orders) b c ≢ a = (λ f. absurd (omega (arith, l, f))) in
+      let there : slice_get s.actors (behind (length actors) (length orders) b c) ≡ Some u = sym (get_set_other s.actors a (behind (length actors) (length orders) b c) y' n) ∙ ap (λ (k : ℕ). slice_get (slice_set s.actors a y') (behind k (length orders) b c)) (sym (length-set actors a x')) ∙ eu in
+      elim (cases_eq b a) [
+        | inl e ↦
+            let here : Some x' ≡ Some z = sym (get_set_same actors a x x' ex) ∙ ap (λ k. slice_get (slice_set actors a x') k) (sym e) ∙ ez in
+            let one : x' ≡ z = cc in
+            subst (λ (q : Actor). StandsBehind size words' devices' c order (g.at b) q u) one (its c order u (g.at b) (g.behind_each b c x order u (ap (λ k. slice_get actors k) e ∙ ex) eo there))
+        | inr m ↦
+            let old : slice_get actors b ≡ Some z = sym (get_set_other actors a b x' m) ∙ ez in
+            stands_behind words words' up size devices devices' c order order (g.at b) z u (inl refl) (o.carries b z u c order m old eo) (g.behind_each b c z order u old eo there)
+      ]
     where
-      not_here : (c : ℕ) (order : Option Order) (who : Option ℕ) → StandsBehind size words devices actors c order (s.shared.blocks c) who u → who ≢ Some a
-      not_here c order None st f = absurd (cc)
-      not_here c order (Some b) st f =
-          let same : b ≡ a = cc in
-          let here : Some st.0 ≡ Some x = sym st.1 ∙ ap (λ (i : ℕ). slice_get actors i) same ∙ ex in
-          let is : st.0 ≡ x = cc in
-          no_migration x.task st.2.migration st.2.block st.2.plan o.before (ap (λ (v : Actor). v.task) (sym is) ∙ st.2.task)
+      -- it is at no migration
+      its : (c : ℕ) (order : Option Order) (u : AbstractActor) (at : Option ℕ) → StandsBehind size words devices c order at x u → StandsBehind size words' devices' c order at x' u
+      its c order u at st = record {
+        carried = λ e. let k = st.carried e in absurd (no_migration x.task k.migration k.block k.plan o.before k.task);
+        unused = λ m. unused_going words words' up x x' o.outside c order u (keeps_live x x' o.ordered c order) (st.unused m);
+      }
 
-  pub uncarried_then : IsNoMigration x'.task → (b : ℕ) (z : Actor) (migration : Migration) (block : OBlock) (plan : Plan) → slice_get (slice_set actors a x') b ≡ Some z → z.task ≡ Some (Migrate migration block, plan) → (IsUncarried words' plan.steps × ((c : ℕ) → g.who c ≢ Some b)) ⊎ ((c : ℕ) × (c < length orders) × (g.who c ≡ Some b))
+  pub uncarried_then : IsNoMigration x'.task → (b : ℕ) (z : Actor) (migration : Migration) (block : OBlock) (plan : Plan) → slice_get (slice_set actors a x') b ≡ Some z → z.task ≡ Some (Migrate migration block, plan) → (IsUncarried words' plan.steps × (g.at b ≡ None)) ⊎ ((c : ℕ) × (g.at b ≡ Some c))
   uncarried_then none b z migration block plan ez t = elim (cases_eq b a) [
     | inl e ↦
         let here : Some x' ≡ Some z = sym (get_set_same actors a x x' ex) ∙ ap (λ k. slice_get (slice_set actors a x') k) (sym e) ∙ ez in
@@ -185,7 +208,7 @@ module _ (size most : ℕ) (words words' : Words) (up : flag words.fail ≡ true
       t.origin ≡ by_block size zeros devices'.origin → t.cache ≡ by_block size zeros devices'.cache → t.mode ≡ s.shared.mode → t.committing ≡ committing' → (t.broken ≡ true → t.committing ≡ true) →
       ((b : ℕ) (v : AbstractActor) → slice_get (slice_set s.actors a (gone y y.task results)) b ≡ Some v → v.leads ≡ true → t.committing ≡ true) →
       ((b : ℕ) (v : AbstractActor) → slice_get (slice_set s.actors a (gone y y.task results)) b ≡ Some v → v.leads ≡ true → IsUnfinished v.task → t.broken ≡ false) →
-      ((b c : ℕ) (v u : AbstractActor) → slice_get (slice_set s.actors a (gone y y.task results)) b ≡ Some v → slice_get (slice_set s.actors a (gone y y.task results)) c ≡ Some u → v.leads ≡ true → u.leads ≡ true → b ≡ c) → TurnedTo turn s.shared t → DeskTurnedTo turn s.shared t → OthersStay size words devices devices' actors a x x' s.shared.blocks t.blocks →
+      ((b c : ℕ) (v u : AbstractActor) → slice_get (slice_set s.actors a (gone y y.task results)) b ≡ Some v → slice_get (slice_set s.actors a (gone y y.task results)) c ≡ Some u → v.leads ≡ true → u.leads ≡ true → b ≡ c) → TurnedTo turn s.shared t → DeskTurnedTo turn s.shared t → OthersStay size words devices devices' orders actors a x x' →
       FollowsBy turn telling size most a s words' committing' orders devices' (slice_set actors a x')
   goes_leading turn telling committing' devices' results t told may is st w o c m k b led whole one turned desk others =
       let went = goes size results s a y y.task ey refl may in
@@ -203,12 +226,11 @@ module _ (size most : ℕ) (words words' : Words) (up : flag words.fail ≡ true
               led = led;
               whole = whole;
               one_leads = one;
-              many = length-set s.actors a (gone y y.task results) ∙ g.many ∙ ap (λ (n : ℕ). n + length orders) (sym (length-set actors a x'));
+              many = length-set s.actors a (gone y y.task results) ∙ g.many ∙ ap (λ (n : ℕ). n + n * length orders) (sym (length-set actors a x'));
               each = each_on (gone y y.task results) st;
-              who = g.who;
-              behind = behind_on (gone y y.task results) devices' t.blocks others;
+              at = g.at;
+              behind_each = behind_on (gone y y.task results) devices' others;
               within = g.within;
-              one_each = g.one_each;
               carried = uncarried_then others.still;
             }));
         turned = subst (λ (v : World). TurnedTo turn s.shared v.shared) (sym went.is) (subst (λ (v : Shared). TurnedTo turn s.shared v) (sym is) turned);
@@ -228,7 +250,7 @@ module _ (size most : ℕ) (words words' : Words) (up : flag words.fail ≡ true
 
   -- no commit begins, ends or is broken by it
   pub goes_on : (telling : Telling) (devices' : Devices (List History)) (results : List Got) (t : Shared) → IsTold telling a y.task (records a y.task results) → MayGo s.actors a s.shared y y.task results → shared_after s.shared y y.task results ≡ t → StandsFor size most words' x' (gone y y.task results) → ((gone y y.task results).leads ≡ true → gone y y.task results ≡ y) → WordsAgree words' t →
-      t.origin ≡ by_block size zeros devices'.origin → t.cache ≡ by_block size zeros devices'.cache → t.mode ≡ s.shared.mode → t.committing ≡ s.shared.committing → t.broken ≡ s.shared.broken → TurnedTo Stays s.shared t → DeskTurnedTo Stays s.shared t → OthersStay size words devices devices' actors a x x' s.shared.blocks t.blocks →
+      t.origin ≡ by_block size zeros devices'.origin → t.cache ≡ by_block size zeros devices'.cache → t.mode ≡ s.shared.mode → t.committing ≡ s.shared.committing → t.broken ≡ s.shared.broken → TurnedTo Stays s.shared t → DeskTurnedTo Stays s.shared t → OthersStay size words devices devices' orders actors a x x' →
       Follows telling size most a s words' committing orders devices' (slice_set actors a x')
   goes_on telling devices' results t told may is st keeps w o c m k b turned desk others = goes_leading Stays telling committing devices' results t told may is st w o c m (k ∙ g.commits) (λ e. k ∙ g.broken (sym b ∙ e))
       (led_on (gone y y.task results) keeps t k) (whole_on (gone y y.task results) keeps t b) (one_on (gone y y.task results) keeps) turned desk others

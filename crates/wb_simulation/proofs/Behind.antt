@@ -1,5 +1,5 @@
 -- What stands behind the run's actors stays as it is where one of those goes on that is at no migration.
-use Rattle.std.proofs.Common.{◌≡◌, ◌≢◌, ◌<◌, ◌==◌, ◌∙◌, inl, inr, cond, if◌then◌else◌, ℕ, zero, suc, Bool, true, false, List, [], ◌∷◌, Option, Some, None, refl, sym, ap, subst, arith, length, slice_get, slice_set}
+use Rattle.std.proofs.Common.{◌≡◌, ◌≢◌, ◌⊎◌, ◌<◌, ◌==◌, ◌∙◌, inl, inr, cond, if◌then◌else◌, ℕ, zero, suc, Bool, true, false, List, [], ◌∷◌, Option, Some, None, refl, sym, ap, subst, arith, Contains, length, slice_get}
 use Rattle.std.proofs.lemmas.Bool.{cases_eq}
 use Rattle.wb_types.specs.declared.number.CBlock.{CBlock}
 use Rattle.wb_types.specs.declared.number.OBlock.{OBlock}
@@ -24,8 +24,7 @@ use Rattle.wb_tasks.specs.declared.step.Want.TheVariants.{Cell}
 use Rattle.wb_devices.specs.declared.devices.Devices.{Devices}
 use Rattle.wb_devices.specs.Moving.{device_in}
 use Rattle.wb_link.specs.Tables.{Order as AbstractOrder}
-use Rattle.wb_link.specs.World.{Block, Mapped, Actor as AbstractActor, is_alone, job_alone}
-use Rattle.wb_link.proofs.Lists.{get_set_same, get_set_other}
+use Rattle.wb_link.specs.World.{Actor as AbstractActor, is_alone, job_alone}
 use Rattle.wb_refines.specs.Data.{row}
 use Rattle.wb_refines.specs.Models.{IsBelow}
 use Rattle.wb_refines.specs.Migrations.{order_on, source, job_under}
@@ -34,9 +33,10 @@ use Rattle.wb_refines.proofs.Locks.{held_below}
 use Rattle.wb_runs.specs.declared.job.Job.{Job}
 use Rattle.wb_runs.specs.declared.job.Job.TheVariants.{Migrate}
 use Rattle.wb_runs.specs.States.{Actor}
+use Rattle.wb_runs.specs.Happenings.{order_for}
 use Rattle.wb_runs.specs.Holding.{cards_of}
 use Rattle.wb_simulation.specs.Steps.{IsOutside}
-use Rattle.wb_simulation.specs.Behind.{IsCarried, HasKept, HasRead, IsUnused, IsUncarried, StandsBehind, AreOutside}
+use Rattle.wb_simulation.specs.Behind.{HasLive, IsUnder, IsCarried, HasRead, IsUnused, IsUncarried, StandsBehind, AreOutside}
 
 pub is_inside : {X : Type 0} (xs : List X) (i : ℕ) (x : X) → slice_get xs i ≡ Some x → i < length xs
 is_inside [] i x e = absurd (cc)
@@ -65,6 +65,45 @@ IsNoMigration (Some doing) = MigratesNot doing.0
 pub no_migration : (task : Option (Job × Plan)) (migration : Migration) (block : OBlock) (plan : Plan) → IsNoMigration task → task ≡ Some (Migrate migration block, plan) → ⊥
 no_migration task migration block plan n e = subst (λ (t : Option (Job × Plan)). IsNoMigration t) e n
 
+-- it is at the migration of this cache block, or not
+pub cases_at : (at : Option ℕ) (c : ℕ) → (at ≡ Some c) ⊎ (at ≢ Some c)
+cases_at None c = inr (λ e. absurd (cc))
+cases_at (Some d) c = elim (cases_eq d c) [ inl e ↦ inl (ap (λ (i : ℕ). Some i) e) | inr n ↦ inr (λ e. n (let same : d ≡ c = cc in same)) ]
+
+-- ---- what is live for an actor
+
+-- an order is none of these
+abbrev pub IsNotOf : List Order → Option Order → Type 0
+IsNotOf orders None = Unit {0}
+IsNotOf orders (Some order) = ¬ Contains orders order
+
+-- What is live on a cache block is the same before and after, or no order of this actor.
+abbrev pub SameFor : Actor → (order order' : Option Order) → Type 0
+SameFor z order order' = (order' ≡ order) ⊎ (IsNotOf z.orders order × IsNotOf z.orders order')
+
+none_kept : (orders : List Order) (c : ℕ) (order : Option Order) (kept : Option AbstractOrder) → IsNotOf orders order → HasLive orders c order kept → kept ≡ None
+none_kept orders c None kept n h = h
+none_kept orders c (Some o) kept n h = elim h [ inl k ↦ absurd (n k.0) | inr k ↦ k.1 ]
+
+none_live : (orders : List Order) (c : ℕ) (order : Option Order) (kept : Option AbstractOrder) → IsNotOf orders order → kept ≡ None → HasLive orders c order kept
+none_live orders c None kept n e = e
+none_live orders c (Some o) kept n e = inr (n, e)
+
+pub live_for : (z : Actor) (c : ℕ) (order order' : Option Order) (kept : Option AbstractOrder) → SameFor z order order' → HasLive z.orders c order kept → HasLive z.orders c order' kept
+live_for z c order order' kept same h = elim same [
+  | inl e ↦ subst (λ (o : Option Order). HasLive z.orders c o kept) (sym e) h
+  | inr n ↦ none_live z.orders c order' kept n.1 (none_kept z.orders c order kept n.0 h)
+]
+
+under_for : (z : Actor) (c : ℕ) (own : Order) (order order' : Option Order) (own_there : AbstractOrder) (kept : Option AbstractOrder) (plan : Plan) → SameFor z order order' → HasLive z.orders c order kept → IsUnder own order own_there kept plan → IsUnder own order' own_there kept plan
+under_for z c own order order' own_there kept plan same h u = elim same [
+  | inl e ↦ subst (λ (o : Option Order). IsUnder own o own_there kept plan) (sym e) u
+  | inr n ↦ elim u [
+    | inl l ↦ (let bad : None ≡ Some own_there = sym (none_kept z.orders c order kept n.0 h) ∙ l.1 in absurd (cc))
+    | inr t ↦ inr t
+  ]
+]
+
 -- ---- who is carried
 
 under_among : (order : AbstractOrder) (os : List ℕ) (migration : Migration) → job_alone (job_under order os migration) ≡ false
@@ -72,7 +111,7 @@ under_among order os (Promote c) = refl
 under_among order os Demote = refl
 under_among order os Clean = refl
 
-module _ (size : ℕ) (devices : Devices (List History)) (c : CBlock) (order : Option Order) (state : Block) (z : Actor) (u : AbstractActor) (k : IsCarried size devices c order state z u) where
+module _ (size : ℕ) (devices : Devices (List History)) (c : CBlock) (order : Option Order) (z : Actor) (u : AbstractActor) (k : IsCarried size devices c order z u) where
   pub carried_below : IsBelow u z.card
   carried_below = held_below k.plan.steps z.card u (ap (λ (v : AbstractActor). v.held) k.at.is)
 
@@ -80,19 +119,17 @@ module _ (size : ℕ) (devices : Devices (List History)) (c : CBlock) (order : O
   carried_leads = ap (λ (v : AbstractActor). v.leads) k.at.is
 
   pub carried_among : is_alone u.task ≡ false
-  carried_among = ap (λ (v : AbstractActor). is_alone v.task) k.at.is ∙ under_among (order_on k.part c k.next) _ k.migration
+  carried_among = ap (λ (v : AbstractActor). is_alone v.task) k.at.is ∙ under_among (order_on k.part c None) _ k.migration
 
-  -- it is so where its block is mapped still, if it was, and its source has what it has read
-  pub carried_with : (devices' : Devices (List History)) (state' : Block) → (state ≡ Mapped → state' ≡ Mapped) →
-      HasRead size (device_in (source_of k.migration) devices') (row (source (order_on k.part c k.next) k.migration) k.part.block.0) k.plan.steps z.buffer → IsCarried size devices' c order state' z u
-  carried_with devices' state' mapped has_read = record {
+  -- it is so where another's order comes or goes on its cache block, and its source has what it has read
+  pub carried_with : (devices' : Devices (List History)) (order' : Option Order) → SameFor z order order' →
+      HasRead size (device_in (source_of k.migration) devices') (row (source (order_on k.part c None) k.migration) k.part.block.0) k.plan.steps z.buffer → IsCarried size devices' c order' z u
+  carried_with devices' order' same has_read = record {
     migration = k.migration;
-    made = k.made;
     block = k.block;
     plan = k.plan;
     task = k.task;
     part = k.part;
-    next = k.next;
     job = k.job;
     block_is = k.block_is;
     is_part = k.is_part;
@@ -102,9 +139,11 @@ module _ (size : ℕ) (devices : Devices (List History)) (c : CBlock) (order : O
     paired = k.paired;
     unfinished = k.unfinished;
     answers = k.answers;
-    mine = k.mine;
-    has = elim k.has [ inl l ↦ inl l | inr t ↦ inr (t.0, t.1, t.2, mapped t.3) ];
+    kept = k.kept;
+    live = live_for z c.0 order order' k.kept same k.live;
+    has = under_for z c.0 (order_for k.migration k.block) order order' (order_on k.part c None) k.kept k.plan same k.live k.has;
     at = k.at;
+    copies = k.copies;
     buffer = has_read;
   }
 
@@ -112,13 +151,12 @@ pub uncarried_on : (words words' : Words) → (flag words.fail ≡ true → flag
 uncarried_on words words' up steps n = elim n [ inl e ↦ inl e | inr f ↦ inr (up f.0, f.1) ]
 
 -- who stands behind leads no commit, and need not be alone
-pub behind_leads : (size : ℕ) (words : Words) (devices : Devices (List History)) (actors : List Actor) (c : ℕ) (order : Option Order) (state : Block) (who : Option ℕ) (u : AbstractActor) → StandsBehind size words devices actors c order state who u → u.leads ≡ false
-behind_leads size words devices actors c order state None u s = s.leads
-behind_leads size words devices actors c order state (Some b) u s = carried_leads size devices (record { 0 = c }) order state s.0 u s.2
+module _ (size : ℕ) (words : Words) (devices : Devices (List History)) (c : ℕ) (order : Option Order) (at : Option ℕ) (z : Actor) (u : AbstractActor) (st : StandsBehind size words devices c order at z u) where
+  pub behind_leads : u.leads ≡ false
+  behind_leads = elim (cases_at at c) [ inl e ↦ carried_leads size devices (record { 0 = c }) order z u (st.carried e) | inr n ↦ (st.unused n).leads ]
 
-pub behind_among : (size : ℕ) (words : Words) (devices : Devices (List History)) (actors : List Actor) (c : ℕ) (order : Option Order) (state : Block) (who : Option ℕ) (u : AbstractActor) → StandsBehind size words devices actors c order state who u → is_alone u.task ≡ false
-behind_among size words devices actors c order state None u s = ap is_alone s.task
-behind_among size words devices actors c order state (Some b) u s = carried_among size devices (record { 0 = c }) order state s.0 u s.2
+  pub behind_among : is_alone u.task ≡ false
+  behind_among = elim (cases_at at c) [ inl e ↦ carried_among size devices (record { 0 = c }) order z u (st.carried e) | inr n ↦ ap is_alone (st.unused n).task ]
 
 -- ---- one of the run's actors goes on
 
@@ -127,34 +165,56 @@ abbrev pub StaysOutside : Words → Actor → Actor → Type 0
 StaysOutside words x x' = flag words.fail ≡ true → AreOutside x.task → AreOutside x'.task × ((u : AbstractActor) → IsBelow u x.card → IsBelow u x'.card)
 
 -- all that are carried for others are so still
-abbrev pub CarriesOthers : (size : ℕ) (devices devices' : Devices (List History)) (actors : List Actor) (a : ℕ) (blocks blocks' : ℕ → Block) → Type 0
-CarriesOthers size devices devices' actors a blocks blocks' = (b : ℕ) (z : Actor) (u : AbstractActor) (c : ℕ) (order : Option Order) → b ≢ a → slice_get actors b ≡ Some z →
-    IsCarried size devices (record { 0 = c }) order (blocks c) z u → IsCarried size devices' (record { 0 = c }) order (blocks' c) z u
+abbrev pub CarriesOthers : (size : ℕ) (devices devices' : Devices (List History)) (orders : List (Option Order)) (actors : List Actor) (a : ℕ) → Type 0
+CarriesOthers size devices devices' orders actors a = (b : ℕ) (z : Actor) (u : AbstractActor) (c : ℕ) (order : Option Order) → b ≢ a → slice_get actors b ≡ Some z → slice_get orders c ≡ Some order →
+    IsCarried size devices (record { 0 = c }) order z u → IsCarried size devices' (record { 0 = c }) order z u
 
-module _ (size : ℕ) (words words' : Words) (up : flag words.fail ≡ true → flag words'.fail ≡ true) (devices devices' : Devices (List History)) (actors : List Actor) (a : ℕ) (x x' : Actor) (ex : slice_get actors a ≡ Some x) (blocks blocks' : ℕ → Block)
-    (outside : StaysOutside words x x') (carried : CarriesOthers size devices devices' actors a blocks blocks') where
-  pub kept_on : (order : Option Order) (u : AbstractActor) → HasKept words actors order u → HasKept words' (slice_set actors a x') order u
-  kept_on order u k = elim (cases_eq k.keeper a) [
-    | inl e ↦
-        let here : Some k.x ≡ Some x = sym k.at ∙ ap (λ (i : ℕ). slice_get actors i) e ∙ ex in
-        let same : k.x ≡ x = cc in
-        let o = outside k.failed (subst (λ (v : Actor). AreOutside v.task) same k.outside) in
-        record { failed = up k.failed; live = k.live; keeper = a; x = x'; at = get_set_same actors a x x' ex; below = o.1 u (subst (λ (v : Actor). IsBelow u v.card) same k.below); outside = o.0 }
-    | inr n ↦ record { failed = up k.failed; live = k.live; keeper = k.keeper; x = k.x; at = get_set_other actors a k.keeper x' n ∙ k.at; below = k.below; outside = k.outside }
-  ]
+-- no order of another actor comes or goes
+abbrev pub OthersOrdersStay : (orders orders' : List (Option Order)) (actors : List Actor) (a : ℕ) → Type 0
+OthersOrdersStay orders orders' actors a = (b : ℕ) (z : Actor) (c : ℕ) (order order' : Option Order) → b ≢ a → slice_get actors b ≡ Some z → slice_get orders c ≡ Some order → slice_get orders' c ≡ Some order' → SameFor z order order'
 
-  pub unused_on : (c : ℕ) (order : Option Order) (u : AbstractActor) → IsUnused words actors c order u → IsUnused words' (slice_set actors a x') c order u
-  unused_on c order u n = record { task = n.task; order_is = n.order_is; leads = n.leads; holds = elim n.holds [ inl h ↦ inl h | inr k ↦ inr (kept_on order u k) ] }
+-- what is live on a cache block for one actor is so for another one, as which it goes on
+abbrev pub KeepsLive : (x x' : Actor) (c : ℕ) (order : Option Order) → Type 0
+KeepsLive x x' c order = (kept : Option AbstractOrder) → HasLive x.orders c order kept → HasLive x'.orders c order kept
 
-  pub behind_kept : (c : ℕ) (order : Option Order) (u : AbstractActor) (who : Option ℕ) → who ≢ Some a → StandsBehind size words devices actors c order (blocks c) who u → StandsBehind size words' devices' (slice_set actors a x') c order (blocks' c) who u
-  behind_kept c order u None n s = unused_on c order u s
-  behind_kept c order u (Some b) n s =
-      let other : b ≢ a = (λ e. n (ap (λ (i : ℕ). Some i) e)) in
-      (s.0, get_set_other actors a b x' other ∙ s.1, carried b s.0 u c order other s.1 s.2)
+-- it has the same orders
+pub keeps_live : (x x' : Actor) → x'.orders ≡ x.orders → (c : ℕ) (order : Option Order) → KeepsLive x x' c order
+keeps_live x x' e c order kept h = subst (λ (os : List Order). HasLive os c order kept) (sym e) h
+
+module _ (words words' : Words) (up : flag words.fail ≡ true → flag words'.fail ≡ true) where
+  pub unused_on : (c : ℕ) (order order' : Option Order) (z : Actor) (u : AbstractActor) → SameFor z order order' → IsUnused words c order z u → IsUnused words' c order' z u
+  unused_on c order order' z u same n = record {
+    task = n.task;
+    live = live_for z c order order' u.order same n.live;
+    leads = n.leads;
+    holds = elim n.holds [ inl h ↦ inl h | inr k ↦ inr (record { failed = up k.failed; ordered = k.ordered; below = k.below; outside = k.outside }) ];
+  }
+
+  -- the one that goes on, where it is at no migration
+  pub unused_going : (x x' : Actor) → StaysOutside words x x' → (c : ℕ) (order : Option Order) (u : AbstractActor) → KeepsLive x x' c order → IsUnused words c order x u → IsUnused words' c order x' u
+  unused_going x x' outside c order u keeps n = record {
+    task = n.task;
+    live = keeps u.order n.live;
+    leads = n.leads;
+    holds = elim n.holds [
+      | inl h ↦ inl h
+      | inr k ↦ (let o = outside k.failed k.outside in inr (record { failed = up k.failed; ordered = k.ordered; below = o.1 u k.below; outside = o.0 }))
+    ];
+  }
+
+  pub stands_behind : (size : ℕ) (devices devices' : Devices (List History)) (c : ℕ) (order order' : Option Order) (at : Option ℕ) (z : Actor) (u : AbstractActor) → SameFor z order order' → (IsCarried size devices (record { 0 = c }) order z u → IsCarried size devices' (record { 0 = c }) order z u) →
+      StandsBehind size words devices c order at z u → StandsBehind size words' devices' c order' at z u
+  stands_behind size devices devices' c order order' at z u same carries st = record {
+    carried = λ e. let k = carries (st.carried e) in carried_with size devices' (record { 0 = c }) order z u k devices' order' same k.buffer;
+    unused = λ n. unused_on c order order' z u same (st.unused n);
+  }
 
 -- what was not said of devices stays with them
-pub carries_same : (size : ℕ) (devices : Devices (List History)) (actors : List Actor) (a : ℕ) (blocks blocks' : ℕ → Block) → blocks' ≡ blocks → CarriesOthers size devices devices actors a blocks blocks'
-carries_same size devices actors a blocks blocks' e b z u c order n ez k = carried_with size devices (record { 0 = c }) order (blocks c) z u k devices (blocks' c) (λ m. ap (λ (f : ℕ → Block). f c) e ∙ m) k.buffer
+pub carries_same : (size : ℕ) (devices : Devices (List History)) (orders : List (Option Order)) (actors : List Actor) (a : ℕ) → CarriesOthers size devices devices orders actors a
+carries_same size devices orders actors a b z u c order n ez eo k = k
+
+pub orders_same : (orders : List (Option Order)) (actors : List Actor) (a : ℕ) → OthersOrdersStay orders orders actors a
+orders_same orders actors a b z c order order' n ez eo eo' = inl (let both : Some order' ≡ Some order = sym eo' ∙ eo in let same : order' ≡ order = cc in same)
 
 -- ---- who steps past the look at the fail word, or finds there that the target has failed
 

@@ -1,7 +1,6 @@
 -- What a migration has read is what its source has still, where the device was synced, or another block was written.
-use Rattle.std.proofs.Common.{◌≡◌, ◌≢◌, ◌<◌, ◌≤◌, ◌+◌, ◌*◌, ◌%◌, ◌∙◌, ◌⊎◌, inl, inr, if◌then◌else◌, ℕ, zero, suc, Bool, true, false, List, [], ◌∷◌, Option, Some, None, refl, sym, ap, subst, arith, length, map, slice_get}
+use Rattle.std.proofs.Common.{◌≡◌, ◌≢◌, ◌<◌, ◌≤◌, ◌+◌, ◌*◌, ◌/◌, ◌%◌, ◌∙◌, ◌⊎◌, inl, inr, if◌then◌else◌, ℕ, zero, suc, Bool, true, false, List, [], ◌∷◌, Option, Some, None, refl, sym, ap, subst, arith, length, map, slice_get}
 use Rattle.std.proofs.lemmas.Bool.{cases_lt}
-use Rattle.std.proofs.lemmas.Nat.{mul-le}
 use Rattle.wb_types.specs.declared.extent.Extent.{Extent}
 use Rattle.wb_types.specs.declared.mode.Dev.{Dev}
 use Rattle.wb_types.specs.declared.mode.Dev.TheVariants.{Metadata, Cache, Origin}
@@ -24,19 +23,19 @@ use Rattle.wb_tasks.specs.declared.step.Want.{Want}
 use Rattle.wb_tasks.specs.declared.step.Want.TheVariants.{Cell, Device, Desk, End}
 use Rattle.wb_devices.specs.declared.devices.Devices.{Devices}
 use Rattle.wb_devices.specs.Moving.{device_in}
-use Rattle.wb_link.specs.World.{Block, Mapped}
 use Rattle.wb_link.proofs.Lists.{get_set_other}
 use Rattle.wb_refines.specs.Data.{row, IsInBlock}
-use Rattle.wb_refines.specs.Translation.{location_at}
 use Rattle.wb_refines.specs.Migrations.{order_on, source}
 use Rattle.wb_refines.proofs.Holding.{is_one}
 use Rattle.wb_refines.proofs.Locks.{total_two}
 use Rattle.wb_runs.specs.declared.job.Job.{Job}
-use Rattle.wb_runs.specs.Happenings.{IsMade}
+use Rattle.wb_runs.specs.Happenings.{order_for}
+use Rattle.wb_policy.specs.declared.order.Order.{Order}
 use Rattle.wb_runs.specs.States.{Actor, with_device}
 use Rattle.wb_runs.specs.Holding.{cards_of, AllSuited, TaskSuits}
-use Rattle.wb_simulation.specs.Steps.{AreOfBlock}
+use Rattle.wb_simulation.specs.Steps.{AreOfBlock, IsTail}
 use Rattle.wb_simulation.specs.Behind.{HasRead}
+use Rattle.wb_simulation.proofs.Places.{rows}
 use Rattle.wb_simulation.proofs.Behind.{CarriesOthers, carried_with, card_there}
 
 -- ---- what reads give
@@ -66,11 +65,10 @@ has_newest size old new at (Device (ReadMetadata left) ∷ later) buffer same r 
 has_newest size old new at (Device (WriteNode number) ∷ later) buffer same r = tt
 has_newest size old new at (Device WriteRoot ∷ later) buffer same r = tt
 
--- where each sector's newest content is the same, and what was mapped is, all that are carried are so still
-pub carries_newest : (size : ℕ) (devices devices' : Devices (List History)) (actors : List Actor) (a : ℕ) (blocks blocks' : ℕ → Block) → map newest devices'.origin ≡ map newest devices.origin → map newest devices'.cache ≡ map newest devices.cache → ((c : ℕ) → blocks c ≡ Mapped → blocks' c ≡ Mapped) →
-    CarriesOthers size devices devices' actors a blocks blocks'
-carries_newest size devices devices' actors a blocks blocks' origin cache mapped b z u c order n ez k =
-    carried_with size devices (record { 0 = c }) order (blocks c) z u k devices' (blocks' c) (mapped c) (has_newest size _ _ _ k.plan.steps z.buffer (side k.migration) k.buffer)
+-- where each sector's newest content is the same, all that are carried are so still
+pub carries_newest : (size : ℕ) (devices devices' : Devices (List History)) (orders : List (Option Order)) (actors : List Actor) (a : ℕ) → map newest devices'.origin ≡ map newest devices.origin → map newest devices'.cache ≡ map newest devices.cache → CarriesOthers size devices devices' orders actors a
+carries_newest size devices devices' orders actors a origin cache b z u c order n ez eo k =
+    carried_with size devices (record { 0 = c }) order z u k devices' order (inl refl) (has_newest size _ _ _ k.plan.steps z.buffer (side k.migration) k.buffer)
   where
     side : (m : Migration) → map newest (device_in (source_of m) devices') ≡ map newest (device_in (source_of m) devices)
     side (Promote p) = origin
@@ -114,9 +112,6 @@ parts_apart size p q i j m n other l k = elim (cases_lt p q) [
     | inr same ↦ absurd (other (omega (arith, more, same)))
   ]
 ]
-  where
-    rows : (size p q : ℕ) → p < q → p * size + size ≤ q * size
-    rows size p q l = omega (arith, mul-le (p + 1) size q size (omega (arith, l)) (omega arith))
 
 -- ---- where an actor owns the block that it writes
 
@@ -130,15 +125,25 @@ module _ (blocks : ℕ) (words : Words) (actors : List Actor) (a b : ℕ) (x z :
       let one = lock.one in
       omega (arith, two, here, there, one)
 
-module _ (size blocks : ℕ) (words : Words) (devices : Devices (List History)) (actors : List Actor) (a : ℕ) (x : Actor) (mine : OBlock) (device : Dev) (e : Extent) (lands : ℕ → Bool) (contents : List Content) (states : ℕ → Block)
-    (rule : LockRule blocks words (cards_of actors)) (suited : AllSuited blocks actors) (ex : slice_get actors a ≡ Some x) (inside : mine.0 < blocks) (own : x.card.hold ≡ Held Owned mine) (in_block : IsInBlock size mine.0 device e) (count : length contents ≡ e.count) (h : HoldsBlocks device) where
+-- What is written on the cache for a block is in no cache block out of which another one is copied.
+abbrev pub IsBesideCopies : ℕ → List (Option Order) → OBlock → Dev → Extent → Type 0
+IsBesideCopies size orders mine device e = (c : ℕ) (migration : Migration) (other : OBlock) → device ≡ Cache → source_of migration ≡ Cache → slice_get orders c ≡ Some (Some (order_for migration other)) → other.0 ≢ mine.0 → e.first / size ≢ c
+
+module _ (size blocks : ℕ) (words : Words) (devices : Devices (List History)) (orders : List (Option Order)) (actors : List Actor) (a : ℕ) (x : Actor) (mine : OBlock) (device : Dev) (e : Extent) (lands : ℕ → Bool) (contents : List Content)
+    (rule : LockRule blocks words (cards_of actors)) (suited : AllSuited blocks actors) (ex : slice_get actors a ≡ Some x) (inside : mine.0 < blocks) (own : x.card.hold ≡ Held Owned mine) (in_block : IsInBlock size mine.0 device e) (count : length contents ≡ e.count) (h : HoldsBlocks device) (beside : IsBesideCopies size orders mine device e) where
   -- the buffers of all others are what their sources have still
-  pub carries_written : CarriesOthers size devices (with_device device devices (written_where lands (device_in device devices) e.first contents)) actors a states states
-  carries_written b z u c order n ez k = carried_with size devices (record { 0 = c }) order (states c) z u k (with_device device devices (written_where lands (device_in device devices) e.first contents)) (states c) (λ m. m) (by k.migration refl k.made device refl h)
+  pub carries_written : CarriesOthers size devices (with_device device devices (written_where lands (device_in device devices) e.first contents)) orders actors a
+  carries_written b z u c order n ez eo k = carried_with size devices (record { 0 = c }) order z u k (new device) order (inl refl) (by k.migration refl device refl h)
     where
-      -- a promotion reads its own block of the origin
-      reads : device ≡ Origin → (steps : List Want) → k.plan.steps ≡ steps → HasRead size devices.origin k.part.block.0 steps z.buffer → HasRead size (written_where lands devices.origin e.first contents) k.part.block.0 steps z.buffer
-      reads o (Device (Write to r) ∷ later) s g = (g.0, each_beside lands devices.origin (k.part.block.0 * size + r.first % size) e.first z.buffer contents away g.1)
+      new : Dev → Devices (List History)
+      new d = with_device d devices (written_where lands (device_in d devices) e.first contents)
+
+      Reads : Migration → Devices (List History) → Type 0
+      Reads m ds = HasRead size (device_in (source_of m) ds) (row (source (order_on k.part (record { 0 = c }) None) m) k.part.block.0) k.plan.steps z.buffer
+
+      -- who writes next owns another block, under an order that is live
+      other_block : (to : Dev) (r : Extent) (later : List Want) → k.plan.steps ≡ Device (Write to r) ∷ later → k.part.block.0 ≢ mine.0
+      other_block to r later s = own_apart blocks words actors a b x z mine k.part.block rule n ex ez inside own theirs
         where
           suits : SuitsJob blocks k.plan.job z.card k.plan.steps
           suits = subst (λ (t : Option (Job × Plan)). TaskSuits blocks z.card t) k.task (suited b z ez)
@@ -146,38 +151,48 @@ module _ (size blocks : ℕ) (words : Words) (devices : Devices (List History)) 
           theirs : z.card.hold ≡ Held Owned k.part.block
           theirs = (subst (λ (ws : List Want). Has (Migrating k.migration k.part) z.card ws) s (subst (λ (j : TaskJob). SuitsJob blocks j z.card k.plan.steps) k.job suits).1).0
 
+      lives : (to : Dev) (r : Extent) (later : List Want) → k.plan.steps ≡ Device (Write to r) ∷ later → slice_get orders c ≡ Some (Some (order_for k.migration k.block))
+      lives to r later s = elim k.has [ inl l ↦ eo ∙ ap (λ (o : Option Order). Some o) l.0 | inr t ↦ absurd (subst (λ (ws : List Want). IsTail ws) s t.1) ]
+
+      copied_beside : device ≡ Cache → source_of k.migration ≡ Cache → (to : Dev) (r : Extent) (later : List Want) → k.plan.steps ≡ Device (Write to r) ∷ later → c ≢ e.first / size
+      copied_beside f source_is to r later s g = beside c k.migration k.block f source_is (lives to r later s) (λ q. other_block to r later s (ap (λ (v : OBlock). v.0) k.block_is ∙ q)) (sym g)
+
+      -- it reads in another row of a device than what is written
+      reads : (list : List History) (from into : ℕ) → e.first ≡ into * size + e.first % size → ((to : Dev) (r : Extent) (later : List Want) → k.plan.steps ≡ Device (Write to r) ∷ later → from ≢ into) → (steps : List Want) → k.plan.steps ≡ steps →
+          HasRead size list from steps z.buffer → HasRead size (written_where lands list e.first contents) from steps z.buffer
+      reads list from into at other (Device (Write to r) ∷ later) s g = (g.0, each_beside lands list (from * size + r.first % size) e.first z.buffer contents away g.1)
+        where
           there : AreOfBlock size k.part.block.0 (Device (Write to r) ∷ later)
           there = subst (λ (ws : List Want). AreOfBlock size k.part.block.0 ws) s k.of_block
 
-          away : (k.part.block.0 * size + r.first % size + length z.buffer ≤ e.first) ⊎ (e.first + length contents ≤ k.part.block.0 * size + r.first % size)
+          away : (from * size + r.first % size + length z.buffer ≤ e.first) ⊎ (e.first + length contents ≤ from * size + r.first % size)
           away =
-              let some = own_apart blocks words actors a b x z mine k.part.block rule n ex ez inside own theirs in
-              let f : e.first ≡ mine.0 * size + e.first % size = in_block.first ∙ ap (λ (d : Dev). row (location_at size d e) mine.0 * size + e.first % size) o in
               let room = in_block.room in
               let space = there.0.room in
               let long = g.0 in
-              elim (parts_apart size k.part.block.0 mine.0 (r.first % size) (e.first % size) r.count e.count some space room) [
-                | inl l ↦ inl (omega (arith, l, f, long))
-                | inr l ↦ inr (omega (arith, l, f, count))
+              elim (parts_apart size from into (r.first % size) (e.first % size) r.count e.count (other to r later s) space room) [
+                | inl l ↦ inl (omega (arith, l, at, long))
+                | inr l ↦ inr (omega (arith, l, at, count))
               ]
-      reads o [] s g = tt
-      reads o (Cell step ∷ later) s g = tt
-      reads o (Desk step ∷ later) s g = tt
-      reads o (End answer ∷ later) s g = tt
-      reads o (Device (Read to r) ∷ later) s g = tt
-      reads o (Device (Sync to) ∷ later) s g = tt
-      reads o (Device (ReadMetadata left) ∷ later) s g = tt
-      reads o (Device (WriteNode number) ∷ later) s g = tt
-      reads o (Device WriteRoot ∷ later) s g = tt
+      reads list from into at other [] s g = tt
+      reads list from into at other (Cell step ∷ later) s g = tt
+      reads list from into at other (Desk step ∷ later) s g = tt
+      reads list from into at other (End answer ∷ later) s g = tt
+      reads list from into at other (Device (Read to r) ∷ later) s g = tt
+      reads list from into at other (Device (Sync to) ∷ later) s g = tt
+      reads list from into at other (Device (ReadMetadata left) ∷ later) s g = tt
+      reads list from into at other (Device (WriteNode number) ∷ later) s g = tt
+      reads list from into at other (Device WriteRoot ∷ later) s g = tt
 
-      Reads : Migration → Devices (List History) → Type 0
-      Reads m ds = HasRead size (device_in (source_of m) ds) (row (source (order_on k.part (record { 0 = c }) k.next) m) k.part.block.0) k.plan.steps z.buffer
+      -- of this migration, where this device is written
+      told : (m : Migration) → k.migration ≡ m → (d : Dev) → device ≡ d → Reads m (new d) → Reads k.migration (new device)
+      told m s d f r = subst (λ (q : Migration). Reads q (new device)) (sym s) (subst (λ (q : Dev). Reads m (new q)) (sym f) r)
 
-      by : (m : Migration) → k.migration ≡ m → IsMade m → (d : Dev) → device ≡ d → HoldsBlocks d → Reads k.migration (with_device device devices (written_where lands (device_in device devices) e.first contents))
-      by (Promote p) s made Cache f hd = subst (λ (q : Migration). Reads q (with_device device devices (written_where lands (device_in device devices) e.first contents))) (sym s)
-          (subst (λ (q : Dev). Reads (Promote p) (with_device q devices (written_where lands (device_in q devices) e.first contents))) (sym f) (subst (λ (q : Migration). Reads q devices) s k.buffer))
-      by (Promote p) s made Origin f hd = subst (λ (q : Migration). Reads q (with_device device devices (written_where lands (device_in device devices) e.first contents))) (sym s)
-          (subst (λ (q : Dev). Reads (Promote p) (with_device q devices (written_where lands (device_in q devices) e.first contents))) (sym f) (reads f k.plan.steps refl (subst (λ (q : Migration). Reads q devices) s k.buffer)))
-      by (Promote p) s made Metadata f hd = absurd hd
-      by Demote s made d f hd = absurd made
-      by Clean s made d f hd = absurd made
+      by : (m : Migration) → k.migration ≡ m → (d : Dev) → device ≡ d → HoldsBlocks d → Reads k.migration (new device)
+      by (Promote p) s Cache f hd = told (Promote p) s Cache f (subst (λ (q : Migration). Reads q devices) s k.buffer)
+      by (Promote p) s Origin f hd = told (Promote p) s Origin f (reads devices.origin k.part.block.0 mine.0 (subst (λ (q : Dev). IsInBlock size mine.0 q e) f in_block).first other_block k.plan.steps refl (subst (λ (q : Migration). Reads q devices) s k.buffer))
+      by Demote s Cache f hd = told Demote s Cache f (reads devices.cache c (e.first / size) (subst (λ (q : Dev). IsInBlock size mine.0 q e) f in_block).first (copied_beside f (ap source_of s)) k.plan.steps refl (subst (λ (q : Migration). Reads q devices) s k.buffer))
+      by Demote s Origin f hd = told Demote s Origin f (subst (λ (q : Migration). Reads q devices) s k.buffer)
+      by Clean s Cache f hd = told Clean s Cache f (reads devices.cache c (e.first / size) (subst (λ (q : Dev). IsInBlock size mine.0 q e) f in_block).first (copied_beside f (ap source_of s)) k.plan.steps refl (subst (λ (q : Migration). Reads q devices) s k.buffer))
+      by Clean s Origin f hd = told Clean s Origin f (subst (λ (q : Migration). Reads q devices) s k.buffer)
+      by m s Metadata f hd = absurd hd

@@ -46,8 +46,8 @@ answered_order y script task nothing order = subst (λ (t : Option Script). (gon
     (ap (λ (v : AbstractActor). v.order) (gone_nowhere (actor_after y script (want_there script) DoneThere) (task_after script (want_there script) DoneThere)) ∙ ap (λ ws. order_after y.order (first_of_steps ws script.answer)) nothing ∙ order)
 
 module _ (size most blocks : ℕ) (words : Words) (committing : Bool) (orders : List (Option Order)) (devices : Devices (List History)) (actors : List Actor) (a : ℕ) (x : Actor) (s : World) (y : AbstractActor) (ex : slice_get actors a ≡ Some x) (ey : slice_get s.actors a ≡ Some y) (g : Agrees size most words committing orders devices actors s) (st : StandsFor size most words x y) (before : IsNoMigration x.task) where
-  others : OthersStay size words devices devices actors a x (record x { task = None }) s.shared.blocks s.shared.blocks
-  others = record { before = before; still = tt; outside = stays_with words x None tt; carries = carries_same size devices actors a s.shared.blocks s.shared.blocks refl }
+  others : OthersStay size words devices devices orders actors a x (record x { task = None })
+  others = record { before = before; still = tt; ordered = refl; outside = stays_with words x None tt; carries = carries_same size devices orders actors a }
 
   abbrev Goal : AbstractJob → Answer → Type 0
   Goal abstract answer = Follows (Answers abstract answer) size most a s words committing orders devices (slice_set actors a (record x { task = None }))

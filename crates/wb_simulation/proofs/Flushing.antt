@@ -30,7 +30,7 @@ use Rattle.wb_devices.specs.declared.devices.Devices.{Devices}
 use Rattle.std.proofs.lemmas.Bool.{cases_eq}
 use Rattle.wb_link.proofs.Lists.{get_set_other}
 use Rattle.wb_link.specs.Tables.{Begin, End_running, Done as DoneThere, Flushing as FlushingFor}
-use Rattle.wb_link.specs.World.{World, Shared, Mapped, Nothing, Actor as AbstractActor, begun, ended, effect, is_alone, Block}
+use Rattle.wb_link.specs.World.{World, Shared, Nothing, Actor as AbstractActor, effect, is_alone}
 use Rattle.wb_refines.specs.Going.{gone}
 use Rattle.wb_refines.specs.Translation.{wants_of}
 use Rattle.wb_refines.specs.Models.{WordsAgree}
@@ -55,10 +55,10 @@ use Rattle.wb_simulation.proofs.Leading.{nodes_on_metadata, commits_on, has_want
 
 module _ (size most : ℕ) (words : Words) (committing : Bool) (orders : List (Option Order)) (devices : Devices (List History)) (actors : List Actor) (a : ℕ) (x : Actor) (plan : Plan) (s : World) (y : AbstractActor) (ex : slice_get actors a ≡ Some x) (ey : slice_get s.actors a ≡ Some y) (g : Agrees size most words committing orders devices actors s)
     (before : IsNoMigration x.task) where
-  -- all others stay, where each sector's newest content is the same, and what was mapped is
-  others : (plan' : Plan) (card' : Card) (devices' : Devices (List History)) (blocks' : ℕ → Block) → StaysOutside words x (record x { task = Some (Flush, plan'); card = card' }) → map newest devices'.origin ≡ map newest devices.origin → map newest devices'.cache ≡ map newest devices.cache → ((c : ℕ) → s.shared.blocks c ≡ Mapped → blocks' c ≡ Mapped) →
-      OthersStay size words devices devices' actors a x (record x { task = Some (Flush, plan'); card = card' }) s.shared.blocks blocks'
-  others plan' card' devices' blocks' outside origin cache mapped = record { before = before; still = tt; outside = outside; carries = carries_newest size devices devices' actors a s.shared.blocks blocks' origin cache mapped }
+  -- all others stay, where each sector's newest content is the same
+  others : (plan' : Plan) (card' : Card) (devices' : Devices (List History)) → StaysOutside words x (record x { task = Some (Flush, plan'); card = card' }) → map newest devices'.origin ≡ map newest devices.origin → map newest devices'.cache ≡ map newest devices.cache →
+      OthersStay size words devices devices' orders actors a x (record x { task = Some (Flush, plan'); card = card' })
+  others plan' card' devices' outside origin cache = record { before = before; still = tt; ordered = refl; outside = outside; carries = carries_newest size devices devices' orders actors a origin cache }
 
   -- a step on a device, done, with this left
   abbrev OnBy : Turn → Devices (List History) → Plan → Type 0
@@ -70,11 +70,11 @@ module _ (size most : ℕ) (words : Words) (committing : Bool) (orders : List (O
 
   -- the same on whatever it leads to there
   goes : (turn : Turn) (devices' : Devices (List History)) (next : Want) (later : List Want) (answer : Answer) (plan' : Plan) (t : Shared) → IsFlushing size [] (flushing most (next ∷ later) answer) true y → wants_of size (FlushingFor None) (next ∷ later) ≢ [] → Leads size [] s.actors a s.shared y t plan' true →
-      plan'.job ≡ Flushing [] most → IsOfFlush most plan'.steps → LeadsAt true plan'.steps → (plan'.steps ≢ []) → WordsAgree words t → t.origin ≡ by_block size zeros devices'.origin → t.cache ≡ by_block size zeros devices'.cache → t.mode ≡ s.shared.mode → t.committing ≡ s.shared.committing → t.broken ≡ s.shared.broken → TurnedTo turn s.shared t → DeskTurnedTo turn s.shared t → t.blocks ≡ s.shared.blocks →
+      plan'.job ≡ Flushing [] most → IsOfFlush most plan'.steps → LeadsAt true plan'.steps → (plan'.steps ≢ []) → WordsAgree words t → t.origin ≡ by_block size zeros devices'.origin → t.cache ≡ by_block size zeros devices'.cache → t.mode ≡ s.shared.mode → t.committing ≡ s.shared.committing → t.broken ≡ s.shared.broken → TurnedTo turn s.shared t → DeskTurnedTo turn s.shared t →
       ¬ AreOutside x.task → map newest devices'.origin ≡ map newest devices.origin → map newest devices'.cache ≡ map newest devices.cache → OnBy turn devices' plan'
-  goes turn devices' next later answer plan' t is some l j o at unfinished w og ca mo co br turned desk same past origin cache =
+  goes turn devices' next later answer plan' t is some l j o at unfinished w og ca mo co br turned desk past origin cache =
       leads_on size most words committing orders devices actors a x s y ex ey g turn words (λ f. f) devices' (flushing most (next ∷ later) answer) plan' x.card t next later answer is some l j o at (λ e n. absurd (unfinished n)) w og ca mo co br turned desk
-      (others plan' x.card devices' t.blocks (stays_past words x (record x { task = Some (Flush, plan') }) past) origin cache (λ c m. ap (λ (f : ℕ → Block). f c) same ∙ m))
+      (others plan' x.card devices' (stays_past words x (record x { task = Some (Flush, plan') }) past) origin cache)
 
   -- who leads, where that is known of the step
   pub leading : (next : Want) (later : List Want) (answer : Answer) (leads : Bool) → leads ≡ true → IsFlushing size [] (flushing most (next ∷ later) answer) leads y → IsFlushing size [] (flushing most (next ∷ later) answer) true y
@@ -85,14 +85,14 @@ module _ (size most : ℕ) (words : Words) (committing : Bool) (orders : List (O
       On (with_device Cache devices (synced devices.cache)) (after (flushing most (Device (Sync Cache) ∷ later) answer) Done)
   syncs_cache past (Device (Sync Origin) ∷ ws) answer o is =
       goes Stays (with_device Cache devices (synced devices.cache)) (Device (Sync Cache)) (Device (Sync Origin) ∷ ws) answer _ _ is (λ e. absurd (cc)) (followed_alone.syncs_cache size most [] s.actors a s.shared y (Device (Sync Origin) ∷ ws) answer is) refl o refl (λ n. absurd (cc))
-      (record { fail = g.words_agree.fail; seals = g.words_agree.seals }) g.origin (ap all_synced g.cache ∙ sym (sync_is_act size zeros devices.cache)) refl refl refl (refl, refl, refl) (refl, refl) refl past refl (newest-synced devices.cache)
+      (record { fail = g.words_agree.fail; seals = g.words_agree.seals }) g.origin (ap all_synced g.cache ∙ sym (sync_is_act size zeros devices.cache)) refl refl refl (refl, refl, refl) (refl, refl) past refl (newest-synced devices.cache)
   syncs_cache past later answer o is = absurd o
 
   pub syncs_origin : ¬ AreOutside x.task → (later : List Want) (answer : Answer) → IsOfFlush most (Device (Sync Origin) ∷ later) → IsFlushing size [] (flushing most (Device (Sync Origin) ∷ later) answer) true y →
       On (with_device Origin devices (synced devices.origin)) (after (flushing most (Device (Sync Origin) ∷ later) answer) Done)
   syncs_origin past later answer o is =
       goes Stays (with_device Origin devices (synced devices.origin)) (Device (Sync Origin)) later answer (flushing most later answer) (record s.shared { origin = all_synced s.shared.origin }) is (λ e. absurd (cc)) (followed_alone.syncs_origin size most [] s.actors a s.shared y later answer is) refl (commits_on most later o).0 (commits_on most later o).1 (on_metadata_some later o)
-      (record { fail = g.words_agree.fail; seals = g.words_agree.seals }) (ap all_synced g.origin ∙ sym (sync_is_act size zeros devices.origin)) g.cache refl refl refl (refl, refl, refl) (refl, refl) refl past (newest-synced devices.origin) refl
+      (record { fail = g.words_agree.fail; seals = g.words_agree.seals }) (ap all_synced g.origin ∙ sym (sync_is_act size zeros devices.origin)) g.cache refl refl refl (refl, refl, refl) (refl, refl) past (newest-synced devices.origin) refl
     where
       on_metadata_some : (steps : List Want) → IsOnMetadata steps → steps ≢ []
       on_metadata_some [] m = absurd m
@@ -104,31 +104,31 @@ module _ (size most : ℕ) (words : Words) (committing : Bool) (orders : List (O
   fails_cache past lands later answer o is =
       goes Stays (with_device Cache devices (synced_where lands devices.cache)) (Device (Sync Cache)) later answer (after (flushing most (Device (Sync Cache) ∷ later) answer) Fault) (record s.shared { cache = partly_synced (λ b o. lands (b * size + o)) s.shared.cache }) is (λ e. absurd (cc))
       (followed_alone.fails_cache size most [] s.actors a s.shared y later answer (λ b o. lands (b * size + o)) is) refl refl refl (λ n. absurd (cc))
-      (record { fail = g.words_agree.fail; seals = g.words_agree.seals }) g.origin (ap (partly_synced (λ b o. lands (b * size + o))) g.cache ∙ sym (failed_sync_is_act size zeros lands devices.cache)) refl refl refl (refl, refl, refl) (refl, refl) refl past refl (read-partly devices.cache (synced_where lands devices.cache) (partly_synced_list lands devices.cache))
+      (record { fail = g.words_agree.fail; seals = g.words_agree.seals }) g.origin (ap (partly_synced (λ b o. lands (b * size + o))) g.cache ∙ sym (failed_sync_is_act size zeros lands devices.cache)) refl refl refl (refl, refl, refl) (refl, refl) past refl (read-partly devices.cache (synced_where lands devices.cache) (partly_synced_list lands devices.cache))
 
   pub fails_origin : ¬ AreOutside x.task → (lands : ℕ → Bool) (later : List Want) (answer : Answer) → IsOfFlush most (Device (Sync Origin) ∷ later) → IsFlushing size [] (flushing most (Device (Sync Origin) ∷ later) answer) true y →
       On (with_device Origin devices (synced_where lands devices.origin)) (after (flushing most (Device (Sync Origin) ∷ later) answer) Fault)
   fails_origin past lands later answer o is =
       goes Stays (with_device Origin devices (synced_where lands devices.origin)) (Device (Sync Origin)) later answer (after (flushing most (Device (Sync Origin) ∷ later) answer) Fault) (record s.shared { origin = partly_synced (λ b o. lands (b * size + o)) s.shared.origin }) is (λ e. absurd (cc))
       (followed_alone.fails_origin size most [] s.actors a s.shared y later answer (λ b o. lands (b * size + o)) is) refl refl refl (λ n. absurd (cc))
-      (record { fail = g.words_agree.fail; seals = g.words_agree.seals }) (ap (partly_synced (λ b o. lands (b * size + o))) g.origin ∙ sym (failed_sync_is_act size zeros lands devices.origin)) g.cache refl refl refl (refl, refl, refl) (refl, refl) refl past (read-partly devices.origin (synced_where lands devices.origin) (partly_synced_list lands devices.origin)) refl
+      (record { fail = g.words_agree.fail; seals = g.words_agree.seals }) (ap (partly_synced (λ b o. lands (b * size + o))) g.origin ∙ sym (failed_sync_is_act size zeros lands devices.origin)) g.cache refl refl refl (refl, refl, refl) (refl, refl) past (read-partly devices.origin (synced_where lands devices.origin) (partly_synced_list lands devices.origin)) refl
 
   -- a step on the metadata is done, or fails; the data devices are as they were
   metadata_goes : (turn : Turn) (metadata : List History) (step : DeviceStep) (later : List Want) (answer : Answer) (t : Shared) → IsOnMetadata (Device step ∷ later) → IsOnMetadata later → IsFlushing size [] (flushing most (Device step ∷ later) answer) true y → Leads size [] s.actors a s.shared y t (flushing most later answer) true →
-      WordsAgree words t → t.origin ≡ s.shared.origin → t.cache ≡ s.shared.cache → t.mode ≡ s.shared.mode → t.committing ≡ s.shared.committing → t.broken ≡ s.shared.broken → TurnedTo turn s.shared t → DeskTurnedTo turn s.shared t → t.blocks ≡ s.shared.blocks → ¬ AreOutside x.task → OnBy turn (with_device Metadata devices metadata) (flushing most later answer)
-  metadata_goes turn metadata step later answer t on m is l w og ca mo co br turned desk same past =
-      goes turn (with_device Metadata devices metadata) (Device step) later answer (flushing most later answer) t is (has_wants size (Device step ∷ later) on) l refl (commits_on most later m).0 (commits_on most later m).1 (some later m) w (og ∙ g.origin) (ca ∙ g.cache) mo co br turned desk same past refl refl
+      WordsAgree words t → t.origin ≡ s.shared.origin → t.cache ≡ s.shared.cache → t.mode ≡ s.shared.mode → t.committing ≡ s.shared.committing → t.broken ≡ s.shared.broken → TurnedTo turn s.shared t → DeskTurnedTo turn s.shared t → ¬ AreOutside x.task → OnBy turn (with_device Metadata devices metadata) (flushing most later answer)
+  metadata_goes turn metadata step later answer t on m is l w og ca mo co br turned desk past =
+      goes turn (with_device Metadata devices metadata) (Device step) later answer (flushing most later answer) t is (has_wants size (Device step ∷ later) on) l refl (commits_on most later m).0 (commits_on most later m).1 (some later m) w (og ∙ g.origin) (ca ∙ g.cache) mo co br turned desk past refl refl
     where
       some : (steps : List Want) → IsOnMetadata steps → steps ≢ []
       some [] m = absurd m
       some (v ∷ ws) m = λ e. absurd (cc)
 
   pub metadata_done : ¬ AreOutside x.task → (metadata : List History) (step : DeviceStep) (later : List Want) (answer : Answer) → device_of step ≡ Metadata → IsOfFlush most (Device step ∷ later) → IsFlushing size [] (flushing most (Device step ∷ later) answer) true y → OnBy (turn_of step) (with_device Metadata devices metadata) (after (flushing most (Device step ∷ later) answer) Done)
-  metadata_done past metadata (WriteNode number) later answer d o is = metadata_goes Stays metadata (WriteNode number) later answer s.shared o o is (followed_alone.nodes size most number [] s.actors a s.shared y later answer is) g.words_agree refl refl refl refl refl (refl, refl, refl) (refl, refl) refl past
-  metadata_done past metadata (Sync Metadata) later answer d o is = metadata_goes Stays metadata (Sync Metadata) later answer s.shared o o is (followed_alone.syncs_metadata size most [] s.actors a s.shared y later answer is) g.words_agree refl refl refl refl refl (refl, refl, refl) (refl, refl) refl past
+  metadata_done past metadata (WriteNode number) later answer d o is = metadata_goes Stays metadata (WriteNode number) later answer s.shared o o is (followed_alone.nodes size most number [] s.actors a s.shared y later answer is) g.words_agree refl refl refl refl refl (refl, refl, refl) (refl, refl) past
+  metadata_done past metadata (Sync Metadata) later answer d o is = metadata_goes Stays metadata (Sync Metadata) later answer s.shared o o is (followed_alone.syncs_metadata size most [] s.actors a s.shared y later answer is) g.words_agree refl refl refl refl refl (refl, refl, refl) (refl, refl) past
   metadata_done past metadata (Sync Cache) later answer d o is = absurd (cc)
   metadata_done past metadata (Sync Origin) later answer d o is = absurd (cc)
-  metadata_done past metadata WriteRoot later answer d o is = metadata_goes (Puts true) metadata WriteRoot later answer (record s.shared { root_written = true }) o o is (followed_alone.writes_root size most [] s.actors a s.shared y later answer is) (record { fail = g.words_agree.fail; seals = g.words_agree.seals }) refl refl refl refl refl (refl, refl, refl) (refl, refl) refl past
+  metadata_done past metadata WriteRoot later answer d o is = metadata_goes (Puts true) metadata WriteRoot later answer (record s.shared { root_written = true }) o o is (followed_alone.writes_root size most [] s.actors a s.shared y later answer is) (record { fail = g.words_agree.fail; seals = g.words_agree.seals }) refl refl refl refl refl (refl, refl, refl) (refl, refl) past
   metadata_done past metadata (ReadMetadata left) later answer d o is = absurd o
   metadata_done past metadata (Read device e) later answer d o is = absurd o
   metadata_done past metadata (Write device e) later answer d o is = absurd o
@@ -139,7 +139,7 @@ module _ (size most : ℕ) (words : Words) (committing : Bool) (orders : List (O
         l.0,
         l.1,
         goes (Puts l.0) (with_device Metadata devices metadata) (Device step) later answer (after (flushing most (Device step ∷ later) answer) Fault) (record s.shared { root_written = l.0 }) is (has_wants size (Device step ∷ later) m) l.2 refl refl refl (λ n. absurd (cc))
-            (record { fail = g.words_agree.fail; seals = g.words_agree.seals }) g.origin g.cache refl refl refl (refl, refl, refl) (refl, refl) refl past refl refl,
+            (record { fail = g.words_agree.fail; seals = g.words_agree.seals }) g.origin g.cache refl refl refl (refl, refl, refl) (refl, refl) past refl refl,
       )
 
   pub is_on_metadata : (step : DeviceStep) (later : List Want) → device_of step ≡ Metadata → IsOfFlush most (Device step ∷ later) → IsOnMetadata (Device step ∷ later)
@@ -160,16 +160,13 @@ module _ (size most : ℕ) (words : Words) (committing : Bool) (orders : List (O
   follows_alone devices' plan' card' j o at l d outside = subst (λ (ds : Devices (List History)). Follows Quietly size most a s words committing orders ds (slice_set actors a (record x { task = Some (Flush, plan'); card = card' }))) (sym d)
       (goes_on size most words words (λ f. f) committing orders devices actors a x (record x { task = Some (Flush, plan'); card = card' }) s y g ex ey Quietly devices l.results s.shared (l.results, quiet_are_unnoted y.task l.results l.quiet, refl) l.may l.shared
       (stands size most words committing orders devices actors a x s y ex ey g words plan' card' false (gone y y.task l.results) j o at (λ e n. absurd (cc)) l.at)
-      (λ k. let bad : true ≡ false = sym k ∙ ap (λ (v : AbstractActor). v.leads) l.at.is in absurd (cc)) g.words_agree g.origin g.cache refl refl refl (refl, refl, refl) (refl, refl) (others plan' card' devices s.shared.blocks outside refl refl (λ c m. m)))
+      (λ k. let bad : true ≡ false = sym k ∙ ap (λ (v : AbstractActor). v.leads) l.at.is in absurd (cc)) g.words_agree g.origin g.cache refl refl refl (refl, refl, refl) (refl, refl) (others plan' card' devices outside refl refl))
 
   refused_plan : (refusal : Refusal) (later : List Want) (answer : Answer) (clean : Bool) (nodes : ℕ) → IsNoBegin refusal → (after (flushing most (Desk (BeginCommit clean nodes) ∷ later) answer) (Refused refusal)).steps ≡ []
   refused_plan Busy later answer clean nodes n = refl
   refused_plan Memory later answer clean nodes n = refl
   refused_plan GenerationEnd later answer clean nodes n = refl
   refused_plan refusal later answer clean nodes n = absurd n
-
-  refused_job : (refusal : Refusal) (later : List Want) (answer : Answer) (clean : Bool) (nodes : ℕ) → (after (flushing most (Desk (BeginCommit clean nodes) ∷ later) answer) (Refused refusal)).job ≡ Flushing [] most
-  refused_job refusal later answer clean nodes = refl
 
   pub is_refused : ¬ AreOutside x.task → (refusal : Refusal) (answer : Answer) → IsNoBegin refusal → IsFlushing size [] (flushing most (Desk (BeginCommit false most) ∷ []) answer) false y → On devices (after (flushing most (Desk (BeginCommit false most) ∷ []) answer) (Refused refusal))
   is_refused past refusal answer n is =
@@ -188,7 +185,7 @@ module _ (size most : ℕ) (words : Words) (committing : Bool) (orders : List (O
       goes_leading size most words words (λ f. f) committing orders devices actors a x (record x { task = Some (Flush, plan') }) s y g ex ey Begins Quietly true devices l.results (effect s.shared (FlushingFor None) [] (Begin None) DoneThere) (l.results, quiet_are_unnoted y.task l.results l.quiet, refl) l.may l.shared
       (stands size most words committing orders devices actors a x s y ex ey g words plan' x.card true (gone y y.task l.results) refl (nodes_on_metadata nodes 0) refl (λ e n. absurd (cc)) l.at)
       (record { fail = g.words_agree.fail; seals = g.words_agree.seals }) g.origin g.cache refl refl (λ e. refl) (λ b v ev k. refl) (λ b v ev k u. by_broken s.shared.broken refl)
-      (λ b c v u ev eu k m. only b v (gone y y.task l.results) ev k ∙ sym (only c u (gone y y.task l.results) eu m)) (refl, refl, refl) (refl, refl) (others plan' x.card devices (λ c. begun (s.shared.blocks c)) (stays_past words x (record x { task = Some (Flush, plan') }) past) refl refl (λ c m. ap begun m))
+      (λ b c v u ev eu k m. only b v (gone y y.task l.results) ev k ∙ sym (only c u (gone y y.task l.results) eu m)) (refl, refl, refl) (refl, refl) (others plan' x.card devices (stays_past words x (record x { task = Some (Flush, plan') }) past) refl refl)
     where
       runs : s.shared.committing ≡ true → ⊥
       runs e = let bad : true ≡ false = sym e ∙ g.commits ∙ quiet in absurd (cc)
@@ -211,7 +208,7 @@ module _ (size most : ℕ) (words : Words) (committing : Bool) (orders : List (O
       goes_leading size most words words (λ f. f) committing orders devices actors a x (record x { task = Some (Flush, plan') }) s y g ex ey Ends Quietly false devices l.results (effect s.shared (FlushingFor None) [] End_running DoneThere) (l.results, quiet_are_unnoted y.task l.results l.quiet, refl) l.may l.shared
       (stands size most words committing orders devices actors a x s y ex ey g words plan' x.card false (gone y y.task l.results) refl tt tt (λ e n. absurd (cc)) l.at)
       (record { fail = g.words_agree.fail; seals = g.words_agree.seals }) g.origin g.cache refl refl (λ e. let bad : true ≡ false = sym e ∙ whole in absurd (cc))
-      (λ b v ev k. absurd (nobody l b v ev k)) (λ b v ev k u. whole) (λ b c v u ev eu k m. absurd (nobody l b v ev k)) (refl, refl) (refl, refl) (others plan' x.card devices (λ c. ended (s.shared.blocks c)) (stays_past words x (record x { task = Some (Flush, plan') }) past) refl refl (λ c m. ap ended m))
+      (λ b v ev k. absurd (nobody l b v ev k)) (λ b v ev k u. whole) (λ b c v u ev eu k m. absurd (nobody l b v ev k)) (refl, refl) (refl, refl) (others plan' x.card devices (stays_past words x (record x { task = Some (Flush, plan') }) past) refl refl)
     where
       nobody : (l : Leads size [] s.actors a s.shared y (effect s.shared (FlushingFor None) [] End_running DoneThere) (after (flushing most (Desk EndCommit ∷ []) answer) Done) false) (b : ℕ) (v : AbstractActor) → slice_get (slice_set s.actors a (gone y y.task l.results)) b ≡ Some v → v.leads ≡ true → ⊥
       nobody l b v ev k =
@@ -232,7 +229,7 @@ module _ (size most : ℕ) (words : Words) (committing : Bool) (orders : List (O
       (stands size most words committing orders devices actors a x s y ex ey g (words_after words SetFailed) plan' (card_after words SetFailed x.card) true y' refl tt tt (λ k n. failed) l.at)
       (record { fail = sym failed; seals = g.words_agree.seals }) g.origin g.cache refl g.commits (λ k. runs) (λ b v ev k. runs)
       (λ b v ev k u. absurd (subst (λ (w : AbstractActor). IsUnfinished w.task) (is_here size most words committing orders devices actors a x s y ex ey g lead y' b v ev k ∙ l.at.is) u refl))
-      (one_here size most words committing orders devices actors a x s y ex ey g lead y') (refl, refl, refl) (refl, refl) (others plan' (card_after words SetFailed x.card) devices s.shared.blocks (stays_past words x (record x { task = Some (Flush, plan'); card = card_after words SetFailed x.card }) past) refl refl (λ c m. m))
+      (one_here size most words committing orders devices actors a x s y ex ey g lead y') (refl, refl, refl) (refl, refl) (others plan' (card_after words SetFailed x.card) devices (stays_past words x (record x { task = Some (Flush, plan'); card = card_after words SetFailed x.card }) past) refl refl)
 
   -- ---- its look at the fail word, and its answer
 
@@ -259,8 +256,8 @@ module _ (size most : ℕ) (words : Words) (committing : Bool) (orders : List (O
           follows_alone devices (after (flushing most (Cell (Look Fail) ∷ Desk (BeginCommit false most) ∷ []) answer) (Word words.fail)) _ (ap (λ (p : Plan). p.job) plan_is)
           (subst (λ (p : Plan). IsOfFlush most p.steps) (sym plan_is) tt) (subst (λ (p : Plan). LeadsAt false p.steps) (sym plan_is) tt) (followed_alone.looks size most words.fail [] s.actors a s.shared y answer g.words_agree.fail is') refl outside'
 
-  over : OthersStay size words devices devices actors a x (record x { task = None }) s.shared.blocks s.shared.blocks
-  over = record { before = before; still = tt; outside = stays_with words x None tt; carries = carries_same size devices actors a s.shared.blocks s.shared.blocks refl }
+  over : OthersStay size words devices devices orders actors a x (record x { task = None })
+  over = record { before = before; still = tt; ordered = refl; outside = stays_with words x None tt; carries = carries_same size devices orders actors a }
 
   -- it answers; one that leads a commit still has failed
   pub answers : (answer : Answer) (leads : Bool) → (leads ≡ true → flag words.fail ≡ true) → IsFlushing size [] (flushing most [] answer) leads y → Follows (Answers (FlushingFor None) answer) size most a s words committing orders devices (slice_set actors a (record x { task = None }))
@@ -298,7 +295,7 @@ module _ (size most : ℕ) (words : Words) (committing : Bool) (orders : List (O
           (subst (λ (z : AbstractActor). StandsFor size most words (record x { task = Some (Flush, flushing most [] (Refuses Failed)); card = card_after words (Look Fail) x.card }) z) (sym (gone_nowhere y y.task))
           (record { at = record { job = refl; steps = tt; at = inr (record { failed = l.failed; nothing = l.nothing; at = inr (refl, λ e. absurd (cc)) }) }; below = record { owned = st.below.owned; shared = st.below.shared }; order = st.order; among_others = st.among_others }))
           (λ q. gone_nowhere y y.task) g.words_agree g.origin g.cache refl refl refl (refl, refl, refl) (refl, refl)
-          (others (flushing most [] (Refuses Failed)) (card_after words (Look Fail) x.card) devices s.shared.blocks (λ f o. (tt, λ u below. record { owned = below.owned; shared = below.shared })) refl refl (λ c m. m)))
+          (others (flushing most [] (Refuses Failed)) (card_after words (Look Fail) x.card) devices (λ f o. (tt, λ u below. record { owned = below.owned; shared = below.shared })) refl refl))
 
   pub late_answers : IsLate words plan y → plan.job ≡ Flushing [] most → plan.steps ≡ [] → StandsFor size most words x y → Follows (Answers (FlushingFor None) plan.answer) size most a s words committing orders devices (slice_set actors a (record x { task = None }))
   late_answers l j none st = goes_on size most words words (λ q. q) committing orders devices actors a x (record x { task = None }) s y g ex ey (Answers (FlushingFor None) plan.answer) devices [] s.shared (late_answers_so (FlushingFor None) words plan plan.answer y refl (λ t. let bad : [] ≡ Cell (Look Fail) ∷ Desk (BeginCommit false most) ∷ [] = sym none ∙ ap (λ (p : Plan). p.steps) t ∙ ap (λ k. (table k).steps) j in absurd (cc)) l, nothing_told a y.task (DoneThere ∷ []) l.nothing) tt (shared_stays s.shared y y.task)

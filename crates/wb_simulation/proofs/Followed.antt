@@ -105,7 +105,7 @@ module _ (size most blocks : ℕ) (words : Words) (committing : Bool) (orders : 
       let b = begins_by plan (Cell step) next (λ answer q. absurd (cc)) in
       goes_on size most words (words_after words step) (failed_stays words step _ _ rule.logs.fail) committing orders devices actors a x (went words job plan step x) s y g ex ey Quietly devices acted.results t (acted.results, quiet_are_unnoted y.task acted.results acted.quiet, refl) acted.may refl
       (record { at = doing; below = acted.below; order = acted.order; among_others = acted.among_others }) acted.leads acted.words_agree (acted.same.origin ∙ g.origin) (acted.same.cache ∙ g.cache) k.mode k.committing k.broken (k.committed, k.running, k.root_written) (k.mapping, k.blocks)
-      (record { before = none; still = migrates_not job request_job; outside = stays_looking words x job plan step b.0 task b.1; carries = carries_same size devices actors a s.shared.blocks t.blocks k.blocks })
+      (record { before = none; still = migrates_not job request_job; outside = stays_looking words x job plan step b.0 task b.1; ordered = refl; carries = carries_same size devices orders actors a })
 
 followed : (size most blocks : ℕ) (words : Words) (committing : Bool) (orders : List (Option Order)) (devices : Devices (List History)) (actors : List Actor) (a : ℕ) (x : Actor) (plan : Plan) (step : CellStep) (s : World) (y : AbstractActor) →
     LockRule blocks words (cards_of actors) → slice_get actors a ≡ Some x → slice_get s.actors a ≡ Some y → (job : Job) → IsRequestJob job → x.task ≡ Some (job, plan) → Suits blocks plan x.card → want plan ≡ Cell step → Agrees size most words committing orders devices actors s → StandsFor size most words x y →

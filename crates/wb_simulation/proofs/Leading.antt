@@ -108,7 +108,7 @@ module _ (size most : ℕ) (words : Words) (committing : Bool) (orders : List (O
   -- a flush that leads goes on, and its commit stays whole
   pub leads_on : (turn : Turn) (words' : Words) (up : flag words.fail ≡ true → flag words'.fail ≡ true) (devices' : Devices (List History)) (plan plan' : Plan) (card' : Card) (t : Shared) (next : Want) (later : List Want) (answer : Answer) → IsFlushing size [] (flushing most (next ∷ later) answer) true y → wants_of size (FlushingFor None) (next ∷ later) ≢ [] →
       Leads size [] s.actors a s.shared y t plan' true → plan'.job ≡ Flushing [] most → IsOfFlush most plan'.steps → LeadsAt true plan'.steps → (true ≡ true → plan'.steps ≡ [] → flag words'.fail ≡ true) → WordsAgree words' t → t.origin ≡ by_block size zeros devices'.origin → t.cache ≡ by_block size zeros devices'.cache → t.mode ≡ s.shared.mode →
-      t.committing ≡ s.shared.committing → t.broken ≡ s.shared.broken → TurnedTo turn s.shared t → DeskTurnedTo turn s.shared t → OthersStay size words devices devices' actors a x (record x { task = Some (Flush, plan'); card = card' }) s.shared.blocks t.blocks → FollowsBy turn Quietly size most a s words' committing orders devices' (slice_set actors a (record x { task = Some (Flush, plan'); card = card' }))
+      t.committing ≡ s.shared.committing → t.broken ≡ s.shared.broken → TurnedTo turn s.shared t → DeskTurnedTo turn s.shared t → OthersStay size words devices devices' orders actors a x (record x { task = Some (Flush, plan'); card = card' }) → FollowsBy turn Quietly size most a s words' committing orders devices' (slice_set actors a (record x { task = Some (Flush, plan'); card = card' }))
   leads_on turn words' up devices' plan plan' card' t next later answer is some l j o at f w og ca mo co br turned desk others =
       let lead : y.leads ≡ true = ap (λ (v : AbstractActor). v.leads) is.is in
       let y' = gone y y.task l.results in

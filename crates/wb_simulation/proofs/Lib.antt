@@ -1,4 +1,5 @@
-mod Steps
+pub mod Steps
+mod Places
 mod Kept
 mod Behind
 mod Beside
@@ -7,12 +8,13 @@ mod Cells
 mod Among
 mod Carrying
 pub mod Found
-mod Promoting
+mod Migrating
 mod Copying
+mod Dropping
 mod Deciding
 mod Cut
 mod Ordering
-pub mod Promotions
+pub mod Migrations
 pub mod Followed
 pub mod Moving
 pub mod Starting

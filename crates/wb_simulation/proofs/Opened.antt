@@ -1,5 +1,5 @@
 -- The words of a target that an opening has made tell what the tree that it read has.
-use Rattle.std.proofs.Common.{◌≡◌, ◌≢◌, ◌<◌, ◌≤◌, ◌+◌, ◌^◌, ◌==◌, ◌∙◌, inl, ℕ, zero, suc, Bool, true, false, cond, if◌then◌else◌, List, [], ◌∷◌, Option, Some, None, length, replicate, refl, sym, ap, subst, arith, slice_get, slice_set, slice_index_or, unwrap_or}
+use Rattle.std.proofs.Common.{◌≡◌, ◌≢◌, ◌<◌, ◌≤◌, ◌+◌, ◌*◌, ◌^◌, ◌==◌, ◌∙◌, inl, ℕ, zero, suc, Bool, true, false, cond, if◌then◌else◌, List, [], ◌∷◌, Option, Some, None, length, replicate, refl, sym, ap, subst, arith, slice_get, slice_set, slice_index_or, unwrap_or}
 use Rattle.std.proofs.lemmas.Bool.{eqb-true, eq-eqb}
 use Rattle.std.proofs.lemmas.List.{length-replicate, length-set}
 use Rattle.wb_types.specs.declared.entry.Entry.{Entry}
@@ -20,7 +20,8 @@ use Rattle.wb_runs.specs.Headline.{cached_from, place_of}
 use Rattle.wb_simulation.specs.Actors.{StandsFor, IsBusyAt}
 use Rattle.wb_runs.specs.declared.job.Job.TheVariants.{Migrate}
 use Rattle.wb_policy.specs.declared.order.Order.{Order}
-use Rattle.wb_simulation.specs.Behind.{IsUnused, live_there}
+use Rattle.wb_simulation.specs.Behind.{behind, HasLive, StandsBehind}
+use Rattle.wb_simulation.proofs.Carrying.{stands_unused}
 use Rattle.wb_simulation.specs.Opened.{OpenedFollowed}
 use Rattle.wb_simulation.proofs.Steps.{place_told}
 
@@ -218,22 +219,22 @@ opened_followed size most origin_blocks cache_blocks clean entries learnt blocks
   led = λ a y e l. absurd (nobody a y e l);
   whole = λ a y e l u. absurd (nobody a y e l);
   one_leads = λ a b y z e f l m. absurd (nobody a y e l);
-  many = length-replicate (length actors + cache_blocks) idle ∙ ap (λ (n : ℕ). length actors + n) (sym (length-replicate {A = Option Order} cache_blocks None));
-  each = λ a x y e f. subst (λ (v : AbstractActor). StandsFor size most words x v) (replicated (length actors + cache_blocks) a idle y f) (record {
+  many = length-replicate (length actors + length actors * cache_blocks) idle ∙ ap (λ (n : ℕ). length actors + length actors * n) (sym (length-replicate {A = Option Order} cache_blocks None));
+  each = λ a x y e f. subst (λ (v : AbstractActor). StandsFor size most words x v) (replicated (length actors + length actors * cache_blocks) a idle y f) (record {
     at = subst (λ t. IsBusyAt size most words t x.card idle) (sym (rest a x e)) (refl, inl (record { task = refl; held = refl; order = refl; leads = refl }));
     below = holds_nothing idle x.card refl;
     order = refl;
     among_others = refl;
   });
-  who = λ c. None;
-  behind = λ c order y e f. subst (λ (v : AbstractActor). IsUnused words actors c order v) (replicated (length actors + cache_blocks) (length actors + c) idle y f) (record { task = refl; order_is = ap (live_there c) (replicated cache_blocks c None order e); leads = refl; holds = inl refl });
-  within = λ c a e. absurd (cc);
-  one_each = λ c d a e f. absurd (cc);
+  at = λ a. None;
+  behind_each = λ a c x order y e o f. subst (λ (v : AbstractActor). StandsBehind size words devices c order None x v) (replicated (length actors + length actors * cache_blocks) (behind (length actors) (length (replicate {A = Option Order} cache_blocks None)) a c) idle y f)
+      (stands_unused size words devices c order x idle (record { task = refl; live = subst (λ (k : Option Order). HasLive x.orders c k None) (replicated cache_blocks c None order o) refl; leads = refl; holds = inl refl }));
+  within = λ a c e. absurd (cc);
   carried = λ a x migration block plan e t. absurd (let bad : None ≡ Some (Migrate migration block, plan) = sym (rest a x e) ∙ t in cc);
 }
   where
     words : Words
     words = words_by (fresh_words origin_blocks) (sealing_steps clean 0 entries)
 
-    nobody : (a : ℕ) (y : AbstractActor) → slice_get (replicate (length actors + cache_blocks) idle) a ≡ Some y → y.leads ≡ true → ⊥
-    nobody a y e l = let same = replicated (length actors + cache_blocks) a idle y e in let bad : true ≡ false = sym l ∙ ap (λ (v : AbstractActor). v.leads) (sym same) in absurd (cc)
+    nobody : (a : ℕ) (y : AbstractActor) → slice_get (replicate (length actors + length actors * cache_blocks) idle) a ≡ Some y → y.leads ≡ true → ⊥
+    nobody a y e l = let same = replicated (length actors + length actors * cache_blocks) a idle y e in let bad : true ≡ false = sym l ∙ ap (λ (v : AbstractActor). v.leads) (sym same) in absurd (cc)

@@ -1,5 +1,5 @@
 -- Starts are followed.
-use Rattle.std.proofs.Common.{◌≡◌, ◌∙◌, ◌⊎◌, inl, inr, ℕ, Bool, true, false, List, [], ◌∷◌, Option, Some, None, ◌+◌, length, refl, sym, ap, subst, slice_get, slice_set}
+use Rattle.std.proofs.Common.{◌≡◌, ◌∙◌, ◌⊎◌, inl, inr, ℕ, Bool, true, false, List, [], ◌∷◌, Option, Some, None, ◌+◌, ◌*◌, length, refl, sym, ap, subst, slice_get, slice_set}
 use Rattle.std.proofs.lemmas.List.{length-set}
 use Rattle.wb_disk.specs.Device.{History}
 use Rattle.wb_words.specs.SharedWords.{Words, flag}
@@ -33,8 +33,8 @@ all_inside : (size : ℕ) (part : BlockRange) → IsPart size part → AllInBloc
 all_inside size part is e c = (is.each e c).room
 
 module _ (size most : ℕ) (words : Words) (committing : Bool) (orders : List (Option Order)) (devices : Devices (List History)) (actors : List Actor) (a : ℕ) (x : Actor) (job : Job) (plan : Plan) (s : World) (ex : slice_get actors a ≡ Some x) (none : x.task ≡ None) (migrates : MigratesNot job) (begins : IsOutside plan.steps) (g : Agrees size most words committing orders devices actors s) where
-  others : OthersStay size words devices devices actors a x (record x { task = Some (job, plan) }) s.shared.blocks s.shared.blocks
-  others = record { before = subst (λ (t : Option (Job × Plan)). IsNoMigration t) (sym none) tt; still = migrates; outside = stays_with words x (Some (job, plan)) begins; carries = carries_same size devices actors a s.shared.blocks s.shared.blocks refl }
+  others : OthersStay size words devices devices orders actors a x (record x { task = Some (job, plan) })
+  others = record { before = subst (λ (t : Option (Job × Plan)). IsNoMigration t) (sym none) tt; still = migrates; ordered = refl; outside = stays_with words x (Some (job, plan)) begins; carries = carries_same size devices orders actors a }
 
   abbrev Goal : Type 0
   Goal = Follows Quietly size most a s words committing orders devices (slice_set actors a (record x { task = Some (job, plan) }))
@@ -54,12 +54,11 @@ module _ (size most : ℕ) (words : Words) (committing : Bool) (orders : List (O
       led = led_on size most words words (λ f. f) committing orders devices actors a x (record x { task = Some (job, plan) }) s y g ex ey st.then_is leads s.shared refl;
       whole = whole_on size most words words (λ f. f) committing orders devices actors a x (record x { task = Some (job, plan) }) s y g ex ey st.then_is leads s.shared refl;
       one_leads = one_on size most words words (λ f. f) committing orders devices actors a x (record x { task = Some (job, plan) }) s y g ex ey st.then_is leads;
-      many = length-set s.actors a st.then_is ∙ g.many ∙ ap (λ (n : ℕ). n + length orders) (sym (length-set actors a (record x { task = Some (job, plan) })));
+      many = length-set s.actors a st.then_is ∙ g.many ∙ ap (λ (n : ℕ). n + n * length orders) (sym (length-set actors a (record x { task = Some (job, plan) })));
       each = each_on size most words words (λ f. f) committing orders devices actors a x (record x { task = Some (job, plan) }) s y g ex ey st.then_is (stands st.then_is st.at).0;
-      who = g.who;
-      behind = behind_on size most words words (λ f. f) committing orders devices actors a x (record x { task = Some (job, plan) }) s y g ex ey st.then_is devices s.shared.blocks others;
+      at = g.at;
+      behind_each = behind_on size most words words (λ f. f) committing orders devices actors a x (record x { task = Some (job, plan) }) s y g ex ey st.then_is devices others;
       within = g.within;
-      one_each = g.one_each;
       carried = uncarried_then size most words words (λ f. f) committing orders devices actors a x (record x { task = Some (job, plan) }) s y g ex ey migrates;
     });
     turned = subst (λ (v : World). TurnedTo Stays s.shared v.shared) (sym st.world) (refl, refl, refl);

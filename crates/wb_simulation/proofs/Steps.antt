@@ -16,13 +16,18 @@ use Rattle.wb_types.specs.declared.refusal.Refusal.TheVariants.{Failed, Worn, Bu
 use Rattle.wb_tasks.specs.Tables.{TaskJob, BlockRange, Reading, Writing, Migrating, OnBlock, read_step, write_step, read_count, write_count, cache_extent, dirtying, copies, ending, work}
 use Rattle.wb_tasks.specs.Plan.{work_of, after, got_of, onward, refused, may_take, exchange, is_worn, gives_back}
 use Rattle.wb_tasks.specs.declared.step.Answer.{Answer}
-use Rattle.wb_tasks.specs.declared.step.Migration.TheVariants.{Promote}
+use Rattle.wb_tasks.specs.declared.step.Migration.TheVariants.{Promote, Demote, Clean}
+use Rattle.wb_tasks.specs.declared.step.Migration.{Migration}
 use Rattle.wb_tasks.specs.declared.step.Want.{Want}
 use Rattle.wb_tasks.specs.declared.step.Want.TheVariants.{Cell}
 use Rattle.wb_words.specs.declared.word.Access.TheVariants.{Shared, Owned}
 use Rattle.wb_words.specs.declared.step.CellStep.{CellStep}
 use Rattle.wb_words.specs.declared.step.CellStep.TheVariants.{Look, Take, Release, Seal, Finish, Count, SetFailed, SetSuspended}
 use Rattle.wb_refines.specs.Data.{IsInBlock}
+use Rattle.wb_refines.specs.Translation.{location_at}
+use Rattle.wb_refines.proofs.Tables.{at_place}
+use Rattle.wb_refines.specs.Migrations.{order_on, source, Fills, IsWhere}
+use Rattle.wb_simulation.specs.Behind.{target, AreCopiedAt}
 use Rattle.wb_simulation.specs.Steps.{IsOfBlock, IsPart, AreOfBlock, ArePaired, IsNoWrite}
 
 -- a seal of a cache block tells it
@@ -34,7 +39,7 @@ place_told k dirty l = ap cached_at (half dirty) ∙ ap (λ (t : Bool). if t the
     half false = ap (λ v. (v + 0) / 2) (mul_comm 2 (k + 1)) ∙ div-mul-add (k + 1) 2 0 (omega arith) ∙ omega arith
 
 -- what is sealed anew tells the place that was seen
-seal_tells : (seal : ℕ) (dirty : Bool) → place_in (seal_word (place_in seal) dirty) ≡ place_in seal
+pub seal_tells : (seal : ℕ) (dirty : Bool) → place_in (seal_word (place_in seal) dirty) ≡ place_in seal
 seal_tells seal dirty = by_half (seal / 2) dirty
   where
     halved : (p bit : ℕ) → bit < 2 → (2 * (p + 1) + bit) / 2 ≡ suc p
@@ -96,12 +101,12 @@ module _ (size : ℕ) (part : BlockRange) (is : IsPart size part) where
 
 -- ---- what a migration has still to do
 
--- it is of the block, and each extent is written once it was read, the next step being no write
-abbrev pub AreCopies : ℕ → ℕ → List Want → Type 0
-AreCopies size block steps = AreOfBlock size block steps × ArePaired size steps × IsNoWrite steps
+-- It is of the block, at these places, and each extent is written once it was read, the next step being no write.
+abbrev pub AreCopies : ℕ → ℕ → (from to : Option ℕ) → List Want → Type 0
+AreCopies size block from to steps = AreOfBlock size block steps × ArePaired size steps × IsNoWrite steps × AreCopiedAt size from to steps
 
 -- What is left after a step on the words is what was left, or one of these.
-pub after_cell : (P : List Want → Type 0) (job : TaskJob) (words : Words) (step : CellStep) (ws : List Want) (answer : Answer) → P [] → P ws → ((seen : ℕ) → P (exchange job seen)) → ((block : OBlock) (seal : ℕ) → P (Cell (Look (Number block)) ∷ work_of job seal)) → P (gives_back job) →
+pub after_cell : (P : List Want → Type 0) (job : TaskJob) (words : Words) (step : CellStep) (ws : List Want) (answer : Answer) → P [] → P ws → ((seen : ℕ) → P (exchange job seen)) → ((block : OBlock) → step ≡ Look (SealWord block) → P (Cell (Look (Number block)) ∷ work_of job (word_at words.seals block))) → P (gives_back job) →
     P (after (record { job = job; steps = Cell step ∷ ws; answer = answer }) (got_of (result_of words step))).steps
 after_cell P job words (Look Fail) ws answer none stays exchanges works back = by_test (words.fail == 0)
   where
@@ -113,7 +118,7 @@ after_cell P job words (Look (LockWord b)) ws answer none stays exchanges works 
     by_test : (t : Bool) → P (if t then record (record { job = job; steps = Cell (Look (LockWord b)) ∷ ws; answer = answer }) { steps = exchange job (word_at words.cells b) } else refused (record { job = job; steps = Cell (Look (LockWord b)) ∷ ws; answer = answer }) [] Busy).steps
     by_test true = exchanges (word_at words.cells b)
     by_test false = none
-after_cell P job words (Look (SealWord b)) ws answer none stays exchanges works back = works b (word_at words.seals b)
+after_cell P job words (Look (SealWord b)) ws answer none stays exchanges works back = works b refl
 after_cell P job words (Look (Number b)) ws answer none stays exchanges works back = by_test (is_worn job (word_at words.numbers b))
   where
     by_test : (t : Bool) → P (if t then refused (record { job = job; steps = Cell (Look (Number b)) ∷ ws; answer = answer }) (gives_back job) Worn else onward (record { job = job; steps = Cell (Look (Number b)) ∷ ws; answer = answer })).steps
@@ -133,20 +138,48 @@ after_cell P job words SetFailed ws answer none stays exchanges works back = sta
 after_cell P job words SetSuspended ws answer none stays exchanges works back = stays
 
 module _ (size : ℕ) (part : BlockRange) (is : IsPart size part) where
-  abbrev Copies : List Want → Type 0
-  Copies ws = AreCopies size part.block.0 ws
+  abbrev Copies : (from to : Option ℕ) → List Want → Type 0
+  Copies from to ws = AreCopies size part.block.0 from to ws
+
+  abbrev AreOf : List Extent → Type 0
+  AreOf es = (e : Extent) → Contains es e → IsOfBlock size part.block.0 e
 
   -- an extent of the origin, and where it is in the cache
   paired_extent : (c : CBlock) (e : Extent) → (cache_extent part c e).first % size ≡ e.first % size
   paired_extent c e = ap (λ n. (c.0 * n + e.first % n) % size) (sym is.sized) ∙ mod-mul-add c.0 size (e.first % size) (mod-lt e.first is.some)
 
-  copied_in : (c : CBlock) (es : List Extent) (ws : List Want) → ((e : Extent) → Contains es e → IsOfBlock size part.block.0 e) → Copies ws → Copies (copies part None (Some c) es ++ ws)
+  cached_extent : (c : CBlock) (e : Extent) → location_at size Cache (cache_extent part c e) ≡ Some c.0
+  cached_extent c e = subst (λ (n : ℕ). location_at n Cache (cache_extent part c e) ≡ Some c.0) (sym is.sized) (at_place part (subst (λ (n : ℕ). 0 < n) is.sized is.some) c e)
+
+  copied_in : (c : CBlock) (es : List Extent) (ws : List Want) → AreOf es → Copies None (Some c.0) ws → Copies None (Some c.0) (copies part None (Some c) es ++ ws)
   copied_in c [] ws each w = w
   copied_in c (e ∷ es) ws each w =
       let later = copied_in c es ws (λ f m. each f (Contains-behind e es f m)) w in
       let mine = each e (Contains-first e es) in
-      ((on_origin size part is e mine, (on_cache size part is c e mine, later.0)), ((refl, paired_extent c e), (later.2, later.1)), tt)
+      ((on_origin size part is e mine, (on_cache size part is c e mine, later.0)), ((refl, paired_extent c e), (later.2, later.1)), tt, (refl, (cached_extent c e, later.3)))
 
-  -- what a promotion does once it has its block
-  pub promotion_works : (c : CBlock) → c.0 < 2 ^ 32 → (place : Option CBlock) (dirty : Bool) → Copies (work (Migrating (Promote c) part) place dirty)
-  promotion_works c small place dirty = copied_in c part.extents (ending (Promote c) part.block place) is.each ((place_told c.0 false small, tt), (tt, tt, (tt, (tt, tt))), tt)
+  copied_home : (c : CBlock) (es : List Extent) (ws : List Want) → AreOf es → Copies (Some c.0) None ws → Copies (Some c.0) None (copies part (Some c) None es ++ ws)
+  copied_home c [] ws each w = w
+  copied_home c (e ∷ es) ws each w =
+      let later = copied_home c es ws (λ f m. each f (Contains-behind e es f m)) w in
+      let mine = each e (Contains-first e es) in
+      ((on_cache size part is c e mine, (on_origin size part is e mine, later.0)), ((refl, sym (paired_extent c e)), (later.2, later.1)), tt, (cached_extent c e, (refl, later.3)))
+
+  promotion_works : (c : CBlock) → c.0 < 2 ^ 32 → (place : Option CBlock) (dirty : Bool) → Copies None (Some c.0) (work (Migrating (Promote c) part) place dirty)
+  promotion_works c small place dirty = copied_in c part.extents (ending (Promote c) part.block place) is.each ((place_told c.0 false small, tt), (tt, tt, (tt, (tt, tt))), tt, tt)
+
+  demotion_works : (c : CBlock) (dirty : Bool) → Copies (Some c.0) None (work (Migrating Demote part) (Some c) dirty)
+  demotion_works c true = copied_home c part.extents (ending Demote part.block (Some c)) is.each ((refl, tt), (tt, tt, (tt, (tt, tt))), tt, tt)
+  demotion_works c false = ((refl, tt), (tt, tt, (tt, (tt, tt))), tt, tt)
+
+  cleaning_works : (c : CBlock) → c.0 < 2 ^ 32 → (dirty : Bool) → Copies (Some c.0) None (work (Migrating Clean part) (Some c) dirty)
+  cleaning_works c small true = copied_home c part.extents (ending Clean part.block (Some c)) is.each ((place_told c.0 false small, tt), (tt, (tt, (tt, tt))), tt, tt)
+  cleaning_works c small false = ((place_told c.0 false small, tt), (tt, (tt, (tt, tt))), tt, tt)
+
+  -- what a migration does once it has its block, where it is to find it
+  pub migration_works : (migration : Migration) (c : CBlock) → Fills migration c → c.0 < 2 ^ 32 → (seal : ℕ) → IsWhere migration c (place_in seal) →
+      Copies (source (order_on part c None) migration) (target (order_on part c None) migration) (work_of (OnBlock (Migrating migration part)) seal)
+  migration_works (Promote k) c fills small seal where_is = subst (λ (v : ℕ). Copies None (Some v) (work (Migrating (Promote k) part) (place_in seal) (dirty_in seal))) (ap (λ (v : CBlock). v.0) fills)
+      (promotion_works k (subst (λ (v : CBlock). v.0 < 2 ^ 32) (sym fills) small) (place_in seal) (dirty_in seal))
+  migration_works Demote c fills small seal where_is = subst (λ (place : Option CBlock). Copies (Some c.0) None (work (Migrating Demote part) place (dirty_in seal))) (sym where_is) (demotion_works c (dirty_in seal))
+  migration_works Clean c fills small seal where_is = subst (λ (place : Option CBlock). Copies (Some c.0) None (work (Migrating Clean part) place (dirty_in seal))) (sym where_is) (cleaning_works c small (dirty_in seal))

@@ -1,6 +1,6 @@
 -- How a promotion, a demotion or a write-back of the run is followed in the abstract world, where a target stands: its start, each of its
 -- steps, and its answer. The abstract actor behind that is its actor's and the cache block's does it there.
-use Rattle.std.specs.Prelude.{◌≡◌, ◌≢◌, ◌≤◌, ◌<◌, ◌+◌, ◌^◌, ℕ, Bool, true, false, List, ◌∷◌, Option, Some, None, Contains, length, slice_get, slice_set}
+use Rattle.std.specs.Prelude.{◌≡◌, ◌≤◌, ◌<◌, ◌+◌, ◌^◌, ℕ, Bool, true, List, ◌∷◌, Option, Some, None, Contains, length, slice_get, slice_set}
 use Rattle.wb_types.specs.declared.extent.Extent.{Extent}
 use Rattle.wb_types.specs.declared.mode.Dev.{Dev}
 use Rattle.wb_types.specs.declared.number.OBlock.{OBlock}
@@ -35,7 +35,7 @@ use Rattle.wb_words.specs.declared.step.CellStep.{CellStep}
 use Rattle.wb_words.specs.declared.step.CellStep.TheVariants.{Look}
 use Rattle.wb_policy.specs.declared.order.Order.TheVariants.{Promote as PromoteOrder, Demote as DemoteOrder}
 use Rattle.wb_tasks.specs.declared.step.DeskStep.TheVariants.{Map, Unmap, ReleaseOrder}
-use Rattle.wb_tasks.specs.declared.step.Migration.TheVariants.{Promote, Demote, Clean}
+use Rattle.wb_tasks.specs.declared.step.Migration.TheVariants.{Promote, Demote}
 use Rattle.wb_stage.specs.Asking.{is_of}
 use Rattle.wb_link.specs.World.{World, Shared, Free, Mapped, Reserved, Apart}
 use Rattle.wb_link.specs.Tables.{Order as AbstractOrder}
@@ -45,6 +45,7 @@ use Rattle.wb_runs.specs.Happenings.{order_for}
 use Rattle.wb_runs.specs.Holding.{cards_of, AllSuited}
 use Rattle.wb_simulation.specs.Behind.{order_there}
 use Rattle.wb_simulation.specs.Worlds.{Agrees, Turn, Stays, Reserves, Maps, Unmaps, GivesUp, FollowsBy}
+
 -- no order that is live shares a block with this one
 abbrev pub IsUngiven : List (Option Order) → AbstractOrder → Type 0
 IsUngiven orders order = (c : ℕ) (o : Order) → slice_get orders c ≡ Some (Some o) → Apart (order_there c o) order

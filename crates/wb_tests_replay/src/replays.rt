@@ -110,6 +110,60 @@ const BUSY_PROMOTIONS: [Row; 2] = [
     },
 ];
 
+/// The power is lost when a demotion has copied one sector of a block home that was written since it was flushed.
+const HALF_DEMOTED: [Row; 2] = [
+    Row {
+        name: "a half-done demotion may lose what was written since the flush, and never shows what was there before it",
+        lines: "setup writeback 64 4 10 4\nstart 0 w 0 1 11\nend 0\nstart 0 promote 0 0\nend 0\nstart 0 flush\nend 0\nstart 0 w 0 1 22\nend 0\nstart 0 flush\nend 0\nstart 0 w 0 1 33\nend 0\nstart 1 demote 0\nstep 1 7\nstop old\nopen writeback\nview 0 1\n",
+        prints: "0 done\n0 done\n0 done\n0 done\n0 done\n0 done\nopen 4 1 1\n0 22\n",
+        ends: Ended::Played,
+    },
+    Row {
+        name: "or keep it",
+        lines: "setup writeback 64 4 10 4\nstart 0 w 0 1 11\nend 0\nstart 0 promote 0 0\nend 0\nstart 0 flush\nend 0\nstart 0 w 0 1 22\nend 0\nstart 0 flush\nend 0\nstart 0 w 0 1 33\nend 0\nstart 1 demote 0\nstep 1 7\nstop new\nopen writeback\nview 0 1\n",
+        prints: "0 done\n0 done\n0 done\n0 done\n0 done\n0 done\nopen 4 1 1\n0 33\n",
+        ends: Ended::Played,
+    },
+];
+
+/// A block leaves the cache, and its cache block is free only after a commit that began after that.
+const DEMOTIONS: [Row; 3] = [
+    Row {
+        name: "a cache block is in quarantine until a commit has ended that began after its block had left",
+        lines: "setup writeback 64 4 10 4\nstart 0 w 0 1 11\nend 0\nstart 0 promote 0 0\nend 0\nstart 0 flush\nend 0\nstart 1 flush\nstep 1 2\nstart 0 demote 0\nend 0\nend 1\nstart 0 promote 5 0\nstart 0 promote 5 1\nend 0\nstart 0 flush\nend 0\nstart 0 promote 6 0\nend 0\n",
+        prints: "0 done\n0 done\n0 done\n0 done\n1 done\n0 refused 3 Busy\n0 done\n0 done\n0 done\n",
+        ends: Ended::Played,
+    },
+    Row {
+        name: "a dirty block is copied home, and is read there",
+        lines: "setup writeback 64 4 10 4\nstart 0 w 0 1 11\nend 0\nstart 0 promote 0 0\nend 0\nstart 0 flush\nend 0\nstart 0 w 0 2 22\nend 0\nstart 0 demote 0\nend 0\nstart 1 r 0 2\nend 1\nstart 0 flush\nend 0\nstop old\nopen writeback\nview 0 2\n",
+        prints: "0 done\n0 done\n0 done\n0 done\n0 done\n1 0 22\n1 1 22\n1 done\n0 done\nopen 4 0 0\n0 22\n1 22\n",
+        ends: Ended::Played,
+    },
+    Row {
+        name: "a block that is nowhere, or has an order, is not demoted; one that a write has is when it is given back",
+        lines: "setup writeback 64 4 10 4\nstart 0 w 0 1 11\nend 0\nstart 0 promote 0 0\nend 0\nstart 0 flush\nend 0\nstart 0 demote 1\nstart 1 w 0 1 22\nstep 1 3\nstart 0 demote 0\nend 0\nstart 2 demote 0\nstart 2 clean 0\nend 1\nstart 0 demote 0\nend 0\nstart 0 demote 0\n",
+        prints: "0 done\n0 done\n0 done\n0 refused 3 Busy\n0 refused 3 Busy\n2 refused 3 Busy\n2 refused 3 Busy\n1 done\n0 done\n0 refused 3 Busy\n",
+        ends: Ended::Played,
+    },
+];
+
+/// A dirty block is written back, and stays where it is.
+const WRITE_BACKS: [Row; 2] = [
+    Row {
+        name: "a block that was written back is read in the cache, and its copy on the origin is the same",
+        lines: "setup writeback 64 4 10 4\nstart 0 w 0 1 11\nend 0\nstart 0 promote 0 0\nend 0\nstart 0 flush\nend 0\nstart 0 w 0 1 22\nend 0\nstart 0 clean 0\nend 0\nstart 0 r 0 1\nend 0\nstart 0 flush\nend 0\nstart 0 demote 0\nstep 0 6\nend 0\nstart 0 r 0 1\nend 0\nstop old\nopen writeback\nview 0 1\n",
+        prints: "0 done\n0 done\n0 done\n0 done\n0 done\n0 0 22\n0 done\n0 done\n0 done\n0 0 22\n0 done\nopen 4 1 1\n0 22\n",
+        ends: Ended::Played,
+    },
+    Row {
+        name: "a write-back whose read fails gives up its order, and another may be given",
+        lines: "setup writeback 64 4 10 4\nstart 0 w 0 1 11\nend 0\nstart 0 promote 0 0\nend 0\nstart 0 flush\nend 0\nstart 0 w 0 1 22\nend 0\nstart 0 clean 0\nstep 0 5\nfault 0 old\nend 0\nstart 1 clean 0\nend 1\nstart 0 r 0 1\nend 0\n",
+        prints: "0 done\n0 done\n0 done\n0 done\n0 refused 5 Io cache\n1 done\n0 0 22\n0 done\n",
+        ends: Ended::Played,
+    },
+];
+
 /// Lines that do not apply, that are refused at the start, and that do nothing.
 const SKIPPED: [Row; 3] = [
     Row {
@@ -165,8 +219,8 @@ const ENDED: [Row; 6] = [
         ends: Ended::Refused,
     },
     Row {
-        name: "a demotion, which there is none of yet",
-        lines: "setup writeback 64 4 10 4\nstart 0 demote 0\n",
+        name: "a replacement, which there is none of yet",
+        lines: "setup writeback 64 4 10 4\nstart 0 replace 0 5\n",
         prints: "bad line 2\n",
         ends: Ended::Refused,
     },
@@ -213,6 +267,21 @@ fn a_promotion_stands_with_its_root(rt: HostRuntime) -> Result<(), Fail> {
 #[test]
 fn promotions_that_may_not_start_are_busy(rt: HostRuntime) -> Result<(), Fail> {
     compare(rt.alloc(), &BUSY_PROMOTIONS)
+}
+
+#[test]
+fn a_half_done_demotion_loses_nothing_flushed(rt: HostRuntime) -> Result<(), Fail> {
+    compare(rt.alloc(), &HALF_DEMOTED)
+}
+
+#[test]
+fn what_was_demoted_is_at_home(rt: HostRuntime) -> Result<(), Fail> {
+    compare(rt.alloc(), &DEMOTIONS)
+}
+
+#[test]
+fn what_was_written_back_is_on_both(rt: HostRuntime) -> Result<(), Fail> {
+    compare(rt.alloc(), &WRITE_BACKS)
 }
 
 #[test]

@@ -20,7 +20,7 @@ use Rattle.wb_meta.specs.declared.commit_steps.CommitSteps.{CommitSteps}
 use Rattle.wb_meta.specs.declared.commit_steps.CommitSteps.TheVariants.{NodesWritten, NodesSynced, RootWritten, Done as Committed}
 use Rattle.wb_desk.specs.Commits.{IsBeginRefused, commit_begun}
 use Rattle.wb_desk.specs.Desks.{DeskState}
-use Rattle.wb_desk.specs.Entries.{mapped}
+use Rattle.wb_desk.specs.Entries.{MayUnmap, HasLeft, mapped, unmapped}
 use Rattle.wb_types.specs.declared.number.OBlock.{OBlock}
 use Rattle.wb_types.specs.declared.number.CBlock.{CBlock}
 use Rattle.wb_types.specs.declared.refusal.Refusal.TheVariants.{Memory}
@@ -30,7 +30,7 @@ use Rattle.wb_tasks.specs.declared.step.Answer.TheVariants.{Done as Finished, Re
 use Rattle.wb_tasks.specs.declared.step.DeviceStep.{DeviceStep}
 use Rattle.wb_tasks.specs.declared.step.DeviceStep.TheVariants.{Read as ReadExtent, Write as WriteExtent, Sync, WriteNode, WriteRoot}
 use Rattle.wb_tasks.specs.declared.step.DeskStep.{DeskStep}
-use Rattle.wb_tasks.specs.declared.step.DeskStep.TheVariants.{Map, ReleaseOrder, BeginCommit, EndCommit}
+use Rattle.wb_tasks.specs.declared.step.DeskStep.TheVariants.{Map, Unmap, ReleaseOrder, BeginCommit, EndCommit}
 use Rattle.wb_tasks.specs.declared.step.Want.TheVariants.{Cell, Device, Desk, End}
 use Rattle.wb_tasks.specs.declared.step.Got.{Got}
 use Rattle.wb_tasks.specs.declared.step.Got.TheVariants.{Done, Fault, Began, Refused as GotRefused}
@@ -38,7 +38,7 @@ use Rattle.wb_devices.specs.declared.devices.Devices.{Devices}
 use Rattle.wb_devices.specs.declared.running.RunningCommit.{RunningCommit}
 use Rattle.wb_devices.specs.Committing.{is_coming}
 use Rattle.wb_devices.specs.Moving.{device_in}
-use Rattle.wb_stage.specs.Asking.{DidMap, HasBegun, IsGivenUp, ended}
+use Rattle.wb_stage.specs.Asking.{DidMap, DidUnmap, HasBegun, IsGivenUp, ended}
 use Rattle.wb_stage.specs.Stages.{is_all_done}
 use Rattle.wb_runs.specs.declared.job.Job.{Job}
 use Rattle.wb_runs.specs.declared.job.Job.TheVariants.{Read, Write, Flush, Open, Migrate}
@@ -255,6 +255,14 @@ module _ (desk : DeskState Quiet) (commit : Option RunningCommit) (desk' : DeskS
   did_map with_entry (Migrate migration block) b c (GotRefused refusal) m f did k = absurd f
   did_map with_entry (Migrate migration block) b c got m f did k = absurd did
   did_map with_entry job b c got m f did k = absurd m
+
+  -- or it is unmapped, where the desk has it and its order lets it go
+  pub did_unmap : (without_entry : Quiet → ℕ → Quiet) (job : Job) (b : OBlock) → Migrates job → DidUnmap without_entry b desk desk' → commit' ≡ commit → WasAsked desk commit job (Unmap b) Done desk' commit'
+  did_unmap without_entry (Migrate migration block) b m did k = record { chosen = Asks desk'; gives = λ shape devices words actors. (refl, refl, (λ may. left may (did.0 may), did.1)); desk_is = refl; commit_is = k }
+    where
+      left : (may : MayUnmap desk b) → HasLeft without_entry desk b may.cache desk' → HasLeft (λ policy block. desk'.policy) desk b may.cache desk'
+      left may l = (l.0, l.1 ∙ ap (λ (p : Quiet). unmapped desk may.cache desk'.tree p) (sym (ap (λ (d : DeskState Quiet). d.policy) l.1)))
+  did_unmap without_entry job b m did k = absurd m
 
   -- or its order is given up
   pub did_release : (job : Job) (b : OBlock) → Migrates job → IsGivenUp (order_of job) desk desk' → commit' ≡ commit → WasAsked desk commit job (ReleaseOrder b) Done desk' commit'

@@ -22,7 +22,7 @@ use Rattle.wb_runs.specs.Effects.{dropped}
 use Rattle.wb_runs.specs.Happenings.{Plain, Cut, Orders, job_refusal, order_for, task_job}
 use Rattle.wb_world.specs.Life.{wants_target}
 use Rattle.wb_world.specs.Members.{Member}
-use Rattle.wb_world.specs.Serving.{GetsJob, IsPassed, Starts, StartsIf, TakesOrder, cut_for, is_made, order_of}
+use Rattle.wb_world.specs.Serving.{GetsJob, IsPassed, Starts, StartsIf, TakesOrder, cut_for, order_of}
 
 pub none_of : {X : Type 0} (o : Option X) → is_some o ≡ false → o ≡ None
 none_of None e = refl
@@ -36,29 +36,14 @@ is_busy : {X : Type 0} (o : Option X) → is_some o ≡ true → is_none o ≡ f
 is_busy None e = absurd (cc)
 is_busy (Some x) e = refl
 
-both : (a b : Bool) → a ≡ true → b ≡ true → a && b ≡ true
-both true true p q = refl
-both true false p q = absurd (cc)
-both false b p q = absurd (cc)
-
 module _ (shape : Shape) (desk : DeskState Quiet) (m : Member) (job : Job) where
-  -- by who is at nothing, of a job that is made
-  pub starts_of : (what : What) (desk' : DeskState Quiet) (m' : Member) → m.task ≡ None → is_made job ≡ true → GetsJob shape desk m job what desk' m' → Starts shape desk m job what desk' m'
-  starts_of what desk' m' e made g = subst (λ (b : Bool). StartsIf b shape desk m job what desk' m') (sym (both (is_none m.task) (is_made job) (is_idle m.task e) made)) g
+  -- by who is at nothing
+  pub starts_of : (what : What) (desk' : DeskState Quiet) (m' : Member) → m.task ≡ None → GetsJob shape desk m job what desk' m' → Starts shape desk m job what desk' m'
+  starts_of what desk' m' e g = subst (λ (b : Bool). StartsIf b shape desk m job what desk' m') (sym (is_idle m.task e)) g
 
   -- any other start is skipped
-  pub passed_of : (b : Bool) → is_none m.task && is_made job ≡ b → b ≡ false → Starts shape desk m job Skipped desk m
-  passed_of b e f = subst (λ (t : Bool). StartsIf t shape desk m job Skipped desk m) (sym (e ∙ f)) (record { what_is = refl; desk_is = refl; member_is = refl })
-
-pub busy_passed : (shape : Shape) (desk : DeskState Quiet) (m : Member) (job : Job) → is_some m.task ≡ true → Starts shape desk m job Skipped desk m
-busy_passed shape desk m job e = passed_of shape desk m job false (ap (λ (t : Bool). t && is_made job) (is_busy m.task e)) refl
-
-pub unmade_passed : (shape : Shape) (desk : DeskState Quiet) (m : Member) (job : Job) → is_made job ≡ false → Starts shape desk m job Skipped desk m
-unmade_passed shape desk m job e = passed_of shape desk m job false (ap (λ (t : Bool). is_none m.task && t) e ∙ last (is_none m.task)) refl
-  where
-    last : (t : Bool) → t && false ≡ false
-    last true = refl
-    last false = refl
+  pub busy_passed : is_some m.task ≡ true → Starts shape desk m job Skipped desk m
+  busy_passed e = subst (λ (t : Bool). StartsIf t shape desk m job Skipped desk m) (sym (is_busy m.task e)) (record { what_is = refl; desk_is = refl; member_is = refl })
 
 -- a request is refused for what it asks
 pub refused_request : (shape : Shape) (desk : DeskState Quiet) (m : Member) (job : Job) (refusal : Refusal) → job_refusal shape job ≡ Some refusal → GetsJob shape desk m job (Refused refusal) desk m

@@ -121,7 +121,7 @@ module _ (shape : Shape) (devices : Devices (List History)) (commit : Option Run
   asks (Migrate migration block) EndCommit g = g.2
   asks (Migrate migration block) (Map b c) g = tt
   asks (Migrate migration block) (ReleaseOrder b) g = tt
-  asks (Migrate migration block) (Unmap b) g = absurd g
+  asks (Migrate migration block) (Unmap b) g = tt
   asks (Read extent) step g = absurd g
   asks (Write extent content) step g = absurd g
   asks Flush step g = absurd g

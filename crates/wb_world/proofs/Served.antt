@@ -37,14 +37,14 @@ use Rattle.wb_runs.specs.declared.event.Event.TheVariants.{Start, Step, FaultSte
 use Rattle.wb_runs.specs.declared.event.What.{What}
 use Rattle.wb_runs.specs.declared.event.What.TheVariants.{Skipped, Refused, Started, Stepped, Stopped}
 use Rattle.wb_runs.specs.States.{Shape, Actor, Stands, Phase, Target as RunTarget}
-use Rattle.wb_runs.specs.Happenings.{Chosen, Plain, Cut, Orders, Begins, Reaches, Puts, Commits, Asks, Opened, OfSome, DoesNotApply, DoesMap, DoesRelease, Gives, Falters, MayFailAt, StartGives, order_for, task_job}
+use Rattle.wb_runs.specs.Happenings.{Chosen, Plain, Cut, Orders, Begins, Reaches, Puts, Commits, Asks, Opened, OfSome, DoesNotApply, DoesMap, DoesRelease, DoesUnmap, Gives, Falters, MayFailAt, StartGives, order_for, task_job}
 use Rattle.wb_runs.specs.Effects.{after_what, asked_desk, begun_desk, card_then, commit_then, cut_of, desk_then, devices_then, given, job_of, phase_given, task_then, went, words_then}
 use Rattle.wb_runs.specs.Holding.{TaskSuits}
-use Rattle.wb_runs.proofs.Desks.{is_live}
+use Rattle.wb_runs.proofs.Desks.{is_live, is_unmappable}
 use Rattle.wb_world.specs.declared.target.Target.{Target}
 use Rattle.wb_world.specs.Life.{Now, Happens, wants_target}
 use Rattle.wb_world.specs.Members.{Member, free, seat, seated}
-use Rattle.wb_world.specs.Serving.{Allows, FailsBy, FailsOrRests, GetsJob, IsPassed, Leads, LeavesStarted, NothingFails, Starts, StartsIf, Steps, StepsBy, chosen_at, commit_by, crew_then, desk_given, done_by, failed_by, is_made, member_then, noted_read, over, stood, told}
+use Rattle.wb_world.specs.Serving.{Allows, FailsBy, FailsOrRests, GetsJob, IsPassed, Leads, LeavesStarted, NothingFails, Starts, StartsIf, Steps, StepsBy, chosen_at, commit_by, crew_then, desk_given, done_by, failed_by, member_then, noted_read, over, stood, told}
 use Rattle.wb_world.specs.Standing.{AllRoomy, AllowsImages, IsRoomy}
 use Rattle.wb_world.proofs.Members.{seat_at, set_both, set_same, set_task, somebody}
 use Rattle.wb_world.proofs.Openings.{passes}
@@ -57,28 +57,15 @@ nobody_there actors a P e h = subst (λ (o : Option Actor). OfSome o P) e h
 
 -- ---- a start over a target
 
--- a job that is made is in its place over a target, for who is at nothing
-in_place : (devices : Devices (List History)) (t : Target) (actors : List Actor) (a : ℕ) (job : Job) (x : Actor) → wants_target job ≡ true → is_made job ≡ true → slice_get actors a ≡ Some x → x.task ≡ None → DoesNotApply (over devices t actors) (Start a job) → ⊥
-in_place devices t actors a job x w made at e (inl none) = absurd (let some = at in cc)
-in_place devices t actors a job x w made at e (inr (inl h)) = subst (λ (o : Option (Job × Plan)). OfSome o (λ d. Unit {0})) e (subst (λ (o : Option Actor). OfSome o (λ (y : Actor). OfSome y.task (λ d. Unit {0}))) at h)
-in_place devices t actors a (Read extent) x w made at e (inr (inr f)) = f tt
-in_place devices t actors a (Write extent content) x w made at e (inr (inr f)) = f tt
-in_place devices t actors a Flush x w made at e (inr (inr f)) = f tt
-in_place devices t actors a (Open mode) x w made at e (inr (inr f)) = absurd (cc)
-in_place devices t actors a (Migrate (Promote c) block) x w made at e (inr (inr (inl f))) = f tt
-in_place devices t actors a (Migrate (Promote c) block) x w made at e (inr (inr (inr f))) = f tt
-in_place devices t actors a (Migrate Demote block) x w made at e (inr (inr f)) = absurd (cc)
-in_place devices t actors a (Migrate Clean block) x w made at e (inr (inr f)) = absurd (cc)
-
--- one that is not made is not
-out_of_place : (devices : Devices (List History)) (t : Target) (actors : List Actor) (a : ℕ) (job : Job) → is_made job ≡ false → DoesNotApply (over devices t actors) (Start a job)
-out_of_place devices t actors a (Migrate (Promote c) block) e = absurd (cc)
-out_of_place devices t actors a (Migrate Demote block) e = inr (inr (inr (λ f. f)))
-out_of_place devices t actors a (Migrate Clean block) e = inr (inr (inr (λ f. f)))
-out_of_place devices t actors a (Read extent) e = absurd (cc)
-out_of_place devices t actors a (Write extent content) e = absurd (cc)
-out_of_place devices t actors a Flush e = absurd (cc)
-out_of_place devices t actors a (Open mode) e = absurd (cc)
+-- a job is in its place over a target, for who is at nothing
+in_place : (devices : Devices (List History)) (t : Target) (actors : List Actor) (a : ℕ) (job : Job) (x : Actor) → wants_target job ≡ true → slice_get actors a ≡ Some x → x.task ≡ None → DoesNotApply (over devices t actors) (Start a job) → ⊥
+in_place devices t actors a job x w at e (inl none) = absurd (let some = at in cc)
+in_place devices t actors a job x w at e (inr (inl h)) = subst (λ (o : Option (Job × Plan)). OfSome o (λ d. Unit {0})) e (subst (λ (o : Option Actor). OfSome o (λ (y : Actor). OfSome y.task (λ d. Unit {0}))) at h)
+in_place devices t actors a (Read extent) x w at e (inr (inr f)) = f tt
+in_place devices t actors a (Write extent content) x w at e (inr (inr f)) = f tt
+in_place devices t actors a Flush x w at e (inr (inr f)) = f tt
+in_place devices t actors a (Open mode) x w at e (inr (inr f)) = absurd (cc)
+in_place devices t actors a (Migrate migration block) x w at e (inr (inr f)) = f tt
 
 -- the desk that an order leaves
 phase_so : (words : Words) (desk : DeskState Quiet) (job : Job) (chosen : Chosen Quiet Global) → Stands (record { words = words; desk = desk_given desk job chosen }) ≡ phase_given {P = Quiet} {A = Global} (Stands (record { words = words; desk = desk })) job chosen
@@ -137,12 +124,12 @@ module _ (shape : Shape) (devices : Devices (List History)) (t : Target) (member
   -- ---- a start
 
   -- a start that is not skipped
-  job_starts : (job : Job) (what : What) (desk' : DeskState Quiet) → wants_target job ≡ true → is_made job ≡ true → m.task ≡ None → GetsJob shape t.desk m job what desk' new →
+  job_starts : (job : Job) (what : What) (desk' : DeskState Quiet) → wants_target job ≡ true → m.task ≡ None → GetsJob shape t.desk m job what desk' new →
       Happens shape before (Start a job) what [] (over devices (record t { desk = desk' }) (seated (slice_set members a new) t.crew.cards))
-  job_starts job what desk' w made e g = by_what what g.gives g.leaves
+  job_starts job what desk' w e g = by_what what g.gives g.leaves
     where
       applies : DoesNotApply before (Start a job) → ⊥
-      applies = in_place devices t actors a job x w made at e
+      applies = in_place devices t actors a job x w at e
 
       by_what : (what : What) → ((words : Words) (card : Card) → StartGives shape (Stands (record { words = words; desk = t.desk })) (Some (seat m card)) job what g.chosen) → LeavesStarted shape t.desk m job what g.chosen desk' new →
           Happens shape before (Start a job) what [] (over devices (record t { desk = desk' }) (seated (slice_set members a new) t.crew.cards))
@@ -168,13 +155,12 @@ module _ (shape : Shape) (devices : Devices (List History)) (t : Target) (member
 
   pub start_happens : (job : Job) (what : What) (desk' : DeskState Quiet) → wants_target job ≡ true → Starts shape t.desk m job what desk' new →
       Happens shape before (Start a job) what [] (over devices (record t { desk = desk' }) (seated (slice_set members a new) t.crew.cards))
-  start_happens job what desk' w s = by_task m.task refl (is_made job) refl s
+  start_happens job what desk' w s = by_task m.task refl s
     where
-      by_task : (o : Option (Job × Plan)) → m.task ≡ o → (made : Bool) → is_made job ≡ made → StartsIf (is_none o && made) shape t.desk m job what desk' new →
+      by_task : (o : Option (Job × Plan)) → m.task ≡ o → StartsIf (is_none o) shape t.desk m job what desk' new →
           Happens shape before (Start a job) what [] (over devices (record t { desk = desk' }) (seated (slice_set members a new) t.crew.cards))
-      by_task None e true made s = job_starts job what desk' w made e s
-      by_task None e false made s = passed_so job what desk' (out_of_place devices t actors a job made) s
-      by_task (Some doing) e made is s = passed_so job what desk' (inr (inl (works doing e (λ d. Unit {0}) tt))) s
+      by_task None e s = job_starts job what desk' w e s
+      by_task (Some doing) e s = passed_so job what desk' (inr (inl (works doing e (λ d. Unit {0}) tt))) s
 
   -- ---- a step
 
@@ -284,6 +270,13 @@ release_sizes desk order (Asks new) up = elim (is_live desk order) [
 ]
 release_sizes desk order chosen up = absurd up
 
+unmap_sizes : (desk : DeskState Quiet) (b : OBlock) (chosen : Chosen Quiet Global) → DoesUnmap b desk chosen → (asked_desk chosen desk).geometry ≡ desk.geometry
+unmap_sizes desk b (Asks new) did = elim (is_unmappable desk b) [
+  | inl may ↦ ap (λ (k : DeskState Quiet). k.geometry) (did.0 may).1
+  | inr none ↦ ap (λ (k : DeskState Quiet). k.geometry) (did.1 none)
+]
+unmap_sizes desk b chosen did = absurd did
+
 -- a desk keeps its geometry
 module _ (shape : Shape) (devices : Devices (List History)) (commit : Option RunningCommit) (t : RunTarget Quiet) (actors : List Actor) (got : Got) (read : List Bytes) (chosen : Chosen Quiet Global) where
   desk_sizes : (job : Job) (next : Want) → Gives shape (stood devices commit t actors) job next got read chosen → (desk_then t.desk next chosen).geometry ≡ t.desk.geometry
@@ -294,7 +287,11 @@ module _ (shape : Shape) (devices : Devices (List History)) (commit : Option Run
   desk_sizes (Write extent content) (Desk (Map b c)) g = absurd g
   desk_sizes Flush (Desk (Map b c)) g = absurd g
   desk_sizes (Open mode) (Desk (Map b c)) g = absurd g
-  desk_sizes job (Desk (Unmap block)) g = refl
+  desk_sizes (Migrate migration block) (Desk (Unmap b)) g = unmap_sizes t.desk b chosen g.2
+  desk_sizes (Read extent) (Desk (Unmap b)) g = absurd g
+  desk_sizes (Write extent content) (Desk (Unmap b)) g = absurd g
+  desk_sizes Flush (Desk (Unmap b)) g = absurd g
+  desk_sizes (Open mode) (Desk (Unmap b)) g = absurd g
   desk_sizes (Migrate migration block) (Desk (ReleaseOrder b)) g = release_sizes t.desk (order_for migration block) chosen g.2
   desk_sizes (Read extent) (Desk (ReleaseOrder b)) g = absurd g
   desk_sizes (Write extent content) (Desk (ReleaseOrder b)) g = absurd g
@@ -332,7 +329,7 @@ step_keeps devices t a m what read devices' t' m' f s = by_task m.task s
 
 -- a start keeps the desk's geometry
 pub start_sizes : (shape : Shape) (desk : DeskState Quiet) (m : Member) (job : Job) (what : What) (desk' : DeskState Quiet) (m' : Member) → Starts shape desk m job what desk' m' → desk'.geometry ≡ desk.geometry
-start_sizes shape desk m job what desk' m' s = by_test (is_none m.task && is_made job) s
+start_sizes shape desk m job what desk' m' s = by_test (is_none m.task) s
   where
     given_sizes : (job : Job) (chosen : Chosen Quiet Global) → (desk_given desk job chosen).geometry ≡ desk.geometry
     given_sizes (Migrate migration block) (Orders cut cache) = refl
@@ -384,7 +381,7 @@ fault_roomy nodes choice devices commit m what devices' commit' m' r f = by_task
     by_task (Some doing) e (inr f) = subst (λ (v : Member). IsRoomy nodes v.task) (sym f.0.member_is) r
 
 pub start_roomy : (shape : Shape) (nodes : ℕ) (desk : DeskState Quiet) (m : Member) (job : Job) (what : What) (desk' : DeskState Quiet) (m' : Member) → nodes ≤ node_count shape.geometry.cache_blocks → IsRoomy nodes m.task → Starts shape desk m job what desk' m' → IsRoomy nodes m'.task
-start_roomy shape nodes desk m job what desk' m' l r s = by_test (is_none m.task && is_made job) s
+start_roomy shape nodes desk m job what desk' m' l r s = by_test (is_none m.task) s
   where
     by_job : (job : Job) (chosen : Chosen Quiet Global) → IsRoomy nodes (Some (job, table (task_job shape job (cut_of chosen))))
     by_job (Read extent) chosen = tt

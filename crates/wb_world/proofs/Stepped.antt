@@ -7,7 +7,7 @@ use Rattle.wb_devices.specs.Moving.{device_in}
 use Rattle.wb_policy.specs.declared.order.Order.{Order}
 use Rattle.wb_tasks.specs.Plan.{Plan, want}
 use Rattle.wb_tasks.specs.declared.step.DeviceStep.TheVariants.{Read as ReadExtent}
-use Rattle.wb_tasks.specs.declared.step.DeskStep.TheVariants.{Map, ReleaseOrder}
+use Rattle.wb_tasks.specs.declared.step.DeskStep.TheVariants.{Map, Unmap, ReleaseOrder}
 use Rattle.wb_tasks.specs.declared.step.Want.{Want}
 use Rattle.wb_tasks.specs.declared.step.Want.TheVariants.{Device, Desk}
 use Rattle.wb_tasks.specs.declared.step.Got.{Got}
@@ -26,12 +26,14 @@ use Rattle.wb_world.specs.Serving.{Performs, Steps, StepsBy, block_ended, is_cop
 -- the orders where the step ends none
 pub orders_stay : (orders : List Order) (next : Want) (got : Got) → block_ended next got ≡ None → orders_then orders next got ≡ orders
 orders_stay orders (Desk (Map b c)) Done e = absurd (cc)
+orders_stay orders (Desk (Unmap b)) Done e = absurd (cc)
 orders_stay orders (Desk (ReleaseOrder b)) Done e = absurd (cc)
 orders_stay orders next got e = refl
 
 -- and where it ends those of a block
 pub orders_drop : (orders : List Order) (next : Want) (got : Got) (block : OBlock) → block_ended next got ≡ Some block → orders_then orders next got ≡ dropped block orders
 orders_drop orders (Desk (Map b c)) Done block e = let same : b ≡ block = cc in ap (λ x. dropped x orders) same
+orders_drop orders (Desk (Unmap b)) Done block e = let same : b ≡ block = cc in ap (λ x. dropped x orders) same
 orders_drop orders (Desk (ReleaseOrder b)) Done block e = let same : b ≡ block = cc in ap (λ x. dropped x orders) same
 orders_drop orders next got block e = absurd (cc)
 

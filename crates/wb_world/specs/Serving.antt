@@ -23,7 +23,7 @@ use Rattle.wb_tasks.specs.Ready.{HoldsBlocks}
 use Rattle.wb_tasks.specs.declared.step.DeviceStep.{DeviceStep}
 use Rattle.wb_tasks.specs.declared.step.DeviceStep.TheVariants.{Read as ReadExtent, Write as WriteExtent, Sync, ReadMetadata, WriteNode, WriteRoot}
 use Rattle.wb_tasks.specs.declared.step.DeskStep.{DeskStep}
-use Rattle.wb_tasks.specs.declared.step.DeskStep.TheVariants.{Map, ReleaseOrder, BeginCommit, EndCommit}
+use Rattle.wb_tasks.specs.declared.step.DeskStep.TheVariants.{Map, Unmap, ReleaseOrder, BeginCommit, EndCommit}
 use Rattle.wb_tasks.specs.declared.step.Answer.TheVariants.{Done as Finished}
 use Rattle.wb_tasks.specs.declared.step.Want.{Want}
 use Rattle.wb_tasks.specs.declared.step.Want.TheVariants.{Cell, Device, Desk, End}
@@ -33,7 +33,6 @@ use Rattle.wb_desk.specs.Calls.{reserved}
 use Rattle.wb_desk.specs.Desks.{DeskState, MayReserve}
 use Rattle.wb_policy.specs.declared.order.Order.{Order}
 use Rattle.wb_tasks.specs.Tables.{whole_block}
-use Rattle.wb_tasks.specs.declared.step.Migration.TheVariants.{Promote, Demote, Clean}
 use Rattle.wb_types.specs.declared.number.CBlock.{CBlock}
 use Rattle.wb_types.specs.declared.number.OBlock.{OBlock}
 use Rattle.wb_words.specs.declared.card.Card.{Card}
@@ -67,12 +66,6 @@ abbrev pub order_of : Job → Option Order
 order_of (Migrate migration block) = Some (order_for migration block)
 order_of job = None
 
--- such a job is made: any but a migration that is no promotion
-abbrev pub is_made : Job → Bool
-is_made (Migrate Demote block) = false
-is_made (Migrate Clean block) = false
-is_made job = true
-
 -- the desk once an order was given with a job
 abbrev pub desk_given : DeskState Quiet → Job → Chosen Quiet Global → DeskState Quiet
 desk_given desk (Migrate migration block) (Orders cut cache) = reserved desk cache (order_for migration block) false
@@ -104,9 +97,9 @@ abbrev pub StartsIf : Bool → Shape → DeskState Quiet → Member → Job → 
 StartsIf true shape desk m job what desk' m' = GetsJob shape desk m job what desk' m'
 StartsIf false shape desk m job what desk' m' = IsPassed desk m what desk' m'
 
--- a start by who is at nothing of a job that is made, and any other
+-- a start by who is at nothing, and any other
 abbrev pub Starts : Shape → DeskState Quiet → Member → Job → What → DeskState Quiet → Member → Type 0
-Starts shape desk m job what desk' m' = StartsIf (is_none m.task && is_made job) shape desk m job what desk' m'
+Starts shape desk m job what desk' m' = StartsIf (is_none m.task) shape desk m job what desk' m'
 
 -- An order is had by who has it, or is given, and taken as the newest; or it may not be given.
 abbrev pub TakesOrder : DeskState Quiet → Member → Order → Bool → DeskState Quiet → Member → Type 0
@@ -147,6 +140,7 @@ noted_read job next read = if is_copied job next then [] else read
 -- the block whose order a step with this result ends
 abbrev pub block_ended : Want → Got → Option OBlock
 block_ended (Desk (Map b c)) Done = Some b
+block_ended (Desk (Unmap b)) Done = Some b
 block_ended (Desk (ReleaseOrder b)) Done = Some b
 block_ended next got = None
 
@@ -188,14 +182,14 @@ IsDoable devices commit job (WriteNode number) = ComesNext commit (WriteNode num
 IsDoable devices commit job WriteRoot = ComesNext commit WriteRoot devices.metadata
 IsDoable devices commit job (ReadMetadata left) = ⊥
 
--- the desk can be asked for it: a commit begins that is not clean, or ends once all of it was done; a migration's block is mapped, or
--- its order given up
+-- the desk can be asked for it: a commit begins that is not clean, or ends once all of it was done; a migration's block is mapped or
+-- unmapped, or its order given up
 abbrev pub IsAskable : Option RunningCommit → Job → DeskStep → Type 0
 IsAskable commit job (BeginCommit clean most) = clean ≡ false
 IsAskable commit job EndCommit = is_all_done commit ≡ true
 IsAskable commit job (Map block place) = Migrates job
+IsAskable commit job (Unmap block) = Migrates job
 IsAskable commit job (ReleaseOrder block) = Migrates job
-IsAskable commit job step = ⊥
 
 -- A step of a job can be done. No opening is answered done over a target.
 abbrev pub IsPossible : Devices (List History) → Option RunningCommit → Job → Want → Type 0

@@ -1,4 +1,4 @@
-//! The desk is asked for a commit, for an entry, or to give up an order.
+//! The desk is asked for a commit, for an entry, to let one go, or to give up an order.
 
 ghost use Rattle.std.specs.Prelude.{◌≡◌, ◌≤◌, false, length, All};
 ghost use Rattle.wb_types.specs.declared.number.Place.{Place as PlaceValue};
@@ -18,11 +18,11 @@ use wb_devices::RunningCommit;
 use wb_format::Node;
 use wb_policy::Quiet;
 use wb_runs::Job;
-use wb_stage::asking::{begin, end, map};
+use wb_stage::asking::{begin, end, map, unmap};
 use wb_tasks::{DeskStep, Got};
 use wb_types::Place;
 
-/// A commit begins or ends, a block gets its entry, or the order of a job is given up; and what that gave.
+/// A commit begins or ends, a block gets its entry or loses it, or the order of a job is given up; and what that gave.
 pub(crate) fn ask(
     alloc: Global,
     desk: &mut Desk<Quiet>,
@@ -47,7 +47,10 @@ pub(crate) fn ask(
             give_up(desk, job);
             Got::Done
         }
-        DeskStep::Unmap(_) => unreachable!(),
+        DeskStep::Unmap(block) => {
+            unmap(desk, block);
+            Got::Done
+        }
     }
 }
 

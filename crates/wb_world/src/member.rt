@@ -16,7 +16,7 @@ ghost use Rattle.wb_world.specs.Standing.{IsRoomy};
 use crate::keeping::{drop_of, keep, keeps};
 use crate::moving::fail_step;
 use crate::outcome::Outcome;
-use crate::requests::{is_made, order_of, refusal_of, task_of};
+use crate::requests::{order_of, refusal_of, task_of};
 use crate::target::Target;
 use crate::work::Work;
 use std::alloc::Global;
@@ -65,7 +65,7 @@ impl Member {
         self.task.is_some()
     }
 
-    /// Gets a job, if it has none and the job may be started. Each of its steps on a device takes one sector. A promotion starts under
+    /// Gets a job, if it has none and the job may be started. Each of its steps on a device takes one sector. A migration starts under
     /// an order that it has, or under one that the desk gives; it is refused as busy where it gives none. `Memory` where there is no
     /// room for the order; then nothing has changed.
     pub(crate) fn start(
@@ -80,7 +80,7 @@ impl Member {
         ensures err { OnErr result ((desk.new ≡ desk.old) × (self.new ≡ self.old)) }
         ensures refusal { IfErr result (λ refusal. refusal ≡ Memory) }
     {
-        if self.task.is_some() || !is_made(job) {
+        if self.task.is_some() {
             return Ok(What::Skipped);
         }
         if let Some(refusal) = refusal_of(geometry, job) {
@@ -233,6 +233,7 @@ fn block_ended(want: Want, got: Got) -> Option<OBlock>
 {
     match (want, got) {
         (Want::Desk(DeskStep::Map(block, _)), Got::Done) => Some(block),
+        (Want::Desk(DeskStep::Unmap(block)), Got::Done) => Some(block),
         (Want::Desk(DeskStep::ReleaseOrder(block)), Got::Done) => Some(block),
         _ => None,
     }

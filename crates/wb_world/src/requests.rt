@@ -7,7 +7,7 @@ ghost use Rattle.wb_tasks.specs.Tables.{OnBlock, Reading, Writing};
 ghost use Rattle.wb_runs.specs.Happenings.{block_range, extent_refusal, job_refusal, task_job};
 ghost use Rattle.wb_world.specs.declared.world.TheConstants.{ACTORS};
 ghost use Rattle.wb_world.specs.Life.{shape_of, wants_target};
-ghost use Rattle.wb_world.specs.Serving.{cut_for, is_made, order_of};
+ghost use Rattle.wb_world.specs.Serving.{cut_for, order_of};
 
 use crate::work::Work;
 use std::alloc::Global;
@@ -59,16 +59,6 @@ pub(crate) fn order_of(job: &Job) -> Option<Order>
         Job::Migrate(Migration::Demote, block) => Some(Order::Demote(*block)),
         Job::Migrate(Migration::Clean, block) => Some(Order::Clean(*block)),
         _ => None,
-    }
-}
-
-/// Whether such a job is made: any but a migration that is no promotion.
-pub(crate) fn is_made(job: &Job) -> bool
-    ensures { result ≡ is_made job.now }
-{
-    match job {
-        Job::Migrate(Migration::Demote, _) | Job::Migrate(Migration::Clean, _) => false,
-        _ => true,
     }
 }
 

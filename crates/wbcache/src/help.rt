@@ -40,9 +40,11 @@ It is read from standard input, and its first line is
   setup writeback <block> <cache blocks> <origin blocks> <metadata sectors>
 with sectors in a block, and sectors of 512 bytes. The other lines:
   start A r S N, start A w S N hh, start A flush   give actor A, 0 to 63, a task
-  start A promote B C   copy block B into the cache's block C and map it there;
-                refused as busy where it may not start, kept where it is busy
-                later, and then started again by the same line
+  start A promote B C   copy block B into the cache's block C and map it there
+  start A demote B      copy block B home where it is dirty, and unmap it
+  start A clean B       copy block B home where it is dirty; these three are
+                refused as busy where they may not start, kept where they are
+                busy later, and then started again by the same line
   step A [M]    M of its steps, 1 by default, fewer where it answers
   end A         its steps up to its answer
   fault A old, fault A new   its next step, one on a device, fails, and what it

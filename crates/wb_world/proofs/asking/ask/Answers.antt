@@ -1,6 +1,6 @@
 use Rattle.std.proofs.Common.{refl, subst}
 use Rattle.wb_world.specs.Serving.{IsAskable}
-use Rattle.wb_world.proofs.Doing.{did_end, did_map, did_release}
+use Rattle.wb_world.proofs.Doing.{did_end, did_map, did_release, did_unmap}
 use Rattle.wb_world.proofs.asking.ask.Goals as goal
 
 pub returns-in-EndCommit-clause-asked : goal.returns-in-EndCommit-clause-asked
@@ -17,3 +17,8 @@ pub returns-in-ReleaseOrder-clause-asked : goal.returns-in-ReleaseOrder-clause-a
 returns-in-ReleaseOrder-clause-asked c =
     let migrates = subst (λ step. IsAskable c.args.commit.now c.args.job.now step) c.in-ReleaseOrder.is c.requires.askable in
     rw c.in-ReleaseOrder.is (did_release c.args.desk.now c.args.commit.now c.give_up.new.desk c.args.commit.now c.args.job.now c.in-ReleaseOrder.field-0 migrates c.give_up.ensures refl)
+
+pub returns-in-Unmap-clause-asked : goal.returns-in-Unmap-clause-asked
+returns-in-Unmap-clause-asked c =
+    let migrates = subst (λ step. IsAskable c.args.commit.now c.args.job.now step) c.in-Unmap.is c.requires.askable in
+    rw c.in-Unmap.is (did_unmap c.args.desk.now c.args.commit.now c.unmap.new.desk c.args.commit.now _ c.args.job.now c.in-Unmap.block migrates c.unmap.ensures refl)
