@@ -34,7 +34,7 @@ rising_at first (suc count) zero x e = let same : first ≡ x = cc in (omega (ar
 rising_at first (suc count) (suc i) x e = let r = rising_at (first + 1) count i x e in (let f = r.0 in omega (arith, f), let l = r.1 in omega (arith, l))
 
 -- a list that is long enough has an element there
-there : {X : Type 0} (xs : List X) (i : ℕ) → i < length xs → (x : X) × (slice_get xs i ≡ Some x)
+pub there : {X : Type 0} (xs : List X) (i : ℕ) → i < length xs → (x : X) × (slice_get xs i ≡ Some x)
 there [] i l = absurd (omega (arith, l))
 there (x ∷ xs) zero l = (x, refl)
 there (x ∷ xs) (suc i) l = there xs i (omega (arith, l))

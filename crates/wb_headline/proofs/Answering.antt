@@ -38,6 +38,7 @@ use Rattle.wb_simulation.specs.Opened.{located}
 use Rattle.wb_simulation.specs.Worlds.{zeros}
 use Rattle.wb_simulation.proofs.Opened.{found_at}
 use Rattle.wb_headline.specs.Desks.{block_there, order_of, orders_of}
+use Rattle.wb_headline.proofs.Allowed.{there}
 
 -- no order lives at a desk that was just opened
 pub no_orders_live : (count : ℕ) → orders_of (replicate count None) ≡ replicate count None
@@ -105,11 +106,6 @@ module _ (shape : Shape) (devices : Devices (List History)) (cache_size : length
   newest_at [] at h e = absurd (cc)
   newest_at (g ∷ gs) zero h e = let same : g ≡ h = cc in ap (λ (x : History). Some (newest x)) same
   newest_at (g ∷ gs) (suc at) h e = newest_at gs at h e
-
-  there : {X : Type 0} (xs : List X) (i : ℕ) → i < length xs → (x : X) × (slice_get xs i ≡ Some x)
-  there [] i l = absurd (omega (arith, l))
-  there (x ∷ xs) zero l = (x, refl)
-  there (x ∷ xs) (suc i) l = there xs i (omega (arith, l))
 
   -- what stands in a rising list's image
   listed : (f : ℕ → Bytes) (first count i : ℕ) → i < count → slice_get (map f (Rattle.wb_types.specs.Extents.rising first count)) i ≡ Some (f (first + i))

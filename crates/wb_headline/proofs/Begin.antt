@@ -6,7 +6,7 @@ use Rattle.wb_types.specs.declared.entry.Entry.{Entry}
 use Rattle.wb_disk.specs.Device.{History, only}
 use Rattle.wb_contents.specs.Devices.{by_block}
 use Rattle.wb_meta.specs.Formats.{IsFormatted}
-use Rattle.wb_runs.specs.States.{Shape, State, Actor, Phase, Gone, start, resting, sector_count, cache_sector_count}
+use Rattle.wb_runs.specs.States.{Shape, State, Actor, Phase, Gone, start, resting, block_size, sector_count, cache_sector_count}
 use Rattle.wb_runs.specs.Clerk.{Notes, Doing, formatted}
 use Rattle.wb_runs.specs.Headline.{cached_from, place_of}
 use Rattle.wb_runs.proofs.Lists.{replicated}
@@ -28,6 +28,7 @@ use Rattle.wb_headline.proofs.Asked.{AllAsked}
 use Rattle.wb_headline.proofs.Events.{Reached, start_reached, event_reaches}
 use Rattle.wb_headline.proofs.Unclean.{NeverClean, IsPlainTask}
 use Rattle.wb_headline.proofs.Following.{many, size, Followed, Goes}
+use Rattle.wb_headline.proofs.Placed.{TaskPlaced}
 use Rattle.wb_headline.proofs.Whole.{Whole}
 
 -- a tree without entries has no block
@@ -121,5 +122,6 @@ module _ (P A : Type 0) (shape : Shape) (metadata : List History) (f : IsFormatt
       tasks = λ a x e. subst (λ (v : Actor). PlanInside shape v.task) (sym (replicated shape.actors a resting x e)) tt;
     };
     asked = nobody;
-    owned = λ a x e. ap (λ (v : Actor). v.orders) (replicated shape.actors a resting x e);
+    keeping = λ a x e. ap (λ (v : Actor). v.orders) (replicated shape.actors a resting x e);
+    placed = λ a x e. subst (λ (v : Actor). TaskPlaced (block_size shape) v.card v.task) (sym (replicated shape.actors a resting x e)) tt;
   }

@@ -1,5 +1,5 @@
--- Each step of a promotion is followed, done, refused or failing.
-use Rattle.std.proofs.Common.{◌≡◌, ◌∙◌, ◌<◌, ◌≤◌, ◌+◌, ℕ, zero, suc, Bool, List, [], ◌∷◌, Option, Some, None, refl, sym, ap, subst, arith, length, slice_get, slice_set}
+-- Each step of a migration that leaves the desk is followed, done, refused or failing.
+use Rattle.std.proofs.Common.{◌≡◌, ◌∙◌, ◌<◌, ◌≤◌, ◌+◌, ℕ, Bool, List, [], Option, Some, None, refl, sym, subst, arith, length, slice_get, slice_set}
 use Rattle.std.proofs.lemmas.List.{length-set}
 use Rattle.wb_types.specs.declared.extent.Extent.{Extent}
 use Rattle.wb_types.specs.declared.mode.Dev.{Dev}
@@ -32,7 +32,7 @@ use Rattle.wb_runs.specs.declared.job.Job.{Job}
 use Rattle.wb_runs.specs.declared.job.Job.TheVariants.{Migrate}
 use Rattle.wb_runs.specs.States.{Shape, Actor, Target, Stands, with_device}
 use Rattle.wb_runs.specs.Effects.{actor_then, contents_at}
-use Rattle.wb_runs.specs.Holding.{cards_of}
+use Rattle.wb_runs.specs.Holding.{cards_of, AllSuited}
 use Rattle.wb_runs.specs.Clerk.{Notes, Doing, noted_step, device_note, finished_note, failing, put}
 use Rattle.wb_runs.proofs.Images.{Images}
 use Rattle.wb_runs.proofs.Metadata.{MetadataKept}
@@ -42,16 +42,13 @@ use Rattle.wb_simulation.specs.Noted.{told}
 use Rattle.wb_simulation.specs.Telling.{Carries}
 use Rattle.wb_simulation.specs.Worlds.{Turn, Stays, FollowsBy, Follows}
 use Rattle.wb_simulation.specs.Laws.{went, after_step}
+use Rattle.wb_simulation.specs.Migrating.{SeesWhere}
 use Rattle.wb_simulation.proofs.Noted.{notes_followed}
-use Rattle.wb_simulation.proofs.Promotions.{promotions_followed}
+use Rattle.wb_simulation.proofs.Migrations.{migrations_followed}
 use Rattle.wb_headline.specs.Desks.{live_orders}
+use Rattle.wb_headline.proofs.Allowed.{there}
 use Rattle.wb_headline.proofs.Following.{size, most, Sized, Followed, Goes}
 use Rattle.wb_headline.proofs.Targets.{standing, actor_is, beside, noted_within, stays_on}
-
-there : {X : Type 0} (xs : List X) (i : ℕ) → i < length xs → (x : X) × (slice_get xs i ≡ Some x)
-there [] i l = absurd (omega (arith, l))
-there (x ∷ xs) zero l = (x, refl)
-there (x ∷ xs) (suc i) l = there xs i (omega (arith, l))
 
 failing_same : (doing : Doing) (step : DeviceStep) (got : Got) → ((failing doing step got).entered ≡ doing.entered) × ((failing doing step got).then_finished ≡ doing.then_finished)
 failing_same doing step Fault = (refl, refl)
@@ -86,11 +83,11 @@ module _ (P A : Type 0) (shape : Shape) (images : Images) (t : Target P) (commit
     job = Migrate migration block
 
     -- on the shared words
-    pub cells : LockRule shape.geometry.origin_blocks t.words (cards_of actors) → (step : CellStep) → Cell step ≡ want plan →
+    pub cells : LockRule shape.geometry.origin_blocks t.words (cards_of actors) → (step : CellStep) → Cell step ≡ want plan → SeesWhere t.words (live_orders t.desk) migration block step →
         Goes P A shape (record { devices = devices; commit = commit; phase = Stands (record { words = words_after t.words step; desk = t.desk }); actors = slice_set actors a (actor_then {P = P} {A = A} shape (Stands t) devices x (Cell step) (got_of (result_of t.words step))) }) n
-    cells rule step next =
+    cells rule step next sees =
         let y = went t.words job plan step x in
-        let g = promotions_followed.cells (size P A shape) (most P A shape) shape.geometry.origin_blocks t.words t.desk.space.committing (live_orders t.desk) devices actors a x migration block plan step f.site.world rule ex xt suits (sym next) f.phase.agrees in
+        let g = migrations_followed.cells (size P A shape) (most P A shape) shape.geometry.origin_blocks t.words t.desk.space.committing (live_orders t.desk) devices actors a x migration block plan step f.site.world rule ex xt suits (sym next) sees f.phase.agrees in
         subst (λ (y : Actor). Goes P A shape (record { devices = devices; commit = commit; phase = Stands (record { words = words_after t.words step; desk = t.desk }); actors = slice_set actors a y }) n) (sym (actor_is P A shape (Stands t) devices x job plan (Cell step) (got_of (result_of t.words step)) xt))
         (stays_on P A shape images t commit devices actors n known f a x ex (Carries (length actors)) (words_after t.words step) devices (slice_set actors a y) n g tt
         (carried_notes Stays (words_after t.words step) t.desk.space.committing (live_orders t.desk) devices (slice_set actors a y) g) (sized_plain y) refl)
@@ -111,26 +108,26 @@ module _ (P A : Type 0) (shape : Shape) (images : Images) (t : Target P) (commit
     read_done device e contents next inside =
         let y : Actor = record x { task = Some (job, after plan Done); buffer = contents_at (device_in device devices) e } in
         on_device (ReadExtent device e) Done contents devices y (actor_is P A shape (Stands t) devices x job plan (Device (ReadExtent device e)) Done xt)
-        (promotions_followed.read_done (size P A shape) (most P A shape) shape.geometry.origin_blocks t.words t.desk.space.committing (live_orders t.desk) devices actors a x migration block plan device e f.site.world ex xt suits (sym next) inside f.phase.agrees) refl
+        (migrations_followed.read_done (size P A shape) (most P A shape) shape.geometry.origin_blocks t.words t.desk.space.committing (live_orders t.desk) devices actors a x migration block plan device e f.site.world ex xt suits (sym next) inside f.phase.agrees) refl
 
     pub read_fails : (device : Dev) (e : Extent) (contents : List Bytes) → Device (ReadExtent device e) ≡ want plan →
         Goes P A shape (record { devices = devices; commit = commit; phase = Stands t; actors = slice_set actors a (actor_then {P = P} {A = A} shape (Stands t) devices x (Device (ReadExtent device e)) Fault) }) (noted_step shape [] n a (Some (Some doing)) (Device (ReadExtent device e)) Fault contents)
     read_fails device e contents next =
         on_device (ReadExtent device e) Fault contents devices (after_step job plan Fault x) (actor_is P A shape (Stands t) devices x job plan (Device (ReadExtent device e)) Fault xt)
-        (promotions_followed.read_fails (size P A shape) (most P A shape) shape.geometry.origin_blocks t.words t.desk.space.committing (live_orders t.desk) devices actors a x migration block plan device e f.site.world ex xt suits (sym next) f.phase.agrees) refl
+        (migrations_followed.read_fails (size P A shape) (most P A shape) shape.geometry.origin_blocks t.words t.desk.space.committing (live_orders t.desk) devices actors a x migration block plan device e f.site.world ex xt suits (sym next) f.phase.agrees) refl
 
-    pub write_done : (device : Dev) (e : Extent) (contents : List Bytes) → HoldsBlocks device → Device (WriteExtent device e) ≡ want plan → e.first + e.count ≤ length (device_in device devices) →
+    pub write_done : LockRule shape.geometry.origin_blocks t.words (cards_of actors) → AllSuited shape.geometry.origin_blocks actors → (device : Dev) (e : Extent) (contents : List Bytes) → HoldsBlocks device → Device (WriteExtent device e) ≡ want plan → e.first + e.count ≤ length (device_in device devices) →
         Goes P A shape (record { devices = with_device device devices (written_each (device_in device devices) e.first x.buffer); commit = commit; phase = Stands t; actors = slice_set actors a (actor_then {P = P} {A = A} shape (Stands t) devices x (Device (WriteExtent device e)) Done) }) (noted_step shape [] n a (Some (Some doing)) (Device (WriteExtent device e)) Done contents)
-    write_done device e contents holds next inside =
+    write_done rule all_suited device e contents holds next inside =
         on_device (WriteExtent device e) Done contents (with_device device devices (written_each (device_in device devices) e.first x.buffer)) (after_step job plan Done x) (actor_is P A shape (Stands t) devices x job plan (Device (WriteExtent device e)) Done xt)
-        (promotions_followed.write_done (size P A shape) (most P A shape) shape.geometry.origin_blocks t.words t.desk.space.committing (live_orders t.desk) devices actors a x migration block plan device e f.site.world ex xt suits (sym next) inside f.phase.agrees)
+        (migrations_followed.write_done (size P A shape) (most P A shape) shape.geometry.origin_blocks t.words t.desk.space.committing (live_orders t.desk) devices actors a x migration block plan device e f.site.world rule all_suited ex xt suits (sym next) inside f.phase.agrees)
         (metadata_same device devices (written_each (device_in device devices) e.first x.buffer) holds)
 
-    pub write_fails : (device : Dev) (e : Extent) (contents : List Bytes) (lands : ℕ → Bool) → HoldsBlocks device → Device (WriteExtent device e) ≡ want plan → e.first + e.count ≤ length (device_in device devices) →
+    pub write_fails : LockRule shape.geometry.origin_blocks t.words (cards_of actors) → AllSuited shape.geometry.origin_blocks actors → (device : Dev) (e : Extent) (contents : List Bytes) (lands : ℕ → Bool) → HoldsBlocks device → Device (WriteExtent device e) ≡ want plan → e.first + e.count ≤ length (device_in device devices) →
         Goes P A shape (record { devices = with_device device devices (written_where lands (device_in device devices) e.first x.buffer); commit = commit; phase = Stands t; actors = slice_set actors a (actor_then {P = P} {A = A} shape (Stands t) devices x (Device (WriteExtent device e)) Fault) }) (noted_step shape [] n a (Some (Some doing)) (Device (WriteExtent device e)) Fault contents)
-    write_fails device e contents lands holds next inside =
+    write_fails rule all_suited device e contents lands holds next inside =
         on_device (WriteExtent device e) Fault contents (with_device device devices (written_where lands (device_in device devices) e.first x.buffer)) (after_step job plan Fault x) (actor_is P A shape (Stands t) devices x job plan (Device (WriteExtent device e)) Fault xt)
-        (promotions_followed.write_fails (size P A shape) (most P A shape) shape.geometry.origin_blocks t.words t.desk.space.committing (live_orders t.desk) devices actors a x migration block plan device e lands f.site.world ex xt suits (sym next) inside f.phase.agrees)
+        (migrations_followed.write_fails (size P A shape) (most P A shape) shape.geometry.origin_blocks t.words t.desk.space.committing (live_orders t.desk) devices actors a x migration block plan device e lands f.site.world rule all_suited ex xt suits (sym next) inside f.phase.agrees)
         (metadata_same device devices (written_where lands (device_in device devices) e.first x.buffer) holds)
 
     -- the desk has no memory for its entry
@@ -138,7 +135,7 @@ module _ (P A : Type 0) (shape : Shape) (images : Images) (t : Target P) (commit
         Goes P A shape (record { devices = devices; commit = commit; phase = Stands t; actors = slice_set actors a (actor_then {P = P} {A = A} shape (Stands t) devices x (Desk (Map b c)) (GotRefused refusal)) }) n
     map_refused b c refusal next =
         let y = after_step job plan (GotRefused refusal) x in
-        let g = promotions_followed.is_refused (size P A shape) (most P A shape) shape.geometry.origin_blocks t.words t.desk.space.committing (live_orders t.desk) devices actors a x migration block b c plan refusal f.site.world ex xt suits (sym next) f.phase.agrees in
+        let g = migrations_followed.is_refused (size P A shape) (most P A shape) shape.geometry.origin_blocks t.words t.desk.space.committing (live_orders t.desk) devices actors a x migration block b c plan refusal f.site.world ex xt suits (sym next) f.phase.agrees in
         subst (λ (y : Actor). Goes P A shape (record { devices = devices; commit = commit; phase = Stands t; actors = slice_set actors a y }) n) (sym (actor_is P A shape (Stands t) devices x job plan (Desk (Map b c)) (GotRefused refusal) xt))
         (stays_on P A shape images t commit devices actors n known f a x ex (Carries (length actors)) t.words devices (slice_set actors a y) n g tt
         (carried_notes Stays t.words t.desk.space.committing (live_orders t.desk) devices (slice_set actors a y) g) (sized_plain y) refl)
@@ -153,7 +150,7 @@ module _ (P A : Type 0) (shape : Shape) (images : Images) (t : Target P) (commit
 
         rested : (v : Answer) → End v ≡ want plan → Goes P A shape (record { devices = devices; commit = commit; phase = Stands t; actors = slice_set actors a (actor_then {P = P} {A = A} shape (Stands t) devices x (End v) got) }) (put n a None)
         rested v e =
-            let g = promotions_followed.answers (size P A shape) (most P A shape) shape.geometry.origin_blocks t.words t.desk.space.committing (live_orders t.desk) devices actors a x migration block plan v f.site.world ex xt suits (sym e) f.phase.agrees in
+            let g = migrations_followed.answers (size P A shape) (most P A shape) shape.geometry.origin_blocks t.words t.desk.space.committing (live_orders t.desk) devices actors a x migration block plan v f.site.world ex xt suits (sym e) f.phase.agrees in
             let s' = after_all f.site.world g.records in
             let is_there = Rattle.wb_runs.proofs.Lists.set_there actors a x (record x { task = None }) ex in
             let z = there s'.actors a (let m = g.agrees.many in let l = Rattle.std.proofs.lemmas.Option.slice_get_within (slice_set actors a (record x { task = None })) a (record x { task = None }) is_there in omega (arith, m, l)) in

@@ -1,6 +1,6 @@
--- A desk keeps its agreement with the abstract world when a commit begins or ends, and when an order is given, ends by an entry, or is given up.
-use Rattle.std.proofs.Common.{◌≡◌, ◌≢◌, ◌∙◌, ◌<◌, ◌+◌, ◌==◌, inl, inr, ℕ, zero, suc, Bool, true, false, if◌then◌else◌, List, [], ◌∷◌, Option, Some, None, refl, sym, ap, subst, arith, length, map, get_or, slice_get, slice_set}
-use Rattle.std.proofs.lemmas.Bool.{cases_eq, eqb-true, eq-eqb}
+-- A desk keeps its agreement with the abstract world when a commit begins or ends, and when an order is given, ends by an entry that comes or goes, or is given up.
+use Rattle.std.proofs.Common.{◌≡◌, ◌≢◌, ◌∙◌, ◌<◌, ◌+◌, ◌==◌, inl, inr, ℕ, zero, suc, Bool, true, false, if◌then◌else◌, List, [], ◌∷◌, Option, Some, None, refl, sym, ap, subst, arith, length, map, get_or, slice_get, slice_index_or, slice_set}
+use Rattle.std.proofs.lemmas.Bool.{cases_eq, eqb-true, eq-eqb, ne_eqb}
 use Rattle.std.proofs.lemmas.List.{get_or-set_same, get_or-set_other}
 use Rattle.wb_types.specs.declared.entry.Entry.{Entry}
 use Rattle.wb_types.specs.declared.number.CBlock.{CBlock}
@@ -12,12 +12,13 @@ use Rattle.wb_tree.specs.Edits.{IsChangedAt}
 use Rattle.wb_space.specs.declared.block.Block.{Block}
 use Rattle.wb_space.specs.declared.block.Block.TheVariants.{Free, Mapped, Reserved, Quarantined}
 use Rattle.wb_space.specs.Blocks.{state, released as block_released, commit_begun as block_begun, commit_ended as block_ended}
+use Rattle.wb_orders.specs.Orders.{order_at}
 use Rattle.wb_policy.specs.declared.order.Order.{Order}
 use Rattle.wb_policy.specs.declared.order.Order.TheVariants.{Promote, Replace, Demote, Clean}
 use Rattle.wb_desk.specs.Desks.{DeskState}
 use Rattle.wb_desk.specs.Calls.{reserved, released}
 use Rattle.wb_desk.specs.Commits.{commit_begun, commit_ended}
-use Rattle.wb_desk.specs.Entries.{entry_of, mapped}
+use Rattle.wb_desk.specs.Entries.{entry_of, keeps, mapped, unmapped}
 use Rattle.wb_runs.specs.Headline.{cached_from, place_of}
 use Rattle.wb_link.specs.World.{Shared, Block as AbstractBlock, Free as FreeThere, Mapped as MappedThere, Reserved as ReservedThere, Quarantined as QuarantinedThere, Retained, begun, ended, given_back}
 use Rattle.wb_simulation.specs.Opened.{located}
@@ -65,7 +66,7 @@ one_changed blocks there at now l agrees c = elim (cases_eq c at) [
 -- ---- where blocks are mapped
 
 -- a tree with one entry more has its block there, and the others where they were
-one_entered : (entries : List (Option Entry)) (first at : ℕ) (entry : Entry) (block : ℕ) → at < length entries → cached_from entry.origin.0 first entries ≡ None → Rattle.std.proofs.Common.slice_index_or entries at None ≡ None →
+one_entered : (entries : List (Option Entry)) (first at : ℕ) (entry : Entry) (block : ℕ) → at < length entries → cached_from entry.origin.0 first entries ≡ None → slice_index_or entries at None ≡ None →
     cached_from block first (slice_set entries at (Some entry)) ≡ (if entry.origin.0 == block then Some (first + at) else cached_from block first entries)
 one_entered [] first at entry block l none free = absurd (omega (arith, l))
 one_entered (None ∷ entries) first zero entry block l none free = (let same : first ≡ first + 0 = omega arith in ap (λ k. if entry.origin.0 == block then Some k else cached_from block (suc first) entries) same)
@@ -103,7 +104,7 @@ one_entered (Some e ∷ entries) first (suc at) entry block l none free = by (λ
         by_entry false is = refl
     by later false same = behind later
 
-located_entered : (entries : List (Option Entry)) (at : ℕ) (entry : Entry) → at < length entries → place_of entries entry.origin.0 ≡ None → Rattle.std.proofs.Common.slice_index_or entries at None ≡ None →
+pub located_entered : (entries : List (Option Entry)) (at : ℕ) (entry : Entry) → at < length entries → place_of entries entry.origin.0 ≡ None → slice_index_or entries at None ≡ None →
     (block : ℕ) → changed (located entries) entry.origin.0 (Some at) block ≡ located (slice_set entries at (Some entry)) block
 located_entered entries at entry l none free block = elim (cases_eq block entry.origin.0) [
   | inl e ↦ ap (changed (located entries) entry.origin.0 (Some at)) e ∙ changed_same (located entries) entry.origin.0 (Some at)
@@ -114,6 +115,62 @@ located_entered entries at entry l none free block = elim (cases_eq block entry.
     unequal : (t : Bool) → (entry.origin.0 == block) ≡ t → (entry.origin.0 ≢ block) → (entry.origin.0 == block) ≡ false
     unequal true e n = absurd (n (eqb-true entry.origin.0 block e))
     unequal false e n = e
+
+-- ---- a block that leaves
+
+-- this cache block has the entry, and no other one has that block
+pub record StandsAlone (entries : List (Option Entry)) (at : ℕ) (entry : Entry) (block : ℕ) : Type 0 where
+  pub there : slice_index_or entries at None ≡ Some entry
+  pub is : entry.origin.0 ≡ block
+  pub alone : (i : ℕ) (other : Entry) → slice_index_or entries i None ≡ Some other → other.origin.0 ≡ block → i ≡ at
+
+alone_later : (e : Option Entry) (entries : List (Option Entry)) (at : ℕ) (entry : Entry) (block : ℕ) → StandsAlone (e ∷ entries) (suc at) entry block → StandsAlone entries at entry block
+alone_later e entries at entry block s = record { there = s.there; is = s.is; alone = λ i other there is. let same = s.alone (suc i) other there is in omega (arith, same) }
+
+pub none_from : (entries : List (Option Entry)) (first block : ℕ) → ((i : ℕ) (other : Entry) → slice_index_or entries i None ≡ Some other → other.origin.0 ≢ block) → cached_from block first entries ≡ None
+none_from [] first block none = refl
+none_from (None ∷ entries) first block none = none_from entries (suc first) block (λ i. none (suc i))
+none_from (Some e ∷ entries) first block none =
+    ap (λ (t : Bool). if t then Some first else cached_from block (suc first) entries) (ne_eqb e.origin.0 block (none 0 e refl)) ∙ none_from entries (suc first) block (λ i. none (suc i))
+
+alone_from : (entries : List (Option Entry)) (first at : ℕ) (entry : Entry) (block : ℕ) → StandsAlone entries at entry block → cached_from block first entries ≡ Some (first + at)
+alone_from [] first at entry block s = absurd (let bad = s.there in cc)
+alone_from (None ∷ entries) first zero entry block s = absurd (let bad = s.there in cc)
+alone_from (None ∷ entries) first (suc at) entry block s = alone_from entries (suc first) at entry block (alone_later None entries at entry block s) ∙ (let same : suc first + at ≡ first + suc at = omega arith in ap (λ k. Some k) same)
+alone_from (Some e ∷ entries) first zero entry block s =
+    let here : e ≡ entry = (let both = s.there in cc) in
+    ap (λ (t : Bool). if t then Some first else cached_from block (suc first) entries) (eq-eqb e.origin.0 block (ap (λ (x : Entry). x.origin.0) here ∙ s.is)) ∙ (let same : first ≡ first + 0 = omega arith in ap (λ k. Some k) same)
+alone_from (Some e ∷ entries) first (suc at) entry block s =
+    ap (λ (t : Bool). if t then Some first else cached_from block (suc first) entries) (ne_eqb e.origin.0 block (λ is. let same = s.alone 0 e refl is in omega (arith, same)))
+    ∙ alone_from entries (suc first) at entry block (alone_later (Some e) entries at entry block s) ∙ (let same : suc first + at ≡ first + suc at = omega arith in ap (λ k. Some k) same)
+
+pub alone_there : (entries : List (Option Entry)) (at : ℕ) (entry : Entry) (block : ℕ) → StandsAlone entries at entry block → place_of entries block ≡ Some at
+alone_there entries at entry block s = alone_from entries 0 at entry block s ∙ (let same : 0 + at ≡ at = omega arith in ap (λ k. Some k) same)
+
+-- a tree with one entry less has its block nowhere, and the others where they were
+left_from : (entries : List (Option Entry)) (first at : ℕ) (entry : Entry) (block b : ℕ) → StandsAlone entries at entry block → block ≢ b → cached_from b first (slice_set entries at None) ≡ cached_from b first entries
+left_from [] first at entry block b s n = absurd (let bad = s.there in cc)
+left_from (None ∷ entries) first zero entry block b s n = absurd (let bad = s.there in cc)
+left_from (None ∷ entries) first (suc at) entry block b s n = left_from entries (suc first) at entry block b (alone_later None entries at entry block s) n
+left_from (Some e ∷ entries) first zero entry block b s n =
+    let here : e ≡ entry = (let both = s.there in cc) in
+    sym (ap (λ (t : Bool). if t then Some first else cached_from b (suc first) entries) (ne_eqb e.origin.0 b (λ is. n (sym s.is ∙ ap (λ (x : Entry). x.origin.0) (sym here) ∙ is))))
+left_from (Some e ∷ entries) first (suc at) entry block b s n = ap (λ (o : Option ℕ). if e.origin.0 == b then Some first else o) (left_from entries (suc first) at entry block b (alone_later (Some e) entries at entry block s) n)
+
+left_none : (entries : List (Option Entry)) (at : ℕ) (entry : Entry) (block i : ℕ) (other : Entry) → StandsAlone entries at entry block → slice_index_or (slice_set entries at None) i None ≡ Some other → other.origin.0 ≢ block
+left_none [] at entry block i other s there is = absurd (let bad = s.there in cc)
+left_none (x ∷ entries) zero entry block zero other s there is = absurd (cc)
+left_none (x ∷ entries) zero entry block (suc i) other s there is = let same = s.alone (suc i) other there is in omega (arith, same)
+left_none (None ∷ entries) (suc at) entry block zero other s there is = absurd (cc)
+left_none (Some e ∷ entries) (suc at) entry block zero other s there is = let here : Some e ≡ Some other = there in let same = s.alone 0 other here is in omega (arith, same)
+left_none (x ∷ entries) (suc at) entry block (suc i) other s there is = left_none entries at entry block i other (alone_later x entries at entry block s) there is
+
+pub located_left : (entries : List (Option Entry)) (at : ℕ) (entry : Entry) (block : ℕ) → StandsAlone entries at entry block → (b : ℕ) → changed (located entries) block None b ≡ located (slice_set entries at None) b
+located_left entries at entry block s b = elim (cases_eq b block) [
+  | inl e ↦ ap (changed (located entries) block None) e ∙ changed_same (located entries) block None
+      ∙ sym (ap (λ k. place_of (slice_set entries at None) k) e ∙ none_from (slice_set entries at None) 0 block (λ i other there. left_none entries at entry block i other s there))
+  | inr n ↦ changed_other (located entries) block b None n ∙ sym (left_from entries 0 at entry block b s (λ e. n (sym e)))
+]
 
 -- ---- the desk's calls
 
@@ -145,11 +202,20 @@ module _ (P : Type 0) (desk : DeskState P) (s t : Shared) (g : DeskAgrees desk s
   }
 
   -- it ends by its entry
-  pub desk_maps : (b : OBlock) (c : CBlock) (tree : Mapping) (policy : P) → c.0 < length desk.space.blocks → c.0 < length desk.tree.entries → place_of desk.tree.entries b.0 ≡ None → Rattle.std.proofs.Common.slice_index_or desk.tree.entries c.0 None ≡ None →
+  pub desk_maps : (b : OBlock) (c : CBlock) (tree : Mapping) (policy : P) → c.0 < length desk.space.blocks → c.0 < length desk.tree.entries → place_of desk.tree.entries b.0 ≡ None → slice_index_or desk.tree.entries c.0 None ≡ None →
       IsChangedAt desk.tree tree c.0 (Some (entry_of b)) → t.mapping ≡ changed s.mapping b.0 (Some c.0) → t.blocks ≡ changed s.blocks c.0 MappedThere → DeskAgrees (mapped desk c tree policy) t
   desk_maps b c tree policy l le none free is m k = record {
     mapping = m ∙ ap (λ (f : Locations). changed f b.0 (Some c.0)) g.mapping ∙ (λ i block. located_entered desk.tree.entries c.0 (entry_of b) le none free block i) ∙ ap (λ es. located es) (sym is.entries);
     blocks = λ i. ap (λ (f : ℕ → AbstractBlock). f i) k ∙ one_changed desk.space.blocks s.blocks c.0 Mapped l g.blocks i;
+  }
+
+  -- or by an entry that goes, under an order that keeps no cache block
+  pub desk_unmaps : (block : ℕ) (c : CBlock) (entry : Entry) (tree : Mapping) (policy : P) → c.0 < length desk.space.blocks → StandsAlone desk.tree.entries c.0 entry block → keeps (order_at desk.orders.slots c.0) ≡ false →
+      IsChangedAt desk.tree tree c.0 None → t.mapping ≡ changed s.mapping block None → t.blocks ≡ changed s.blocks c.0 (QuarantinedThere false) → DeskAgrees (unmapped desk c tree policy) t
+  desk_unmaps block c entry tree policy l there none is m k = record {
+    mapping = m ∙ ap (λ (f : Locations). changed f block None) g.mapping ∙ (λ i b. located_left desk.tree.entries c.0 entry block there b i) ∙ ap (λ es. located es) (sym is.entries);
+    blocks = λ i. ap (λ (f : ℕ → AbstractBlock). f i) k ∙ one_changed desk.space.blocks s.blocks c.0 (Quarantined false false) l g.blocks i
+        ∙ ap (λ (kept : Bool). block_there (state (slice_set desk.space.blocks c.0 (Quarantined kept false)) i)) (sym none);
   }
 
   -- or it is given up

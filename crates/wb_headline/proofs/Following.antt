@@ -1,5 +1,5 @@
 -- A state of a run, with its clerk's notes, and the site of the abstract world that follows it.
-use Rattle.std.proofs.Common.{◌≡◌, ◌≢◌, ◌+◌, ◌⊎◌, ℕ, true, false, List, [], ◌∷◌, Option, Some, None, length, slice_get}
+use Rattle.std.proofs.Common.{◌≡◌, ◌≢◌, ◌+◌, ◌*◌, ◌⊎◌, ℕ, true, false, List, [], ◌∷◌, Option, Some, None, length, slice_get}
 use Rattle.wb_types.specs.Limits.{node_count}
 use Rattle.wb_types.specs.declared.mode.Mode.{Mode}
 use Rattle.wb_types.specs.declared.mode.Mode.TheVariants.{Writeback}
@@ -88,9 +88,9 @@ pub record IsOver (plan : Plan) (phase : PhaseThere) : Type 0 where
 -- ---- a state
 
 module _ (P A : Type 0) (shape : Shape) where
-  -- how many abstract actors there are: the run's own, and one for each cache block
+  -- how many abstract actors there are: the run's own, and for each of them one for each cache block
   abbrev pub many : ℕ
-  many = shape.actors + shape.geometry.cache_blocks
+  many = shape.actors + shape.actors * shape.geometry.cache_blocks
 
   abbrev pub size : ℕ
   size = block_size shape

@@ -26,3 +26,10 @@ mod Promise
 mod Carrying
 mod Owned
 mod Migrations
+mod Seeing
+mod Carried
+mod Placed
+mod Telling
+mod Keeping
+mod Kept
+mod Made

@@ -1,14 +1,16 @@
 -- An opening that is answered is followed.
-use Rattle.std.proofs.Common.{◌≡◌, ◌≢◌, ◌∙◌, ◌≤◌, ◌+◌, ◌^◌, ◌⊎◌, inl, inr, ℕ, Bool, true, false, if◌then◌else◌, List, [], ◌∷◌, Option, Some, None, refl, sym, ap, subst, arith, length, map, replicate, slice_get, slice_set, Contains, is_some}
+use Rattle.std.proofs.Common.{◌≡◌, ◌≢◌, ◌∙◌, ◌≤◌, ◌+◌, ◌*◌, ◌^◌, ◌⊎◌, inl, inr, ℕ, Bool, true, false, if◌then◌else◌, List, [], ◌∷◌, Option, Some, None, refl, sym, ap, subst, arith, length, map, replicate, slice_get, slice_set, Contains, is_some}
 use Rattle.std.proofs.lemmas.List.{length-replicate, length-set, length-map}
 use Rattle.std.specs.List.{count_by}
 use Rattle.wb_types.proofs.Lists.{set_cases}
 use Rattle.wb_types.specs.declared.entry.Entry.{Entry}
 use Rattle.wb_types.specs.declared.mode.Mode.{Mode}
+use Rattle.wb_types.specs.declared.number.OBlock.{OBlock}
 use Rattle.wb_types.specs.declared.mode.Mode.TheVariants.{Writeback}
 use Rattle.wb_types.specs.declared.refusal.Refusal.{Refusal}
 use Rattle.wb_disk.specs.Device.{Content as Bytes, History, newest, only, entries}
 use Rattle.wb_disk.proofs.Leaving.{read-left}
+use Rattle.wb_words.specs.SharedWords.{word_at, place_in}
 use Rattle.wb_contents.specs.Devices.{by_block}
 use Rattle.wb_contents.specs.Volume.{at_location}
 use Rattle.wb_contents.specs.Promises.{IsEntryFrom}
@@ -26,6 +28,7 @@ use Rattle.wb_devices.specs.declared.devices.Devices.{Devices}
 use Rattle.wb_devices.specs.declared.running.RunningCommit.{RunningCommit}
 use Rattle.wb_devices.specs.Committing.{is_committed}
 use Rattle.wb_stage.specs.Stages.{is_all_done}
+use Rattle.wb_refines.specs.Translation.{number_of}
 use Rattle.wb_runs.specs.declared.job.Job.{Job}
 use Rattle.wb_runs.specs.declared.job.Job.TheVariants.{Open}
 use Rattle.wb_runs.specs.States.{Shape, State, Actor, Phase, Stands, Gone, Opens, sector_count, cache_sector_count, block_size}
@@ -91,7 +94,7 @@ module _ (P A : Type 0) (shape : Shape) (images : Images) (devices : Devices (Li
       shown_now = shown_by shape tree (map newest devices.cache) (map newest devices.origin)
 
       -- nobody is at anything then
-      at_rest : (b : ℕ) (z : Actor) → slice_get (slice_set actors a y) b ≡ Some z → z.task ≡ None
+      pub at_rest : (b : ℕ) (z : Actor) → slice_get (slice_set actors a y) b ≡ Some z → z.task ≡ None
       at_rest b z e = elim (set_cases actors a b y z e) [
         | inl here ↦ ap (λ (v : Actor). v.task) here.1 ∙ ap (λ (t : Option (Job × Plan)). task_then t (End Finished) got) xt
         | inr other ↦ by_task z.task refl (λ t. other.0 (alone.1 b z other.1 t ∙ sym (alone.1 a x ex (subst (λ (t : Option (Job × Plan)). IsTask t) (sym xt) tt))))
@@ -143,11 +146,15 @@ module _ (P A : Type 0) (shape : Shape) (images : Images) (devices : Devices (Li
 
       agrees_now : Agrees (size P A shape) (most P A shape) (target_over shape mode policy stored).words false (live_orders (target_over shape mode policy stored).desk) devices (slice_set actors a y) site_now.world
       agrees_now =
-          let many_then : length (slice_set actors a y) + shape.geometry.cache_blocks ≡ length f.site.world.actors = ap (λ k. k + shape.geometry.cache_blocks) (length-set actors a y ∙ f.sized.actors_many) ∙ sym f.as_many in
+          let many_then : length (slice_set actors a y) + length (slice_set actors a y) * shape.geometry.cache_blocks ≡ length f.site.world.actors = ap (λ k. k + k * shape.geometry.cache_blocks) (length-set actors a y ∙ f.sized.actors_many) ∙ sym f.as_many in
           let few : shape.geometry.cache_blocks ≤ 2 ^ 32 = (let l = shape.geometry.within.cache_to in omega (arith, l)) in
           subst (λ (os : List (Option Order)). Agrees (size P A shape) (most P A shape) (target_over shape mode policy stored).words false os devices (slice_set actors a y) site_now.world) (sym (no_orders_live shape.geometry.cache_blocks))
           (subst (λ (k : ℕ). Agrees (size P A shape) (most P A shape) (target_over shape mode policy stored).words false (replicate shape.geometry.cache_blocks None) devices (slice_set actors a y) (record { shared = opened_on f.site.world.shared Writeback i blocks_now; actors = replicate k idle })) many_then
           (opened_followed (size P A shape) (most P A shape) shape.geometry.origin_blocks shape.geometry.cache_blocks stored.root.clean tree i blocks_now f.site.world.shared devices (slice_set actors a y) mapping few rd.0.bare rd.0.same rd.0.unclean d.origin d.cache at_rest))
+
+      -- the seals tell where the tree has each block
+      pub opened_tells : (block : OBlock) → number_of (place_in (word_at (target_over shape mode policy stored).words.seals block)) ≡ place_of tree block.0
+      opened_tells block = sym (agrees_now.words_agree.seals block).location ∙ ap (λ (l : ℕ → Option ℕ). l block.0) rd.0.same
 
       pub opened_goes : Goes P A shape stands_now (begins (length n.doings) shown_now)
       opened_goes =

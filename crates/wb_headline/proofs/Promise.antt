@@ -36,11 +36,13 @@ use Rattle.wb_runs.proofs.Claims.{Noted, TaskClaim, noted_of}
 use Rattle.wb_runs.proofs.Linking.{TaskHere, InPhase}
 use Rattle.wb_runs.proofs.LinkedRuns.{run_refuses, run_covers, all_skip}
 use Rattle.wb_link.specs.Openings.{Stage, Settling, Caching, Basing, Looking, Rooting, Renewing, Answering}
+use Rattle.wb_runs.specs.Sealed.{SealsTell}
 use Rattle.wb_headline.proofs.Following.{opening_at, AtStage, IsOver}
 use Rattle.wb_headline.proofs.Opened.{shows}
 use Rattle.wb_headline.proofs.Given.{given_latest}
 use Rattle.wb_headline.proofs.Showing.{crash_consistent}
 use Rattle.wb_headline.proofs.Latest.{AllLatest, IsFault, what_latest}
+use Rattle.wb_headline.proofs.Keeping.{Keeping}
 use Rattle.wb_headline.proofs.Whole.{Whole, MigrationsGo, whole_after, whole_always}
 use Rattle.wb_headline.proofs.Begin.{whole_start}
 
@@ -241,6 +243,10 @@ module _ (P A : Type 0) (shape : Shape) where
           let n = noted shape (start shape metadata) (formatted shape) hs in
           let b = whole_always P A shape migrations (start shape metadata) (formatted shape) hs begun run in
           crash_consistent P A shape b.goes.images w n b.goes.known b.goes.followed b.inside.cache b.inside.origin
+
+      -- the seals tell where the target that stands has each block
+      pub run_seals : SealsTell (after_all shape (start shape metadata) hs)
+      run_seals = record { tells = λ t e block. (subst (λ (p : Phase P A). Keeping p (after_all shape (start shape metadata) hs).actors) e (whole_always P A shape migrations (start shape metadata) (formatted shape) hs begun run).keeping).tells block }
 
       none_latest : AllLatest (formatted shape).doings
       none_latest a d e = absurd (let same : ◌≡◌ {A = Option Doing} None (Some d) = Rattle.wb_link.proofs.Lists.replicated shape.actors a None (Some d) e in cc)

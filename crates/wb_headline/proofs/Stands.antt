@@ -1,5 +1,5 @@
 -- Whatever step is taken where a target stands, done or failing, it is followed.
-use Rattle.std.proofs.Common.{◌≡◌, ◌≢◌, ◌∙◌, ◌≤◌, ◌+◌, ◌⊎◌, inl, inr, ℕ, Bool, true, false, ◌&&◌, List, [], ◌∷◌, Option, Some, None, refl, sym, ap, subst, length, slice_get, slice_set}
+use Rattle.std.proofs.Common.{◌≡◌, ◌≢◌, ◌∙◌, ◌≤◌, ◌+◌, ◌/◌, ◌⊎◌, inl, inr, ℕ, Bool, true, false, ◌&&◌, List, [], ◌∷◌, Option, Some, None, refl, sym, ap, subst, length, slice_get, slice_set}
 use Rattle.wb_types.specs.declared.extent.Extent.{Extent}
 use Rattle.wb_types.specs.declared.mode.Dev.{Dev}
 use Rattle.wb_types.specs.declared.mode.Dev.TheVariants.{Metadata, Cache, Origin}
@@ -34,7 +34,7 @@ use Rattle.wb_devices.specs.Committing.{is_coming, goes_on, is_committed}
 use Rattle.wb_stage.specs.Stages.{is_all_done}
 use Rattle.wb_runs.specs.declared.job.Job.{Job}
 use Rattle.wb_runs.specs.declared.job.Job.TheVariants.{Read, Write, Flush, Open, Migrate}
-use Rattle.wb_runs.specs.States.{Shape, State, Actor, Target, Phase, Stands, with_device, sector_count}
+use Rattle.wb_runs.specs.States.{Shape, State, Actor, Target, Phase, Stands, with_device, block_size, sector_count}
 use Rattle.wb_runs.specs.Happenings.{Chosen, Plain, Cut, Orders, Begins, Reaches, Puts, Commits, Asks, Opened, Gives, Falters, MayFailAt, DoesPut, DoesSync, DoesBegin, FailsPut, FailsSync, LandedOr, sector_put, block_range}
 use Rattle.wb_runs.specs.Effects.{device_done, device_failed, stepped, actor_then, put_by, led}
 use Rattle.wb_runs.specs.Holding.{cards_of, AllSuited}
@@ -47,7 +47,9 @@ use Rattle.wb_runs.proofs.Metadata.{MetadataKept, AtDesk}
 use Rattle.wb_runs.proofs.Claims.{JobClaim}
 use Rattle.wb_link.specs.World.{Actor as AbstractActor}
 use Rattle.wb_simulation.specs.Actors.{IsFlushAt}
+use Rattle.wb_simulation.specs.Laws.{IsBesideOrders}
 use Rattle.wb_simulation.proofs.Followed.{doing_of}
+use Rattle.wb_headline.specs.Desks.{live_orders}
 use Rattle.wb_headline.proofs.Following.{size, most, Followed, Goes}
 use Rattle.wb_headline.proofs.Targets.{standing, beside}
 use Rattle.wb_headline.proofs.Requests.{on_words as request_words, reads, read_fails, writes, write_fails, answers as request_answers}
@@ -116,7 +118,8 @@ module _ (P A : Type 0) (shape : Shape) (images : Images) (t : Target P) (commit
 
   -- ---- writes
 
-  module _ (extent : Extent) (content : Bytes) (xt : x.task ≡ Some (Write extent content, plan)) (job_is : doing.job ≡ Write extent content) (claim : JobClaim shape (Write extent content) plan doing) where
+  module _ (extent : Extent) (content : Bytes) (xt : x.task ≡ Some (Write extent content, plan)) (job_is : doing.job ≡ Write extent content) (claim : JobClaim shape (Write extent content) plan doing)
+      (beside_orders : (device : Dev) (e : Extent) → Device (WriteExtent device e) ≡ want plan → IsBesideOrders (size P A shape) (live_orders t.desk) (record { 0 = extent.first / block_size shape }) device e) where
     abbrev of_write : TaskJob
     of_write = OnBlock (WritingPart (block_range shape extent claim.cut))
 
@@ -124,7 +127,7 @@ module _ (P A : Type 0) (shape : Shape) (images : Images) (t : Target P) (commit
     write_steps (Cell step) got read chosen e g = subst (λ (v : Got). Done_by (Write extent content) (Cell step) v read chosen) (sym g.1)
         (request_words P A shape images t commit devices actors n known f rule all_suited a x ex (Write extent content) plan xt suits [] doing noted job_is step tt e)
     write_steps (Device (WriteExtent d ex')) got read chosen e g = subst (λ (v : Got). Done_by (Write extent content) (Device (WriteExtent d ex')) v read chosen) (sym g.2)
-        (writes P A shape images t commit devices actors n known f rule all_suited a x ex [] doing noted extent content plan xt suits job_is claim d ex' e g.0 read g.3)
+        (writes P A shape images t commit devices actors n known f rule all_suited a x ex [] doing noted extent content plan xt suits job_is claim d ex' e g.0 read g.3 (beside_orders d ex' e))
     write_steps (End answer) got read chosen e g = subst (λ (c : Chosen P A). Done_by (Write extent content) (End answer) got read c) (sym g.0.1)
         (request_answers P A shape images t commit devices actors n known f rule all_suited a x ex _ doing noted (Write extent content) tt plan xt suits job_is claim answer e got read)
     write_steps (Device (ReadExtent d ex')) got read chosen e g = absurd g
@@ -136,7 +139,7 @@ module _ (P A : Type 0) (shape : Shape) (images : Images) (t : Target P) (commit
 
     pub write_faults : (choice : Choice) (next : Want) (read : List Bytes) (chosen : Chosen P A) → StepInside shape next → (length devices.cache ≡ Rattle.wb_runs.specs.States.cache_sector_count shape) → (length devices.origin ≡ sector_count shape) → next ≡ want plan → MayFailAt devices choice next → Falters w choice next chosen → Failed_by choice (Write extent content) next read chosen
     write_faults choice (Device (WriteExtent d ex')) read chosen inside cs os e m g = subst (λ (c : Chosen P A). Failed_by choice (Write extent content) (Device (WriteExtent d ex')) read c) (sym g.0)
-        (write_fails P A shape images t commit devices actors n known f rule all_suited a x ex [] doing noted extent content plan xt suits job_is claim d ex' e g.1 read (lands d choice) (by d g.1 inside))
+        (write_fails P A shape images t commit devices actors n known f rule all_suited a x ex [] doing noted extent content plan xt suits job_is claim d ex' e g.1 read (lands d choice) (by d g.1 inside) (beside_orders d ex' e))
       where
         by : (d : Dev) → HoldsBlocks d → StepInside shape (Device (WriteExtent d ex')) → ex'.first + ex'.count ≤ length (device_in d devices)
         by Cache h i = subst (λ (k : ℕ). ex'.first + ex'.count ≤ k) (sym cs) i

@@ -39,6 +39,7 @@ use Rattle.wb_simulation.proofs.Starting.{starts_followed}
 use Rattle.wb_simulation.proofs.Opening.{openings_followed}
 use Rattle.wb_simulation.proofs.Noted.{notes_followed}
 use Rattle.wb_headline.specs.Desks.{live_orders}
+use Rattle.wb_headline.proofs.Allowed.{there as is_there}
 use Rattle.wb_headline.proofs.Following.{opening_at, AtStage, IsOver, size, most, Sized, Followed, Goes}
 use Rattle.wb_headline.proofs.Arriving.{SameSectors, sized_so, arrives, opens, agreeing, Agreeing}
 use Rattle.wb_headline.proofs.Targets.{standing, beside, noted_within, stays_on}
@@ -95,13 +96,8 @@ module _ (P A : Type 0) (shape : Shape) (images : Images) (t : Target P) (commit
       less : a < length n.doings
       less = noted_within P A shape images t commit devices actors n known f a x ex
 
-      found : {X : Type 0} (xs : List X) (i : ℕ) → i < length xs → (v : X) × (slice_get xs i ≡ Some v)
-      found [] i l = absurd (omega (arith, l))
-      found (v ∷ xs) zero l = (v, refl)
-      found (v ∷ xs) (suc i) l = found xs i (omega (arith, l))
-
       was : (d : Option Doing) × (slice_get n.doings a ≡ Some d)
-      was = found n.doings a less
+      was = is_there n.doings a less
 
       by : Begun there (size P A shape) (most P A shape) a f.site.world t.words t.desk.space.committing (live_orders t.desk) devices (slice_set actors a (record x { task = Some (job, plan) })) →
           Goes P A shape (record { devices = devices; commit = commit; phase = Stands (record { words = t.words; desk = t.desk }); actors = slice_set actors a (record x { task = Some (job, plan) }) }) (put n a (Some (begun n job)))

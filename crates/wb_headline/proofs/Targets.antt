@@ -1,5 +1,5 @@
 -- Where a target stands, what follows a happening in the abstract world leads to a state that is followed.
-use Rattle.std.proofs.Common.{◌≡◌, ◌∙◌, ◌<◌, ◌≤◌, ◌+◌, ℕ, zero, suc, Bool, true, false, List, [], ◌∷◌, Option, Some, None, refl, sym, ap, subst, arith, length, slice_get, slice_set}
+use Rattle.std.proofs.Common.{◌≡◌, ◌∙◌, ◌<◌, ◌≤◌, ◌+◌, ℕ, Bool, true, false, List, [], ◌∷◌, Option, Some, None, refl, sym, ap, subst, arith, length, slice_get, slice_set}
 use Rattle.std.proofs.lemmas.List.{length-set}
 use Rattle.std.proofs.lemmas.Option.{slice_get_within}
 use Rattle.wb_disk.specs.Device.{History}
@@ -29,6 +29,7 @@ use Rattle.wb_simulation.specs.Telling.{Telling, Quietly, Reads, Writes, Answers
 use Rattle.wb_simulation.specs.Worlds.{Turn, Stays, FollowsBy, Follows}
 use Rattle.wb_simulation.proofs.Opening.{images_followed}
 use Rattle.wb_headline.specs.Desks.{DeskAgrees, live_orders}
+use Rattle.wb_headline.proofs.Allowed.{there}
 use Rattle.wb_headline.proofs.Events.{Reached, gone_on, records_reach}
 use Rattle.wb_headline.proofs.Unclean.{NeverClean, IsPlainRecord, ArePlainRecords, records_on, steps_plain}
 use Rattle.wb_headline.proofs.Desking.{desk_stays}
@@ -90,11 +91,6 @@ many_stay s (Step a next got) = by (slice_get s.actors a)
 all_stay : (s : World) (rs : List Record) → length (after_all s rs).actors ≡ length s.actors
 all_stay s [] = refl
 all_stay s (r ∷ rs) = all_stay (after_record s r) rs ∙ many_stay s r
-
-there : {X : Type 0} (xs : List X) (i : ℕ) → i < length xs → (x : X) × (slice_get xs i ≡ Some x)
-there [] i l = absurd (omega (arith, l))
-there (x ∷ xs) zero l = (x, refl)
-there (x ∷ xs) (suc i) l = there xs i (omega (arith, l))
 
 module _ (P A : Type 0) (shape : Shape) (images : Images) (t : Target P) (commit : Option RunningCommit) (devices : Devices (List History)) (actors : List Actor) (n : Notes) where
   abbrev pub standing : State P A

@@ -1,15 +1,27 @@
 -- Every run is followed.
-use Rattle.std.proofs.Common.{◌≡◌, ◌∙◌, inl, inr, ℕ, List, [], ◌∷◌, Option, Some, None, refl, sym, ap, subst, length, slice_get, slice_set}
+use Rattle.std.proofs.Common.{◌≡◌, ◌≢◌, ◌∙◌, ◌<◌, ◌/◌, arith, inl, inr, ℕ, Bool, List, [], ◌∷◌, Option, Some, None, refl, sym, ap, subst, length, slice_get, slice_set}
+use Rattle.std.proofs.lemmas.Bool.{cases_eq}
+use Rattle.std.proofs.lemmas.Option.{some_pair_parts}
+use Rattle.wb_types.specs.declared.extent.Extent.{Extent}
 use Rattle.wb_types.specs.declared.mode.Mode.{Mode}
+use Rattle.wb_types.specs.declared.mode.Dev.{Dev}
+use Rattle.wb_types.specs.declared.number.CBlock.{CBlock}
 use Rattle.wb_disk.specs.Device.{Content as Bytes, History}
 use Rattle.wb_disk.specs.Crash.{Choice}
 use Rattle.wb_disk.specs.Failing.{lands}
+use Rattle.wb_words.specs.SharedWords.{word_at, place_in}
+use Rattle.wb_words.specs.declared.word.Access.TheVariants.{Owned}
+use Rattle.wb_words.specs.declared.card.Hold.TheVariants.{Held}
+use Rattle.wb_words.specs.declared.step.CellStep.TheVariants.{Seal}
+use Rattle.wb_tasks.specs.Tables.{BlockRange, Writing, OnBlock}
 use Rattle.wb_tasks.specs.Plan.{Plan, want, device_of}
 use Rattle.wb_tasks.specs.Ready.{Suits}
 use Rattle.wb_tasks.specs.declared.step.Migration.{Migration}
 use Rattle.wb_types.specs.declared.number.OBlock.{OBlock}
 use Rattle.wb_tasks.specs.declared.step.Want.{Want}
-use Rattle.wb_tasks.specs.declared.step.Want.TheVariants.{Device}
+use Rattle.wb_tasks.specs.declared.step.DeviceStep.TheVariants.{Write as WriteExtent}
+use Rattle.wb_tasks.specs.declared.step.Want.TheVariants.{Cell, Desk, Device, End}
+use Rattle.wb_refines.specs.Translation.{number_of}
 use Rattle.wb_tasks.specs.declared.step.Got.{Got}
 use Rattle.wb_tasks.specs.declared.step.Got.TheVariants.{Fault}
 use Rattle.wb_devices.specs.declared.devices.Devices.{Devices}
@@ -20,22 +32,31 @@ use Rattle.wb_runs.specs.declared.event.Event.{Event}
 use Rattle.wb_runs.specs.declared.event.Event.TheVariants.{Start, Step, FaultStep, Stop}
 use Rattle.wb_runs.specs.declared.event.What.{What}
 use Rattle.wb_runs.specs.declared.event.What.TheVariants.{Skipped, Refused, Started, Stepped, Stopped}
-use Rattle.wb_runs.specs.States.{Shape, State, Actor, Target, Phase, Stands, Gone, Opens, start, sector_count}
-use Rattle.wb_runs.specs.Happenings.{Chosen, Cut, Happening, OfSome, DoesNotApply, Gives, Falters, MayFailAt, StartGives, MayBe}
-use Rattle.wb_runs.specs.Effects.{device_done, device_failed, phase_then, actor_then, stepped, with_actor, job_of, given, cleared, phase_given, started, after_what, after_happening, after_all, IsRun}
+use Rattle.wb_runs.specs.States.{Shape, State, Actor, Target, Phase, Stands, Gone, Opens, block_size, start, sector_count}
+use Rattle.wb_runs.specs.Happenings.{Chosen, Cut, Happening, OfSome, DoesNotApply, Gives, Falters, MayFailAt, StartGives, MayBe, block_range}
+use Rattle.wb_runs.specs.Effects.{device_done, device_failed, stepped, with_actor, job_of, given, cleared, phase_given, started, after_what, after_happening, after_all, IsRun, phase_then, actor_then}
 use Rattle.wb_runs.specs.Clerk.{Notes, Doing, noted_step, noted_what, put, begun, starting}
-use Rattle.wb_runs.specs.Headline.{shown, note_happening, noted}
+use Rattle.wb_runs.specs.Headline.{place_of, shown, note_happening, noted}
 use Rattle.wb_runs.specs.Holding.{TaskSuits}
+use Rattle.wb_runs.specs.Sealed.{SealsNext, Tells, number_of as number_here}
 use Rattle.wb_runs.proofs.Lists.{free, there_rests}
 use Rattle.wb_runs.proofs.MetadataRuns.{IsKnown}
 use Rattle.wb_runs.proofs.Using.{UsedRightly, used_what}
-use Rattle.wb_runs.proofs.Claims.{Noted, TaskClaim, noted_of}
+use Rattle.wb_runs.proofs.Claims.{JobClaim, Noted, TaskClaim, noted_of}
 use Rattle.wb_runs.proofs.Linking.{Linked, TaskHere, InPhase}
 use Rattle.wb_runs.proofs.LinkedRuns.{Base, links_what}
 use Rattle.wb_runs.proofs.InsideRuns.{Inside, inside_what, want_inside}
+use Rattle.wb_simulation.specs.Laws.{IsBesideOrders}
 use Rattle.wb_headline.proofs.Asked.{AllAsked, what_asked}
 use Rattle.wb_headline.proofs.Following.{Goes}
-use Rattle.wb_headline.proofs.Owned.{OwnedIn, none_set, none_rest, none_step, same_step, own_given, own_step}
+use Rattle.wb_headline.specs.Desks.{live_orders}
+use Rattle.wb_headline.proofs.Placed.{AllPlaced, TaskPlaced, WritePlaced, holds_it, placed_what, written_there}
+use Rattle.wb_headline.proofs.Seeing.{beside_orders}
+use Rattle.wb_runs.proofs.Ruling.{card_at}
+use Rattle.wb_headline.proofs.Keeping.{Keeping, sealing_owns}
+use Rattle.wb_headline.proofs.Kept.{fault_keeps, none_goes, none_rest, none_set, start_keeps, step_keeps}
+use Rattle.wb_headline.proofs.Made.{opening_keeps}
+use Rattle.wb_headline.proofs.Telling.{owned_alone}
 use Rattle.wb_headline.proofs.Crashing.{crash_goes}
 use Rattle.wb_headline.proofs.Opens.{opening_steps, opening_faults}
 use Rattle.wb_headline.proofs.Starts.{read_starts, write_starts, flush_starts, opening_starts}
@@ -49,7 +70,8 @@ module _ (P A : Type 0) (shape : Shape) where
     pub linked : Linked {P = P} {A = A} shape w.phase w.actors n
     pub inside : Inside shape w
     pub asked : AllAsked (sector_count shape) n.doings
-    pub owned : OwnedIn w.phase w.actors
+    pub keeping : Keeping w.phase w.actors
+    pub placed : AllPlaced (block_size shape) w.actors
 
   known_of : (w : State P A) (n : Notes) → Whole w n → IsKnown P A shape w
   known_of w n b = record { images = b.goes.images; known = b.goes.known }
@@ -70,6 +92,57 @@ module _ (P A : Type 0) (shape : Shape) where
   abbrev pub at_target : Target P → Option RunningCommit → Devices (List History) → List Actor → State P A
   at_target t commit devices actors = record { devices = devices; commit = commit; phase = Stands t; actors = actors }
 
+  -- ---- what a seal tells
+
+  module _ (t : Target P) (commit : Option RunningCommit) (devices : Devices (List History)) (actors : List Actor) (n : Notes) (b : Whole (at_target t commit devices actors) n) (a : ℕ) (x : Actor) (job : Job) (plan : Plan) (ex : slice_get actors a ≡ Some x) (xt : x.task ≡ Some (job, plan)) where
+    -- whoever owns a block, and does not seal it next, has in its seal where the desk has it
+    pub held_tells : (block : OBlock) → x.card.hold ≡ Held Owned block → ((place : Option CBlock) (dirty : Bool) → want plan ≢ Cell (Seal block place dirty)) → number_of (place_in (word_at t.words.seals block)) ≡ place_of t.desk.tree.entries block.0
+    held_tells block holds not = same_number (place_in (word_at t.words.seals block)) ∙ by (b.keeping.tells block)
+      where
+        same_number : (place : Option CBlock) → number_of place ≡ number_here place
+        same_number None = refl
+        same_number (Some c) = refl
+
+        by_task : (task : Option (Job × Plan)) → task ≡ Some (job, plan) → (place : Option CBlock) → SealsNext block place task → ⊥
+        by_task None e place q = q
+        by_task (Some doing) e place q = (let parts = some_pair_parts doing.0 job doing.1 plan e in not place q.0 (ap want (sym parts.1) ∙ q.1))
+
+        by : Tells t.words t.desk.tree.entries actors block → number_here (place_in (word_at t.words.seals block)) ≡ place_of t.desk.tree.entries block.0
+        by (inl told) = told
+        by (inr (place, at, (c, (z, ez, sealed)))) = absurd (elim (cases_eq c a) [
+          | inl here ↦ (
+              let both : Some z ≡ Some x = sym ez ∙ ap (slice_get actors) here ∙ ex in
+              let same : z ≡ x = cc in by_task x.task xt place (subst (λ (v : Actor). SealsNext block place v.task) same sealed))
+          | inr away ↦ (
+              let z_owns = sealing_owns P A shape b.goes.images t commit devices actors n b.goes.known b.goes.followed b.used.here b.used.suited b.keeping a x ex c z ez block place sealed in
+              owned_alone shape.geometry.origin_blocks t.words actors b.used.here c a z x ez ex (λ q. away (sym q)) block z_owns.0 z_owns.1 Owned holds)
+        ])
+
+  -- what a write writes is beside the orders that live
+  module _ (t : Target P) (commit : Option RunningCommit) (devices : Devices (List History)) (actors : List Actor) (n : Notes) (b : Whole (at_target t commit devices actors) n) (a : ℕ) (x : Actor) (extent : Extent) (content : Bytes) (plan : Plan) (ex : slice_get actors a ≡ Some x) (xt : x.task ≡ Some (Write extent content, plan))
+      (doing : Doing) (claim : JobClaim shape (Write extent content) plan doing) (device : Dev) (e : Extent) (next : Device (WriteExtent device e) ≡ want plan) where
+    abbrev own_block : OBlock
+    own_block = record { 0 = extent.first / block_size shape }
+
+    placed : WritePlaced (block_size shape) plan x.card
+    placed = subst (λ (o : Option (Job × Plan)). TaskPlaced (block_size shape) x.card o) xt (b.placed a x ex)
+
+    some : 0 < block_size shape
+    some = omega (arith, shape.geometry.within.block_from)
+
+    holds : x.card.hold ≡ Held Owned own_block
+    holds =
+        let same : OnBlock (Writing placed.part) ≡ OnBlock (Writing (block_range shape extent claim.cut)) = sym placed.job ∙ claim.is_job in
+        let part_is : placed.part ≡ block_range shape extent claim.cut = cc in
+        holds_it (block_size shape) some plan x.card placed device e next shape.geometry.origin_blocks (subst (λ (o : Option (Job × Plan)). TaskSuits shape.geometry.origin_blocks x.card o) xt (b.used.suited a x ex)) ∙ ap (λ (r : BlockRange). Held Owned r.block) part_is
+
+    pub written_beside : IsBesideOrders (block_size shape) (live_orders t.desk) (record { 0 = extent.first / block_size shape }) device e
+    written_beside =
+        let there = written_there (block_size shape) some plan x.card placed device e next in
+        let word : word_at t.words.seals own_block ≡ there.0 = (b.used.here.knows a x.card (card_at actors a x ex)).seal Owned own_block there.0 holds there.1 in
+        let told = held_tells t commit devices actors n b a x (Write extent content) plan ex xt own_block holds (λ place dirty q. absurd (let bad : Device (WriteExtent device e) ≡ Cell (Seal own_block place dirty) = next ∙ q in cc)) in
+        beside_orders P t.desk b.goes.known.is.kept (block_size shape) own_block device e (λ k at. sym told ∙ ap (λ (v : ℕ). number_of (place_in v)) word ∙ sym there.2 ∙ at)
+
   -- What is followed of migrations: each step, done and failing, and each start.
   pub record MigrationsGo : Type 0 where
     pub steps : (t : Target P) (commit : Option RunningCommit) (devices : Devices (List History)) (actors : List Actor) (n : Notes) → Whole (at_target t commit devices actors) n → (a : ℕ) (x : Actor) (migration : Migration) (block : OBlock) (plan : Plan) (doing : Doing) → slice_get actors a ≡ Some x → x.task ≡ Some (Migrate migration block, plan) →
@@ -78,7 +151,7 @@ module _ (P A : Type 0) (shape : Shape) where
     pub faults : (t : Target P) (commit : Option RunningCommit) (devices : Devices (List History)) (actors : List Actor) (n : Notes) → Whole (at_target t commit devices actors) n → (a : ℕ) (x : Actor) (migration : Migration) (block : OBlock) (plan : Plan) (doing : Doing) → slice_get actors a ≡ Some x → x.task ≡ Some (Migrate migration block, plan) →
         slice_get n.doings a ≡ Some (Some doing) → doing.job ≡ Migrate migration block → (choice : Choice) (next : Want) (read : List Bytes) (chosen : Chosen P A) → next ≡ want plan → MayFailAt devices choice next → Falters (at_target t commit devices actors) choice next chosen →
         Faulted_to (at_target t commit devices actors) n a x choice (Migrate migration block) next read chosen doing
-    pub starts : (t : Target P) (commit : Option RunningCommit) (devices : Devices (List History)) (actors : List Actor) (n : Notes) → Whole (at_target t commit devices actors) n → (a : ℕ) (x : Actor) (migration : Migration) (block : OBlock) (chosen : Chosen P A) → slice_get actors a ≡ Some x → x.task ≡ None → (¬ Rattle.wb_runs.specs.Happenings.IsOutOfPlace {P = P} {A = A} (Stands t) (Migrate migration block)) →
+    pub starts : (t : Target P) (commit : Option RunningCommit) (devices : Devices (List History)) (actors : List Actor) (n : Notes) → Whole (at_target t commit devices actors) n → (a : ℕ) (x : Actor) (migration : Migration) (block : OBlock) (chosen : Chosen P A) → slice_get actors a ≡ Some x → x.task ≡ None →
         StartGives shape (Stands t) (Some x) (Migrate migration block) Started chosen →
         Goes P A shape (record { devices = devices; commit = commit; phase = phase_given {P = P} {A = A} (Stands t) (Migrate migration block) chosen; actors = slice_set actors a (given shape x (Migrate migration block) chosen) }) (put n a (Some (begun n (Migrate migration block))))
 
@@ -96,7 +169,7 @@ module _ (P A : Type 0) (shape : Shape) where
 
         by_job : (job : Job) → x.task ≡ Some (job, plan) → (d : Noted shape job plan (slice_get n.doings a)) → Gives shape (at_target t commit devices actors) job next got read chosen → Stepped_to (at_target t commit devices actors) n a x job next got read chosen d.doing
         by_job (Read extent) xt d g = read_steps P A shape b.goes.images t commit devices actors n b.goes.known b.goes.followed b.used.here b.used.suited a x ex plan suits d.doing d.is extent xt d.job_is d.claim next got read chosen e g
-        by_job (Write extent content) xt d g = write_steps P A shape b.goes.images t commit devices actors n b.goes.known b.goes.followed b.used.here b.used.suited a x ex plan suits d.doing d.is extent content xt d.job_is d.claim next got read chosen e g
+        by_job (Write extent content) xt d g = write_steps P A shape b.goes.images t commit devices actors n b.goes.known b.goes.followed b.used.here b.used.suited a x ex plan suits d.doing d.is extent content xt d.job_is d.claim (λ device ext f. written_beside t commit devices actors n b a x extent content plan ex xt d.doing d.claim device ext f) next got read chosen e g
         by_job Flush xt d g = flush_steps P A shape b.goes.images t commit devices actors n b.goes.known b.goes.followed b.used.here b.used.suited a x ex plan suits d.doing d.is xt d.job_is next got read chosen (asked d.doing d.is) e g
         by_job (Open mode) xt d g = absurd (subst (λ (o : Option (Job × Plan)). TaskHere {P = P} {A = A} (Stands t) o) xt (b.linked.here a x ex))
         by_job (Migrate migration block) xt d g = migrations.steps t commit devices actors n b a x migration block plan d.doing ex xt d.is d.job_is next got read chosen e g
@@ -124,7 +197,7 @@ module _ (P A : Type 0) (shape : Shape) where
 
         by_job : (job : Job) → x.task ≡ Some (job, plan) → (d : Noted shape job plan (slice_get n.doings a)) → Faulted_to (at_target t commit devices actors) n a x choice job next read chosen d.doing
         by_job (Read extent) xt d = read_faults P A shape b.goes.images t commit devices actors n b.goes.known b.goes.followed b.used.here b.used.suited a x ex plan suits d.doing d.is extent xt d.job_is d.claim choice next read chosen e m g
-        by_job (Write extent content) xt d = write_faults P A shape b.goes.images t commit devices actors n b.goes.known b.goes.followed b.used.here b.used.suited a x ex plan suits d.doing d.is extent content xt d.job_is d.claim choice next read chosen inside b.inside.cache b.inside.origin e m g
+        by_job (Write extent content) xt d = write_faults P A shape b.goes.images t commit devices actors n b.goes.known b.goes.followed b.used.here b.used.suited a x ex plan suits d.doing d.is extent content xt d.job_is d.claim (λ device ext f. written_beside t commit devices actors n b a x extent content plan ex xt d.doing d.claim device ext f) choice next read chosen inside b.inside.cache b.inside.origin e m g
         by_job Flush xt d = flush_faults P A shape b.goes.images t commit devices actors n b.goes.known b.goes.followed b.used.here b.used.suited a x ex plan suits d.doing d.is xt d.job_is choice next read chosen e m g
         by_job (Open mode) xt d = absurd (subst (λ (o : Option (Job × Plan)). TaskHere {P = P} {A = A} (Stands t) o) xt (b.linked.here a x ex))
         by_job (Migrate migration block) xt d = migrations.faults t commit devices actors n b a x migration block plan d.doing ex xt d.is d.job_is choice next read chosen e m g
@@ -200,7 +273,7 @@ module _ (P A : Type 0) (shape : Shape) where
     start_at_target t commit devices actors n b a x (Migrate migration block) chosen ex xt place g =
         let w = at_target t commit devices actors in
         subst (λ (o : Option Actor). Goes P A shape (with_actor w o (λ y. record w { phase = phase_given w.phase (Migrate migration block) chosen; actors = slice_set w.actors a (given {P = P} {A = A} shape y (Migrate migration block) chosen) })) (put n a (Some (begun n (Migrate migration block))))) (sym ex)
-        (migrations.starts t commit devices actors n b a x migration block chosen ex xt place g)
+        (migrations.starts t commit devices actors n b a x migration block chosen ex xt g)
     start_at_target t commit devices actors n b a x (Read extent) chosen ex xt place g = absurd g
     start_at_target t commit devices actors n b a x (Write extent content) chosen ex xt place g = absurd g
 
@@ -213,115 +286,128 @@ module _ (P A : Type 0) (shape : Shape) where
     start_by_phase w Gone e n b a x (Read extent) chosen ex xt place g = absurd (place (λ z. z))
     start_by_phase w Gone e n b a x (Write extent content) chosen ex xt place g = absurd (place (λ z. z))
     start_by_phase w Gone e n b a x Flush chosen ex xt place g = absurd (place (λ z. z))
-    start_by_phase w Gone e n b a x (Migrate migration block) chosen ex xt place g = absurd (place (inl (λ z. z)))
+    start_by_phase w Gone e n b a x (Migrate migration block) chosen ex xt place g = absurd (place (λ z. z))
     start_by_phase w (Opens mode reading) e n b a x (Read extent) chosen ex xt place g = absurd (place (λ z. z))
     start_by_phase w (Opens mode reading) e n b a x (Write extent content) chosen ex xt place g = absurd (place (λ z. z))
     start_by_phase w (Opens mode reading) e n b a x Flush chosen ex xt place g = absurd (place (λ z. z))
-    start_by_phase w (Opens mode reading) e n b a x (Migrate migration block) chosen ex xt place g = absurd (place (inl (λ z. z)))
+    start_by_phase w (Opens mode reading) e n b a x (Migrate migration block) chosen ex xt place g = absurd (place (λ z. z))
 
     start_goes : (w : State P A) (n : Notes) → Whole w n → (a : ℕ) (job : Job) (chosen : Chosen P A) → (¬ DoesNotApply w (Start a job)) → StartGives shape w.phase (slice_get w.actors a) job Started chosen → Begun_to w n a job chosen
     start_goes w n b a job chosen applies g =
         let x = free P A w a job applies in
         start_by_phase w w.phase refl n b a x.0 job chosen x.1 x.2 (λ o. applies (inr (inr o))) (subst (λ (o : Option Actor). StartGives shape w.phase o job Started chosen) x.1 g)
 
-    -- ---- orders that actors have
+    -- ---- orders and seals
 
-    own_by_phase : (devices : Devices (List History)) (commit : Option RunningCommit) (phase : Phase P A) (actors : List Actor) (n : Notes) → Whole (record { devices = devices; commit = commit; phase = phase; actors = actors }) n → (a : ℕ) (x : Actor) (job : Job) (plan : Plan) → slice_get actors a ≡ Some x → x.task ≡ Some (job, plan) →
-        (next : Want) (got : Got) (read : List Bytes) (chosen : Chosen P A) → next ≡ want plan → Gives shape (record { devices = devices; commit = commit; phase = phase; actors = actors }) job next got read chosen → OwnedIn (phase_then shape phase next got chosen) (slice_set actors a (actor_then shape phase devices x next got))
-    own_by_phase devices commit (Stands t) actors n b a x job plan ex xt next got read chosen e g = own_step P A shape b.goes.images t commit devices actors n b.goes.known b.goes.followed b.owned a x plan ex (subst (λ (o : Option (Job × Plan)). TaskSuits shape.geometry.origin_blocks x.card o) xt (b.used.suited a x ex)) job xt next got read chosen e g
-    own_by_phase devices commit Gone actors n b a x job plan ex xt next got read chosen e g = none_step P A shape Gone (phase_then {P = P} {A = A} shape Gone next got chosen) devices actors a x next got ex b.owned
-    own_by_phase devices commit (Opens mode reading) actors n b a x job plan ex xt next got read chosen e g = none_step P A shape (Opens mode reading) (phase_then {P = P} {A = A} shape (Opens mode reading) next got chosen) devices actors a x next got ex b.owned
-
-    own_fault : (devices : Devices (List History)) (phase : Phase P A) (actors : List Actor) → OwnedIn phase actors → (a : ℕ) (x : Actor) → slice_get actors a ≡ Some x → (choice : Choice) (next : Want) (chosen : Chosen P A) → MayFailAt devices choice next → OwnedIn (phase_then shape phase next Fault chosen) (slice_set actors a (actor_then shape phase devices x next Fault))
-    own_fault devices (Stands t) actors o a x ex choice (Device step) chosen m = same_step P A shape t actors a x ex o t (actor_then {P = P} {A = A} shape (Stands t) devices x (Device step) Fault) refl refl
-    own_fault devices (Stands t) actors o a x ex choice next chosen m = absurd m
-    own_fault devices Gone actors o a x ex choice next chosen m = none_step P A shape Gone (phase_then {P = P} {A = A} shape Gone next Fault chosen) devices actors a x next Fault ex o
-    own_fault devices (Opens mode reading) actors o a x ex choice next chosen m = none_step P A shape (Opens mode reading) (phase_then {P = P} {A = A} shape (Opens mode reading) next Fault chosen) devices actors a x next Fault ex o
-
-    abbrev Owns : State P A → Type 0
-    Owns w = OwnedIn w.phase w.actors
-
-    own_steps : (w : State P A) (n : Notes) → Whole w n → (a : ℕ) (next : Want) (got : Got) (read : List Bytes) (chosen : Chosen P A) (o : Option Actor) → slice_get w.actors a ≡ o → OfSome o (λ x. OfSome x.task (λ doing. (next ≡ want doing.1) × Gives shape w doing.0 next got read chosen)) →
-        Owns (with_actor w o (λ x. stepped shape w a x next got chosen (λ step. device_done (job_of x.task) x.buffer step chosen)))
-    own_steps w n b a next got read chosen None e h = absurd h
-    own_steps w n b a next got read chosen (Some x) e h = by x.task refl h
+    keep_by_phase : (devices : Devices (List History)) (commit : Option RunningCommit) (phase : Phase P A) (actors : List Actor) (n : Notes) → Whole (record { devices = devices; commit = commit; phase = phase; actors = actors }) n → (a : ℕ) (x : Actor) (job : Job) (plan : Plan) → slice_get actors a ≡ Some x → x.task ≡ Some (job, plan) →
+        (next : Want) (got : Got) (read : List Bytes) (chosen : Chosen P A) → next ≡ want plan → Gives shape (record { devices = devices; commit = commit; phase = phase; actors = actors }) job next got read chosen → Keeping (phase_then shape phase next got chosen) (slice_set actors a (actor_then shape phase devices x next got))
+    keep_by_phase devices commit (Stands t) actors n b a x job plan ex xt next got read chosen e g = step_keeps P A shape b.goes.images t commit devices actors n b.goes.known b.goes.followed b.used.here b.used.suited b.keeping a x ex job plan xt next got read chosen e g
+    keep_by_phase devices commit Gone actors n b a x job plan ex xt next got read chosen e g = none_goes P A shape Gone devices actors a x next got ex b.keeping
+    keep_by_phase devices commit (Opens mode reading) actors n b a x job plan ex xt next got read chosen e g = by job xt next e g (subst (λ (o : Option (Job × Plan)). TaskHere {P = P} {A = A} (Opens mode reading) o) xt (b.linked.here a x ex))
       where
-        by : (t : Option (Job × Plan)) → x.task ≡ t → OfSome t (λ doing. (next ≡ want doing.1) × Gives shape w doing.0 next got read chosen) → OwnedIn (phase_then shape w.phase next got chosen) (slice_set w.actors a (actor_then shape w.phase w.devices x next got))
+        by : (j : Job) → x.task ≡ Some (j, plan) → (v : Want) → v ≡ want plan → Gives shape (record { devices = devices; commit = commit; phase = Opens mode reading; actors = actors }) j v got read chosen → InPhase {P = P} {A = A} (Opens mode reading) j → Keeping (phase_then {P = P} {A = A} shape (Opens mode reading) v got chosen) (slice_set actors a (actor_then {P = P} {A = A} shape (Opens mode reading) devices x v got))
+        by (Open opened_in) jt (End answer) e g h = opening_keeps P A shape b.goes.images devices commit mode reading actors n b.goes.known b.goes.followed b.linked.alone b.keeping a x ex opened_in plan jt b.inside.cache b.inside.origin got read answer chosen e g
+        by (Open opened_in) jt (Cell step) e g h = none_goes P A shape (Opens mode reading) devices actors a x (Cell step) got ex b.keeping
+        by (Open opened_in) jt (Device step) e g h = none_goes P A shape (Opens mode reading) devices actors a x (Device step) got ex b.keeping
+        by (Open opened_in) jt (Desk step) e g h = none_goes P A shape (Opens mode reading) devices actors a x (Desk step) got ex b.keeping
+        by (Read extent) jt v e g h = absurd h
+        by (Write extent content) jt v e g h = absurd h
+        by Flush jt v e g h = absurd h
+        by (Migrate migration block) jt v e g h = absurd h
+
+    keep_fault : (devices : Devices (List History)) (commit : Option RunningCommit) (phase : Phase P A) (actors : List Actor) (n : Notes) → Whole (record { devices = devices; commit = commit; phase = phase; actors = actors }) n → (a : ℕ) (x : Actor) (job : Job) (plan : Plan) → slice_get actors a ≡ Some x → x.task ≡ Some (job, plan) → (choice : Choice) (next : Want) (chosen : Chosen P A) → next ≡ want plan → MayFailAt devices choice next →
+        Keeping (phase_then shape phase next Fault chosen) (slice_set actors a (actor_then shape phase devices x next Fault))
+    keep_fault devices commit (Stands t) actors n b a x job plan ex xt choice (Device step) chosen e m = fault_keeps P A shape b.goes.images t commit devices actors n b.goes.known b.goes.followed b.used.here b.used.suited b.keeping a x ex job plan xt step chosen e
+    keep_fault devices commit Gone actors n b a x job plan ex xt choice (Device step) chosen e m = none_goes P A shape Gone devices actors a x (Device step) Fault ex b.keeping
+    keep_fault devices commit (Opens mode reading) actors n b a x job plan ex xt choice (Device step) chosen e m = none_goes P A shape (Opens mode reading) devices actors a x (Device step) Fault ex b.keeping
+    keep_fault devices commit phase actors n b a x job plan ex xt choice (Cell step) chosen e m = absurd m
+    keep_fault devices commit phase actors n b a x job plan ex xt choice (Desk step) chosen e m = absurd m
+    keep_fault devices commit phase actors n b a x job plan ex xt choice (End answer) chosen e m = absurd m
+
+    abbrev Keeps : State P A → Type 0
+    Keeps w = Keeping w.phase w.actors
+
+    keep_steps : (w : State P A) (n : Notes) → Whole w n → (a : ℕ) (next : Want) (got : Got) (read : List Bytes) (chosen : Chosen P A) (o : Option Actor) → slice_get w.actors a ≡ o → OfSome o (λ x. OfSome x.task (λ doing. (next ≡ want doing.1) × Gives shape w doing.0 next got read chosen)) →
+        Keeps (with_actor w o (λ x. stepped shape w a x next got chosen (λ step. device_done (job_of x.task) x.buffer step chosen)))
+    keep_steps w n b a next got read chosen None e h = absurd h
+    keep_steps w n b a next got read chosen (Some x) e h = by x.task refl h
+      where
+        by : (t : Option (Job × Plan)) → x.task ≡ t → OfSome t (λ doing. (next ≡ want doing.1) × Gives shape w doing.0 next got read chosen) → Keeping (phase_then shape w.phase next got chosen) (slice_set w.actors a (actor_then shape w.phase w.devices x next got))
         by None xt h = absurd h
-        by (Some task) xt h = own_by_phase w.devices w.commit w.phase w.actors n b a x task.0 task.1 e xt next got read chosen h.0 h.1
+        by (Some task) xt h = keep_by_phase w.devices w.commit w.phase w.actors n b a x task.0 task.1 e xt next got read chosen h.0 h.1
 
-    own_faults : (w : State P A) (n : Notes) → Whole w n → (a : ℕ) (choice : Choice) (next : Want) (chosen : Chosen P A) (o : Option Actor) → slice_get w.actors a ≡ o → OfSome o (λ x. OfSome x.task (λ doing. (next ≡ want doing.1) × MayFailAt w.devices choice next × Falters w choice next chosen)) →
-        Owns (with_actor w o (λ x. stepped shape w a x next Fault chosen (λ step. device_failed (lands (device_of step) choice) (job_of x.task) x.buffer step chosen)))
-    own_faults w n b a choice next chosen None e h = absurd h
-    own_faults w n b a choice next chosen (Some x) e h = by x.task h
+    keep_faults : (w : State P A) (n : Notes) → Whole w n → (a : ℕ) (choice : Choice) (next : Want) (chosen : Chosen P A) (o : Option Actor) → slice_get w.actors a ≡ o → OfSome o (λ x. OfSome x.task (λ doing. (next ≡ want doing.1) × MayFailAt w.devices choice next × Falters w choice next chosen)) →
+        Keeps (with_actor w o (λ x. stepped shape w a x next Fault chosen (λ step. device_failed (lands (device_of step) choice) (job_of x.task) x.buffer step chosen)))
+    keep_faults w n b a choice next chosen None e h = absurd h
+    keep_faults w n b a choice next chosen (Some x) e h = by x.task refl h
       where
-        by : (t : Option (Job × Plan)) → OfSome t (λ doing. (next ≡ want doing.1) × MayFailAt w.devices choice next × Falters w choice next chosen) → OwnedIn (phase_then shape w.phase next Fault chosen) (slice_set w.actors a (actor_then shape w.phase w.devices x next Fault))
-        by None h = absurd h
-        by (Some task) h = own_fault w.devices w.phase w.actors b.owned a x e choice next chosen h.1
+        by : (t : Option (Job × Plan)) → x.task ≡ t → OfSome t (λ doing. (next ≡ want doing.1) × MayFailAt w.devices choice next × Falters w choice next chosen) → Keeping (phase_then shape w.phase next Fault chosen) (slice_set w.actors a (actor_then shape w.phase w.devices x next Fault))
+        by None xt h = absurd h
+        by (Some task) xt h = keep_fault w.devices w.commit w.phase w.actors n b a x task.0 task.1 e xt choice next chosen h.0 h.1
 
-    own_opening : (w : State P A) (a : ℕ) (x : Actor) (mode : Mode) (chosen : Chosen P A) → slice_get w.actors a ≡ Some x → Owns (started shape w a (Open mode) chosen)
-    own_opening w a x mode chosen ex =
+    keep_opening : (w : State P A) (a : ℕ) (x : Actor) (mode : Mode) (chosen : Chosen P A) → slice_get w.actors a ≡ Some x → Keeps (started shape w a (Open mode) chosen)
+    keep_opening w a x mode chosen ex =
         let c = cleared w (Open mode) in
-        subst (λ (o : Option Actor). Owns (with_actor c o (λ y. record c { phase = phase_given c.phase (Open mode) chosen; actors = slice_set c.actors a (given shape y (Open mode) chosen) }))) (sym (there_rests w.actors a x ex))
+        subst (λ (o : Option Actor). Keeps (with_actor c o (λ y. record c { phase = phase_given c.phase (Open mode) chosen; actors = slice_set c.actors a (given shape y (Open mode) chosen) }))) (sym (there_rests w.actors a x ex))
         (none_set c.actors a (given shape Rattle.wb_runs.specs.States.resting (Open mode) chosen) refl (none_rest w.actors))
 
-    own_at_target : (t : Target P) (commit : Option RunningCommit) (devices : Devices (List History)) (actors : List Actor) (n : Notes) → Whole (at_target t commit devices actors) n → (a : ℕ) (x : Actor) (job : Job) (chosen : Chosen P A) → slice_get actors a ≡ Some x → (¬ Rattle.wb_runs.specs.Happenings.IsOutOfPlace {P = P} {A = A} (Stands t) job) →
-        StartGives shape (Stands t) (Some x) job Started chosen → cleared (at_target t commit devices actors) job ≡ at_target t commit devices actors → Owns (started shape (at_target t commit devices actors) a job chosen)
-    own_at_target t commit devices actors n b a x job chosen ex place g same =
+    keep_at_target : (t : Target P) (commit : Option RunningCommit) (devices : Devices (List History)) (actors : List Actor) (n : Notes) → Whole (at_target t commit devices actors) n → (a : ℕ) (x : Actor) (job : Job) (chosen : Chosen P A) → slice_get actors a ≡ Some x → x.task ≡ None → (¬ Rattle.wb_runs.specs.Happenings.IsOutOfPlace {P = P} {A = A} (Stands t) job) →
+        StartGives shape (Stands t) (Some x) job Started chosen → cleared (at_target t commit devices actors) job ≡ at_target t commit devices actors → Keeps (started shape (at_target t commit devices actors) a job chosen)
+    keep_at_target t commit devices actors n b a x job chosen ex xt place g same =
         let w = at_target t commit devices actors in
-        subst (λ (c : State P A). Owns (with_actor c (slice_get c.actors a) (λ y. record c { phase = phase_given c.phase job chosen; actors = slice_set c.actors a (given shape y job chosen) }))) (sym same)
-        (subst (λ (o : Option Actor). Owns (with_actor w o (λ y. record w { phase = phase_given w.phase job chosen; actors = slice_set w.actors a (given shape y job chosen) }))) (sym ex)
-        (own_given P A shape t actors a x ex b.owned b.goes.known.is.orders job chosen place g))
+        subst (λ (c : State P A). Keeps (with_actor c (slice_get c.actors a) (λ y. record c { phase = phase_given c.phase job chosen; actors = slice_set c.actors a (given shape y job chosen) }))) (sym same)
+        (subst (λ (o : Option Actor). Keeps (with_actor w o (λ y. record w { phase = phase_given w.phase job chosen; actors = slice_set w.actors a (given shape y job chosen) }))) (sym ex)
+        (start_keeps P A shape b.goes.images t commit devices actors n b.goes.known b.goes.followed b.used.here b.used.suited b.keeping a x ex xt job chosen g))
 
-    own_start : (w : State P A) (phase : Phase P A) → w.phase ≡ phase → (n : Notes) → Whole w n → (a : ℕ) (x : Actor) (job : Job) (chosen : Chosen P A) → slice_get w.actors a ≡ Some x → (¬ Rattle.wb_runs.specs.Happenings.IsOutOfPlace phase job) → StartGives shape phase (Some x) job Started chosen → Owns (started shape w a job chosen)
-    own_start w phase e n b a x (Open mode) chosen ex place g = own_opening w a x mode chosen ex
-    own_start w (Stands t) e n b a x (Read extent) chosen ex place g =
+    keep_start : (w : State P A) (phase : Phase P A) → w.phase ≡ phase → (n : Notes) → Whole w n → (a : ℕ) (x : Actor) (job : Job) (chosen : Chosen P A) → slice_get w.actors a ≡ Some x → x.task ≡ None → (¬ Rattle.wb_runs.specs.Happenings.IsOutOfPlace phase job) → StartGives shape phase (Some x) job Started chosen → Keeps (started shape w a job chosen)
+    keep_start w phase e n b a x (Open mode) chosen ex xt place g = keep_opening w a x mode chosen ex
+    keep_start w (Stands t) e n b a x (Read extent) chosen ex xt place g =
         let is : record { devices = w.devices; commit = w.commit; phase = Stands t; actors = w.actors } ≡ w = λ i. record w { phase = sym e i } in
-        subst (λ (v : State P A). Owns (started shape v a (Read extent) chosen)) is (own_at_target t w.commit w.devices w.actors n (subst (λ (v : State P A). Whole v n) (sym is) b) a x (Read extent) chosen ex place g refl)
-    own_start w (Stands t) e n b a x (Write extent content) chosen ex place g =
+        subst (λ (v : State P A). Keeps (started shape v a (Read extent) chosen)) is (keep_at_target t w.commit w.devices w.actors n (subst (λ (v : State P A). Whole v n) (sym is) b) a x (Read extent) chosen ex xt place g refl)
+    keep_start w (Stands t) e n b a x (Write extent content) chosen ex xt place g =
         let is : record { devices = w.devices; commit = w.commit; phase = Stands t; actors = w.actors } ≡ w = λ i. record w { phase = sym e i } in
-        subst (λ (v : State P A). Owns (started shape v a (Write extent content) chosen)) is (own_at_target t w.commit w.devices w.actors n (subst (λ (v : State P A). Whole v n) (sym is) b) a x (Write extent content) chosen ex place g refl)
-    own_start w (Stands t) e n b a x Flush chosen ex place g =
+        subst (λ (v : State P A). Keeps (started shape v a (Write extent content) chosen)) is (keep_at_target t w.commit w.devices w.actors n (subst (λ (v : State P A). Whole v n) (sym is) b) a x (Write extent content) chosen ex xt place g refl)
+    keep_start w (Stands t) e n b a x Flush chosen ex xt place g =
         let is : record { devices = w.devices; commit = w.commit; phase = Stands t; actors = w.actors } ≡ w = λ i. record w { phase = sym e i } in
-        subst (λ (v : State P A). Owns (started shape v a Flush chosen)) is (own_at_target t w.commit w.devices w.actors n (subst (λ (v : State P A). Whole v n) (sym is) b) a x Flush chosen ex place g refl)
-    own_start w (Stands t) e n b a x (Migrate m block) chosen ex place g =
+        subst (λ (v : State P A). Keeps (started shape v a Flush chosen)) is (keep_at_target t w.commit w.devices w.actors n (subst (λ (v : State P A). Whole v n) (sym is) b) a x Flush chosen ex xt place g refl)
+    keep_start w (Stands t) e n b a x (Migrate m block) chosen ex xt place g =
         let is : record { devices = w.devices; commit = w.commit; phase = Stands t; actors = w.actors } ≡ w = λ i. record w { phase = sym e i } in
-        subst (λ (v : State P A). Owns (started shape v a (Migrate m block) chosen)) is (own_at_target t w.commit w.devices w.actors n (subst (λ (v : State P A). Whole v n) (sym is) b) a x (Migrate m block) chosen ex place g refl)
-    own_start w Gone e n b a x (Read extent) chosen ex place g = absurd (place (λ z. z))
-    own_start w Gone e n b a x (Write extent content) chosen ex place g = absurd (place (λ z. z))
-    own_start w Gone e n b a x Flush chosen ex place g = absurd (place (λ z. z))
-    own_start w Gone e n b a x (Migrate m block) chosen ex place g = absurd (place (inl (λ z. z)))
-    own_start w (Opens mode reading) e n b a x (Read extent) chosen ex place g = absurd (place (λ z. z))
-    own_start w (Opens mode reading) e n b a x (Write extent content) chosen ex place g = absurd (place (λ z. z))
-    own_start w (Opens mode reading) e n b a x Flush chosen ex place g = absurd (place (λ z. z))
-    own_start w (Opens mode reading) e n b a x (Migrate m block) chosen ex place g = absurd (place (inl (λ z. z)))
+        subst (λ (v : State P A). Keeps (started shape v a (Migrate m block) chosen)) is (keep_at_target t w.commit w.devices w.actors n (subst (λ (v : State P A). Whole v n) (sym is) b) a x (Migrate m block) chosen ex xt place g refl)
+    keep_start w Gone e n b a x (Read extent) chosen ex xt place g = absurd (place (λ z. z))
+    keep_start w Gone e n b a x (Write extent content) chosen ex xt place g = absurd (place (λ z. z))
+    keep_start w Gone e n b a x Flush chosen ex xt place g = absurd (place (λ z. z))
+    keep_start w Gone e n b a x (Migrate m block) chosen ex xt place g = absurd (place (λ z. z))
+    keep_start w (Opens mode reading) e n b a x (Read extent) chosen ex xt place g = absurd (place (λ z. z))
+    keep_start w (Opens mode reading) e n b a x (Write extent content) chosen ex xt place g = absurd (place (λ z. z))
+    keep_start w (Opens mode reading) e n b a x Flush chosen ex xt place g = absurd (place (λ z. z))
+    keep_start w (Opens mode reading) e n b a x (Migrate m block) chosen ex xt place g = absurd (place (λ z. z))
 
-    own_starts : (w : State P A) (n : Notes) → Whole w n → (a : ℕ) (job : Job) (chosen : Chosen P A) → (¬ DoesNotApply w (Start a job)) → StartGives shape w.phase (slice_get w.actors a) job Started chosen → Owns (started shape w a job chosen)
-    own_starts w n b a job chosen applies g =
+    keep_starts : (w : State P A) (n : Notes) → Whole w n → (a : ℕ) (job : Job) (chosen : Chosen P A) → (¬ DoesNotApply w (Start a job)) → StartGives shape w.phase (slice_get w.actors a) job Started chosen → Keeps (started shape w a job chosen)
+    keep_starts w n b a job chosen applies g =
         let x = free P A w a job applies in
-        own_start w w.phase refl n b a x.0 job chosen x.1 (λ o. applies (inr (inr o))) (subst (λ (o : Option Actor). StartGives shape w.phase o job Started chosen) x.1 g)
+        keep_start w w.phase refl n b a x.0 job chosen x.1 x.2 (λ o. applies (inr (inr o))) (subst (λ (o : Option Actor). StartGives shape w.phase o job Started chosen) x.1 g)
 
-    own_what : (w : State P A) (n : Notes) → Whole w n → (event : Event) (what : What) (read : List Bytes) (chosen : Chosen P A) → MayBe shape w event what read chosen → Owns (after_what shape w event what chosen)
-    own_what w n b (Start a job) Started read chosen h = own_starts w n b a job chosen h.1 h.2
-    own_what w n b (Step a) (Stepped next got) read chosen h = own_steps w n b a next got read chosen (slice_get w.actors a) refl h
-    own_what w n b (FaultStep a choice) (Stepped next got) read chosen h = subst (λ (g : Got). Owns (after_what shape w (FaultStep a choice) (Stepped next g) chosen)) (sym h.1) (own_faults w n b a choice next chosen (slice_get w.actors a) refl h.2)
-    own_what w n b (Stop choice) Stopped read chosen h = none_rest w.actors
-    own_what w n b (Start a job) Skipped read chosen h = b.owned
-    own_what w n b (Start a job) (Refused refusal) read chosen h = b.owned
-    own_what w n b (Step a) Skipped read chosen h = b.owned
-    own_what w n b (Step a) (Refused refusal) read chosen h = b.owned
-    own_what w n b (FaultStep a choice) Skipped read chosen h = b.owned
-    own_what w n b (FaultStep a choice) (Refused refusal) read chosen h = b.owned
-    own_what w n b (Stop choice) Skipped read chosen h = b.owned
-    own_what w n b (Stop choice) (Refused refusal) read chosen h = b.owned
-    own_what w n b (Start a job) (Stepped next got) read chosen h = b.owned
-    own_what w n b (Start a job) Stopped read chosen h = b.owned
-    own_what w n b (Step a) Started read chosen h = b.owned
-    own_what w n b (Step a) Stopped read chosen h = b.owned
-    own_what w n b (FaultStep a choice) Started read chosen h = b.owned
-    own_what w n b (FaultStep a choice) Stopped read chosen h = b.owned
-    own_what w n b (Stop choice) Started read chosen h = b.owned
-    own_what w n b (Stop choice) (Stepped next got) read chosen h = b.owned
+    keep_what : (w : State P A) (n : Notes) → Whole w n → (event : Event) (what : What) (read : List Bytes) (chosen : Chosen P A) → MayBe shape w event what read chosen → Keeps (after_what shape w event what chosen)
+    keep_what w n b (Start a job) Started read chosen h = keep_starts w n b a job chosen h.1 h.2
+    keep_what w n b (Step a) (Stepped next got) read chosen h = keep_steps w n b a next got read chosen (slice_get w.actors a) refl h
+    keep_what w n b (FaultStep a choice) (Stepped next got) read chosen h = subst (λ (g : Got). Keeps (after_what shape w (FaultStep a choice) (Stepped next g) chosen)) (sym h.1) (keep_faults w n b a choice next chosen (slice_get w.actors a) refl h.2)
+    keep_what w n b (Stop choice) Stopped read chosen h = none_rest w.actors
+    keep_what w n b (Start a job) Skipped read chosen h = b.keeping
+    keep_what w n b (Start a job) (Refused refusal) read chosen h = b.keeping
+    keep_what w n b (Step a) Skipped read chosen h = b.keeping
+    keep_what w n b (Step a) (Refused refusal) read chosen h = b.keeping
+    keep_what w n b (FaultStep a choice) Skipped read chosen h = b.keeping
+    keep_what w n b (FaultStep a choice) (Refused refusal) read chosen h = b.keeping
+    keep_what w n b (Stop choice) Skipped read chosen h = b.keeping
+    keep_what w n b (Stop choice) (Refused refusal) read chosen h = b.keeping
+    keep_what w n b (Start a job) (Stepped next got) read chosen h = b.keeping
+    keep_what w n b (Start a job) Stopped read chosen h = b.keeping
+    keep_what w n b (Step a) Started read chosen h = b.keeping
+    keep_what w n b (Step a) Stopped read chosen h = b.keeping
+    keep_what w n b (FaultStep a choice) Started read chosen h = b.keeping
+    keep_what w n b (FaultStep a choice) Stopped read chosen h = b.keeping
+    keep_what w n b (Stop choice) Started read chosen h = b.keeping
+    keep_what w n b (Stop choice) (Stepped next got) read chosen h = b.keeping
 
     -- ---- every event
 
@@ -360,7 +446,8 @@ module _ (P A : Type 0) (shape : Shape) where
           linked = links_what P A shape (shown shape (after_happening shape w h)) w n event what read h.chosen known b.used b.linked m;
           inside = inside_what P A shape w n event what read h.chosen (base_of w n b) b.inside m;
           asked = what_asked (sector_count shape) shape (shown shape (after_happening shape w h)) n event what read (b.goes.followed.notes_agree.as_many ∙ b.goes.followed.sized.sectors) b.asked;
-          owned = own_what w n b event what read h.chosen m;
+          keeping = keep_what w n b event what read h.chosen m;
+          placed = placed_what P A shape w b.used b.placed event what read h.chosen m;
         }
 
     pub whole_always : (w : State P A) (n : Notes) (hs : List (Happening P A)) → Whole w n → IsRun shape w hs → Whole (after_all shape w hs) (noted shape w n hs)

@@ -2,6 +2,7 @@
 
 ghost use Rattle.wb_runs.specs.Headline.{AllCrashConsistent, AllOpeningsShowAllowed, AllRunsAreRight};
 ghost use Rattle.wb_runs.specs.Latest.{ReadsGiveLatest};
+ghost use Rattle.wb_runs.specs.Sealed.{SealsTellPlaces};
 
 /// The whole promise. In every run from formatted metadata, over any policy: no event is skipped that applies; a read that is answered
 /// done was given each of its sectors once, and the last write to it; a write that is has entered each of its sectors once; an opening
@@ -25,4 +26,10 @@ pub fn every_crash_is_consistent<P, A>()
 /// In every run an opening that is answered done shows of each sector such an entry.
 pub fn every_opening_shows_allowed<P, A>()
     ensures { AllOpeningsShowAllowed P A }
+{}
+
+/// After every run where a target stands the seal of each block tells where the desk has it, in a cache block or on the origin; or some
+/// actor has just mapped or unmapped the block, and its next step seals it so.
+pub fn seals_tell_places<P, A>()
+    ensures { SealsTellPlaces P A }
 {}

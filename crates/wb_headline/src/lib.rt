@@ -6,4 +6,5 @@ mod law;
 
 pub use law::{
     every_crash_is_consistent, every_opening_shows_allowed, headline, reads_give_the_latest_write,
+    seals_tell_places,
 };

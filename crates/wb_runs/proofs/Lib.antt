@@ -9,7 +9,7 @@ pub mod Formatted
 pub mod MetadataRuns
 pub mod Lists
 pub mod Extents
-mod Ruling
+pub mod Ruling
 pub mod Suiting
 mod Sealing
 pub mod Ordering

@@ -21,7 +21,7 @@ use Rattle.wb_runs.proofs.Lists.{set_other, set_there, first_or}
 -- ---- orders of a block
 
 -- an order of a block names it
-of_named : (b : OBlock) (order : Order) → is_of b order ≡ true → IsNamed order b.0
+pub of_named : (b : OBlock) (order : Order) → is_of b order ≡ true → IsNamed order b.0
 of_named b (Promote x c) e = inl (grind arith)
 of_named b (Replace v x c) e = grind arith
 of_named b (Demote x) e = inl (grind arith)

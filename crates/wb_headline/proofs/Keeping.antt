@@ -1,0 +1,468 @@
+-- Where a target stands, the orders that actors have live, the seals tell where the desk has each block, and each seal that is left is right:
+-- so it stays, whoever goes on.
+use Rattle.std.proofs.Common.{if◌then◌else◌, ◌≡◌, ◌≢◌, ◌∙◌, ◌<◌, ◌==◌, ◌⊎◌, inl, inr, ℕ, zero, suc, Bool, true, false, cond, List, [], ◌∷◌, Option, Some, None, refl, sym, ap, subst, arith, length, unwrap_or, slice_get, slice_set, Contains}
+use Rattle.std.proofs.lemmas.Bool.{cases_eq}
+use Rattle.wb_types.proofs.Lists.{set_cases}
+use Rattle.wb_types.specs.declared.entry.Entry.{Entry}
+use Rattle.wb_types.specs.declared.geometry.Geometry.{Geometry}
+use Rattle.wb_types.specs.declared.number.OBlock.{OBlock}
+use Rattle.wb_types.specs.declared.number.CBlock.{CBlock}
+use Rattle.wb_types.specs.declared.refusal.Refusal.{Refusal}
+use Rattle.wb_disk.specs.Device.{Content as Bytes, History}
+use Rattle.wb_contents.proofs.Positions.{changed_same, changed_other}
+use Rattle.wb_words.specs.declared.word.Access.{Access}
+use Rattle.wb_words.specs.declared.word.Access.TheVariants.{Owned as Own}
+use Rattle.wb_words.specs.declared.word.Word.TheVariants.{Seal as SealWord}
+use Rattle.wb_words.specs.declared.card.Hold.{Hold}
+use Rattle.wb_words.specs.declared.card.Hold.TheVariants.{Nothing, Held}
+use Rattle.wb_words.specs.declared.card.Card.{Card}
+use Rattle.wb_words.specs.declared.step.CellStep.{CellStep}
+use Rattle.wb_words.specs.declared.step.CellStep.TheVariants.{Look, Take, Release, Seal, Finish, Count, SetFailed, SetSuspended}
+use Rattle.wb_words.specs.declared.word.Kind.TheVariants.{ReadHit, ReadMiss, WriteHit, WriteMiss}
+use Rattle.wb_words.specs.SharedWords.{Words, word_at, place_in, seal_word}
+use Rattle.wb_words.specs.Cards.{failing_at}
+use Rattle.wb_words.specs.Effects.{result_of, words_after, card_after}
+use Rattle.wb_words.specs.Rule.{LockRule}
+use Rattle.wb_tree.specs.Edits.{IsChangedAt}
+use Rattle.wb_policy.specs.Law.{IsMappedAt}
+use Rattle.wb_policy.specs.declared.order.Order.{Order}
+use Rattle.wb_policy.specs.declared.order.Order.TheVariants.{Demote as DemoteOrder}
+use Rattle.wb_orders.specs.Orders.{AreOrders}
+use Rattle.wb_desk.specs.Desks.{DeskState, IsLive, holdings}
+use Rattle.wb_desk.specs.Calls.{released}
+use Rattle.wb_desk.specs.Commits.{commit_ended}
+use Rattle.wb_desk.specs.Entries.{entry_of, mapped, MayMap}
+use Rattle.wb_desk.proofs.Entering.{entrance, named_inside}
+use Rattle.wb_desk.proofs.Leaving.{mapped_within}
+use Rattle.wb_stage.specs.Asking.{DidUnmap, IsGivenUp}
+use Rattle.wb_tasks.specs.Tables.{BlockJob, Reading, Writing, Migrating, OnBlock, Flushing, Opening, TaskJob, access_of, range_of}
+use Rattle.wb_tasks.specs.Plan.{Plan, want, after, after_fault, after_fault_of, after_refusal, first_step, later_steps, lets_go, got_of}
+use Rattle.wb_tasks.specs.Ready.{Has, MayTake, Suits, SuitsJob, IsOwnStep, IsJobs, block_of}
+use Rattle.wb_tasks.proofs.Readiness.{is_own_step, is_ready}
+use Rattle.wb_tasks.specs.declared.step.Answer.{Answer}
+use Rattle.wb_tasks.specs.declared.step.DeviceStep.{DeviceStep}
+use Rattle.wb_tasks.specs.declared.step.DeviceStep.TheVariants.{Read as ReadExtent, Write as WriteExtent, Sync, ReadMetadata, WriteNode, WriteRoot}
+use Rattle.wb_tasks.specs.declared.step.DeskStep.{DeskStep}
+use Rattle.wb_tasks.specs.declared.step.DeskStep.TheVariants.{Map, Unmap, ReleaseOrder, BeginCommit, EndCommit}
+use Rattle.wb_tasks.specs.declared.step.Migration.{Migration}
+use Rattle.wb_tasks.specs.declared.step.Migration.TheVariants.{Promote, Demote}
+use Rattle.wb_tasks.specs.declared.step.Want.{Want}
+use Rattle.wb_tasks.specs.declared.step.Want.TheVariants.{Cell, Device, Desk, End}
+use Rattle.wb_tasks.specs.declared.step.Got.{Got}
+use Rattle.wb_tasks.specs.declared.step.Got.TheVariants.{Done, Fault, Began, Refused as GotRefused}
+use Rattle.wb_devices.specs.declared.devices.Devices.{Devices}
+use Rattle.wb_devices.specs.declared.running.RunningCommit.{RunningCommit}
+use Rattle.wb_runs.specs.declared.job.Job.{Job}
+use Rattle.wb_runs.specs.declared.job.Job.TheVariants.{Read, Write, Flush, Open, Migrate}
+use Rattle.wb_runs.specs.States.{Shape, Actor, Target, Phase, Stands, Gone, Opens}
+use Rattle.wb_runs.specs.Happenings.{Chosen, Plain, Asks, Commits, Gives, DoesBegin, DoesMap, DoesUnmap, DoesRelease, order_for}
+use Rattle.wb_runs.specs.Effects.{actor_then, dropped, begun_desk}
+use Rattle.wb_runs.specs.Clerk.{Notes}
+use Rattle.wb_runs.specs.Headline.{place_of}
+use Rattle.wb_runs.specs.Holding.{cards_of, AllSuited, TaskSuits}
+use Rattle.wb_runs.specs.Sealed.{SealsNext, SomebodySeals, Tells, number_of}
+use Rattle.wb_runs.proofs.Images.{Images}
+use Rattle.wb_runs.proofs.Lists.{set_other, set_there}
+use Rattle.wb_runs.proofs.Metadata.{MetadataKept, unknowing}
+use Rattle.wb_runs.proofs.Owning.{Owned, owned_same}
+use Rattle.wb_simulation.specs.Actors.{IsDoing, IsRequestAt}
+use Rattle.wb_simulation.specs.Opened.{located}
+use Rattle.wb_simulation.specs.Steps.{AreOfBlock}
+use Rattle.wb_simulation.proofs.Followed.{begins_by, doing_of}
+use Rattle.wb_simulation.proofs.Migrations.{migrations_followed}
+use Rattle.wb_headline.specs.Desks.{live_orders}
+use Rattle.wb_headline.proofs.Allowed.{there}
+use Rattle.wb_headline.proofs.Carried.{carried}
+use Rattle.wb_headline.proofs.Desking.{located_entered, located_left}
+use Rattle.wb_headline.proofs.Following.{size, most, Followed}
+use Rattle.wb_headline.proofs.Owned.{are_owned, has_gone, over, taken_there}
+use Rattle.wb_headline.proofs.Seeing.{named, stands_alone, unmapped_there}
+use Rattle.wb_headline.proofs.Targets.{standing, actor_is, beside}
+use Rattle.wb_headline.proofs.Telling.{IsSealed, SealsRight, RightWhere, lets_go_right, on_words, owned_alone}
+
+-- ---- a target
+
+abbrev pub TaskRight : List (Option Entry) → Card → Option (Job × Plan) → Type 0
+TaskRight entries card None = Unit {0}
+TaskRight entries card (Some doing) = RightWhere (place_of entries) card doing.1.steps
+
+pub record KeepingAt {P : Type 0} (t : Target P) (actors : List Actor) : Type 0 where
+  pub owned : Owned t.desk actors
+  pub tells : (block : OBlock) → Tells t.words t.desk.tree.entries actors block
+  pub right : (a : ℕ) (x : Actor) → slice_get actors a ≡ Some x → TaskRight t.desk.tree.entries x.card x.task
+
+abbrev pub NoOrders : List Actor → Type 0
+NoOrders actors = (a : ℕ) (x : Actor) → slice_get actors a ≡ Some x → x.orders ≡ []
+
+abbrev pub Keeping : {P A : Type 0} → Phase P A → List Actor → Type 0
+Keeping (Stands t) actors = KeepingAt t actors
+Keeping Gone actors = NoOrders actors
+Keeping (Opens mode reading) actors = NoOrders actors
+
+-- what is left of whoever holds a block is right wherever the desk has it as before
+same_right : (old new : List (Option Entry)) (card : Card) (task : Option (Job × Plan)) → ((access : Access) (b : OBlock) → card.hold ≡ Held access b → place_of new b.0 ≡ place_of old b.0) → TaskRight old card task → TaskRight new card task
+same_right old new card None same r = tt
+same_right old new card (Some doing) same r = λ access b h. subst (λ (o : Option ℕ). SealsRight o doing.1.steps) (sym (same access b h)) (r access b h)
+
+-- the next step seals so
+sealed_next : (b : OBlock) (place : Option CBlock) (ws : List Want) (answer : Answer) → IsSealed b place ws → (dirty : Bool) × (first_step ws answer ≡ Cell (Seal b place dirty))
+sealed_next b place (Cell (Seal o at dirty) ∷ ws) answer i = (dirty, ap (λ (v : OBlock). Cell (Seal v at dirty)) i.0 ∙ ap (λ (v : Option CBlock). Cell (Seal b v dirty)) i.1)
+sealed_next b place [] answer i = absurd i
+sealed_next b place (Cell (Look w) ∷ ws) answer i = absurd i
+sealed_next b place (Cell (Take access o seen) ∷ ws) answer i = absurd i
+sealed_next b place (Cell (Release access o) ∷ ws) answer i = absurd i
+sealed_next b place (Cell (Finish o) ∷ ws) answer i = absurd i
+sealed_next b place (Cell (Count kind) ∷ ws) answer i = absurd i
+sealed_next b place (Cell SetFailed ∷ ws) answer i = absurd i
+sealed_next b place (Cell SetSuspended ∷ ws) answer i = absurd i
+sealed_next b place (Device step ∷ ws) answer i = absurd i
+sealed_next b place (Desk step ∷ ws) answer i = absurd i
+sealed_next b place (End a ∷ ws) answer i = absurd i
+
+-- seals after a step that seals nothing
+seals_same : (words : Words) (step : CellStep) → ((b : OBlock) (place : Option CBlock) (dirty : Bool) → step ≢ Seal b place dirty) → (words_after words step).seals ≡ words.seals
+seals_same words (Look word) n = refl
+seals_same words (Take access block seen) n = by_test (word_at words.cells block == seen)
+  where
+    by_test : (t : Bool) → (if t then Rattle.wb_words.specs.SharedWords.with_cell words block (Rattle.wb_words.specs.SharedWords.taken access seen) else words).seals ≡ words.seals
+    by_test true = refl
+    by_test false = refl
+seals_same words (Release access block) n = refl
+seals_same words (Seal block place dirty) n = absurd (n block place dirty refl)
+seals_same words (Finish block) n = refl
+seals_same words (Count ReadHit) n = refl
+seals_same words (Count ReadMiss) n = refl
+seals_same words (Count WriteHit) n = refl
+seals_same words (Count WriteMiss) n = refl
+seals_same words SetFailed n = refl
+seals_same words SetSuspended n = refl
+
+module _ (P A : Type 0) (shape : Shape) (images : Images) (t : Target P) (commit : Option RunningCommit) (devices : Devices (List History)) (actors : List Actor) (n : Notes) (known : MetadataKept {P = P} {A = A} shape.geometry images (Stands t) commit devices.metadata)
+    (f : Followed P A shape images (standing P A shape images t commit devices actors n) n) (rule : LockRule shape.geometry.origin_blocks t.words (cards_of actors)) (all_suited : AllSuited shape.geometry.origin_blocks actors) (k : KeepingAt t actors) (a : ℕ) (x : Actor) (ex : slice_get actors a ≡ Some x) where
+  -- whoever is to seal a block owns it
+  pub sealing_owns : (c : ℕ) (z : Actor) → slice_get actors c ≡ Some z → (b : OBlock) (place : Option CBlock) → SealsNext b place z.task → (b.0 < shape.geometry.origin_blocks) × (z.card.hold ≡ Held Own b)
+  sealing_owns c z ez b place s = by_task z.task (all_suited c z ez) s
+    where
+      by_task : (task : Option (Job × Plan)) → TaskSuits shape.geometry.origin_blocks z.card task → SealsNext b place task → (b.0 < shape.geometry.origin_blocks) × (z.card.hold ≡ Held Own b)
+      by_task None suits s = absurd s
+      by_task (Some doing) suits s = subst (λ (v : Want). MayTake shape.geometry.origin_blocks z.card v) s.1 (is_ready shape.geometry.origin_blocks doing.1 z.card suits)
+
+  abbrev Untold : Target P → OBlock → Type 0
+  Untold t' b = (word_at t'.words.seals b ≡ word_at t.words.seals b) × (place_of t'.desk.tree.entries b.0 ≡ place_of t.desk.tree.entries b.0) × ((place : Option CBlock) → SealsNext b place x.task → ⊥)
+
+  -- who goes on keeps what is kept
+  pub going : (t' : Target P) (y : Actor) → Owned t'.desk (slice_set actors a y) → ((c : ℕ) (z : Actor) → c ≢ a → slice_get actors c ≡ Some z → (access : Access) (b : OBlock) → z.card.hold ≡ Held access b → place_of t'.desk.tree.entries b.0 ≡ place_of t.desk.tree.entries b.0) →
+      ((b : OBlock) → Untold t' b ⊎ Tells t'.words t'.desk.tree.entries (slice_set actors a y) b) → TaskRight t'.desk.tree.entries y.card y.task → KeepingAt t' (slice_set actors a y)
+  going t' y owned others tells mine = record {
+    owned = owned;
+    tells = λ b. elim (tells b) [ inl same ↦ by_told b same (k.tells b) | inr told ↦ told ];
+    right = λ c z e. elim (set_cases actors a c y z e) [
+      | inl i ↦ subst (λ (v : Actor). TaskRight t'.desk.tree.entries v.card v.task) (sym i.1) mine
+      | inr o ↦ same_right t.desk.tree.entries t'.desk.tree.entries z.card z.task (others c z o.0 o.1) (k.right c z o.1)
+    ];
+  }
+    where
+      by_told : (b : OBlock) → Untold t' b → Tells t.words t.desk.tree.entries actors b → Tells t'.words t'.desk.tree.entries (slice_set actors a y) b
+      by_told b same (inl e) = inl (ap (λ (v : ℕ). number_of (place_in v)) same.0 ∙ e ∙ sym same.1)
+      by_told b same (inr (place, at, (c, (z, ez, s)))) = elim (cases_eq c a) [
+        | inl here ↦ absurd (
+            let both : Some z ≡ Some x = sym ez ∙ ap (slice_get actors) here ∙ ex in
+            let is : z ≡ x = cc in same.2 place (subst (λ (v : Actor). SealsNext b place v.task) is s))
+        | inr away ↦ inr (place, at ∙ sym same.1, (c, (z, set_other actors a c y away ∙ ez, s)))
+      ]
+
+  -- where it seals nothing next, and neither words nor places change
+  pub plainly : (t' : Target P) (y : Actor) → t'.words.seals ≡ t.words.seals → ((b : ℕ) → place_of t'.desk.tree.entries b ≡ place_of t.desk.tree.entries b) → ((b : OBlock) (place : Option CBlock) → SealsNext b place x.task → ⊥) → Owned t'.desk (slice_set actors a y) → TaskRight t'.desk.tree.entries y.card y.task → KeepingAt t' (slice_set actors a y)
+  plainly t' y seals places not owned mine = going t' y owned (λ c z n e access b h. places b.0) (λ b. inl (ap (λ (s : List ℕ). word_at s b) seals, places b.0, not b)) mine
+
+  module _ (job : Job) (plan : Plan) (xt : x.task ≡ Some (job, plan)) where
+    pub suits : Suits shape.geometry.origin_blocks plan x.card
+    suits = subst (λ (o : Option (Job × Plan)). TaskSuits shape.geometry.origin_blocks x.card o) xt (all_suited a x ex)
+
+    right : RightWhere (place_of t.desk.tree.entries) x.card plan.steps
+    right = subst (λ (o : Option (Job × Plan)). TaskRight t.desk.tree.entries x.card o) xt (k.right a x ex)
+
+    pub own : (q : TaskJob) (next : Want) → plan.job ≡ q → next ≡ want plan → IsOwnStep q next
+    own q next j e = subst (λ (v : Want). IsOwnStep q v) (sym e) (subst (λ (r : TaskJob). IsOwnStep r (want plan)) j (is_own_step shape.geometry.origin_blocks plan x.card suits))
+
+    pub ready : (next : Want) → next ≡ want plan → MayTake shape.geometry.origin_blocks x.card next
+    ready next e = subst (λ (v : Want). MayTake shape.geometry.origin_blocks x.card v) (sym e) (is_ready shape.geometry.origin_blocks plan x.card suits)
+
+    not_sealing : (next : Want) → next ≡ want plan → ((b : OBlock) (place : Option CBlock) (dirty : Bool) → next ≢ Cell (Seal b place dirty)) → (b : OBlock) (place : Option CBlock) → SealsNext b place x.task → ⊥
+    not_sealing next e not b place s = let q = subst (λ (o : Option (Job × Plan)). SealsNext b place o) xt s in not b place q.0 (e ∙ q.1)
+
+    pub holds_none : (card : Card) (steps : List Want) (places : ℕ → Option ℕ) → card.hold ≡ Nothing → RightWhere places card steps
+    holds_none card steps places none access b h = absurd (let bad : Nothing ≡ Held access b = sym none ∙ h in cc)
+
+    -- what it is then
+    abbrev y : Want → Got → Actor
+    y next got = actor_then {P = P} {A = A} shape (Stands t) devices x next got
+
+    -- after a step that leaves its task
+    mine : (entries : List (Option Entry)) (next : Want) (got : Got) → (task : Option (Job × Plan)) → Rattle.wb_runs.specs.Effects.task_then (Some (job, plan)) next got ≡ task → TaskRight entries (y next got).card task → TaskRight entries (y next got).card (y next got).task
+    mine entries next got task e r = subst (λ (o : Option (Job × Plan)). TaskRight entries (y next got).card (Rattle.wb_runs.specs.Effects.task_then o next got)) (sym xt) (subst (λ (o : Option (Job × Plan)). TaskRight entries (y next got).card o) (sym e) r)
+
+    -- ---- on the words
+
+    module _ (step : CellStep) (e : Cell step ≡ want plan) where
+      abbrev first : (ws : List Want) × (plan.steps ≡ Cell step ∷ ws)
+      first = begins_by plan (Cell step) (sym e) (λ v q. absurd (cc))
+
+      -- a seal that it looks at tells
+      sees : (j : BlockJob) → Has j x.card (Cell step ∷ first.0) → (b : OBlock) → step ≡ Look (SealWord b) → number_of (place_in (word_at t.words.seals b)) ≡ place_of t.desk.tree.entries b.0
+      sees j has b is = by (k.tells b)
+        where
+          has_it : (x.card.hold ≡ Held (access_of j) (block_of j)) × (b ≡ block_of j)
+          has_it = subst (λ (s : CellStep). Has j x.card (Cell s ∷ first.0)) is has
+
+          by : Tells t.words t.desk.tree.entries actors b → number_of (place_in (word_at t.words.seals b)) ≡ place_of t.desk.tree.entries b.0
+          by (inl told) = told
+          by (inr (place, at, (c, (z, ez, s)))) = absurd (elim (cases_eq c a) [
+            | inl here ↦ (
+                let both : Some z ≡ Some x = sym ez ∙ ap (slice_get actors) here ∙ ex in
+                let same : z ≡ x = cc in
+                not_sealing (Cell step) e (λ o p d q. absurd (let bad : Cell (Look (SealWord b)) ≡ Cell (Seal o p d) = ap (λ (v : CellStep). Cell v) (sym is) ∙ q in cc)) b place (subst (λ (v : Actor). SealsNext b place v.task) same s))
+            | inr away ↦ (
+                let z_owns = sealing_owns c z ez b place s in
+                owned_alone shape.geometry.origin_blocks t.words actors rule c a z x ez ex (λ q. away (sym q)) b z_owns.0 z_owns.1 (access_of j) (has_it.0 ∙ ap (λ (o : OBlock). Held (access_of j) o) (sym has_it.1)))
+          ])
+
+      after_words : RightWhere (place_of t.desk.tree.entries) (card_after t.words step x.card) (after plan (got_of (result_of t.words step))).steps
+      after_words = by plan.job refl
+        where
+          idle : (card : Card) → card.hold ≡ Nothing → (card_after t.words step x.card).hold ≡ Nothing → RightWhere (place_of t.desk.tree.entries) (card_after t.words step x.card) (after plan (got_of (result_of t.words step))).steps
+          idle card h none = holds_none (card_after t.words step x.card) (after plan (got_of (result_of t.words step))).steps (place_of t.desk.tree.entries) none
+
+          of_flush : (s : CellStep) (serves : List OBlock) (m : ℕ) → IsOwnStep (Flushing serves m) (Cell s) → x.card.hold ≡ Nothing → (card_after t.words s x.card).hold ≡ Nothing
+          of_flush (Look Rattle.wb_words.specs.declared.word.Word.TheVariants.Fail) serves m o h = h
+          of_flush SetFailed serves m o h = ap (λ (v : Hold). (failing_at v x.card).hold) h ∙ h
+          of_flush s serves m o h = absurd o
+
+          by : (q : TaskJob) → plan.job ≡ q → RightWhere (place_of t.desk.tree.entries) (card_after t.words step x.card) (after plan (got_of (result_of t.words step))).steps
+          by (OnBlock j) is =
+              let same : plan ≡ record { job = OnBlock j; steps = Cell step ∷ first.0; answer = plan.answer } = (λ i. record { job = is i; steps = first.1 i; answer = plan.answer }) in
+              let has = subst (λ (us : List Want). Has j x.card us) first.1 (subst (λ (q : TaskJob). SuitsJob shape.geometry.origin_blocks q x.card plan.steps) is suits).1 in
+              subst (λ (q : Plan). RightWhere (place_of t.desk.tree.entries) (card_after t.words step x.card) (after q (got_of (result_of t.words step))).steps) (sym same)
+              (on_words (place_of t.desk.tree.entries) j t.words x.card plan.answer step first.0 has (sees j has) (subst (λ (us : List Want). RightWhere (place_of t.desk.tree.entries) x.card us) first.1 right))
+          by (Flushing serves m) is =
+              let none = (subst (λ (q : TaskJob). SuitsJob shape.geometry.origin_blocks q x.card plan.steps) is suits).0 in
+              idle x.card none (of_flush step serves m (own (Flushing serves m) (Cell step) is e) none)
+          by (Opening left) is = absurd (own (Opening left) (Cell step) is e)
+
+      -- what it seals is told by the seal
+      seal_told : (b : OBlock) (place : Option CBlock) (dirty : Bool) → step ≡ Seal b place dirty → place_in (seal_word place dirty) ≡ place
+      seal_told b place dirty is = by_job job xt
+        where
+          of_it : (block : ℕ) → AreOfBlock (size P A shape) block plan.steps → place_in (seal_word place dirty) ≡ place
+          of_it block all = (subst (λ (s : CellStep). AreOfBlock (size P A shape) block (Cell s ∷ first.0)) is (subst (λ (us : List Want). AreOfBlock (size P A shape) block us) first.1 all)).0
+
+          z : (v : Rattle.wb_link.specs.World.Actor) × (slice_get f.site.world.actors a ≡ Some v)
+          z = beside P A shape images t commit devices actors n known f a x ex
+
+          doing : (j : Job) → x.task ≡ Some (j, plan) → IsDoing (size P A shape) (most P A shape) t.words j plan x.card z.0
+          doing j jt = doing_of (size P A shape) (most P A shape) t.words x z.0 j plan (f.phase.agrees.each a x z.0 ex z.1) jt
+
+          is_seal : Cell (Seal b place dirty) ≡ want plan
+          is_seal = ap (λ (s : CellStep). Cell s) (sym is) ∙ e
+
+          by_job : (j : Job) → x.task ≡ Some (j, plan) → place_in (seal_word place dirty) ≡ place
+          by_job (Read extent) jt = of_it (doing (Read extent) jt).part.block.0 (doing (Read extent) jt).of_block
+          by_job (Write extent content) jt = of_it (doing (Write extent content) jt).part.block.0 (doing (Write extent content) jt).of_block
+          by_job Flush jt = absurd (own (Flushing [] (most P A shape)) (Cell (Seal b place dirty)) (doing Flush jt).job is_seal)
+          by_job (Open mode) jt = absurd (doing (Open mode) jt)
+          by_job (Migrate m block) jt =
+              let c = carried (size P A shape) (most P A shape) shape.geometry.origin_blocks t.words t.desk.space.committing (live_orders t.desk) devices actors f.site.world f.phase.agrees a x m block plan ex jt suits (Cell (Seal b place dirty)) is_seal (λ v q. absurd (cc)) (λ ws o. o) in
+              of_it c.part.block.0 c.of_block
+
+      abbrev t_words : Target P
+      t_words = record { words = words_after t.words step; desk = t.desk }
+
+      -- by whether it seals
+      abbrev Told : CellStep → Type 0
+      Told s = (b : OBlock) → Untold (record { words = words_after t.words s; desk = t.desk }) b ⊎ Tells (words_after t.words s) t.desk.tree.entries (slice_set actors a (y (Cell step) (got_of (result_of t.words step)))) b
+
+      not_by : ((b : OBlock) (place : Option CBlock) (dirty : Bool) → step ≢ Seal b place dirty) → Told step
+      not_by not b = inl (ap (λ (s : List ℕ). word_at s b) (seals_same t.words step not), refl, not_sealing (Cell step) e (λ o p d q. not o p d (let same : Cell step ≡ Cell (Seal o p d) = q in cc)) b)
+
+      by_seal : (o : OBlock) (place : Option CBlock) (dirty : Bool) → step ≡ Seal o place dirty → Told (Seal o place dirty)
+      by_seal o place dirty is b =
+          let is_next : Cell (Seal o place dirty) ≡ want plan = ap (λ (s : CellStep). Cell s) (sym is) ∙ e in
+          let mine = ready (Cell (Seal o place dirty)) is_next in
+          let many = rule.seals_are in
+          elim (cases_eq b.0 o.0) [
+            | inl same ↦ (
+                let found = there t.words.seals o.0 (let l = mine.0 in omega (arith, l, many)) in
+                let put : slice_get (slice_set t.words.seals o.0 (seal_word place dirty)) b.0 ≡ Some (seal_word place dirty) = ap (λ (i : ℕ). slice_get (slice_set t.words.seals o.0 (seal_word place dirty)) i) same ∙ set_there t.words.seals o.0 found.0 (seal_word place dirty) found.1 in
+                let is_right : number_of place ≡ place_of t.desk.tree.entries o.0 = (subst (λ (s : CellStep). SealsRight (place_of t.desk.tree.entries o.0) (Cell s ∷ first.0)) is (subst (λ (us : List Want). SealsRight (place_of t.desk.tree.entries o.0) us) first.1 (right Own o mine.1))).0 in
+                inr (inl (ap (λ (v : Option ℕ). number_of (place_in (unwrap_or v 0))) put ∙ ap number_of (seal_told o place dirty is) ∙ is_right ∙ ap (place_of t.desk.tree.entries) (sym same))))
+            | inr other ↦ inl (
+              ap (λ (v : Option ℕ). unwrap_or v 0) (set_other t.words.seals o.0 b.0 (seal_word place dirty) other),
+              refl,
+              λ p sealed. (
+                  let q = subst (λ (task : Option (Job × Plan)). SealsNext b p task) xt sealed in
+                  let both : Cell (Seal o place dirty) ≡ Cell (Seal b p q.0) = is_next ∙ q.1 in
+                  let same : o ≡ b = cc in other (ap (λ (v : OBlock). v.0) (sym same))),
+            )
+          ]
+
+      told : Told step
+      told = by step refl
+        where
+          by : (s : CellStep) → step ≡ s → Told s
+          by (Seal o place dirty) is = by_seal o place dirty is
+          by (Look w) is = subst Told is (not_by (λ o p d q. absurd (let bad : Look w ≡ Seal o p d = sym is ∙ q in cc)))
+          by (Take access o seen) is = subst Told is (not_by (λ b p d q. absurd (let bad : Take access o seen ≡ Seal b p d = sym is ∙ q in cc)))
+          by (Release access o) is = subst Told is (not_by (λ b p d q. absurd (let bad : Release access o ≡ Seal b p d = sym is ∙ q in cc)))
+          by (Finish o) is = subst Told is (not_by (λ b p d q. absurd (let bad : Finish o ≡ Seal b p d = sym is ∙ q in cc)))
+          by (Count kind) is = subst Told is (not_by (λ b p d q. absurd (let bad : Count kind ≡ Seal b p d = sym is ∙ q in cc)))
+          by SetFailed is = subst Told is (not_by (λ b p d q. absurd (let bad : SetFailed ≡ Seal b p d = sym is ∙ q in cc)))
+          by SetSuspended is = subst Told is (not_by (λ b p d q. absurd (let bad : SetSuspended ≡ Seal b p d = sym is ∙ q in cc)))
+
+      pub cell_keeps : KeepingAt (record { words = words_after t.words step; desk = t.desk }) (slice_set actors a (y (Cell step) (got_of (result_of t.words step))))
+      cell_keeps =
+          let got = got_of (result_of t.words step) in
+          going t_words (y (Cell step) got) (owned_same P t.desk actors a x (y (Cell step) got) ex k.owned t.desk refl refl) (λ c z m ez access b h. refl) told
+          (mine t.desk.tree.entries (Cell step) got (Some (job, after plan got)) refl after_words)
+
+    -- ---- on a device
+
+    module _ (step : DeviceStep) (e : Device step ≡ want plan) (got : Got) (gave : (j : BlockJob) → plan.job ≡ OnBlock j → (got ≡ Done) ⊎ (got ≡ Fault)) where
+      after_device : RightWhere (place_of t.desk.tree.entries) x.card (after plan got).steps
+      after_device = by plan.job refl
+        where
+          first : (ws : List Want) × (plan.steps ≡ Device step ∷ ws)
+          first = begins_by plan (Device step) (sym e) (λ v q. absurd (cc))
+
+          failed : (j : BlockJob) (s : DeviceStep) (here : Option ℕ) → IsJobs j s → SealsRight here (after_fault_of (OnBlock j) s)
+          failed j (ReadExtent d ext) here i = lets_go_right here j (access_of j) (range_of j).block
+          failed j (WriteExtent d ext) here i = tt
+          failed (Reading part) s here i = absurd i
+          failed (Writing part) s here i = absurd i
+          failed (Migrating m part) s here i = absurd i
+
+          of_block : (j : BlockJob) → plan.job ≡ OnBlock j → (got ≡ Done) ⊎ (got ≡ Fault) → RightWhere (place_of t.desk.tree.entries) x.card (after plan got).steps
+          of_block j is (inl done) access b h = subst (λ (g : Got). SealsRight (place_of t.desk.tree.entries b.0) (after plan g).steps) (sym done)
+              (subst (λ (us : List Want). SealsRight (place_of t.desk.tree.entries b.0) (later_steps us)) (sym first.1) (subst (λ (us : List Want). SealsRight (place_of t.desk.tree.entries b.0) us) first.1 (right access b h)))
+          of_block j is (inr fault) access b h = subst (λ (g : Got). SealsRight (place_of t.desk.tree.entries b.0) (after plan g).steps) (sym fault)
+              (subst (λ (v : Want). SealsRight (place_of t.desk.tree.entries b.0) (after_fault plan v).steps) e
+              (subst (λ (q : TaskJob). SealsRight (place_of t.desk.tree.entries b.0) (after_fault_of q step)) (sym is) (failed j step (place_of t.desk.tree.entries b.0) (own (OnBlock j) (Device step) is e))))
+
+          by : (q : TaskJob) → plan.job ≡ q → RightWhere (place_of t.desk.tree.entries) x.card (after plan got).steps
+          by (OnBlock j) is = of_block j is (gave j is)
+          by (Flushing serves m) is = holds_none x.card (after plan got).steps (place_of t.desk.tree.entries) (subst (λ (q : TaskJob). SuitsJob shape.geometry.origin_blocks q x.card plan.steps) is suits).0
+          by (Opening left) is = holds_none x.card (after plan got).steps (place_of t.desk.tree.entries) (subst (λ (q : TaskJob). SuitsJob shape.geometry.origin_blocks q x.card plan.steps) is suits).0
+
+      pub device_keeps : KeepingAt t (slice_set actors a (y (Device step) got))
+      device_keeps = plainly t (y (Device step) got) refl (λ b. refl) (not_sealing (Device step) e (λ b p d q. absurd (cc))) (owned_same P t.desk actors a x (y (Device step) got) ex k.owned t.desk refl refl)
+          (mine t.desk.tree.entries (Device step) got (Some (job, after plan got)) refl after_device)
+
+    -- ---- its answer
+
+    pub answer_keeps : (answer : Answer) (got : Got) → End answer ≡ want plan → KeepingAt t (slice_set actors a (y (End answer) got))
+    answer_keeps answer got e = plainly t (y (End answer) got) refl (λ b. refl) (not_sealing (End answer) e (λ b p d q. absurd (cc))) (owned_same P t.desk actors a x (y (End answer) got) ex k.owned t.desk refl refl)
+        (mine t.desk.tree.entries (End answer) got None refl tt)
+
+    -- ---- at the desk
+
+    -- where it is asked of who holds nothing, and the entries stay
+    pub desk_plain : (step : DeskStep) (got : Got) (desk' : DeskState P) → Desk step ≡ want plan → x.card.hold ≡ Nothing → ((b : ℕ) → place_of desk'.tree.entries b ≡ place_of t.desk.tree.entries b) → Owned desk' (slice_set actors a (y (Desk step) got)) → KeepingAt (record { words = t.words; desk = desk' }) (slice_set actors a (y (Desk step) got))
+    desk_plain step got desk' e none places owned = plainly (record { words = t.words; desk = desk' }) (y (Desk step) got) refl places (not_sealing (Desk step) e (λ b p d q. absurd (cc))) owned
+        (mine desk'.tree.entries (Desk step) got (Some (job, after plan got)) refl (holds_none x.card (after plan got).steps (place_of desk'.tree.entries) none))
+
+    -- A block that is mapped or unmapped is sealed so next.
+    module _ (step : DeskStep) (e : Desk step ≡ want plan) (b : OBlock) (place : Option CBlock) (desk' : DeskState P) (inside : b.0 < shape.geometry.origin_blocks) (holds : x.card.hold ≡ Held Own b) (here : number_of place ≡ place_of desk'.tree.entries b.0) (elsewhere : (i : ℕ) → i ≢ b.0 → place_of desk'.tree.entries i ≡ place_of t.desk.tree.entries i)
+        (sealed : (answer : Answer) → (dirty : Bool) × (first_step (after plan Done).steps answer ≡ Cell (Seal b place dirty))) (still : SealsRight (place_of desk'.tree.entries b.0) (after plan Done).steps) (owned : Owned desk' (slice_set actors a (y (Desk step) Done))) where
+      moved : KeepingAt (record { words = t.words; desk = desk' }) (slice_set actors a (y (Desk step) Done))
+      moved = going (record { words = t.words; desk = desk' }) (y (Desk step) Done) owned
+          (λ c z away ez access o h. elsewhere o.0 (λ same. owned_alone shape.geometry.origin_blocks t.words actors rule a c x z ex ez away b inside holds access (h ∙ (λ i. Held access (record { 0 = same i })))))
+          tells
+          (mine desk'.tree.entries (Desk step) Done (Some (job, after plan Done)) refl now)
+        where
+          now : RightWhere (place_of desk'.tree.entries) x.card (after plan Done).steps
+          now access o h =
+              let both : Held Own b ≡ Held access o = sym holds ∙ h in
+              let same : b ≡ o = cc in
+              subst (λ (v : OBlock). SealsRight (place_of desk'.tree.entries v.0) (after plan Done).steps) same still
+
+          task_is : (y (Desk step) Done).task ≡ Some (job, after plan Done)
+          task_is = ap (λ (o : Option (Job × Plan)). Rattle.wb_runs.specs.Effects.task_then o (Desk step) Done) xt
+
+          tells : (o : OBlock) → Untold (record { words = t.words; desk = desk' }) o ⊎ Tells t.words desk'.tree.entries (slice_set actors a (y (Desk step) Done)) o
+          tells o = elim (cases_eq o.0 b.0) [
+            | inl same ↦ inr (inr (
+              place,
+              here ∙ ap (place_of desk'.tree.entries) (sym same),
+              (a, (y (Desk step) Done, set_there actors a x (y (Desk step) Done) ex, subst (λ (task : Option (Job × Plan)). SealsNext o place task) (sym task_is) (let s = sealed plan.answer in (s.0, s.1 ∙ (λ i. Cell (Seal (record { 0 = sym same i }) place s.0)))))),
+            ))
+            | inr other ↦ inl (refl, elsewhere o.0 other, not_sealing (Desk step) e (λ v p d q. absurd (cc)) o)
+          ]
+
+  module _ (m : Migration) (block : OBlock) (plan : Plan) (xt : x.task ≡ Some (Migrate m block, plan)) where
+    abbrev job : Job
+    job = Migrate m block
+
+    are : AreOrders t.desk.orders
+    are = known.is.orders
+
+    its : Suits shape.geometry.origin_blocks plan x.card
+    its = suits job plan xt
+
+    pub map_keeps : (bl : OBlock) (c : CBlock) (new : DeskState P) → Desk (Map bl c) ≡ want plan → MayMap t.desk bl c → IsChangedAt t.desk.tree new.tree c.0 (Some (entry_of bl)) → new ≡ mapped t.desk c new.tree new.policy → KeepingAt (record { words = t.words; desk = new }) (slice_set actors a (y job plan xt (Desk (Map bl c)) Done))
+    map_keeps bl c new e may changed is =
+        let law = migrations_followed.maps (size P A shape) (most P A shape) shape.geometry.origin_blocks t.words t.desk.space.committing (live_orders t.desk) devices actors a x m block bl c plan f.site.world (are_owned P t.desk actors are k.owned) ex xt its (sym e) f.phase.agrees in
+        let en = entrance unknowing t.desk bl c known.is.kept may in
+        let holds : x.card.hold ≡ Held Own bl = ready job plan xt (Desk (Map bl c)) e in
+        let less = en.inside in
+        let size_is = known.is.kept.mapping.size in
+        let entered = located_entered t.desk.tree.entries c.0 (entry_of bl) (omega (arith, less, size_is)) (unmapped_there P t.desk known.is.kept bl.0 en.unmapped) en.none in
+        let here : Some c.0 ≡ place_of new.tree.entries bl.0 = sym (changed_same (located t.desk.tree.entries) bl.0 (Some c.0)) ∙ entered bl.0 ∙ ap (λ (es : List (Option Entry)). place_of es bl.0) (sym changed.entries) in
+        let first = begins_by plan (Desk (Map bl c)) (sym e) (λ v q. absurd (cc)) in
+        let r : IsSealed bl (Some c) first.0 × SealsRight (Some c.0) first.0 = subst (λ (us : List Want). SealsRight (place_of t.desk.tree.entries bl.0) us) first.1 (right job plan xt Own bl holds) in
+        let inside = named_inside unknowing t.desk c.0 bl.0 en.live known.is.kept are en.there en.named in
+        moved job plan xt (Map bl c) e bl (Some c) new (subst (λ (g : Geometry). bl.0 < g.origin_blocks) known.is.geometry inside) holds here
+        (λ i not. ap (λ (es : List (Option Entry)). place_of es i) changed.entries ∙ sym (entered i) ∙ changed_other (located t.desk.tree.entries) bl.0 i (Some c.0) not)
+        (λ answer. subst (λ (us : List Want). (dirty : Bool) × (first_step (later_steps us) answer ≡ Cell (Seal bl (Some c) dirty))) (sym first.1) (sealed_next bl (Some c) first.0 answer r.0))
+        (subst (λ (o : Option ℕ). SealsRight o (after plan Done).steps) here (subst (λ (us : List Want). SealsRight (Some c.0) (later_steps us)) (sym first.1) r.1))
+        (over P t.desk actors are k.owned a x ex (Promote c) block c.0 law.2.live law.2.mine bl law.1 new (ap (λ (d : DeskState P). d.orders.slots) is) (y job plan xt (Desk (Map bl c)) Done) refl)
+
+    pub unmap_keeps : (bl : OBlock) (new : DeskState P) → Desk (Unmap bl) ≡ want plan → DidUnmap (λ policy o. new.policy) bl t.desk new → KeepingAt (record { words = t.words; desk = new }) (slice_set actors a (y job plan xt (Desk (Unmap bl)) Done))
+    unmap_keeps bl new e did =
+        let law = migrations_followed.unmaps (size P A shape) (most P A shape) shape.geometry.origin_blocks t.words t.desk.space.committing (live_orders t.desk) devices actors a x m block bl plan f.site.world (are_owned P t.desk actors are k.owned) ex xt its (sym e) f.phase.agrees in
+        let c = law.2.0 in
+        let at = named P t.desk known.is.kept c (DemoteOrder block) law.2.1.live in
+        let at_bl : IsMappedAt (holdings t.desk) bl.0 c = subst (λ (o : OBlock). IsMappedAt (holdings t.desk) o.0 c) (sym law.1) at in
+        let l = taken_there P t.desk actors are k.owned a x ex Demote block c law.2.1.live law.2.1.mine in
+        let gone = has_gone P t.desk new block c at l.0 l.1 (subst (λ (o : OBlock). DidUnmap (λ policy o. new.policy) o t.desk new) law.1 did) in
+        let alone = stands_alone P t.desk known.is.kept bl.0 c at_bl in
+        let holds : x.card.hold ≡ Held Own bl = ready job plan xt (Desk (Unmap bl)) e in
+        let left = located_left t.desk.tree.entries c alone.0 bl.0 alone.1 in
+        let here : None ≡ place_of new.tree.entries bl.0 = sym (changed_same (located t.desk.tree.entries) bl.0 None) ∙ left bl.0 ∙ ap (λ (es : List (Option Entry)). place_of es bl.0) (sym gone.changed.entries) in
+        let first = begins_by plan (Desk (Unmap bl)) (sym e) (λ v q. absurd (cc)) in
+        let r : IsSealed bl None first.0 × SealsRight None first.0 = subst (λ (us : List Want). SealsRight (place_of t.desk.tree.entries bl.0) us) first.1 (right job plan xt Own bl holds) in
+        let inside = (mapped_within unknowing t.desk bl.0 c known.is.kept at_bl).1 in
+        moved job plan xt (Unmap bl) e bl None new (subst (λ (g : Geometry). bl.0 < g.origin_blocks) known.is.geometry inside) holds here
+        (λ i not. ap (λ (es : List (Option Entry)). place_of es i) gone.changed.entries ∙ sym (left i) ∙ changed_other (located t.desk.tree.entries) bl.0 i None not)
+        (λ answer. subst (λ (us : List Want). (dirty : Bool) × (first_step (later_steps us) answer ≡ Cell (Seal bl None dirty))) (sym first.1) (sealed_next bl None first.0 answer r.0))
+        (subst (λ (o : Option ℕ). SealsRight o (after plan Done).steps) here (subst (λ (us : List Want). SealsRight None (later_steps us)) (sym first.1) r.1))
+        (over P t.desk actors are k.owned a x ex Demote block c law.2.1.live law.2.1.mine bl law.1 new (ap (λ (d : DeskState P). d.orders.slots) gone.is ∙ gone.slots new.tree new.policy) (y job plan xt (Desk (Unmap bl)) Done) refl)
+
+    pub release_keeps : (bl : OBlock) (new : DeskState P) → Desk (ReleaseOrder bl) ≡ want plan → IsGivenUp (Some (order_for m block)) t.desk new → KeepingAt (record { words = t.words; desk = new }) (slice_set actors a (y job plan xt (Desk (ReleaseOrder bl)) Done))
+    release_keeps bl new e d =
+        let law = migrations_followed.gives_up (size P A shape) (most P A shape) shape.geometry.origin_blocks t.words t.desk.space.committing (live_orders t.desk) devices actors a x m block bl plan f.site.world (are_owned P t.desk actors are k.owned) ex xt its (sym e) f.phase.agrees in
+        let l = taken_there P t.desk actors are k.owned a x ex m block law.1.0 law.1.1.live law.1.1.mine in
+        let is : new ≡ released t.desk (record { 0 = law.1.0 }) = d.0 l.0 ∙ ap (λ (i : ℕ). released t.desk (record { 0 = i })) l.1 in
+        desk_plain job plan xt (ReleaseOrder bl) Done new e (ready job plan xt (Desk (ReleaseOrder bl)) e) (λ i. ap (λ (q : DeskState P). place_of q.tree.entries i) is)
+        (over P t.desk actors are k.owned a x ex m block law.1.0 law.1.1.live law.1.1.mine bl law.0 new (ap (λ (q : DeskState P). q.orders.slots) is) (y job plan xt (Desk (ReleaseOrder bl)) Done) refl)
+
+    -- the desk has no memory for its entry
+    pub map_refused_keeps : (bl : OBlock) (c : CBlock) (refusal : Refusal) → Desk (Map bl c) ≡ want plan → KeepingAt t (slice_set actors a (y job plan xt (Desk (Map bl c)) (GotRefused refusal)))
+    map_refused_keeps bl c refusal e = plainly t (y job plan xt (Desk (Map bl c)) (GotRefused refusal)) refl (λ i. refl) (not_sealing job plan xt (Desk (Map bl c)) e (λ o p d q. absurd (cc))) (owned_same P t.desk actors a x (y job plan xt (Desk (Map bl c)) (GotRefused refusal)) ex k.owned t.desk refl refl)
+        (mine job plan xt t.desk.tree.entries (Desk (Map bl c)) (GotRefused refusal) (Some (job, after plan (GotRefused refusal))) refl left)
+      where
+        left : RightWhere (place_of t.desk.tree.entries) x.card (after plan (GotRefused refusal)).steps
+        left access o h = subst (λ (v : Want). SealsRight (place_of t.desk.tree.entries o.0) (after_refusal plan v refusal).steps) e (by plan.job refl)
+          where
+            by : (q : TaskJob) → plan.job ≡ q → SealsRight (place_of t.desk.tree.entries o.0) (lets_go plan.job)
+            by (OnBlock j) is = subst (λ (q : TaskJob). SealsRight (place_of t.desk.tree.entries o.0) (lets_go q)) (sym is) (lets_go_right (place_of t.desk.tree.entries o.0) j (access_of j) (range_of j).block)
+            by (Flushing serves n) is = absurd (let none = (subst (λ (q : TaskJob). SuitsJob shape.geometry.origin_blocks q x.card plan.steps) is its).0 in let bad : Nothing ≡ Held access o = sym none ∙ h in cc)
+            by (Opening left) is = absurd (let none = (subst (λ (q : TaskJob). SuitsJob shape.geometry.origin_blocks q x.card plan.steps) is its).0 in let bad : Nothing ≡ Held access o = sym none ∙ h in cc)

@@ -1,0 +1,223 @@
+-- What is kept of orders and seals is kept by each step, each start and an opening's answer.
+use Rattle.std.proofs.Common.{◌≡◌, ◌≢◌, ◌∙◌, ◌⊎◌, inl, inr, ℕ, zero, suc, Bool, true, false, cond, List, [], ◌∷◌, Option, Some, None, refl, sym, ap, subst, slice_get, slice_set}
+use Rattle.wb_types.proofs.Lists.{set_cases}
+use Rattle.wb_types.specs.declared.entry.Entry.{Entry}
+use Rattle.wb_types.specs.declared.mode.Dev.TheVariants.{Metadata, Cache, Origin}
+use Rattle.wb_types.specs.declared.number.OBlock.{OBlock}
+use Rattle.wb_types.specs.declared.number.CBlock.{CBlock}
+use Rattle.wb_disk.specs.Device.{Content as Bytes, History}
+use Rattle.wb_words.specs.declared.word.Access.{Access}
+use Rattle.wb_words.specs.declared.word.Access.TheVariants.{Owned as Own}
+use Rattle.wb_words.specs.declared.card.Hold.TheVariants.{Nothing, Held}
+use Rattle.wb_words.specs.Effects.{result_of, words_after}
+use Rattle.wb_words.specs.SharedWords.{word_at, place_in}
+use Rattle.wb_words.specs.Rule.{LockRule}
+use Rattle.wb_policy.specs.declared.order.Order.{Order}
+use Rattle.wb_orders.specs.Orders.{AreOrders}
+use Rattle.wb_desk.specs.Desks.{DeskState}
+use Rattle.wb_desk.specs.Commits.{commit_ended}
+use Rattle.wb_tasks.specs.Tables.{BlockJob, Reading, Writing, Migrating, OnBlock, Flushing, Opening, TaskJob}
+use Rattle.wb_tasks.specs.Plan.{Plan, want, after, table, got_of}
+use Rattle.wb_tasks.specs.Ready.{IsJobs, IsOwnStep, Suits}
+use Rattle.wb_tasks.specs.declared.step.Answer.{Answer}
+use Rattle.wb_tasks.specs.declared.step.DeviceStep.{DeviceStep}
+use Rattle.wb_tasks.specs.declared.step.DeviceStep.TheVariants.{Read as ReadExtent, Write as WriteExtent, Sync, ReadMetadata, WriteNode, WriteRoot}
+use Rattle.wb_tasks.specs.declared.step.DeskStep.TheVariants.{Map, Unmap, ReleaseOrder, BeginCommit, EndCommit}
+use Rattle.wb_tasks.specs.declared.step.Want.{Want}
+use Rattle.wb_tasks.specs.declared.step.Want.TheVariants.{Cell, Device, Desk, End}
+use Rattle.wb_tasks.specs.declared.step.Got.{Got}
+use Rattle.wb_tasks.specs.declared.step.Got.TheVariants.{Done, Fault, Began, Refused as GotRefused}
+use Rattle.wb_devices.specs.declared.devices.Devices.{Devices}
+use Rattle.wb_devices.specs.declared.running.RunningCommit.{RunningCommit}
+use Rattle.wb_runs.specs.declared.job.Job.{Job}
+use Rattle.wb_runs.specs.declared.job.Job.TheVariants.{Read, Write, Flush, Open, Migrate}
+use Rattle.wb_runs.specs.declared.event.What.TheVariants.{Started}
+use Rattle.wb_runs.specs.States.{Shape, State, Actor, Target, Phase, Stands, Gone, Opens, resting}
+use Rattle.wb_runs.specs.Happenings.{Chosen, Plain, Cut, Orders, Asks, Commits, Gives, DoesBegin, DoesMap, DoesUnmap, DoesRelease, StartGives, order_for}
+use Rattle.wb_runs.specs.Effects.{actor_then, phase_then, phase_given, given, orders_then, begun_desk, all_resting}
+use Rattle.wb_runs.specs.Clerk.{Notes}
+use Rattle.wb_runs.specs.Headline.{place_of}
+use Rattle.wb_runs.specs.Holding.{cards_of, AllSuited, TaskSuits}
+use Rattle.wb_runs.specs.Sealed.{SealsNext, number_of}
+use Rattle.wb_runs.proofs.Images.{Images}
+use Rattle.wb_runs.proofs.Metadata.{MetadataKept}
+use Rattle.wb_runs.proofs.Owning.{Owned, owned_given, owned_none, owned_same}
+use Rattle.wb_headline.proofs.Following.{Followed}
+use Rattle.wb_headline.proofs.Keeping.{KeepingAt, Keeping, NoOrders, TaskRight, going, plainly, suits, own, cell_keeps, device_keeps, answer_keeps, desk_plain, map_keeps, map_refused_keeps, unmap_keeps, release_keeps, holds_none, ready}
+use Rattle.wb_headline.proofs.Targets.{standing}
+
+-- ---- where no target stands nobody has an order
+
+pub none_set : (actors : List Actor) (a : ℕ) (y : Actor) → y.orders ≡ [] → NoOrders actors → NoOrders (slice_set actors a y)
+none_set actors a y here none b z e = elim (set_cases actors a b y z e) [
+  | inl i ↦ ap (λ (v : Actor). v.orders) i.1 ∙ here
+  | inr o ↦ none b z o.1
+]
+
+none_then : (next : Want) (got : Got) → orders_then [] next got ≡ []
+none_then (Desk (Map b c)) Done = refl
+none_then (Desk (Unmap b)) Done = refl
+none_then (Desk (ReleaseOrder b)) Done = refl
+none_then next got = refl
+
+pub none_rest : (actors : List Actor) → NoOrders (all_resting actors)
+none_rest [] a x e = absurd (cc)
+none_rest (z ∷ zs) zero x e = (let both : resting ≡ x = cc in ap (λ (v : Actor). v.orders) (sym both))
+none_rest (z ∷ zs) (suc a) x e = none_rest zs a x e
+
+pub none_goes : (P A : Type 0) (shape : Shape) (phase : Phase P A) (devices : Devices (List History)) (actors : List Actor) (a : ℕ) (x : Actor) (next : Want) (got : Got) → slice_get actors a ≡ Some x → NoOrders actors → NoOrders (slice_set actors a (actor_then shape phase devices x next got))
+none_goes P A shape phase devices actors a x next got ex none = none_set actors a (actor_then shape phase devices x next got) (ap (λ (os : List Order). orders_then os next got) (none a x ex) ∙ none_then next got) none
+
+-- ---- where one is made nobody is at anything
+
+pub made_keeps : (P : Type 0) (t : Target P) (actors : List Actor) → NoOrders actors → ((b : ℕ) (z : Actor) → slice_get actors b ≡ Some z → z.task ≡ None) → ((block : OBlock) → number_of (place_in (word_at t.words.seals block)) ≡ place_of t.desk.tree.entries block.0) → KeepingAt t actors
+made_keeps P t actors none rest told = record {
+  owned = owned_none P t.desk actors none;
+  tells = λ b. inl (told b);
+  right = λ a x e. subst (λ (o : Option (Job × Plan)). TaskRight t.desk.tree.entries x.card o) (sym (rest a x e)) tt;
+}
+
+-- ---- where one stands
+
+begun_orders : (P A : Type 0) (chosen : Chosen P A) (desk : DeskState P) → (begun_desk chosen desk).orders ≡ desk.orders
+begun_orders P A (Commits c tree) desk = refl
+begun_orders P A chosen desk = refl
+
+ended_same : (P : Type 0) (X : Type 0) (of : DeskState P → X) (desk : DeskState P) → of (commit_ended desk) ≡ of desk → of (cond desk.space.committing (commit_ended desk) desk) ≡ of desk
+ended_same P X of desk same = by desk.space.committing
+  where
+    by : (t : Bool) → of (cond t (commit_ended desk) desk) ≡ of desk
+    by true = same
+    by false = refl
+
+-- a read or write of an extent that does not fail is done
+gives_done : (P A : Type 0) (shape : Shape) (w : State P A) (job : Job) (j : BlockJob) (step : DeviceStep) (got : Got) (read : List Bytes) (chosen : Chosen P A) → IsJobs j step → Gives shape w job (Device step) got read chosen → got ≡ Done
+gives_done P A shape w (Read extent) j (ReadExtent d e) got read chosen i g = g.2
+gives_done P A shape w (Read extent) j (WriteExtent d e) got read chosen i g = absurd g
+gives_done P A shape w (Write extent content) j (ReadExtent d e) got read chosen i g = absurd g
+gives_done P A shape w (Write extent content) j (WriteExtent d e) got read chosen i g = g.2
+gives_done P A shape w Flush j (ReadExtent d e) got read chosen i g = absurd g
+gives_done P A shape w Flush j (WriteExtent d e) got read chosen i g = absurd g
+gives_done P A shape w (Open mode) j (ReadExtent d e) got read chosen i g = absurd g
+gives_done P A shape w (Open mode) j (WriteExtent d e) got read chosen i g = absurd g
+gives_done P A shape w (Migrate m block) j (ReadExtent d e) got read chosen i g = g.2
+gives_done P A shape w (Migrate m block) j (WriteExtent d e) got read chosen i g = g.2
+gives_done P A shape w job (Reading part) step got read chosen i g = absurd i
+gives_done P A shape w job (Writing part) step got read chosen i g = absurd i
+gives_done P A shape w job (Migrating m part) step got read chosen i g = absurd i
+
+module _ (P A : Type 0) (shape : Shape) (images : Images) (t : Target P) (commit : Option RunningCommit) (devices : Devices (List History)) (actors : List Actor) (n : Notes) (known : MetadataKept {P = P} {A = A} shape.geometry images (Stands t) commit devices.metadata)
+    (f : Followed P A shape images (standing P A shape images t commit devices actors n) n) (rule : LockRule shape.geometry.origin_blocks t.words (cards_of actors)) (all_suited : AllSuited shape.geometry.origin_blocks actors) (k : KeepingAt t actors) (a : ℕ) (x : Actor) (ex : slice_get actors a ≡ Some x) where
+  -- it is given a job
+  pub start_keeps : x.task ≡ None → (job : Job) (chosen : Chosen P A) → StartGives shape (Stands t) (Some x) job Started chosen → Keeping (phase_given {P = P} {A = A} (Stands t) job chosen) (slice_set actors a (given shape x job chosen))
+  start_keeps xt job chosen h = by_job job chosen h
+    where
+      nothing : x.card.hold ≡ Nothing
+      nothing = subst (λ (o : Option (Job × Plan)). TaskSuits shape.geometry.origin_blocks x.card o) xt (all_suited a x ex)
+
+      kept : (t' : Target P) (y : Actor) (job : Job) (plan : Plan) → y.task ≡ Some (job, plan) → y.card ≡ x.card → t'.words.seals ≡ t.words.seals → ((b : ℕ) → place_of t'.desk.tree.entries b ≡ place_of t.desk.tree.entries b) → Owned t'.desk (slice_set actors a y) → KeepingAt t' (slice_set actors a y)
+      kept t' y job plan task card seals places owned = plainly P A shape images t commit devices actors n known f rule all_suited k a x ex t' y seals places
+          (λ b place s. subst (λ (o : Option (Job × Plan)). SealsNext b place o) xt s) owned
+          (subst (λ (o : Option (Job × Plan)). TaskRight t'.desk.tree.entries y.card o) (sym task) (λ access b h. absurd (let bad : Nothing ≡ Held access b = sym nothing ∙ ap (λ (c : Rattle.wb_words.specs.declared.card.Card.Card). c.hold) (sym card) ∙ h in cc)))
+
+      plain : (job : Job) (y : Actor) (plan : Plan) → y.task ≡ Some (job, plan) → y.card ≡ x.card → y.orders ≡ x.orders → KeepingAt t (slice_set actors a y)
+      plain job y plan task card orders = kept t y job plan task card refl (λ b. refl) (owned_same P t.desk actors a x y ex k.owned t.desk orders refl)
+
+      by_job : (job : Job) (chosen : Chosen P A) → StartGives shape (Stands t) (Some x) job Started chosen → Keeping (phase_given {P = P} {A = A} (Stands t) job chosen) (slice_set actors a (given shape x job chosen))
+      by_job (Read extent) chosen h = plain (Read extent) (given shape x (Read extent) chosen) _ refl refl refl
+      by_job (Write extent content) chosen h = plain (Write extent content) (given shape x (Write extent content) chosen) _ refl refl refl
+      by_job Flush chosen h = plain Flush (given shape x Flush chosen) _ refl refl refl
+      by_job (Open mode) chosen h = plain (Open mode) (given shape x (Open mode) chosen) _ refl refl refl
+      by_job (Migrate m b) (Cut cut) h = plain (Migrate m b) (given {P = P} {A = A} shape x (Migrate m b) (Cut cut)) _ refl refl refl
+      by_job (Migrate m b) (Orders cut c) h =
+          let y : Actor = given {P = P} {A = A} shape x (Migrate m b) (Orders cut c) in
+          kept (record { words = t.words; desk = Rattle.wb_desk.specs.Calls.reserved t.desk c (order_for m b) false }) y (Migrate m b) _ refl refl refl (λ i. refl) (owned_given P t.desk actors a x y ex k.owned c (order_for m b) known.is.orders h.1 refl)
+      by_job (Migrate m b) chosen h = absurd h
+
+  module _ (job : Job) (plan : Plan) (xt : x.task ≡ Some (job, plan)) where
+    abbrev After : Want → Got → Chosen P A → Type 0
+    After next got chosen = Keeping (phase_then {P = P} {A = A} shape (Stands t) next got chosen) (slice_set actors a (actor_then {P = P} {A = A} shape (Stands t) devices x next got))
+
+    -- a commit begins, or does not
+    begins_keeps : (clean : Bool) (most : ℕ) (got : Got) (chosen : Chosen P A) → Desk (BeginCommit clean most) ≡ want plan → DoesBegin most t.desk got chosen → After (Desk (BeginCommit clean most)) got chosen
+    begins_keeps clean most got chosen e d = desk_plain P A shape images t commit devices actors n known f rule all_suited k a x ex job plan xt (BeginCommit clean most) got (begun_desk chosen t.desk) e
+        (ready P A shape images t commit devices actors n known f rule all_suited k a x ex job plan xt (Desk (BeginCommit clean most)) e) (by got chosen d)
+        (owned_same P t.desk actors a x (actor_then {P = P} {A = A} shape (Stands t) devices x (Desk (BeginCommit clean most)) got) ex k.owned (begun_desk chosen t.desk) refl (begun_orders P A chosen t.desk))
+      where
+        by : (got : Got) (chosen : Chosen P A) → DoesBegin most t.desk got chosen → (b : ℕ) → place_of (begun_desk chosen t.desk).tree.entries b ≡ place_of t.desk.tree.entries b
+        by (Began nodes) (Commits c tree) d b = ap (λ (es : List (Option Entry)). place_of es b) d.3.image_is.same_entries
+        by (GotRefused refusal) Plain d b = refl
+        by got chosen d b = absurd d
+
+    ends_keeps : (got : Got) (chosen : Chosen P A) → Desk EndCommit ≡ want plan → After (Desk EndCommit) got chosen
+    ends_keeps got chosen e = desk_plain P A shape images t commit devices actors n known f rule all_suited k a x ex job plan xt EndCommit got (cond t.desk.space.committing (commit_ended t.desk) t.desk) e
+        (ready P A shape images t commit devices actors n known f rule all_suited k a x ex job plan xt (Desk EndCommit) e)
+        (λ b. ended_same P (Option ℕ) (λ (d : DeskState P). place_of d.tree.entries b) t.desk refl)
+        (owned_same P t.desk actors a x (actor_then {P = P} {A = A} shape (Stands t) devices x (Desk EndCommit) got) ex k.owned (cond t.desk.space.committing (commit_ended t.desk) t.desk) refl (ended_same P Rattle.wb_orders.specs.Orders.Orders (λ (d : DeskState P). d.orders) t.desk refl))
+
+    -- it goes on
+    pub step_keeps : (next : Want) (got : Got) (read : List Bytes) (chosen : Chosen P A) → next ≡ want plan → Gives shape (standing P A shape images t commit devices actors n) job next got read chosen → After next got chosen
+    step_keeps (Cell step) got read chosen e g = by (given_word job g)
+      where
+        given_word : (j : Job) → Gives shape (standing P A shape images t commit devices actors n) j (Cell step) got read chosen → got ≡ got_of (result_of t.words step)
+        given_word (Read extent) g = g.1
+        given_word (Write extent content) g = g.1
+        given_word Flush g = g.1
+        given_word (Open mode) g = g.1
+        given_word (Migrate m b) g = g.1
+
+        by : got ≡ got_of (result_of t.words step) → After (Cell step) got chosen
+        by is = subst (λ (v : Got). After (Cell step) v chosen) (sym is) (cell_keeps P A shape images t commit devices actors n known f rule all_suited k a x ex job plan xt step e)
+    step_keeps (Device step) got read chosen e g = device_keeps P A shape images t commit devices actors n known f rule all_suited k a x ex job plan xt step e got
+        (λ j is. inl (gives_done P A shape (standing P A shape images t commit devices actors n) job j step got read chosen (own P A shape images t commit devices actors n known f rule all_suited k a x ex job plan xt (OnBlock j) (Device step) is e) g))
+    step_keeps (End answer) got read chosen e g = answer_keeps P A shape images t commit devices actors n known f rule all_suited k a x ex job plan xt answer got e
+    step_keeps (Desk EndCommit) got read chosen e g = ends_keeps got chosen e
+    step_keeps (Desk (BeginCommit clean most)) got read chosen e g = begins_keeps clean most got chosen e (given_begin job g)
+      where
+        given_begin : (j : Job) → Gives shape (standing P A shape images t commit devices actors n) j (Desk (BeginCommit clean most)) got read chosen → DoesBegin most t.desk got chosen
+        given_begin (Read extent) g = g.2
+        given_begin (Write extent content) g = g.2
+        given_begin Flush g = g.2
+        given_begin (Open mode) g = g.2
+        given_begin (Migrate m b) g = g.2
+    step_keeps (Desk (Map bl c)) got read chosen e g = by job xt g
+      where
+        by : (j : Job) → x.task ≡ Some (j, plan) → Gives shape (standing P A shape images t commit devices actors n) j (Desk (Map bl c)) got read chosen → After (Desk (Map bl c)) got chosen
+        by (Migrate m b) jt g = by_got got chosen g.1
+          where
+            by_got : (got : Got) (chosen : Chosen P A) → DoesMap bl c t.desk got chosen → After (Desk (Map bl c)) got chosen
+            by_got Done (Asks new) d = map_keeps P A shape images t commit devices actors n known f rule all_suited k a x ex m b plan jt bl c new e d.0 d.1 d.2
+            by_got (GotRefused refusal) Plain d = map_refused_keeps P A shape images t commit devices actors n known f rule all_suited k a x ex m b plan jt bl c refusal e
+            by_got got chosen d = absurd d
+        by (Read extent) jt g = absurd g
+        by (Write extent content) jt g = absurd g
+        by Flush jt g = absurd g
+        by (Open mode) jt g = absurd g
+    step_keeps (Desk (Unmap bl)) got read chosen e g = by job xt g
+      where
+        by : (j : Job) → x.task ≡ Some (j, plan) → Gives shape (standing P A shape images t commit devices actors n) j (Desk (Unmap bl)) got read chosen → After (Desk (Unmap bl)) got chosen
+        by (Migrate m b) jt g = subst (λ (v : Got). After (Desk (Unmap bl)) v chosen) (sym g.1) (by_chosen chosen g.2)
+          where
+            by_chosen : (chosen : Chosen P A) → DoesUnmap bl t.desk chosen → After (Desk (Unmap bl)) Done chosen
+            by_chosen (Asks new) d = unmap_keeps P A shape images t commit devices actors n known f rule all_suited k a x ex m b plan jt bl new e d
+            by_chosen chosen d = absurd d
+        by (Read extent) jt g = absurd g
+        by (Write extent content) jt g = absurd g
+        by Flush jt g = absurd g
+        by (Open mode) jt g = absurd g
+    step_keeps (Desk (ReleaseOrder bl)) got read chosen e g = by job xt g
+      where
+        by : (j : Job) → x.task ≡ Some (j, plan) → Gives shape (standing P A shape images t commit devices actors n) j (Desk (ReleaseOrder bl)) got read chosen → After (Desk (ReleaseOrder bl)) got chosen
+        by (Migrate m b) jt g = subst (λ (v : Got). After (Desk (ReleaseOrder bl)) v chosen) (sym g.1) (by_chosen chosen g.2)
+          where
+            by_chosen : (chosen : Chosen P A) → DoesRelease (order_for m b) t.desk chosen → After (Desk (ReleaseOrder bl)) Done chosen
+            by_chosen (Asks new) d = release_keeps P A shape images t commit devices actors n known f rule all_suited k a x ex m b plan jt bl new e d
+            by_chosen chosen d = absurd d
+        by (Read extent) jt g = absurd g
+        by (Write extent content) jt g = absurd g
+        by Flush jt g = absurd g
+        by (Open mode) jt g = absurd g
+
+    -- a step on a device that fails
+    pub fault_keeps : (step : DeviceStep) (chosen : Chosen P A) → Device step ≡ want plan → After (Device step) Fault chosen
+    fault_keeps step chosen e = device_keeps P A shape images t commit devices actors n known f rule all_suited k a x ex job plan xt step e Fault (λ j is. inr refl)

@@ -1,0 +1,124 @@
+-- Where a desk has a block, and what its live orders say of that: a seal that tells it tells where an order has the block, and what is
+-- written there is beside other orders.
+use Rattle.std.proofs.Common.{◌≡◌, ◌∙◌, ◌<◌, ◌/◌, inl, inr, ℕ, zero, suc, List, [], ◌∷◌, Option, Some, None, refl, sym, ap, subst, arith, IsSome, length, slice_get, slice_index_or}
+use Rattle.std.proofs.lemmas.Option.{get_or_from_slice_get}
+use Rattle.wb_types.specs.declared.entry.Entry.{Entry}
+use Rattle.wb_types.specs.declared.extent.Extent.{Extent}
+use Rattle.wb_types.specs.declared.mode.Dev.{Dev}
+use Rattle.wb_types.specs.declared.mode.Dev.TheVariants.{Metadata, Cache, Origin}
+use Rattle.wb_types.specs.declared.number.OBlock.{OBlock}
+use Rattle.wb_types.specs.declared.number.CBlock.{CBlock}
+use Rattle.wb_words.specs.SharedWords.{Words, word_at, place_in}
+use Rattle.wb_policy.specs.Law.{Holdings, IsMappedAt, IsUnmapped}
+use Rattle.wb_policy.specs.declared.order.Order.{Order}
+use Rattle.wb_policy.specs.declared.order.Order.TheVariants.{Promote as PromoteOrder, Replace, Demote as DemoteOrder, Clean as CleanOrder}
+use Rattle.wb_space.specs.declared.block.Block.{Block}
+use Rattle.wb_space.specs.declared.block.Block.TheVariants.{Free, Mapped}
+use Rattle.wb_space.specs.Blocks.{state, IsClaimed}
+use Rattle.wb_orders.specs.declared.live_order.LiveOrder.{LiveOrder}
+use Rattle.wb_orders.specs.Orders.{order_at}
+use Rattle.wb_desk.specs.Desks.{DeskState, DeskInvariant, Names, NamesWhatIs, holdings}
+use Rattle.wb_desk.proofs.Leaving.{entry_there, mapped_state}
+use Rattle.wb_desk.proofs.Seen.{there}
+use Rattle.wb_tasks.specs.declared.step.Migration.{Migration}
+use Rattle.wb_tasks.specs.declared.step.Migration.TheVariants.{Promote, Demote, Clean}
+use Rattle.wb_refines.specs.Translation.{location_at, number_of}
+use Rattle.wb_refines.specs.Migrations.{IsWhere}
+use Rattle.wb_runs.specs.Happenings.{order_for}
+use Rattle.wb_runs.specs.Headline.{place_of}
+use Rattle.wb_runs.proofs.Metadata.{unknowing}
+use Rattle.wb_simulation.specs.Laws.{IsFrom, IsBesideOrders}
+use Rattle.wb_simulation.specs.Migrating.{SealTells}
+use Rattle.wb_simulation.proofs.Opened.{found_at}
+use Rattle.wb_headline.specs.Desks.{order_of, orders_of, live_orders}
+use Rattle.wb_headline.proofs.Desking.{StandsAlone, alone_there, none_from}
+
+-- ---- orders by cache block
+
+pub live_here : (slots : List (Option LiveOrder)) (c : ℕ) (o : Order) → slice_get (orders_of slots) c ≡ Some (Some o) → (l : LiveOrder) × (order_at slots c ≡ Some l) × (l.order ≡ o)
+live_here [] c o e = absurd (cc)
+live_here (None ∷ slots) zero o e = absurd (cc)
+live_here (Some l ∷ slots) zero o e = (l, refl, (let both : Some (Some l.order) ≡ Some (Some o) = e in cc))
+live_here (s ∷ slots) (suc c) o e = live_here slots c o e
+
+pub slot_there : (slots : List (Option LiveOrder)) (c : ℕ) (live : LiveOrder) → order_at slots c ≡ Some live → slice_get (orders_of slots) c ≡ Some (Some live.order)
+slot_there [] zero live e = absurd (cc)
+slot_there [] (suc c) live e = absurd (cc)
+slot_there (s ∷ slots) zero live e = ap (λ (o : Option LiveOrder). Some (order_of o)) e
+slot_there (s ∷ slots) (suc c) live e = slot_there slots c live e
+
+pub slot_within : (slots : List (Option LiveOrder)) (c : ℕ) (l : LiveOrder) → order_at slots c ≡ Some l → c < length slots
+slot_within [] zero l e = absurd (cc)
+slot_within [] (suc c) l e = absurd (cc)
+slot_within (s ∷ slots) zero l e = omega arith
+slot_within (s ∷ slots) (suc c) l e = let i = slot_within slots c l e in omega (arith, i)
+
+-- ---- blocks
+
+pub same_block : (b d : OBlock) → b.0 ≡ d.0 → b ≡ d
+same_block b d e = λ i. record { 0 = e i }
+
+-- one block at most stands in a cache block
+one_there : (mapping : Holdings) (b d c : ℕ) → IsMappedAt mapping b c → IsMappedAt mapping d c → b ≡ d
+one_there mapping b d c m n = let both : Some (Some b) ≡ Some (Some d) = sym m ∙ n in cc
+
+module _ (P : Type 0) (desk : DeskState P) (kept : DeskInvariant unknowing desk) where
+  -- whatever order lives in a cache block names what is
+  pub named : (c : ℕ) (o : Order) → slice_get (live_orders desk) c ≡ Some (Some o) → Names (holdings desk) (state desk.space.blocks c) c o
+  named c o e =
+      let l = live_here desk.orders.slots c o e in
+      let within = slot_within desk.orders.slots c l.0 l.1 in
+      let many = kept.slots in
+      subst (λ (q : Order). Names (holdings desk) (state desk.space.blocks c) c q) l.2 (subst (λ (s : Option LiveOrder). NamesWhatIs (holdings desk) (state desk.space.blocks c) c s) l.1 (kept.each c (omega (arith, within, many))).stands)
+
+  pub stands_alone : (b c : ℕ) → IsMappedAt (holdings desk) b c → (entry : Entry) × StandsAlone desk.tree.entries c entry b
+  stands_alone b c at = by (slice_index_or desk.tree.entries c None) refl (entry_there desk.tree.entries b c at)
+    where
+      by : (o : Option Entry) → slice_index_or desk.tree.entries c None ≡ o → IsSome o → (entry : Entry) × StandsAlone desk.tree.entries c entry b
+      by None e s = absurd (cc)
+      by (Some entry) e s =
+          let is : entry.origin.0 ≡ b = one_there (holdings desk) entry.origin.0 b c (there desk.tree.entries c entry e) at in
+          (entry, record { there = e; is = is; alone = λ i other t o. kept.mapping.once i c other entry t e (same_block other.origin entry.origin (o ∙ sym is)) })
+
+  pub stands_there : (b c : ℕ) → IsMappedAt (holdings desk) b c → place_of desk.tree.entries b ≡ Some c
+  stands_there b c at = let s = stands_alone b c at in alone_there desk.tree.entries c s.0 b s.1
+
+  pub unmapped_there : (b : ℕ) → IsUnmapped (holdings desk) b → place_of desk.tree.entries b ≡ None
+  unmapped_there b u = none_from desk.tree.entries 0 b (λ i other t is. u i (there desk.tree.entries i other t ∙ ap (λ (k : ℕ). Some (Some k)) is))
+
+  mapped_there : (b c : ℕ) → place_of desk.tree.entries b ≡ Some c → IsMappedAt (holdings desk) b c
+  mapped_there b c e =
+      let f = found_at desk.tree.entries b 0 c e in
+      let at : IsMappedAt (holdings desk) b f.0 = there desk.tree.entries f.0 f.1 f.4 ∙ ap (λ (k : ℕ). Some (Some k)) f.5 in
+      subst (λ (k : ℕ). IsMappedAt (holdings desk) b k) (let is = f.2 in omega (arith, is)) at
+
+  -- A seal that tells where the desk has a block tells where its order has it.
+  pub seal_tells_order : (words : Words) (migration : Migration) (block : OBlock) → number_of (place_in (word_at words.seals block)) ≡ place_of desk.tree.entries block.0 → SealTells words (live_orders desk) migration block
+  seal_tells_order words migration block told c e = by migration (named c.0 (order_for migration block) e)
+    where
+      where_is : (place : Option CBlock) → number_of place ≡ Some c.0 → place ≡ Some c
+      where_is None n = absurd (let bad : None ≡ Some c.0 = n in cc)
+      where_is (Some d) n = let both : Some d.0 ≡ Some c.0 = n in let same : d.0 ≡ c.0 = cc in (λ i. Some (record { 0 = same i }))
+
+      here : IsMappedAt (holdings desk) block.0 c.0 → place_in (word_at words.seals block) ≡ Some c
+      here at = where_is (place_in (word_at words.seals block)) (told ∙ stands_there block.0 c.0 at)
+
+      by : (m : Migration) → Names (holdings desk) (state desk.space.blocks c.0) c.0 (order_for m block) → IsWhere m c (place_in (word_at words.seals block))
+      by (Promote k) n = tt
+      by Demote n = here n
+      by Clean n = here n
+
+  -- What is written where the desk has a block is in no cache block out of which another one is copied.
+  pub beside_orders : (size : ℕ) (block : OBlock) (device : Dev) (e : Extent) → ((k : ℕ) → location_at size device e ≡ Some k → place_of desk.tree.entries block.0 ≡ Some k) → IsBesideOrders size (live_orders desk) block device e
+  beside_orders size block Origin e where_is = tt
+  beside_orders size block Metadata e where_is = tt
+  beside_orders size block Cache e where_is = λ c order live at. by c order (mapped_there block.0 c (where_is (e.first / size) refl ∙ ap (λ (k : ℕ). Some k) at)) (named c order live)
+    where
+      by : (c : ℕ) (order : Order) → IsMappedAt (holdings desk) block.0 c → Names (holdings desk) (state desk.space.blocks c) c order → IsFrom block order
+      by c (PromoteOrder b k) at n = tt
+      by c (Replace old x k) at n = elim n.2 [
+        | inl there ↦ same_block old block (one_there (holdings desk) old.0 block.0 c there at)
+        | inr gone ↦ absurd (subst (λ (v : Block). IsClaimed v) (get_or_from_slice_get desk.space.blocks c Mapped Free (mapped_state unknowing desk block.0 c kept at)) gone.1)
+      ]
+      by c (DemoteOrder b) at n = same_block b block (one_there (holdings desk) b.0 block.0 c n at)
+      by c (CleanOrder b) at n = same_block b block (one_there (holdings desk) b.0 block.0 c n at)
