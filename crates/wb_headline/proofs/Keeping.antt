@@ -1,6 +1,6 @@
 -- Where a target stands, the orders that actors have live, the seals tell where the desk has each block, and each seal that is left is right:
 -- so it stays, whoever goes on.
-use Rattle.std.proofs.Common.{if◌then◌else◌, ◌≡◌, ◌≢◌, ◌∙◌, ◌<◌, ◌==◌, ◌⊎◌, inl, inr, ℕ, zero, suc, Bool, true, false, cond, List, [], ◌∷◌, Option, Some, None, refl, sym, ap, subst, arith, length, unwrap_or, slice_get, slice_set, Contains}
+use Rattle.std.proofs.Common.{if◌then◌else◌, ◌≡◌, ◌≢◌, ◌∙◌, ◌<◌, ◌==◌, ◌⊎◌, inl, inr, ℕ, zero, suc, Bool, true, false, List, [], ◌∷◌, Option, Some, None, refl, sym, ap, subst, arith, unwrap_or, slice_get, slice_set}
 use Rattle.std.proofs.lemmas.Bool.{cases_eq}
 use Rattle.wb_types.proofs.Lists.{set_cases}
 use Rattle.wb_types.specs.declared.entry.Entry.{Entry}
@@ -8,7 +8,7 @@ use Rattle.wb_types.specs.declared.geometry.Geometry.{Geometry}
 use Rattle.wb_types.specs.declared.number.OBlock.{OBlock}
 use Rattle.wb_types.specs.declared.number.CBlock.{CBlock}
 use Rattle.wb_types.specs.declared.refusal.Refusal.{Refusal}
-use Rattle.wb_disk.specs.Device.{Content as Bytes, History}
+use Rattle.wb_disk.specs.Device.{History}
 use Rattle.wb_contents.proofs.Positions.{changed_same, changed_other}
 use Rattle.wb_words.specs.declared.word.Access.{Access}
 use Rattle.wb_words.specs.declared.word.Access.TheVariants.{Owned as Own}
@@ -25,12 +25,10 @@ use Rattle.wb_words.specs.Effects.{result_of, words_after, card_after}
 use Rattle.wb_words.specs.Rule.{LockRule}
 use Rattle.wb_tree.specs.Edits.{IsChangedAt}
 use Rattle.wb_policy.specs.Law.{IsMappedAt}
-use Rattle.wb_policy.specs.declared.order.Order.{Order}
 use Rattle.wb_policy.specs.declared.order.Order.TheVariants.{Demote as DemoteOrder}
 use Rattle.wb_orders.specs.Orders.{AreOrders}
-use Rattle.wb_desk.specs.Desks.{DeskState, IsLive, holdings}
+use Rattle.wb_desk.specs.Desks.{DeskState, holdings}
 use Rattle.wb_desk.specs.Calls.{released}
-use Rattle.wb_desk.specs.Commits.{commit_ended}
 use Rattle.wb_desk.specs.Entries.{entry_of, mapped, MayMap}
 use Rattle.wb_desk.proofs.Entering.{entrance, named_inside}
 use Rattle.wb_desk.proofs.Leaving.{mapped_within}
@@ -41,31 +39,31 @@ use Rattle.wb_tasks.specs.Ready.{Has, MayTake, Suits, SuitsJob, IsOwnStep, IsJob
 use Rattle.wb_tasks.proofs.Readiness.{is_own_step, is_ready}
 use Rattle.wb_tasks.specs.declared.step.Answer.{Answer}
 use Rattle.wb_tasks.specs.declared.step.DeviceStep.{DeviceStep}
-use Rattle.wb_tasks.specs.declared.step.DeviceStep.TheVariants.{Read as ReadExtent, Write as WriteExtent, Sync, ReadMetadata, WriteNode, WriteRoot}
+use Rattle.wb_tasks.specs.declared.step.DeviceStep.TheVariants.{Read as ReadExtent, Write as WriteExtent}
 use Rattle.wb_tasks.specs.declared.step.DeskStep.{DeskStep}
-use Rattle.wb_tasks.specs.declared.step.DeskStep.TheVariants.{Map, Unmap, ReleaseOrder, BeginCommit, EndCommit}
+use Rattle.wb_tasks.specs.declared.step.DeskStep.TheVariants.{Map, Unmap, ReleaseOrder}
 use Rattle.wb_tasks.specs.declared.step.Migration.{Migration}
 use Rattle.wb_tasks.specs.declared.step.Migration.TheVariants.{Promote, Demote}
 use Rattle.wb_tasks.specs.declared.step.Want.{Want}
 use Rattle.wb_tasks.specs.declared.step.Want.TheVariants.{Cell, Device, Desk, End}
 use Rattle.wb_tasks.specs.declared.step.Got.{Got}
-use Rattle.wb_tasks.specs.declared.step.Got.TheVariants.{Done, Fault, Began, Refused as GotRefused}
+use Rattle.wb_tasks.specs.declared.step.Got.TheVariants.{Done, Fault, Refused as GotRefused}
 use Rattle.wb_devices.specs.declared.devices.Devices.{Devices}
 use Rattle.wb_devices.specs.declared.running.RunningCommit.{RunningCommit}
 use Rattle.wb_runs.specs.declared.job.Job.{Job}
 use Rattle.wb_runs.specs.declared.job.Job.TheVariants.{Read, Write, Flush, Open, Migrate}
 use Rattle.wb_runs.specs.States.{Shape, Actor, Target, Phase, Stands, Gone, Opens}
-use Rattle.wb_runs.specs.Happenings.{Chosen, Plain, Asks, Commits, Gives, DoesBegin, DoesMap, DoesUnmap, DoesRelease, order_for}
-use Rattle.wb_runs.specs.Effects.{actor_then, dropped, begun_desk}
+use Rattle.wb_runs.specs.Happenings.{order_for}
+use Rattle.wb_runs.specs.Effects.{actor_then}
 use Rattle.wb_runs.specs.Clerk.{Notes}
 use Rattle.wb_runs.specs.Headline.{place_of}
 use Rattle.wb_runs.specs.Holding.{cards_of, AllSuited, TaskSuits}
-use Rattle.wb_runs.specs.Sealed.{SealsNext, SomebodySeals, Tells, number_of}
+use Rattle.wb_runs.specs.Sealed.{SealsNext, Tells, number_of}
 use Rattle.wb_runs.proofs.Images.{Images}
 use Rattle.wb_runs.proofs.Lists.{set_other, set_there}
 use Rattle.wb_runs.proofs.Metadata.{MetadataKept, unknowing}
 use Rattle.wb_runs.proofs.Owning.{Owned, owned_same}
-use Rattle.wb_simulation.specs.Actors.{IsDoing, IsRequestAt}
+use Rattle.wb_simulation.specs.Actors.{IsDoing}
 use Rattle.wb_simulation.specs.Opened.{located}
 use Rattle.wb_simulation.specs.Steps.{AreOfBlock}
 use Rattle.wb_simulation.proofs.Followed.{begins_by, doing_of}
@@ -77,7 +75,7 @@ use Rattle.wb_headline.proofs.Desking.{located_entered, located_left}
 use Rattle.wb_headline.proofs.Following.{size, most, Followed}
 use Rattle.wb_headline.proofs.Owned.{are_owned, has_gone, over, taken_there}
 use Rattle.wb_headline.proofs.Seeing.{named, stands_alone, unmapped_there}
-use Rattle.wb_headline.proofs.Targets.{standing, actor_is, beside}
+use Rattle.wb_headline.proofs.Targets.{standing, beside}
 use Rattle.wb_headline.proofs.Telling.{IsSealed, SealsRight, RightWhere, lets_go_right, on_words, owned_alone}
 
 -- ---- a target

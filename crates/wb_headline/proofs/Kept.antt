@@ -2,26 +2,20 @@
 use Rattle.std.proofs.Common.{◌≡◌, ◌≢◌, ◌∙◌, ◌⊎◌, inl, inr, ℕ, zero, suc, Bool, true, false, cond, List, [], ◌∷◌, Option, Some, None, refl, sym, ap, subst, slice_get, slice_set}
 use Rattle.wb_types.proofs.Lists.{set_cases}
 use Rattle.wb_types.specs.declared.entry.Entry.{Entry}
-use Rattle.wb_types.specs.declared.mode.Dev.TheVariants.{Metadata, Cache, Origin}
 use Rattle.wb_types.specs.declared.number.OBlock.{OBlock}
-use Rattle.wb_types.specs.declared.number.CBlock.{CBlock}
 use Rattle.wb_disk.specs.Device.{Content as Bytes, History}
-use Rattle.wb_words.specs.declared.word.Access.{Access}
-use Rattle.wb_words.specs.declared.word.Access.TheVariants.{Owned as Own}
 use Rattle.wb_words.specs.declared.card.Hold.TheVariants.{Nothing, Held}
-use Rattle.wb_words.specs.Effects.{result_of, words_after}
+use Rattle.wb_words.specs.Effects.{result_of}
 use Rattle.wb_words.specs.SharedWords.{word_at, place_in}
 use Rattle.wb_words.specs.Rule.{LockRule}
 use Rattle.wb_policy.specs.declared.order.Order.{Order}
-use Rattle.wb_orders.specs.Orders.{AreOrders}
 use Rattle.wb_desk.specs.Desks.{DeskState}
 use Rattle.wb_desk.specs.Commits.{commit_ended}
-use Rattle.wb_tasks.specs.Tables.{BlockJob, Reading, Writing, Migrating, OnBlock, Flushing, Opening, TaskJob}
-use Rattle.wb_tasks.specs.Plan.{Plan, want, after, table, got_of}
-use Rattle.wb_tasks.specs.Ready.{IsJobs, IsOwnStep, Suits}
-use Rattle.wb_tasks.specs.declared.step.Answer.{Answer}
+use Rattle.wb_tasks.specs.Tables.{BlockJob, Reading, Writing, Migrating, OnBlock}
+use Rattle.wb_tasks.specs.Plan.{Plan, want, got_of}
+use Rattle.wb_tasks.specs.Ready.{IsJobs}
 use Rattle.wb_tasks.specs.declared.step.DeviceStep.{DeviceStep}
-use Rattle.wb_tasks.specs.declared.step.DeviceStep.TheVariants.{Read as ReadExtent, Write as WriteExtent, Sync, ReadMetadata, WriteNode, WriteRoot}
+use Rattle.wb_tasks.specs.declared.step.DeviceStep.TheVariants.{Read as ReadExtent, Write as WriteExtent}
 use Rattle.wb_tasks.specs.declared.step.DeskStep.TheVariants.{Map, Unmap, ReleaseOrder, BeginCommit, EndCommit}
 use Rattle.wb_tasks.specs.declared.step.Want.{Want}
 use Rattle.wb_tasks.specs.declared.step.Want.TheVariants.{Cell, Device, Desk, End}
@@ -32,7 +26,7 @@ use Rattle.wb_devices.specs.declared.running.RunningCommit.{RunningCommit}
 use Rattle.wb_runs.specs.declared.job.Job.{Job}
 use Rattle.wb_runs.specs.declared.job.Job.TheVariants.{Read, Write, Flush, Open, Migrate}
 use Rattle.wb_runs.specs.declared.event.What.TheVariants.{Started}
-use Rattle.wb_runs.specs.States.{Shape, State, Actor, Target, Phase, Stands, Gone, Opens, resting}
+use Rattle.wb_runs.specs.States.{Shape, State, Actor, Target, Phase, Stands, resting}
 use Rattle.wb_runs.specs.Happenings.{Chosen, Plain, Cut, Orders, Asks, Commits, Gives, DoesBegin, DoesMap, DoesUnmap, DoesRelease, StartGives, order_for}
 use Rattle.wb_runs.specs.Effects.{actor_then, phase_then, phase_given, given, orders_then, begun_desk, all_resting}
 use Rattle.wb_runs.specs.Clerk.{Notes}
@@ -43,7 +37,7 @@ use Rattle.wb_runs.proofs.Images.{Images}
 use Rattle.wb_runs.proofs.Metadata.{MetadataKept}
 use Rattle.wb_runs.proofs.Owning.{Owned, owned_given, owned_none, owned_same}
 use Rattle.wb_headline.proofs.Following.{Followed}
-use Rattle.wb_headline.proofs.Keeping.{KeepingAt, Keeping, NoOrders, TaskRight, going, plainly, suits, own, cell_keeps, device_keeps, answer_keeps, desk_plain, map_keeps, map_refused_keeps, unmap_keeps, release_keeps, holds_none, ready}
+use Rattle.wb_headline.proofs.Keeping.{KeepingAt, Keeping, NoOrders, TaskRight, plainly, own, cell_keeps, device_keeps, answer_keeps, desk_plain, map_keeps, map_refused_keeps, unmap_keeps, release_keeps, ready}
 use Rattle.wb_headline.proofs.Targets.{standing}
 
 -- ---- where no target stands nobody has an order
