@@ -1,13 +1,16 @@
 //! What happens to a small world by hand, and what it does.
 
+mod demotions;
 mod flushes;
 mod line;
 mod openings;
 mod promotions;
 mod requests;
 mod runs;
+mod stretches;
 mod views;
 
+use self::demotions::{DEMOTIONS, demoted};
 use self::flushes::FLUSHES;
 use self::line::{Act, FIRST_SECTOR, Line, OPENING, READING, Row, Task, WRITING};
 use self::openings::{CRASHES, FAILURES, OPENINGS, ROOTS};
@@ -68,6 +71,12 @@ fn event_of(alloc: Global, act: Act) -> Result<Event, Refusal> {
             actor,
             Job::Migrate(Migration::Promote(cache), block),
         )),
+        Act::Demote(actor, block) => {
+            Ok(Event::Start(actor, Job::Migrate(Migration::Demote, block)))
+        }
+        Act::Clean(actor, block) => {
+            Ok(Event::Start(actor, Job::Migrate(Migration::Clean, block)))
+        }
         Act::Step(actor) => Ok(Event::Step(actor)),
         Act::Fault(actor, base) => Ok(Event::FaultStep(actor, unnamed(alloc, base))),
         Act::FaultOf(actor, device, sector, position) => Ok(Event::FaultStep(
@@ -298,6 +307,18 @@ fn promotions_go_as_their_rows_say(rt: HostRuntime) -> Result<(), Fail> {
 #[test]
 fn a_promotion_is_run_to_its_end(rt: HostRuntime) -> Result<(), Fail> {
     assert!(rt; promoted(rt.alloc())?);
+    Ok(())
+}
+
+#[test]
+fn demotions_go_as_their_rows_say(rt: HostRuntime) -> Result<(), Fail> {
+    compare(rt.alloc(), &DEMOTIONS)
+}
+
+/// A list of events in which a block is written back and demoted is run to its end.
+#[test]
+fn a_demotion_is_run_to_its_end(rt: HostRuntime) -> Result<(), Fail> {
+    assert!(rt; demoted(rt.alloc())?);
     Ok(())
 }
 

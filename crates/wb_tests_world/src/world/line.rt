@@ -19,6 +19,9 @@ pub enum Act {
     Flush(usize),
     /// A block is promoted into a cache block.
     Promote(usize, OBlock, CBlock),
+    Demote(usize, OBlock),
+    /// A block is written back.
+    Clean(usize, OBlock),
     Step(usize),
     /// The actor's next step fails; what it syncs has landed, or not.
     Fault(usize, Base),

@@ -1,13 +1,10 @@
 //! Blocks that are promoted: what the cache and the origin show of them after crashes, by events one at a time and by `run`.
 
 use super::line::{Act, FIRST_SECTOR, Line, Row};
-use super::runs::give;
-use super::{event_of, small};
+use super::stretches::{Stretch, goes};
 use std::alloc::Global;
-use wb_runs::{Event, Record, What};
-use wb_tasks::{Answer, Got, Want};
+use wb_runs::What;
 use wb_types::{CBlock, Dev, Extent, Mode, OBlock, Refusal};
-use wb_world::run;
 
 const BOTH_SECTORS: Extent = Extent { first: 0, count: 2 };
 
@@ -91,13 +88,6 @@ pub const PROMOTIONS: [Row; 4] = [
     },
 ];
 
-/// What happens, and how many steps actor 0 then does up to its answer.
-#[derive(Clone, Copy)]
-struct Stretch {
-    act: Act,
-    steps: usize,
-}
-
 /// The same as events: a promotion reads and writes 64 sectors, the flush behind it one node, and so the opening reads one more.
 const STRETCHES: [Stretch; 8] = [
     Stretch {
@@ -136,40 +126,7 @@ const STRETCHES: [Stretch; 8] = [
 
 const GIVEN: [u8; 2] = [0x11, 0x22];
 
-fn events_of(alloc: Global) -> Result<Vec<Event>, Refusal> {
-    let mut events = Vec::new(alloc);
-    for stretch in STRETCHES {
-        let event = event_of(alloc, stretch.act)?;
-        events.reserve(1)?;
-        events.push_reserved(event);
-        for _ in 0..stretch.steps {
-            events.reserve(1)?;
-            events.push_reserved(Event::Step(0));
-        }
-    }
-    Ok(events)
-}
-
-/// How many of these are answers that say done.
-fn answers_done(records: &[Record]) -> usize {
-    records
-        .iter()
-        .filter(|record| record.what == What::Stepped(Want::End(Answer::Done), Got::Done))
-        .count()
-}
-
-/// Whether one of them was skipped or refused.
-fn went_astray(records: &[Record]) -> bool {
-    records.iter().any(|record| match record.what {
-        What::Skipped | What::Refused(_) => true,
-        What::Started | What::Stepped(_, _) | What::Stopped => false,
-    })
-}
-
-/// Whether the run of these events goes to its end: seven tasks are answered done, and the read is given what each sector has kept.
+/// Whether the run of these events goes to its end, and the read is given what each sector has kept.
 pub fn promoted(alloc: Global) -> Result<bool, Refusal> {
-    let events = events_of(alloc)?;
-    let trace = run(alloc, small()?, events)?;
-    let records = trace.records();
-    Ok(!went_astray(records) && answers_done(records) == 7 && give(records, &GIVEN))
+    goes(alloc, &STRETCHES, 7, &GIVEN)
 }
