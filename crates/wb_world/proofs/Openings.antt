@@ -170,8 +170,6 @@ no_mode devices n o a job e f = absurd (cc)
 -- no other job starts where no target stands
 pub no_target : (devices : Devices Memory) (n : ℕ) (o : Phase) (a : ℕ) (job : Job) → stands o ≡ false → wants_target job ≡ true → DoesNotApply (state_of n devices o) (Start a job)
 no_target devices n o a (Open mode) e f = absurd (cc)
-no_target devices n Closed a (Migrate migration block) e f = inr (inr (inl (λ t. t)))
-no_target devices n (Underway o) a (Migrate migration block) e f = inr (inr (inl (λ t. t)))
 no_target devices n Closed a job e f = inr (inr (λ t. t))
 no_target devices n (Underway o) a job e f = inr (inr (λ t. t))
 no_target devices n (Standing t members) a job e f = absurd (cc)
