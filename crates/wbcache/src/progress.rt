@@ -21,14 +21,17 @@ impl<'a> Progress<'a> {
         }
     }
 
-    /// The cache is open, with so many blocks mapped and so many of them dirty.
+    /// Whether somebody asked.
+    pub fn is_asked(&self) -> bool {
+        self.asked
+    }
+
+    /// The cache is open, with so many blocks mapped and so many of them dirty. It is for who asked.
     pub fn opened(&self, geometry: &Geometry, mapped: u32, dirty: u32) {
-        if self.asked {
-            let (sectors, cache_blocks) = (geometry.origin_sectors(), geometry.cache_blocks);
-            let _ = eprintln!(self.rt;
-                "wbcache: opened {sectors} sectors; {mapped} of {cache_blocks} cache blocks mapped, {dirty} dirty"
-            );
-        }
+        let (sectors, cache_blocks) = (geometry.origin_sectors(), geometry.cache_blocks);
+        let _ = eprintln!(self.rt;
+            "wbcache: opened {sectors} sectors; {mapped} of {cache_blocks} cache blocks mapped, {dirty} dirty"
+        );
     }
 
     /// A request begins.

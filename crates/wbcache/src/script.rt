@@ -87,7 +87,10 @@ impl<'s, I: BufRead, W: Write> Service for Script<'s, I, W> {
             writer,
             mut progress,
         } = self;
-        progress.opened(&client.geometry(), client.mapped(rt), client.dirty(rt));
+        // Which blocks are dirty is a look at each of them.
+        if progress.is_asked() {
+            progress.opened(&client.geometry(), client.mapped(rt), client.dirty(rt));
+        }
         let mut tally = Tally::new();
         let status = play(rt, alloc, client, reader, writer, &mut tally, &mut progress);
         Played { status, tally }
