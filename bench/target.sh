@@ -76,18 +76,22 @@ for changed in 1 100 10000; do
     END { printf "%-22s %12d %12d\n", n, writes, syncs }' "$work/calls"
 done
 
-# An opening of a full mapping.
+# An opening of a full mapping, until a read is answered: each cache block holds the origin block of its number, or one far from its neighbour's.
 printf '\n%-22s %12s %12s %12s\n' 'opening of' seconds 'with its end' 'peak MiB'
 blocks=1048575
 files $blocks 1048576
 truncate -s $((2 * 512 * 40000)) "$work/m.img"
 "$bench" "$work/m.img" mapping $blocks >"$work/said"
-cp --sparse=always "$work/m.img" "$work/full"
-for turn in 1 2 3 4 5; do
-  cp --sparse=always "$work/full" "$work/m.img"
-  python3 "$top/bench/opened.py" "$cache" "$table" >>"$work/opened"
+cp --sparse=always "$work/m.img" "$work/near"
+python3 "$top/bench/scatter.py" "$work/far" $blocks 1048576 80000
+for full in near far; do
+  : >"$work/opened"
+  for turn in 1 2 3 4 5; do
+    cp --sparse=always "$work/$full" "$work/m.img"
+    python3 "$top/bench/opened.py" "$cache" "$table" >>"$work/opened"
+  done
+  sort -n "$work/opened" | sed -n 3p | awk -v n="$blocks blocks, $full" '{ printf "%-22s %12s %12s %12.0f\n", n, $1, $2, $3 / 1024 }'
 done
-sort -n "$work/opened" | sed -n 3p | awk -v n=$blocks '{ printf "%-22s %12s %12s %12.0f\n", n " blocks", $1, $2, $3 / 1024 }'
 
 # Hit ratios of traces, of reads that are each followed by its order.
 test -n "$traces" || exit 0
