@@ -4,7 +4,7 @@ ghost use Rattle.std.specs.Prelude.{◌≡◌, ◌≢◌, ◌≤◌, ◌<◌, �
 ghost use Rattle.std.specs.Bool.{OnTrue, OnFalse};
 ghost use Rattle.std.specs.Option.{option_map, IfSome, IfNone};
 ghost use Rattle.wb_space.specs.declared.block.Block.TheVariants as block;
-ghost use Rattle.wb_space.specs.Blocks.{state, released as block_released};
+ghost use Rattle.wb_space.specs.Blocks.{shown as holding_of, state, released as block_released};
 ghost use Rattle.wb_policy.specs.Law.{origins, IsMappedAt, IsUnmapped};
 ghost use Rattle.wb_tree.specs.Mapping.{entry_at};
 ghost use Rattle.wb_meta.specs.Reads.{FitsDevice};
@@ -181,6 +181,14 @@ impl<P: Policy> Desk<P> {
         ensures { result ≡ entry_at self.now.tree c.0 }
     {
         self.tree.get(c)
+    }
+
+    /// What a cache block is held for.
+    pub fn holding(&self, cache: CBlock) -> Holding
+        requires { cache.0 < self.now.geometry.cache_blocks }
+        ensures { option_map holding_of (slice_get self.now.space.blocks cache.0) ≡ Some result }
+    {
+        self.space.block(cache)
     }
 
     /// What the desk counts.

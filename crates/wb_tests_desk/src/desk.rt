@@ -18,6 +18,7 @@ use wb_desk::Desk;
 use wb_format::{Root, Version};
 use wb_meta::State;
 use wb_policy::{Order, Policy, Quiet};
+use wb_space::Holding;
 use wb_tree::Tree;
 use wb_types::{
     CBlock, CBlockRange, CBlockRanges, Entry, Geometry, Key, Message, Mode, OBlock, Place, Refusal,
@@ -144,6 +145,8 @@ enum Call {
     Room(u64),
     /// The entry of a cache block: origin block, dirty bit and hint.
     Entry(u32, Option<(u32, bool, u8)>),
+    /// What a cache block is held for.
+    Holds(u32, Holding),
     /// How many nodes a clean image writes that marks the last cache block dirty, and none of the others.
     Marked(usize),
     /// So many pseudo-random calls come out as the slow desk has them, and more entries come than these.
@@ -214,6 +217,7 @@ fn is_done<P: Policy>(desk: &mut Desk<P>, alloc: Global, call: Call) -> Result<b
         Call::Entries(mapped, came, went) => Ok(have_come(desk, mapped, came, went)),
         Call::Room(room) => Ok(desk.room() == room),
         Call::Entry(c, entry) => Ok(has_entry(desk, c, entry)),
+        Call::Holds(c, holding) => Ok(is_held_for(desk, c, holding)),
         Call::Marked(nodes) => clean::writes_of_one_mark(desk, alloc, nodes),
         Call::Random(calls, entries) => compared::is_as_slow(desk, alloc, calls, entries),
     }
@@ -297,6 +301,10 @@ fn ends<P: Policy>(desk: &mut Desk<P>, alloc: Global) -> Result<bool, Refusal> {
 fn have_come<P: Policy>(desk: &Desk<P>, mapped: u32, came: u64, went: u64) -> bool {
     let counts = desk.counts();
     counts.mapped == mapped && counts.promotions == came && counts.demotions == went
+}
+
+fn is_held_for<P: Policy>(desk: &Desk<P>, c: u32, wanted: Holding) -> bool {
+    c < desk.geometry().cache_blocks && desk.holding(CBlock(c)) == wanted
 }
 
 fn has_entry<P: Policy>(desk: &Desk<P>, c: u32, wanted: Option<(u32, bool, u8)>) -> bool {

@@ -5,6 +5,7 @@ use std::alloc::Global;
 use std::test::Fail;
 use wb_desk::Desk;
 use wb_policy::{Order, Policy};
+use wb_space::Holding;
 use wb_types::{CBlock, Mode, OBlock, Place, Refusal};
 
 /// Whether a commit begins, with these dirty bits where they are given, whose image has this generation, so many nodes, and
@@ -104,17 +105,21 @@ const REPLACE: Order = Order::Replace(OBlock(3), OBlock(6), CBlock(1));
 
 /// Block 3 makes way for block 6 in cache block 1: which comes in once a commit has ended that began after block 3 went,
 /// whoever asked for it. No one else gets the cache block meanwhile.
-const REPLACED: [(Call, bool); 15] = [
+const REPLACED: [(Call, bool); 19] = [
     (Call::Reserve(REPLACE), true),
+    (Call::Holds(1, Holding::Mapped), true),
     (Call::Begin, true),
     (Call::Unmap(6), false),
     (Call::Unmap(3), true),
     (Call::End, true),
     // that commit had begun before
     (Call::Map(6, 1), false),
+    (Call::Holds(1, Holding::Quarantined), true),
     (Call::Begin, true),
     (Call::Map(6, 1), false),
     (Call::End, true),
+    (Call::Holds(1, Holding::Reserved), true),
+    (Call::Holds(0, Holding::Free), true),
     (Call::Reserve(NEXT), false),
     (Call::Map(3, 1), false),
     (Call::Map(6, 1), true),
