@@ -23,6 +23,7 @@ use Rattle.wb_runs.specs.declared.event.What.{What}
 use Rattle.wb_runs.specs.declared.event.What.TheVariants.{Started, Stepped, Stopped}
 use Rattle.wb_runs.specs.declared.event.Record.{Record}
 use Rattle.wb_runs.specs.States.{Shape, sector_count, block_size}
+use Rattle.wb_runs.specs.Happenings.{begun_as}
 
 -- what a step of a read gave of one sector: its content, and the last entry of the sector's history at that step
 pub record Reading : Type 0 where
@@ -171,7 +172,7 @@ starting n (Open mode) = record n { doings = nobody n.doings }
 starting n job = n
 
 abbrev pub noted_what : Shape → List Bytes → Notes → Event → What → List Bytes → Notes
-noted_what shape shown n (Start a job) Started read = put (starting n job) a (Some (begun n job))
+noted_what shape shown n (Start a job) Started read = put (starting n job) a (Some (begun n (begun_as job)))
 noted_what shape shown n (Step a) (Stepped next got) read = noted_step shape shown n a (slice_get n.doings a) next got read
 noted_what shape shown n (FaultStep a choice) (Stepped next got) read = noted_step shape shown n a (slice_get n.doings a) next got read
 noted_what shape shown n (Stop choice) Stopped read = record n { doings = nobody n.doings }

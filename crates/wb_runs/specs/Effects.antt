@@ -1,5 +1,5 @@
 -- Where a happening leads.
-use Rattle.std.specs.Prelude.{◌+◌, ℕ, suc, Bool, true, false, cond, if◌then◌else◌, List, [], ◌∷◌, Option, Some, None, drop, map, replicate, is_some, slice_get, slice_set, take}
+use Rattle.std.specs.Prelude.{◌+◌, ◌&&◌, ℕ, suc, Bool, true, false, cond, if◌then◌else◌, List, [], ◌∷◌, ◌++◌, Option, Some, None, drop, map, replicate, is_some, slice_get, slice_set, take}
 use Rattle.std.specs.List.{count_by}
 use Rattle.wb_types.specs.declared.entry.Entry.{Entry}
 use Rattle.wb_types.specs.declared.extent.Extent.{Extent}
@@ -22,9 +22,11 @@ use Rattle.wb_meta.specs.declared.read_steps.ReadSteps.{ReadSteps}
 use Rattle.wb_meta.specs.declared.read_steps.ReadSteps.TheVariants.{Done as AllRead}
 use Rattle.wb_meta.specs.declared.read_steps.State.{State as Stored}
 use Rattle.wb_policy.specs.declared.order.Order.{Order}
+use Rattle.wb_policy.specs.declared.order.Order.TheVariants.{Replace as ReplaceOrder}
 use Rattle.wb_desk.specs.Desks.{DeskState}
 use Rattle.wb_desk.specs.Calls.{reserved}
 use Rattle.wb_desk.specs.Commits.{commit_begun}
+use Rattle.wb_desk.specs.Entries.{is_replacement}
 use Rattle.wb_desk.specs.Opening.{opened}
 use Rattle.wb_tasks.specs.Plan.{Plan, table, after, device_of}
 use Rattle.wb_tasks.specs.declared.step.Answer.TheVariants.{Done as Finished}
@@ -40,14 +42,14 @@ use Rattle.wb_devices.specs.declared.devices.Devices.{Devices}
 use Rattle.wb_devices.specs.Moving.{device_in}
 use Rattle.wb_stage.specs.Asking.{ended, is_of}
 use Rattle.wb_runs.specs.declared.job.Job.{Job}
-use Rattle.wb_runs.specs.declared.job.Job.TheVariants.{Write, Flush, Open, Migrate}
+use Rattle.wb_runs.specs.declared.job.Job.TheVariants.{Write, Flush, Open, Migrate, Replace}
 use Rattle.wb_runs.specs.declared.event.Event.{Event}
 use Rattle.wb_runs.specs.declared.event.Event.TheVariants.{Start, Step, FaultStep, Stop}
 use Rattle.wb_runs.specs.declared.event.What.{What}
 use Rattle.wb_runs.specs.declared.event.What.TheVariants.{Started, Stepped, Stopped}
 use Rattle.wb_runs.specs.declared.event.Record.{Record}
 use Rattle.wb_runs.specs.States.{Shape, State, Actor, Target, Phase, Stands, Gone, Opens, resting, with_device}
-use Rattle.wb_runs.specs.Happenings.{Chosen, Cut, Orders, Begins, Reaches, Puts, Commits, Asks, Opened, Happening, order_for, task_job, May}
+use Rattle.wb_runs.specs.Happenings.{Chosen, Cut, Orders, Begins, Reaches, Puts, Commits, Asks, Opened, Happening, begun_as, order_for, task_job, May}
 
 -- ---- devices
 
@@ -220,12 +222,42 @@ abbrev pub dropped : OBlock → List Order → List Order
 dropped block [] = []
 dropped block (order ∷ orders) = if is_of block order then dropped block orders else order ∷ dropped block orders
 
--- An entry that comes or goes ends its order, and so does whoever gives it up.
-abbrev pub orders_then : List Order → Want → Got → List Order
-orders_then orders (Desk (Map b c)) Done = dropped b orders
-orders_then orders (Desk (Unmap b)) Done = dropped b orders
-orders_then orders (Desk (ReleaseOrder b)) Done = dropped b orders
-orders_then orders next got = orders
+-- of these orders the replacements of a block
+abbrev pub replacing : OBlock → List Order → List Order
+replacing block [] = []
+replacing block (order ∷ orders) = if is_of block order && is_replacement order then order ∷ replacing block orders else replacing block orders
+
+-- whoever gives up an order has it no more, a flush one of those that wait for it
+abbrev pub orders_released : OBlock → Job → List Order → List Order
+orders_released block Flush orders = orders
+orders_released block job orders = dropped block orders
+
+abbrev pub awaiting_released : OBlock → Job → List Order → List Order
+awaiting_released block Flush awaiting = dropped block awaiting
+awaiting_released block job awaiting = awaiting
+
+-- a flush that is done has served those that wait for it
+abbrev pub orders_answered : Job → List Order → List Order → List Order
+orders_answered Flush orders awaiting = awaiting ++ orders
+orders_answered job orders awaiting = orders
+
+abbrev pub awaiting_answered : Job → List Order → List Order
+awaiting_answered Flush awaiting = []
+awaiting_answered job awaiting = awaiting
+
+-- An entry that comes or goes ends its order, but that of a replacement waits for a flush once its block has left.
+abbrev pub orders_then : Actor → Job → Want → Got → List Order
+orders_then x job (Desk (Map b c)) Done = dropped b x.orders
+orders_then x job (Desk (Unmap b)) Done = dropped b x.orders
+orders_then x job (Desk (ReleaseOrder b)) Done = orders_released b job x.orders
+orders_then x job (End Finished) got = orders_answered job x.orders x.awaiting
+orders_then x job next got = x.orders
+
+abbrev pub awaiting_then : Actor → Job → Want → Got → List Order
+awaiting_then x job (Desk (Unmap b)) Done = replacing b x.orders ++ x.awaiting
+awaiting_then x job (Desk (ReleaseOrder b)) Done = awaiting_released b job x.awaiting
+awaiting_then x job (End Finished) got = awaiting_answered job x.awaiting
+awaiting_then x job next got = x.awaiting
 
 abbrev pub job_of : Option (Job × Plan) → Job
 job_of None = Flush
@@ -240,7 +272,8 @@ abbrev pub actor_then : {P A : Type 0} → Shape → Phase P A → Devices (List
 actor_then shape phase devices x next got = record {
   task = task_then x.task next got;
   card = card_then shape phase x.card next;
-  orders = orders_then x.orders next got;
+  orders = orders_then x (job_of x.task) next got;
+  awaiting = awaiting_then x (job_of x.task) next got;
   buffer = buffer_then devices x.buffer next got (job_of x.task);
 }
 
@@ -275,15 +308,17 @@ cut_of chosen = []
 -- the orders of an actor, and what the desk is, once an order was given with a job
 abbrev pub orders_given : {P A : Type 0} → List Order → Job → Chosen P A → List Order
 orders_given orders (Migrate migration block) (Orders cut cache) = order_for migration block ∷ orders
+orders_given orders (Replace old new) (Orders cut cache) = ReplaceOrder old new cache ∷ orders
 orders_given orders job chosen = orders
 
 abbrev pub phase_given : {P A : Type 0} → Phase P A → Job → Chosen P A → Phase P A
 phase_given (Stands t) (Migrate migration block) (Orders cut cache) = Stands (record { words = t.words; desk = reserved t.desk cache (order_for migration block) false })
+phase_given (Stands t) (Replace old new) (Orders cut cache) = Stands (record { words = t.words; desk = reserved t.desk cache (ReplaceOrder old new cache) false })
 phase_given phase job chosen = phase
 
 -- an actor that has been given a job
 abbrev pub given : {P A : Type 0} → Shape → Actor → Job → Chosen P A → Actor
-given shape x job chosen = record x { task = Some (job, table (task_job shape job (cut_of chosen))); orders = orders_given x.orders job chosen }
+given shape x job chosen = record x { task = Some (begun_as job, table (task_job shape x.awaiting job (cut_of chosen))); orders = orders_given x.orders job chosen }
 
 -- An opening drops the target that has failed, and whatever anybody was at.
 abbrev pub cleared : {P A : Type 0} → State P A → Job → State P A

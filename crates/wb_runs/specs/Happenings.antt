@@ -1,5 +1,5 @@
 -- What an event may do in a state.
-use Rattle.std.specs.Prelude.{◌≡◌, ◌≢◌, ◌≤◌, ◌<◌, ◌+◌, ◌-◌, ◌/◌, ◌^◌, ◌&&◌, ◌==◌, ◌⊎◌, ℕ, Bool, true, false, List, [], Option, Some, None, All, Contains, length, slice_get, if◌then◌else◌, nat_le}
+use Rattle.std.specs.Prelude.{◌≡◌, ◌≢◌, ◌≤◌, ◌<◌, ◌+◌, ◌-◌, ◌/◌, ◌^◌, ◌&&◌, ◌==◌, ◌⊎◌, ℕ, Bool, true, false, List, [], Option, Some, None, All, Contains, length, map, slice_get, if◌then◌else◌, nat_le}
 use Rattle.wb_types.specs.Limits.{node_count}
 use Rattle.wb_types.specs.declared.extent.Extent.{Extent}
 use Rattle.wb_types.specs.declared.geometry.Geometry.{Geometry}
@@ -26,7 +26,9 @@ use Rattle.wb_meta.specs.declared.commit_steps.CommitStep.{CommitStep}
 use Rattle.wb_meta.specs.declared.commit_steps.CommitStep.TheVariants.{WriteNode as PutNode, Sync as SyncAll, WriteRoot as PutRoot}
 use Rattle.wb_meta.specs.declared.commit_steps.CommitSteps.TheVariants.{NodesWritten}
 use Rattle.wb_policy.specs.declared.order.Order.{Order}
-use Rattle.wb_policy.specs.declared.order.Order.TheVariants.{Promote as PromoteOrder, Demote as DemoteOrder, Clean as CleanOrder}
+use Rattle.wb_policy.specs.declared.order.Order.TheVariants.{Promote as PromoteOrder, Replace as ReplaceOrder, Demote as DemoteOrder, Clean as CleanOrder}
+use Rattle.wb_space.specs.declared.block.Block.TheVariants.{Mapped, Reserved}
+use Rattle.wb_orders.specs.Named.{first_of}
 use Rattle.wb_tree.specs.Edits.{IsChangedAt}
 use Rattle.wb_desk.specs.Desks.{DeskState, MayReserve}
 use Rattle.wb_desk.specs.Entries.{MayMap, entry_of, mapped}
@@ -48,12 +50,12 @@ use Rattle.wb_tasks.specs.declared.step.Got.TheVariants.{Done, Fault, Refused as
 use Rattle.wb_devices.specs.declared.running.RunningCommit.{RunningCommit}
 use Rattle.wb_devices.specs.declared.devices.Devices.{Devices}
 use Rattle.wb_devices.specs.Moving.{device_in}
-use Rattle.wb_stage.specs.Asking.{DidUnmap, HasBegun, IsGivenUp}
+use Rattle.wb_stage.specs.Asking.{DidRelease, DidUnmap, HasBegun}
 use Rattle.wb_devices.specs.Committing.{goes_on}
 use Rattle.wb_stage.specs.Stages.{is_all_done}
 use Rattle.wb_devices.specs.Opened.{HasCome, got_of_refusal}
 use Rattle.wb_runs.specs.declared.job.Job.{Job}
-use Rattle.wb_runs.specs.declared.job.Job.TheVariants.{Read, Write, Flush, Open, Migrate}
+use Rattle.wb_runs.specs.declared.job.Job.TheVariants.{Read, Write, Flush, Open, Migrate, Replace}
 use Rattle.wb_runs.specs.declared.event.Event.{Event}
 use Rattle.wb_runs.specs.declared.event.Event.TheVariants.{Start, Step, FaultStep, Stop}
 use Rattle.wb_runs.specs.declared.event.What.{What}
@@ -90,6 +92,7 @@ extent_of (Write extent content) = extent
 extent_of Flush = record { first = 0; count = 0 }
 extent_of (Open mode) = record { first = 0; count = 0 }
 extent_of (Migrate migration block) = record { first = 0; count = 0 }
+extent_of (Replace old new) = record { first = 0; count = 0 }
 
 -- the part of a block that an extent covers, cut so
 abbrev pub block_range : Shape → Extent → List Extent → BlockRange
@@ -109,13 +112,24 @@ order_for (Promote cache) block = PromoteOrder block cache
 order_for Demote block = DemoteOrder block
 order_for Clean block = CleanOrder block
 
--- the task of a job, whose sectors are cut so
-abbrev pub task_job : Shape → Job → List Extent → TaskJob
-task_job shape (Read extent) cut = OnBlock (Reading (block_range shape extent cut))
-task_job shape (Write extent content) cut = OnBlock (Writing (block_range shape extent cut))
-task_job shape Flush cut = Flushing [] (node_count shape.geometry.cache_blocks)
-task_job shape (Open mode) cut = Opening shape.geometry.meta_sectors
-task_job shape (Migrate migration block) cut = OnBlock (Migrating migration (migrated_range shape block cut))
+-- the blocks that have left under these orders
+abbrev pub blocks_left : List Order → List OBlock
+blocks_left orders = map first_of orders
+
+-- The task of a job, whose sectors are cut so. A flush serves the replacements that wait for it; a replacement begins with the demotion of the
+-- block that leaves.
+abbrev pub task_job : Shape → List Order → Job → List Extent → TaskJob
+task_job shape awaiting (Read extent) cut = OnBlock (Reading (block_range shape extent cut))
+task_job shape awaiting (Write extent content) cut = OnBlock (Writing (block_range shape extent cut))
+task_job shape awaiting Flush cut = Flushing (blocks_left awaiting) (node_count shape.geometry.cache_blocks)
+task_job shape awaiting (Open mode) cut = Opening shape.geometry.meta_sectors
+task_job shape awaiting (Migrate migration block) cut = OnBlock (Migrating migration (migrated_range shape block cut))
+task_job shape awaiting (Replace old new) cut = OnBlock (Migrating Demote (migrated_range shape old cut))
+
+-- what an actor is at once this job was started
+abbrev pub begun_as : Job → Job
+begun_as (Replace old new) = Migrate Demote old
+begun_as job = job
 
 -- some sectors, all of the origin
 abbrev pub is_inside : Shape → Extent → Bool
@@ -135,6 +149,7 @@ job_refusal shape (Write extent content) = extent_refusal shape extent
 job_refusal shape Flush = None
 job_refusal shape (Open mode) = None
 job_refusal shape (Migrate migration block) = None
+job_refusal shape (Replace old new) = None
 
 -- ---- what applies
 
@@ -143,8 +158,11 @@ OfSome None on = ⊥
 OfSome (Some x) on = on x
 
 -- the actor is there, and has a task of which this holds
+abbrev pub OnTask : {P A : Type 0} → State P A → ℕ → (Actor → Job → Plan → Type 0) → Type 0
+OnTask w a on = OfSome (slice_get w.actors a) (λ x. OfSome x.task (λ doing. on x doing.0 doing.1))
+
 abbrev pub AtWork : {P A : Type 0} → State P A → ℕ → (Job → Plan → Type 0) → Type 0
-AtWork w a on = OfSome (slice_get w.actors a) (λ x. OfSome x.task (λ doing. on doing.0 doing.1))
+AtWork w a on = OnTask w a (λ x job s. on job s)
 
 abbrev pub HasTask : {P A : Type 0} → State P A → ℕ → Type 0
 HasTask w a = AtWork w a (λ job s. Unit {0})
@@ -238,10 +256,10 @@ abbrev pub DoesUnmap : {P A : Type 0} → OBlock → DeskState P → Chosen P A 
 DoesUnmap block desk (Asks new) = DidUnmap (λ policy b. new.policy) block desk new
 DoesUnmap block desk chosen = ⊥
 
--- an order is given up
-abbrev pub DoesRelease : {P A : Type 0} → Order → DeskState P → Chosen P A → Type 0
-DoesRelease order desk (Asks new) = IsGivenUp (Some order) desk new
-DoesRelease order desk chosen = ⊥
+-- of these orders the one of a block is given up
+abbrev pub DoesRelease : {P A : Type 0} → List Order → OBlock → DeskState P → Chosen P A → Type 0
+DoesRelease orders block desk (Asks new) = DidRelease orders block desk new
+DoesRelease orders block desk chosen = ⊥
 
 -- an opening that is answered done has read all, and its root is durable
 abbrev pub DoesOpen : {P A : Type 0} → Phase P A → Option RunningCommit → Chosen P A → Type 0
@@ -249,26 +267,28 @@ DoesOpen phase commit (Opened policy) = OfReading phase (λ mode reading. IsDone
 DoesOpen phase commit chosen = ⊥
 
 -- What a step gives, what a read was given, one content a sector, and what was free at it. A read, write or migration moves sectors
--- of a device on which blocks stand. A migration asks the desk to map its block, to unmap it, or to give up its order.
-abbrev pub Gives : {P A : Type 0} → Shape → State P A → Job → Want → Got → List Bytes → Chosen P A → Type 0
-Gives shape w job (Cell step) got read chosen = IsPlain read chosen × OfTarget w.phase (λ t. got ≡ got_of (result_of t.words step))
-Gives shape w (Read extent) (Device (ReadExtent device e)) got read chosen = HoldsBlocks device × (chosen ≡ Plain) × (got ≡ Done) × (length read ≡ e.count) × GivesEach (device_in device w.devices) e.first read
-Gives shape w (Write extent content) (Device (WriteExtent device e)) got read chosen = HoldsBlocks device × IsPlain read chosen × (got ≡ Done) × (e.first + e.count ≤ length (device_in device w.devices))
-Gives shape w (Migrate migration block) (Device (ReadExtent device e)) got read chosen = HoldsBlocks device × IsPlain read chosen × (got ≡ Done) × (e.first + e.count ≤ length (device_in device w.devices))
-Gives shape w (Migrate migration block) (Device (WriteExtent device e)) got read chosen = HoldsBlocks device × IsPlain read chosen × (got ≡ Done) × (e.first + e.count ≤ length (device_in device w.devices))
-Gives shape w (Migrate migration block) (Desk (Map b c)) got read chosen = (read ≡ []) × OfTarget w.phase (λ t. DoesMap b c t.desk got chosen)
-Gives shape w (Migrate migration block) (Desk (Unmap b)) got read chosen = (read ≡ []) × (got ≡ Done) × OfTarget w.phase (λ t. DoesUnmap b t.desk chosen)
-Gives shape w (Migrate migration block) (Desk (ReleaseOrder b)) got read chosen = (read ≡ []) × (got ≡ Done) × OfTarget w.phase (λ t. DoesRelease (order_for migration block) t.desk chosen)
-Gives shape w job (Device (Sync Metadata)) got read chosen = (read ≡ []) × (got ≡ Done) × DoesSync w.phase w.commit w.devices.metadata chosen
-Gives shape w job (Device (Sync device)) got read chosen = IsPlain read chosen × (got ≡ Done)
-Gives shape w job (Device (WriteNode number)) got read chosen = (read ≡ []) × (got ≡ Done) × DoesPut w.commit (WriteNode number) w.devices.metadata chosen
-Gives shape w job (Device WriteRoot) got read chosen = (read ≡ []) × (got ≡ Done) × DoesPut w.commit WriteRoot w.devices.metadata chosen
-Gives shape w job (Device (ReadMetadata left)) got read chosen = (read ≡ []) × (w.commit ≡ None) × OfReading w.phase (λ mode was. DoesRead shape.geometry left was w.devices.metadata w.commit got chosen)
-Gives shape w job (Desk (BeginCommit clean most)) got read chosen = (read ≡ []) × (clean ≡ false) × OfTarget w.phase (λ t. DoesBegin most t.desk got chosen)
-Gives shape w job (Desk EndCommit) got read chosen = IsPlain read chosen × (got ≡ Done) × OfTarget w.phase (λ t. is_all_done w.commit ≡ true)
-Gives shape w (Open mode) (End Finished) got read chosen = (read ≡ []) × (got ≡ Done) × DoesOpen w.phase w.commit chosen
-Gives shape w job (End answer) got read chosen = IsPlain read chosen × (got ≡ Done)
-Gives shape w job next got read chosen = ⊥
+-- of a device on which blocks stand. A migration asks the desk to map its block, to unmap it, or to give up its order; a flush to give up
+-- the orders that it serves.
+abbrev pub Gives : {P A : Type 0} → Shape → State P A → Actor → Job → Want → Got → List Bytes → Chosen P A → Type 0
+Gives shape w x job (Cell step) got read chosen = IsPlain read chosen × OfTarget w.phase (λ t. got ≡ got_of (result_of t.words step))
+Gives shape w x (Read extent) (Device (ReadExtent device e)) got read chosen = HoldsBlocks device × (chosen ≡ Plain) × (got ≡ Done) × (length read ≡ e.count) × GivesEach (device_in device w.devices) e.first read
+Gives shape w x (Write extent content) (Device (WriteExtent device e)) got read chosen = HoldsBlocks device × IsPlain read chosen × (got ≡ Done) × (e.first + e.count ≤ length (device_in device w.devices))
+Gives shape w x (Migrate migration block) (Device (ReadExtent device e)) got read chosen = HoldsBlocks device × IsPlain read chosen × (got ≡ Done) × (e.first + e.count ≤ length (device_in device w.devices))
+Gives shape w x (Migrate migration block) (Device (WriteExtent device e)) got read chosen = HoldsBlocks device × IsPlain read chosen × (got ≡ Done) × (e.first + e.count ≤ length (device_in device w.devices))
+Gives shape w x (Migrate migration block) (Desk (Map b c)) got read chosen = (read ≡ []) × OfTarget w.phase (λ t. DoesMap b c t.desk got chosen)
+Gives shape w x (Migrate migration block) (Desk (Unmap b)) got read chosen = (read ≡ []) × (got ≡ Done) × OfTarget w.phase (λ t. DoesUnmap b t.desk chosen)
+Gives shape w x (Migrate migration block) (Desk (ReleaseOrder b)) got read chosen = (read ≡ []) × (got ≡ Done) × OfTarget w.phase (λ t. DoesRelease x.orders b t.desk chosen)
+Gives shape w x Flush (Desk (ReleaseOrder b)) got read chosen = (read ≡ []) × (got ≡ Done) × OfTarget w.phase (λ t. DoesRelease x.awaiting b t.desk chosen)
+Gives shape w x job (Device (Sync Metadata)) got read chosen = (read ≡ []) × (got ≡ Done) × DoesSync w.phase w.commit w.devices.metadata chosen
+Gives shape w x job (Device (Sync device)) got read chosen = IsPlain read chosen × (got ≡ Done)
+Gives shape w x job (Device (WriteNode number)) got read chosen = (read ≡ []) × (got ≡ Done) × DoesPut w.commit (WriteNode number) w.devices.metadata chosen
+Gives shape w x job (Device WriteRoot) got read chosen = (read ≡ []) × (got ≡ Done) × DoesPut w.commit WriteRoot w.devices.metadata chosen
+Gives shape w x job (Device (ReadMetadata left)) got read chosen = (read ≡ []) × (w.commit ≡ None) × OfReading w.phase (λ mode was. DoesRead shape.geometry left was w.devices.metadata w.commit got chosen)
+Gives shape w x job (Desk (BeginCommit clean most)) got read chosen = (read ≡ []) × (clean ≡ false) × OfTarget w.phase (λ t. DoesBegin most t.desk got chosen)
+Gives shape w x job (Desk EndCommit) got read chosen = IsPlain read chosen × (got ≡ Done) × OfTarget w.phase (λ t. is_all_done w.commit ≡ true)
+Gives shape w x (Open mode) (End Finished) got read chosen = (read ≡ []) × (got ≡ Done) × DoesOpen w.phase w.commit chosen
+Gives shape w x job (End answer) got read chosen = IsPlain read chosen × (got ≡ Done)
+Gives shape w x job next got read chosen = ⊥
 
 -- the sector that the next step of a commit writes
 abbrev pub sector_put : Option CommitStep → ℕ
@@ -299,25 +319,41 @@ Falters w choice (Device (ReadExtent device e)) chosen = (chosen ≡ Plain) × H
 Falters w choice (Device (WriteExtent device e)) chosen = (chosen ≡ Plain) × HoldsBlocks device
 Falters w choice next chosen = ⊥
 
--- the orders that an actor has
+-- the orders that an actor has, and for which no flush is awaited
 abbrev pub orders_in : Option Actor → List Order
 orders_in None = []
 orders_in (Some x) = x.orders
 
--- an order may be given, and takes some cache block
-abbrev pub MayOrder : {P : Type 0} → DeskState P → Order → Type 0
-MayOrder desk order = (cache : CBlock) × MayReserve desk cache order
+-- One of these is the replacement by which this block follows on a cache block, which is reserved for it.
+abbrev pub MayFollow : {P : Type 0} → DeskState P → List Order → OBlock → CBlock → Type 0
+MayFollow desk kept block cache = (old : OBlock) × Contains kept (ReplaceOrder old block cache) × (slice_get desk.space.blocks cache.0 ≡ Some Reserved)
+
+-- A migration may start under one of these orders: its own, or a promotion under the replacement by which its block follows.
+abbrev pub KeepsMigration : {P : Type 0} → DeskState P → List Order → Migration → OBlock → Type 0
+KeepsMigration desk kept (Promote cache) block = Contains kept (PromoteOrder block cache) ⊎ MayFollow desk kept block cache
+KeepsMigration desk kept migration block = Contains kept (order_for migration block)
+
+-- A replacement may start again: its block has not left its cache block.
+abbrev pub KeepsReplacement : {P : Type 0} → DeskState P → List Order → (old new : OBlock) → Type 0
+KeepsReplacement desk kept old new = (cache : CBlock) × Contains kept (ReplaceOrder old new cache) × (slice_get desk.space.blocks cache.0 ≡ Some Mapped)
+
+-- An order may be given that takes some cache block.
+abbrev pub MayOrder : {P : Type 0} → DeskState P → (CBlock → Order) → Type 0
+MayOrder desk order = (cache : CBlock) × MayReserve desk cache (order cache)
 
 -- A migration starts under an order that its actor keeps, or under one that is given; it is refused where neither can be.
-abbrev pub MigrationStarts : {P A : Type 0} → Extent → Phase P A → List Order → Order → What → Chosen P A → Type 0
-MigrationStarts whole phase kept order (Refused Busy) Plain = (¬ Contains kept order) × OfTarget phase (λ t. ¬ MayOrder t.desk order)
-MigrationStarts whole phase kept order Started (Cut cut) = IsCutInto whole cut × Contains kept order
-MigrationStarts whole phase kept order Started (Orders cut cache) = IsCutInto whole cut × OfTarget phase (λ t. MayReserve t.desk cache order)
-MigrationStarts whole phase kept order what chosen = ⊥
+abbrev pub MigrationStarts : {P A : Type 0} → Extent → Phase P A → (DeskState P → Type 0) → (CBlock → Order) → What → Chosen P A → Type 0
+MigrationStarts whole phase Keeps order (Refused Busy) Plain = OfTarget phase (λ t. (¬ Keeps t.desk) × (¬ MayOrder t.desk order))
+MigrationStarts whole phase Keeps order Started (Cut cut) = IsCutInto whole cut × OfTarget phase (λ t. Keeps t.desk)
+MigrationStarts whole phase Keeps order Started (Orders cut cache) = IsCutInto whole cut × OfTarget phase (λ t. MayReserve t.desk cache (order cache))
+MigrationStarts whole phase Keeps order what chosen = ⊥
 
 -- what a start by an actor comes to
 abbrev pub StartGives : {P A : Type 0} → Shape → Phase P A → Option Actor → Job → What → Chosen P A → Type 0
-StartGives shape phase actor (Migrate migration block) what chosen = MigrationStarts (whole_block (block_size shape) block) phase (orders_in actor) (order_for migration block) what chosen
+StartGives shape phase actor (Migrate migration block) what chosen =
+    MigrationStarts (whole_block (block_size shape) block) phase (λ desk. KeepsMigration desk (orders_in actor) migration block) (λ cache. order_for migration block) what chosen
+StartGives shape phase actor (Replace old new) what chosen =
+    MigrationStarts (whole_block (block_size shape) old) phase (λ desk. KeepsReplacement desk (orders_in actor) old new) (λ cache. ReplaceOrder old new cache) what chosen
 StartGives shape phase actor job (Refused refusal) Plain = job_refusal shape job ≡ Some refusal
 StartGives shape phase actor Flush Started Plain = Unit {0}
 StartGives shape phase actor (Open mode) Started Plain = Unit {0}
@@ -329,7 +365,7 @@ StartGives shape phase actor job what chosen = ⊥
 abbrev pub MayBe : {P A : Type 0} → Shape → State P A → Event → What → List Bytes → Chosen P A → Type 0
 MayBe shape w event Skipped read chosen = IsPlain read chosen × DoesNotApply w event
 MayBe shape w (Start a job) what read chosen = (read ≡ []) × (¬ DoesNotApply w (Start a job)) × StartGives shape w.phase (slice_get w.actors a) job what chosen
-MayBe shape w (Step a) (Stepped next got) read chosen = AtWork w a (λ job s. (next ≡ want s) × Gives shape w job next got read chosen)
+MayBe shape w (Step a) (Stepped next got) read chosen = OnTask w a (λ x job s. (next ≡ want s) × Gives shape w x job next got read chosen)
 MayBe shape w (FaultStep a choice) (Stepped next got) read chosen = (read ≡ []) × (got ≡ Fault)
     × AtWork w a (λ job s. (next ≡ want s) × MayFailAt w.devices choice next × Falters w choice next chosen)
 MayBe shape w (Stop choice) Stopped read chosen = IsPlain read chosen × MayStop choice w.devices

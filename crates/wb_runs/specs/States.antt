@@ -24,12 +24,13 @@ pub record Shape : Type 0 where
   pub actors : ℕ
 
 -- What an actor is at, and what is left of it, if it is at anything; what it knows of the shared words; the orders that it has:
--- that of the migration that it is at, and those of migrations that it may start again; and the contents that a migration has
--- read last, which it writes next.
+-- that of the migration that it is at, and those of migrations that it may start or start again; those of replacements whose block has left,
+-- and which wait for a flush of this actor; and the contents that a migration has read last, which it writes next.
 pub record Actor : Type 0 where
   pub task : Option (Job × Plan)
   pub card : Card
   pub orders : List Order
+  pub awaiting : List Order
   pub buffer : List Bytes
 
 -- what stands from an opening's answer to a crash or the next opening's start
@@ -53,7 +54,7 @@ pub record State (P A : Type 0) : Type 0 where
 
 -- an actor with nothing to do, and with no order
 abbrev pub resting : Actor
-resting = record { task = None; card = blank_card; orders = []; buffer = [] }
+resting = record { task = None; card = blank_card; orders = []; awaiting = []; buffer = [] }
 
 abbrev pub block_size : Shape → ℕ
 block_size shape = shape.geometry.block

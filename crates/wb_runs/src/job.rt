@@ -16,4 +16,8 @@ pub enum Job {
     /// Moves this block between the origin and the cache, under an order of the desk. Its start gives the order, and is refused
     /// `Busy` where it may not be given; an actor that keeps this very order starts again under it.
     Migrate(Migration, OBlock),
+    /// Demotes the first block, under an order by which the second one is to follow it in its cache block. Its start gives the order, and is
+    /// refused `Busy` where it may not be given; an actor that keeps this very order starts again under it, until the block has left. Then
+    /// a flush of this actor is to be done, and a promotion of the second block started, which is refused `Busy` until it is.
+    Replace(OBlock, OBlock),
 }
