@@ -92,7 +92,7 @@ rested P A metadata cache origin desk card rest = record {
   devices = record { metadata = metadata; cache = cache; origin = origin };
   commit = None;
   phase = Stands (record { words = numbered; desk = desk });
-  actors = record { task = None; card = card; orders = []; buffer = [] } ∷ rest;
+  actors = record { task = None; card = card; orders = []; awaiting = []; buffer = [] } ∷ rest;
 }
 
 module _ (P A : Type 0) (global : Global) (cache_blocks meta_sectors : ℕ) (within : IsWithinLimits 64 cache_blocks 1 meta_sectors) (threshold others : ℕ) where
@@ -115,7 +115,7 @@ module _ (P A : Type 0) (global : Global) (cache_blocks meta_sectors : ℕ) (wit
       devices = record { metadata = metadata; cache = cache; origin = only first ∷ sectors };
       commit = None;
       phase = Stands (record { words = fresh_words 1; desk = desk });
-      actors = record { task = None; card = blank_card; orders = []; buffer = [] } ∷ rest;
+      actors = record { task = None; card = blank_card; orders = []; awaiting = []; buffer = [] } ∷ rest;
     }
 
     abbrev pub started : Notes
@@ -246,7 +246,7 @@ module _ (P A : Type 0) (global : Global) (cache_blocks meta_sectors : ℕ) (wit
       devices = record { metadata = metadata; cache = cache; origin = origin };
       commit = None;
       phase = Stands (record { words = words; desk = desk });
-      actors = record { task = task; card = card; orders = []; buffer = [] } ∷ rest;
+      actors = record { task = task; card = card; orders = []; awaiting = []; buffer = [] } ∷ rest;
     }
 
     module _ (job : Job) (origin : List History) (To : Card → State P A) where
@@ -257,10 +257,10 @@ module _ (P A : Type 0) (global : Global) (cache_blocks meta_sectors : ℕ) (wit
       on_answer words plan card hs k = record { card = k.card; is = k.is }
 
     module _ (origin : List History) (To : Card → State P A) where
-      on_write : (words : Words) (card : Card) (hs : List (Happening P A)) → ((card' : Card) → Leads (working words origin (Some (the_write, table (task_job shape the_write (first_sector ∷ [])))) card') hs To) → Leads (working words origin None card) (happened global (Start 0 the_write) Started (Cut (first_sector ∷ [])) ∷ hs) To
+      on_write : (words : Words) (card : Card) (hs : List (Happening P A)) → ((card' : Card) → Leads (working words origin (Some (the_write, table (task_job shape [] the_write (first_sector ∷ [])))) card') hs To) → Leads (working words origin None card) (happened global (Start 0 the_write) Started (Cut (first_sector ∷ [])) ∷ hs) To
       on_write words card hs k = let r = k card in record { card = r.card; is = r.is }
 
-      on_read : (words : Words) (card : Card) (hs : List (Happening P A)) → ((card' : Card) → Leads (working words origin (Some (the_read, table (task_job shape the_read (first_sector ∷ [])))) card') hs To) → Leads (working words origin None card) (happened global (Start 0 the_read) Started (Cut (first_sector ∷ [])) ∷ hs) To
+      on_read : (words : Words) (card : Card) (hs : List (Happening P A)) → ((card' : Card) → Leads (working words origin (Some (the_read, table (task_job shape [] the_read (first_sector ∷ [])))) card') hs To) → Leads (working words origin None card) (happened global (Start 0 the_read) Started (Cut (first_sector ∷ [])) ∷ hs) To
       on_read words card hs k = let r = k card in record { card = r.card; is = r.is }
 
       on_given : (words : Words) (plan : Plan) (card : Card) (hs : List (Happening P A)) → Leads (working words origin (Some (the_read, after plan Done)) card) hs To → Leads (working words origin (Some (the_read, plan)) card) (was_given global content (Step 0) (Stepped (Device (ReadExtent Origin first_sector)) Done) ∷ hs) To

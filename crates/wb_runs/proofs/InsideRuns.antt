@@ -45,7 +45,7 @@ use Rattle.wb_runs.specs.declared.event.Event.TheVariants.{Start, Step, FaultSte
 use Rattle.wb_runs.specs.declared.event.What.{What}
 use Rattle.wb_runs.specs.declared.event.What.TheVariants.{Skipped, Refused, Started, Stepped, Stopped}
 use Rattle.wb_runs.specs.States.{Shape, State, Actor, Phase, Stands, Gone, Opens, OfTarget, resting, with_device, block_size, sector_count, cache_sector_count, start}
-use Rattle.wb_runs.specs.Happenings.{Chosen, Plain, Cut, Orders, Opened, Happening, OfSome, Gives, Falters, MayFailAt, StartGives, MayBe, orders_in, order_for, task_job, extent_refusal}
+use Rattle.wb_runs.specs.Happenings.{Chosen, Plain, Cut, Orders, Opened, Happening, OfSome, Gives, Falters, MayFailAt, StartGives, MayBe, orders_in, order_for, task_job, extent_refusal, begun_as}
 use Rattle.wb_runs.specs.Effects.{put_by, contents_for, device_done, device_failed, devices_then, commit_then, phase_then, phase_opened, phase_given, task_then, actor_then, cut_of, stepped, with_actor, cleared, given, started, job_of, all_resting, after_what, after_happening, after_all, IsRun}
 use Rattle.wb_runs.specs.Clerk.{Notes, formatted}
 use Rattle.wb_runs.specs.Headline.{note_happening}
@@ -56,11 +56,12 @@ use Rattle.wb_runs.proofs.Extents.{MayStart, Within, AllWithin, may_start, cut_w
 use Rattle.wb_runs.proofs.Images.{Images}
 use Rattle.wb_runs.proofs.Metadata.{MetadataKept}
 use Rattle.wb_runs.proofs.Stepping.{done_kept}
-use Rattle.wb_runs.proofs.Ordering.{OrderInside, OrdersInside}
+use Rattle.wb_runs.proofs.Ordering.{OrderInside, OrdersInside, in_orders}
 use Rattle.wb_runs.proofs.Ruling.{each_set, all_rest}
-use Rattle.wb_runs.proofs.Using.{order_inside}
+use Rattle.wb_runs.proofs.Using.{order_inside, replacement_inside}
 use Rattle.wb_runs.proofs.Bounds.{SealInside, SealsInside, seals_after, fresh_inside, sealed_inside, AllInside, PartInside, JobInside, MigrationInside, inside_after}
 use Rattle.wb_runs.proofs.LinkedRuns.{Base, base_after, base_start}
+use Rattle.wb_policy.specs.declared.order.Order.{Order}
 
 -- ---- sizes
 

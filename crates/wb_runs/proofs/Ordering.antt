@@ -1,5 +1,5 @@
 -- The orders that actors have are of blocks that are there.
-use Rattle.std.proofs.Common.{◌≡◌, ◌<◌, ℕ, Bool, true, false, if◌then◌else◌, List, [], ◌∷◌, Some, None, sym, ap, subst, arith, slice_get, Contains}
+use Rattle.std.proofs.Common.{◌≡◌, ◌<◌, ℕ, Bool, true, false, if◌then◌else◌, List, [], ◌∷◌, Some, None, sym, ap, subst, arith, slice_get, Contains, ◌⊎◌, ◌++◌, ◌&&◌, inl, inr}
 use Rattle.std.proofs.lemmas.Option.{slice_get_within}
 use Rattle.wb_types.specs.declared.geometry.Geometry.{Geometry}
 use Rattle.wb_types.specs.declared.number.OBlock.{OBlock}
@@ -7,20 +7,22 @@ use Rattle.wb_types.specs.declared.number.CBlock.{CBlock}
 use Rattle.wb_types.proofs.Lists.{Contains-first, Contains-behind}
 use Rattle.wb_policy.specs.declared.order.Order.{Order}
 use Rattle.wb_policy.specs.declared.order.Order.TheVariants.{Promote as PromoteOrder, Replace, Demote as DemoteOrder, Clean as CleanOrder}
-use Rattle.wb_tasks.specs.declared.step.Migration.{Migration}
-use Rattle.wb_tasks.specs.declared.step.Migration.TheVariants.{Promote, Demote, Clean}
 use Rattle.wb_tasks.specs.declared.step.DeskStep.TheVariants.{Map, Unmap, ReleaseOrder}
 use Rattle.wb_tasks.specs.declared.step.Want.{Want}
-use Rattle.wb_tasks.specs.declared.step.Want.TheVariants.{Desk}
+use Rattle.wb_tasks.specs.declared.step.Want.TheVariants.{Desk, End}
 use Rattle.wb_tasks.specs.declared.step.Got.{Got}
 use Rattle.wb_tasks.specs.declared.step.Got.TheVariants.{Done}
 use Rattle.wb_desk.specs.Desks.{DeskState, MayReserve}
 use Rattle.wb_stage.specs.Asking.{is_of}
 use Rattle.wb_runs.specs.States.{Actor}
-use Rattle.wb_runs.specs.Happenings.{order_for}
-use Rattle.wb_runs.specs.Effects.{dropped, orders_then}
+use Rattle.wb_runs.specs.Effects.{dropped, orders_then, awaiting_then, orders_released, awaiting_released, orders_answered, awaiting_answered, replacing}
 use Rattle.wb_runs.proofs.Lists.{first_or}
 use Rattle.wb_runs.proofs.Metadata.{IsDesk}
+use Rattle.std.proofs.lemmas.List.Elements.{Contains-append_left, Contains-append_right, Contains-append_cases}
+use Rattle.wb_desk.specs.Entries.{is_replacement}
+use Rattle.wb_runs.specs.declared.job.Job.{Job}
+use Rattle.wb_runs.specs.declared.job.Job.TheVariants.{Flush}
+use Rattle.wb_tasks.specs.declared.step.Answer.TheVariants.{Done as Finished}
 
 -- the blocks that an order names are there
 abbrev pub OrderInside : Geometry → Order → Type 0

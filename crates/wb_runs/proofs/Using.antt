@@ -1,5 +1,5 @@
 -- In every run each actor has what its task needs, and the words of the target that stands keep their rule.
-use Rattle.std.proofs.Common.{◌≡◌, ◌<◌, ◌*◌, ◌/◌, inr, ℕ, List, [], ◌∷◌, Option, Some, None, refl, sym, ap, subst, slice_get, slice_set, arith, mul_comm}
+use Rattle.std.proofs.Common.{◌≡◌, ◌<◌, ◌*◌, ◌/◌, inr, ℕ, List, [], ◌∷◌, Option, Some, None, refl, sym, ap, subst, slice_get, slice_set, arith, mul_comm, ◌++◌, inl}
 use mathlib.Core.Option.{some}
 use lib.ListN.{get_elem?}
 use Rattle.wb_types.specs.declared.mode.Mode.{Mode}
@@ -37,8 +37,8 @@ use Rattle.wb_runs.specs.declared.event.Event.TheVariants.{Start, Step, FaultSte
 use Rattle.wb_runs.specs.declared.event.What.{What}
 use Rattle.wb_runs.specs.declared.event.What.TheVariants.{Skipped, Refused, Started, Stepped, Stopped}
 use Rattle.wb_runs.specs.States.{Shape, State, Actor, Target, Phase, Stands, Gone, Opens, OfTarget, resting, start}
-use Rattle.wb_runs.specs.Happenings.{Chosen, Plain, Cut, Orders, order_for, Opened, Happening, OfSome, DoesNotApply, DoesOpen, MayFailAt, Falters, StartGives, Gives, MayBe}
-use Rattle.wb_runs.specs.Effects.{task_then, card_then, actor_then, card_over, card_by, words_by, seals_of, sealing_steps, words_then, desk_then, phase_then, phase_opened, target_over, stepped, with_actor, cleared, given, phase_given, started, job_of, device_done, device_failed, all_resting, after_what, after_happening, after_all, IsRun}
+use Rattle.wb_runs.specs.Happenings.{Chosen, Plain, Cut, Orders, order_for, Opened, Happening, OfSome, DoesNotApply, DoesOpen, MayFailAt, Falters, StartGives, Gives, MayBe, KeepsMigration, blocks_left}
+use Rattle.wb_runs.specs.Effects.{task_then, card_then, actor_then, card_over, card_by, words_by, seals_of, sealing_steps, words_then, desk_then, phase_then, phase_opened, target_over, stepped, with_actor, cleared, given, phase_given, started, job_of, device_done, device_failed, all_resting, after_what, after_happening, after_all, IsRun, orders_then, awaiting_then, orders_given}
 use Rattle.wb_runs.specs.Holding.{cards_of, TaskSuits, AllSuited, AreUsedRightly}
 use Rattle.wb_runs.proofs.Extents.{MayStart, may_start, some_sectors}
 use Rattle.wb_types.specs.declared.number.OBlock.{OBlock}
@@ -48,12 +48,13 @@ use Rattle.wb_policy.specs.declared.order.Order.{Order}
 use Rattle.wb_devices.specs.declared.devices.Devices.{Devices}
 use Rattle.wb_runs.proofs.Lists.{replicated, free, first_or}
 use Rattle.wb_runs.proofs.Images.{Turns}
-use Rattle.wb_runs.proofs.Ordering.{OrderInside, OrdersInside, AllOrdersInside, orders_left, order_given}
+use Rattle.wb_runs.proofs.Ordering.{OrderInside, OrdersInside, AllOrdersInside, orders_left, order_given, held_of, in_orders}
 use Rattle.wb_runs.proofs.Sealing.{EntriesInside, fresh_taken, all_sealed, Sealed}
 use Rattle.wb_runs.proofs.MetadataRuns.{IsKnown, known_after, known_at_start}
 use Rattle.wb_runs.proofs.Stepping.{done_kept}
 use Rattle.wb_runs.proofs.Ruling.{rule_after, rule_same, AllBlank, fresh_ruled, each_set, all_rest, cards_set, card_at}
 use Rattle.wb_runs.proofs.Suiting.{gives_fits}
+use Rattle.wb_policy.specs.declared.order.Order.TheVariants.{Promote as PromoteOrder, Replace as ReplaceOrder, Demote as DemoteOrder, Clean as CleanOrder}
 
 -- an actor that has a task opens
 abbrev pub OpensOrRests : Option (Job × Plan) → Type 0
