@@ -251,10 +251,10 @@ module _ (P A : Type 0) (global : Global) (cache_blocks meta_sectors : ℕ) (wit
     }
 
     -- whoever had no order has none once it has answered
-    abbrev rested : Card → List Order → List Order → Actor
-    rested card orders awaiting = record { task = None; card = card; orders = orders; awaiting = awaiting; buffer = [] }
+    abbrev idle_with : Card → List Order → List Order → Actor
+    idle_with card orders awaiting = record { task = None; card = card; orders = orders; awaiting = awaiting; buffer = [] }
 
-    answered : (job : Job) (card : Card) → rested card (orders_answered job [] []) (awaiting_answered job []) ≡ rested card [] []
+    answered : (job : Job) (card : Card) → idle_with card (orders_answered job [] []) (awaiting_answered job []) ≡ idle_with card [] []
     answered (Read extent) card = refl
     answered (Write extent content) card = refl
     answered Flush card = refl
