@@ -66,7 +66,7 @@ contents_of devices = record { metadata = devices.metadata.contents; cache = dev
 
 -- who opens, with this left of the opening
 abbrev pub opening_actor : Plan → Actor
-opening_actor plan = record { task = Some (Open Writeback, plan); card = blank_card; orders = []; buffer = [] }
+opening_actor plan = record { task = Some (Open Writeback, plan); card = blank_card; orders = []; awaiting = []; buffer = [] }
 
 -- Beside who opens nobody is at anything. Over a target each is at what its member is at, and has a card.
 abbrev pub actors_of : ℕ → Phase → List Actor

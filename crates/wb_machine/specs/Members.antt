@@ -7,16 +7,17 @@ use Rattle.wb_words.specs.declared.card.Card.{Card}
 use Rattle.wb_runs.specs.declared.job.Job.{Job}
 use Rattle.wb_runs.specs.States.{Actor}
 
--- what an actor is at, but for its card: what is left of its task, if it has one, the orders that it has, and what its migration has
--- read last
+-- what an actor is at, but for its card: what is left of its task, if it has one, the orders that it has, those that wait for a flush of it,
+-- and what its migration has read last
 pub record Member : Type 0 where
   pub task : Option (Job × Plan)
   pub orders : List Order
+  pub awaiting : List Order
   pub buffer : List Bytes
 
 -- who is at what this member is at, with this card
 abbrev pub seat : Member → Card → Actor
-seat member card = record { task = member.task; card = card; orders = member.orders; buffer = member.buffer }
+seat member card = record { task = member.task; card = card; orders = member.orders; awaiting = member.awaiting; buffer = member.buffer }
 
 -- each member with its card
 abbrev pub seated : List Member → List Card → List Actor
@@ -25,7 +26,7 @@ seated _ _ = []
 
 -- a member that is at nothing
 abbrev pub free : Member
-free = record { task = None; orders = []; buffer = [] }
+free = record { task = None; orders = []; awaiting = []; buffer = [] }
 
 -- this one is there, and at something
 abbrev pub works : Option Member → Bool

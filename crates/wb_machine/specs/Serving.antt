@@ -32,6 +32,7 @@ use Rattle.wb_tasks.specs.declared.step.Got.TheVariants.{Done, Fault}
 use Rattle.wb_desk.specs.Calls.{reserved}
 use Rattle.wb_desk.specs.Desks.{DeskState, MayReserve}
 use Rattle.wb_policy.specs.declared.order.Order.{Order}
+use Rattle.wb_policy.specs.declared.order.Order.TheVariants.{Replace as ReplaceOrder}
 use Rattle.wb_tasks.specs.Tables.{whole_block}
 use Rattle.wb_types.specs.declared.number.CBlock.{CBlock}
 use Rattle.wb_types.specs.declared.number.OBlock.{OBlock}
@@ -40,14 +41,14 @@ use Rattle.wb_devices.specs.declared.devices.Devices.{Devices}
 use Rattle.wb_devices.specs.declared.running.RunningCommit.{RunningCommit}
 use Rattle.wb_devices.specs.Moving.{device_in}
 use Rattle.wb_runs.specs.declared.job.Job.{Job}
-use Rattle.wb_runs.specs.declared.job.Job.TheVariants.{Read, Write, Open, Migrate}
+use Rattle.wb_runs.specs.declared.job.Job.TheVariants.{Read, Write, Flush, Open, Migrate, Replace}
 use Rattle.wb_runs.specs.declared.event.What.{What}
 use Rattle.wb_runs.specs.declared.event.What.TheVariants.{Skipped, Refused, Started, Stepped}
 use Rattle.wb_stage.specs.Stages.{is_all_done}
 use Rattle.wb_runs.specs.States.{Shape, Actor, Stands, Gone, Target as RunTarget, block_size}
-use Rattle.wb_runs.specs.Happenings.{Chosen, Plain, Orders, Puts, DoesPut, FailsPut, Gives, IsNextOf, MayFailAt, MayOrder, Falters, StartGives, extent_of, order_for, task_job}
+use Rattle.wb_runs.specs.Happenings.{Chosen, Plain, Orders, Puts, DoesPut, FailsPut, Gives, IsNextOf, MayFailAt, Falters, KeepsMigration, KeepsReplacement, StartGives, begun_as, extent_of, order_for, task_job}
 use Rattle.wb_runs.specs.Holding.{AllSuited}
-use Rattle.wb_runs.specs.Effects.{buffer_then, commit_then, contents_at, cut_of, desk_then, device_done, device_failed, devices_then, job_of, orders_given, orders_then, task_then}
+use Rattle.wb_runs.specs.Effects.{buffer_then, commit_then, contents_at, cut_of, desk_then, device_done, device_failed, devices_then, job_of, awaiting_then, orders_given, orders_then, task_then}
 use Rattle.wb_machine.specs.declared.phase.Phase.{Phase}
 use Rattle.wb_machine.specs.declared.phase.Phase.TheVariants.{Standing}
 use Rattle.wb_machine.specs.declared.target.Target.{Target}
@@ -59,21 +60,36 @@ use Rattle.wb_machine.specs.Members.{Member, seat, seated}
 -- one step moves one sector, in rising order
 abbrev pub cut_for : Shape → Job → List Extent
 cut_for shape (Migrate migration block) = pieces 1 (whole_block (block_size shape) block)
+cut_for shape (Replace old new) = pieces 1 (whole_block (block_size shape) old)
 cut_for shape job = pieces 1 (extent_of job)
 
--- the order under which a job runs, if it is a migration
-abbrev pub order_of : Job → Option Order
-order_of (Migrate migration block) = Some (order_for migration block)
-order_of job = None
+-- a job runs under an order
+abbrev pub is_ordered : Job → Bool
+is_ordered (Migrate migration block) = true
+is_ordered (Replace old new) = true
+is_ordered job = false
+
+-- the order under which a job runs that takes this cache block, if it is a migration or a replacement
+abbrev pub order_by : Job → CBlock → Option Order
+order_by (Migrate migration block) cache = Some (order_for migration block)
+order_by (Replace old new) cache = Some (ReplaceOrder old new cache)
+order_by job cache = None
+
+-- a job may start under one of these orders
+abbrev pub KeepsFor : DeskState Quiet → List Order → Job → Type 0
+KeepsFor desk kept (Migrate migration block) = KeepsMigration desk kept migration block
+KeepsFor desk kept (Replace old new) = KeepsReplacement desk kept old new
+KeepsFor desk kept job = ⊥
 
 -- the desk once an order was given with a job
 abbrev pub desk_given : DeskState Quiet → Job → Chosen Quiet Global → DeskState Quiet
 desk_given desk (Migrate migration block) (Orders cut cache) = reserved desk cache (order_for migration block) false
+desk_given desk (Replace old new) (Orders cut cache) = reserved desk cache (ReplaceOrder old new cache) false
 desk_given desk job chosen = desk
 
 -- what is at this job from now on
 abbrev pub member_given : Shape → Member → Job → Chosen Quiet Global → Member
-member_given shape m job chosen = record { task = Some (job, table (task_job shape job (cut_of chosen))); orders = orders_given m.orders job chosen; buffer = m.buffer }
+member_given shape m job chosen = record { task = Some (begun_as job, table (task_job shape m.awaiting job (cut_of chosen))); orders = orders_given m.orders job chosen; awaiting = m.awaiting; buffer = m.buffer }
 
 -- What a start that is not skipped leaves of the desk and of who starts: an order may be given.
 abbrev pub LeavesStarted : Shape → DeskState Quiet → Member → Job → What → Chosen Quiet Global → DeskState Quiet → Member → Type 0
@@ -101,11 +117,25 @@ StartsIf false shape desk m job what desk' m' = IsPassed desk m what desk' m'
 abbrev pub Starts : Shape → DeskState Quiet → Member → Job → What → DeskState Quiet → Member → Type 0
 Starts shape desk m job what desk' m' = StartsIf (is_none m.task) shape desk m job what desk' m'
 
--- An order is had by who has it, or is given, and taken as the newest; or it may not be given.
-abbrev pub TakesOrder : DeskState Quiet → Member → Order → Bool → DeskState Quiet → Member → Type 0
-TakesOrder desk m order true desk' m' = (Contains m.orders order × (desk' ≡ desk) × (m' ≡ m))
-    ⊎ ((cache : CBlock) × MayReserve desk cache order × (desk' ≡ reserved desk cache order false) × (m' ≡ record m { orders = order ∷ m.orders }))
-TakesOrder desk m order false desk' m' = (¬ Contains m.orders order) × (¬ MayOrder desk order) × (desk' ≡ desk) × (m' ≡ m)
+-- An order is given, and taken as the newest; or it may not be given, whatever cache block it took.
+abbrev pub GetsOrder : DeskState Quiet → Member → Order → Bool → DeskState Quiet → Member → Type 0
+GetsOrder desk m order true desk' m' = (cache : CBlock) × MayReserve desk cache order × (desk' ≡ reserved desk cache order false) × (m' ≡ record m { orders = order ∷ m.orders })
+GetsOrder desk m order false desk' m' = ((cache : CBlock) → ¬ MayReserve desk cache order) × (desk' ≡ desk) × (m' ≡ m)
+
+-- A job may start under an order that who starts it has, or is given now; or none may be given.
+abbrev pub TakesOrder : DeskState Quiet → Member → Job → Bool → DeskState Quiet → Member → Type 0
+TakesOrder desk m job true desk' m' = (KeepsFor desk m.orders job × (desk' ≡ desk) × (m' ≡ m))
+    ⊎ ((cache : CBlock) × ((order : Order) × (order_by job cache ≡ Some order) × MayReserve desk cache order × (desk' ≡ reserved desk cache order false) × (m' ≡ record m { orders = order ∷ m.orders })))
+TakesOrder desk m job false desk' m' = (¬ KeepsFor desk m.orders job) × ((cache : CBlock) (order : Order) → order_by job cache ≡ Some order → ¬ MayReserve desk cache order) × (desk' ≡ desk) × (m' ≡ m)
+
+-- the orders of which a step of a job may give one up
+abbrev pub held_for : Job → (orders awaiting : List Order) → List Order
+held_for Flush orders awaiting = awaiting
+held_for job orders awaiting = orders
+
+-- an actor at this job has these to give up
+abbrev pub HasToGiveUp : Job → Actor → List Order → Type 0
+HasToGiveUp job x held = held_for job x.orders x.awaiting ≡ held
 
 -- ---- steps
 
@@ -123,6 +153,12 @@ abbrev pub Migrates : Job → Type 0
 Migrates (Migrate migration block) = Unit {0}
 Migrates job = ⊥
 
+-- a migration or a flush may give up an order
+abbrev pub GivesUp : Job → Type 0
+GivesUp (Migrate migration block) = Unit {0}
+GivesUp Flush = Unit {0}
+GivesUp job = ⊥
+
 -- a read of no sector may be of any place, but for a migration's
 abbrev pub ReadsInside : Job → Extent → ℕ → Type 0
 ReadsInside (Migrate migration block) e sectors = e.first + e.count ≤ sectors
@@ -136,13 +172,6 @@ is_copied job next = false
 -- what is noted of what a step has read: nothing where it is what a migration writes next
 abbrev pub noted_read : Job → Want → List Bytes → List Bytes
 noted_read job next read = if is_copied job next then [] else read
-
--- the block whose order a step with this result ends
-abbrev pub block_ended : Want → Got → Option OBlock
-block_ended (Desk (Map b c)) Done = Some b
-block_ended (Desk (Unmap b)) Done = Some b
-block_ended (Desk (ReleaseOrder b)) Done = Some b
-block_ended next got = None
 
 abbrev pub Opens : Job → Type 0
 Opens (Open mode) = Unit {0}
@@ -189,7 +218,7 @@ IsAskable commit job (BeginCommit clean most) = clean ≡ false
 IsAskable commit job EndCommit = is_all_done commit ≡ true
 IsAskable commit job (Map block place) = Migrates job
 IsAskable commit job (Unmap block) = Migrates job
-IsAskable commit job (ReleaseOrder block) = Migrates job
+IsAskable commit job (ReleaseOrder block) = GivesUp job
 
 -- A step of a job can be done. No opening is answered done over a target.
 abbrev pub IsPossible : Devices (List History) → Option RunningCommit → Job → Want → Type 0
@@ -251,7 +280,7 @@ chosen_at step devices = Plain
 
 -- A step of a job on a device, which read this, from the devices and the commit before to those after.
 pub record DoesOn (devices : Devices (List History)) (commit : Option RunningCommit) (job : Job) (buffer : List Bytes) (step : DeviceStep) (read : List Bytes) (devices' : Devices (List History)) (commit' : Option RunningCommit) : Type 0 where
-  pub gives : (shape : Shape) (t : RunTarget Quiet) (actors : List Actor) → Gives shape (stood devices commit t actors) job (Device step) Done (noted_read job (Device step) read) (chosen_at step devices')
+  pub gives : (shape : Shape) (t : RunTarget Quiet) (actors : List Actor) (x : Actor) → Gives shape (stood devices commit t actors) x job (Device step) Done (noted_read job (Device step) read) (chosen_at step devices')
   pub copies : IsCopy devices job (Device step) read
   pub devices_are : devices' ≡ devices_then (done_by job buffer (chosen_at step devices')) devices (Device step)
   pub commit_is : commit' ≡ commit_by commit (Device step) Done (chosen_at step devices')
@@ -262,10 +291,10 @@ pub record FailsAt (choice : Choice) (devices : Devices (List History)) (commit 
   pub devices_are : devices' ≡ devices_then (failed_by choice job buffer (chosen_at step devices')) devices (Device step)
   pub commit_is : commit' ≡ commit_by commit (Device step) Fault (chosen_at step devices')
 
--- What the desk gives that is asked for a job, and what that makes of it and of the commit.
-pub record WasAsked (desk : DeskState Quiet) (commit : Option RunningCommit) (job : Job) (step : DeskStep) (got : Got) (desk' : DeskState Quiet) (commit' : Option RunningCommit) : Type 0 where
+-- What the desk gives that is asked for a job, which may give up one of these orders, and what that makes of it and of the commit.
+pub record WasAsked (desk : DeskState Quiet) (commit : Option RunningCommit) (job : Job) (held : List Order) (step : DeskStep) (got : Got) (desk' : DeskState Quiet) (commit' : Option RunningCommit) : Type 0 where
   pub chosen : Chosen Quiet Global
-  pub gives : (shape : Shape) (devices : Devices (List History)) (words : Words) (actors : List Actor) → Gives shape (stood devices commit (record { words = words; desk = desk }) actors) job (Desk step) got [] chosen
+  pub gives : (shape : Shape) (devices : Devices (List History)) (words : Words) (actors : List Actor) (x : Actor) → HasToGiveUp job x held → Gives shape (stood devices commit (record { words = words; desk = desk }) actors) x job (Desk step) got [] chosen
   pub desk_is : desk' ≡ desk_then desk (Desk step) chosen
   pub commit_is : commit' ≡ commit_by commit (Desk step) got chosen
 
@@ -279,10 +308,10 @@ pub record Leads (change : DeviceStep → List History → List History) (device
   pub commit_is : new.commit ≡ commit_by old.commit next got chosen
   pub failed_is : new.failed ≡ flag new.crew.words.fail
 
--- One step of the actor a on a job, from the devices and the target before to those after.
-pub record Performs (devices : Devices (List History)) (old : Target) (a : ℕ) (job : Job) (buffer : List Bytes) (next : Want) (got : Got) (read : List Bytes) (devices' : Devices (List History)) (new : Target) : Type 0 where
+-- One step of the actor a on a job, which may give up one of these orders, from the devices and the target before to those after.
+pub record Performs (devices : Devices (List History)) (old : Target) (a : ℕ) (job : Job) (held : List Order) (buffer : List Bytes) (next : Want) (got : Got) (read : List Bytes) (devices' : Devices (List History)) (new : Target) : Type 0 where
   pub chosen : Chosen Quiet Global
-  pub gives : (shape : Shape) (actors : List Actor) → Gives shape (over devices old actors) job next got (noted_read job next read) chosen
+  pub gives : (shape : Shape) (actors : List Actor) (x : Actor) → HasToGiveUp job x held → Gives shape (over devices old actors) x job next got (noted_read job next read) chosen
   pub copies : IsCopy devices job next read
   pub leads : Leads (done_by job buffer chosen) devices old a next got chosen devices' new
 
@@ -290,7 +319,12 @@ pub record Performs (devices : Devices (List History)) (old : Target) (a : ℕ) 
 
 -- what a member is after a step on its job with this result
 abbrev pub member_then : Devices (List History) → Member → Want → Got → Member
-member_then devices m next got = record { task = task_then m.task next got; orders = orders_then m.orders next got; buffer = buffer_then devices m.buffer next got (job_of m.task) }
+member_then devices m next got = record {
+  task = task_then m.task next got;
+  orders = orders_then m.orders m.awaiting (job_of m.task) next got;
+  awaiting = awaiting_then m.orders m.awaiting (job_of m.task) next got;
+  buffer = buffer_then devices m.buffer next got (job_of m.task);
+}
 
 -- this may be the result of the next step of a task, if there is one
 abbrev pub Comes : Option (Job × Plan) → Want → Got → Type 0
@@ -311,7 +345,7 @@ pub record StepsOn (devices : Devices (List History)) (old : Target) (a : ℕ) (
   pub given : List Bytes
   pub what_is : what ≡ Stepped (want plan) got
   pub read_is : read ≡ noted_read job (want plan) given
-  pub performs : Performs devices old a job m.buffer (want plan) got given devices' new
+  pub performs : Performs devices old a job (held_for job m.orders m.awaiting) m.buffer (want plan) got given devices' new
   pub member_is : m' ≡ member_then devices m (want plan) got
 
 abbrev pub StepsBy : Devices (List History) → Target → ℕ → Member → Option (Job × Plan) → What → List Bytes → Devices (List History) → Target → Member → Type 0

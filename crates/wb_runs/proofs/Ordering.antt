@@ -88,7 +88,7 @@ then_had x job (Desk (Map b c)) Done order m = from_both (dropped b x.orders) x.
 then_had x job (Desk (Unmap b)) Done order m = from_both (dropped b x.orders) (replacing b x.orders ++ x.awaiting) x order (λ n. in_orders x order (dropped_had b x.orders order n))
     (λ n. from_both (replacing b x.orders) x.awaiting x order (λ k. in_orders x order (replacing_had b x.orders order k)) (in_awaiting x order) n) m
 then_had x job (Desk (ReleaseOrder b)) Done order m = released_had x b job order m
-then_had x job (End Finished) got order m = answered_had x job order m
+then_had x job (End Finished) Done order m = answered_had x job order m
 then_had x job next got order m = m
 
 pub orders_left : (g : Geometry) (x : Actor) (job : Job) (next : Want) (got : Got) → OrdersInside g (held_of x) → OrdersInside g (orders_then x.orders x.awaiting job next got ++ awaiting_then x.orders x.awaiting job next got)

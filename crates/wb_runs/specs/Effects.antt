@@ -250,13 +250,13 @@ abbrev pub orders_then : (orders awaiting : List Order) → Job → Want → Got
 orders_then orders awaiting job (Desk (Map b c)) Done = dropped b orders
 orders_then orders awaiting job (Desk (Unmap b)) Done = dropped b orders
 orders_then orders awaiting job (Desk (ReleaseOrder b)) Done = orders_released b job orders
-orders_then orders awaiting job (End Finished) got = orders_answered job orders awaiting
+orders_then orders awaiting job (End Finished) Done = orders_answered job orders awaiting
 orders_then orders awaiting job next got = orders
 
 abbrev pub awaiting_then : (orders awaiting : List Order) → Job → Want → Got → List Order
 awaiting_then orders awaiting job (Desk (Unmap b)) Done = replacing b orders ++ awaiting
 awaiting_then orders awaiting job (Desk (ReleaseOrder b)) Done = awaiting_released b job awaiting
-awaiting_then orders awaiting job (End Finished) got = awaiting_answered job awaiting
+awaiting_then orders awaiting job (End Finished) Done = awaiting_answered job awaiting
 awaiting_then orders awaiting job next got = awaiting
 
 abbrev pub job_of : Option (Job × Plan) → Job
