@@ -188,7 +188,7 @@ module _ (P A : Type 0) (shape : Shape) (policy : P) (first : ReadSteps A) (begi
       HasHappening shape w (Start a job)
   block_starts w a job applies place whole Keeps keeps order may gives = by_phase w.phase refl
     where
-      abbrev Comes : What → Chosen P A → Phase P A → Type 0
+      Comes : What → Chosen P A → Phase P A → Type 0
       Comes what chosen phase = MigrationStarts whole phase Keeps order what chosen
 
       cut : List Extent

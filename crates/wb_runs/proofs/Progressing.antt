@@ -365,9 +365,9 @@ module _ (P A : Type 0) (shape : Shape) where
   given_goes (Stands t) commit actors (Replace old new) (Cut cut) k = k
   given_goes (Stands t) commit actors (Replace old new) (Begins now) k = k
   given_goes (Stands t) commit actors (Replace old new) (Reaches now c) k = k
-  given_goes (Stands t) commit actors (Replace old new) (Puts new) k = k
+  given_goes (Stands t) commit actors (Replace old new) (Puts now) k = k
   given_goes (Stands t) commit actors (Replace old new) (Commits c tree) k = k
-  given_goes (Stands t) commit actors (Replace old new) (Asks new) k = k
+  given_goes (Stands t) commit actors (Replace old new) (Asks now) k = k
   given_goes (Stands t) commit actors (Replace old new) (Opened policy) k = k
   given_goes (Stands t) commit actors (Read extent) chosen k = k
   given_goes (Stands t) commit actors (Write extent content) chosen k = k
