@@ -467,7 +467,10 @@ check 'a cache block is in quarantine until a later commit has ended' \
   "$(replayed "$cached / start 1 flush / step 1 2 / start 0 demote 0 / end 0 / end 1 / start 0 promote 5 0 / start 0 promote 5 1 / end 0 / start 0 flush / end 0 / start 0 promote 6 0 / end 0")" \
   '0 done/0 done/0 done/0 done/1 done/0 refused 3 Busy/0 done/0 done/0 done: 0'
 check 'a block that was written back stays cached' "$(replayed "$cached / start 0 w 0 1 22 / end 0 / start 0 clean 0 / end 0 / stop old / open writeback / view 0 1")" '0 done/0 done/0 done/0 done/0 done/open 3 1 1/0 11: 0'
-check 'a line of no replay' "$(replayed 'setup writeback 64 4 10 4 / start 0 replace 0 5')" 'bad line 2: 1'
+replaced="$cached / start 0 replace 0 5 / end 0 / start 0 promote 5 0 / start 0 flush / end 0 / start 1 promote 6 0 / start 0 promote 5 0 / end 0"
+check 'a block follows one that it replaces, after a flush' "$(replayed "$replaced / stop old / open writeback / view 0 1")" \
+  '0 done/0 done/0 done/0 done/0 refused 3 Busy/0 done/1 refused 3 Busy/0 done/open 4 0 0/0 11: 0'
+check 'a line of no replay' "$(replayed 'setup writeback 64 4 10 4 / start 0 suspend')" 'bad line 2: 1'
 check 'a setup that is refused' "$(replayed 'setup writeback 63 4 10 4')" 'refused 9 Geometry: 1'
 check 'a replay of no line' "$("$cache" replay </dev/null; echo $?)" 0
 has 'help explains replays' "$("$cache" replay --help)" 'setup writeback <block>'

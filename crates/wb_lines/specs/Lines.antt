@@ -12,7 +12,7 @@ use Rattle.wb_lines.specs.declared.line.TheConstants.{ACTORS}
 use Rattle.wb_lines.specs.declared.line.Line.{Line}
 use Rattle.wb_lines.specs.declared.line.Line.TheVariants.{Nothing, Start, Step, End, Fault, Stop, Open, View}
 use Rattle.wb_lines.specs.declared.line.Task.{Task}
-use Rattle.wb_lines.specs.declared.line.Task.TheVariants.{Read, Write, Flush, Promote, Demote, Clean}
+use Rattle.wb_lines.specs.declared.line.Task.TheVariants.{Read, Write, Flush, Promote, Demote, Clean, Replace}
 use Rattle.wb_lines.specs.declared.setup.Setup.{Setup}
 
 -- one of the actors
@@ -61,17 +61,17 @@ SpellsAllNamed words more = ⊥
 abbrev pub SpellsBlock : List ℕ → ℕ → Type 0
 SpellsBlock word block = SpellsNumber word block × (block < 2 ^ 32)
 
--- a block of the origin, and one of the cache
+-- two blocks, and nothing behind them
 abbrev pub SpellsBlocks : List (List ℕ) → ℕ → ℕ → Type 0
-SpellsBlocks (one ∷ other ∷ []) block cache = SpellsBlock one block × SpellsBlock other cache
-SpellsBlocks words block cache = ⊥
+SpellsBlocks (first ∷ second ∷ []) one other = SpellsBlock first one × SpellsBlock second other
+SpellsBlocks words one other = ⊥
 
 -- a block of the origin, and nothing behind it
 abbrev pub SpellsOnlyBlock : List (List ℕ) → ℕ → Type 0
 SpellsOnlyBlock (word ∷ []) block = SpellsBlock word block
 SpellsOnlyBlock words block = ⊥
 
--- The words of a task: `r S N`, `w S N hh`, `flush`, `promote b c`, `demote b` or `clean b`.
+-- The words of a task: `r S N`, `w S N hh`, `flush`, `promote b c`, `demote b`, `clean b` or `replace v x`.
 abbrev pub SpellsTask : List (List ℕ) → Task → Type 0
 SpellsTask (name ∷ words) (Read at count) = (name ≡ codes "r") × SpellsSectors words at.0 count
 SpellsTask (name ∷ words) (Write at count fill) = (name ≡ codes "w") × SpellsFill words at.0 count fill
@@ -79,6 +79,7 @@ SpellsTask (name ∷ words) Flush = (name ≡ codes "flush") × (words ≡ [])
 SpellsTask (name ∷ words) (Promote block cache) = (name ≡ codes "promote") × SpellsBlocks words block cache
 SpellsTask (name ∷ words) (Demote block) = (name ≡ codes "demote") × SpellsOnlyBlock words block
 SpellsTask (name ∷ words) (Clean block) = (name ≡ codes "clean") × SpellsOnlyBlock words block
+SpellsTask (name ∷ words) (Replace old new) = (name ≡ codes "replace") × SpellsBlocks words old new
 SpellsTask words task = ⊥
 
 -- how many steps: one where no number stands

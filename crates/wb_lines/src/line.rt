@@ -32,6 +32,8 @@ pub enum Task {
     Demote { block: u32 },
     /// `clean b`: copies this block home where it is dirty.
     Clean { block: u32 },
+    /// `replace v x`: demotes the first block, under an order by which the second one follows it in its cache block.
+    Replace { old: u32, new: u32 },
 }
 
 /// What a line asks.
@@ -239,19 +241,23 @@ fn read_task(mut words: SplitSpaces<'_>) -> Option<Task>
             let block = read_last_block(words)?;
             Some(Task::Clean { block })
         }
+        "replace" => {
+            let (old, new) = read_blocks(words)?;
+            Some(Task::Replace { old, new })
+        }
         _ => None,
     }
 }
 
-/// Reads a block of the origin and one of the cache, and nothing behind them.
+/// Reads two blocks, and nothing behind them.
 fn read_blocks(mut words: SplitSpaces<'_>) -> Option<(u32, u32)>
     ensures found { IfSome result (λ read. SpellsBlocks (words_of words.entry.0.now) read.0 read.1) }
-    ensures none { IfNone result ((block cache : ℕ) → ¬ SpellsBlocks (words_of words.entry.0.now) block cache) }
+    ensures none { IfNone result ((one other : ℕ) → ¬ SpellsBlocks (words_of words.entry.0.now) one other) }
 {
-    let block = read_block(words.next()?)?;
-    let cache = read_block(words.next()?)?;
+    let one = read_block(words.next()?)?;
+    let other = read_block(words.next()?)?;
     words.expect_end()?;
-    Some((block, cache))
+    Some((one, other))
 }
 
 /// Reads a block of the origin, and nothing behind it.

@@ -226,6 +226,7 @@ fn job_of(task: Task) -> (Given, u64, Job) {
             0,
             Job::Migrate(Migration::Clean, OBlock(block)),
         ),
+        Task::Replace { old, new } => (Given::Other, 0, Job::Replace(OBlock(old), OBlock(new))),
     }
 }
 

@@ -302,3 +302,8 @@ module _ (P : Type 0) (g : Geometry) (images : Images) (desk : DeskState P) (com
     | inl live ↦ subst (λ (d : DeskState P). AtDesk g images d commit device) (sym (up.0 live)) (released_stands live.cache live.live live.there live.taken k)
     | inr none ↦ subst (λ (d : DeskState P). AtDesk g images d commit device) (sym (up.1 none)) k
   ]
+
+  -- so is the one of a block, if there is one
+  pub released_for : (new : DeskState P) (order : Option Order) → AtDesk g images desk commit device → IsGivenUp order desk new → AtDesk g images new commit device
+  released_for new None k up = subst (λ (d : DeskState P). AtDesk g images d commit device) (sym up) k
+  released_for new (Some order) k up = given_up_stands new order k up

@@ -66,7 +66,7 @@ module _ (P A : Type 0) (global : Global) (shape : Shape) (t : Target P) (calm :
       ∷ []
 
   abbrev pub before : State P A
-  before = record { devices = devices; commit = None; phase = Stands t; actors = record { task = None; card = card; orders = []; buffer = [] } ∷ rest }
+  before = record { devices = devices; commit = None; phase = Stands t; actors = record { task = None; card = card; orders = []; awaiting = []; buffer = [] } ∷ rest }
 
   fits : Fits commit m
   fits = q.stores.size ∙ ap (λ (x : Geometry). x.meta_sectors) q.same

@@ -142,13 +142,13 @@ module _ (P A : Type 0) (policy : P) (alloc : A) (global : Global) (shape : Shap
     devices = record { metadata = synced (rooted commit durable); cache = synced cache; origin = synced origin };
     commit = None;
     phase = Stands (record { words = fresh_words shape.geometry.origin_blocks; desk = target.desk });
-    actors = record { task = None; card = blank_card; orders = []; buffer = [] } ∷ all_resting rest;
+    actors = record { task = None; card = blank_card; orders = []; awaiting = []; buffer = [] } ∷ all_resting rest;
   }
   opened_is = ap (λ (steps : List CellStep). record {
     devices = record { metadata = synced (rooted commit durable); cache = synced cache; origin = synced origin };
     commit = None;
     phase = Stands (record { words = words_by (fresh_words shape.geometry.origin_blocks) steps; desk = target.desk });
-    actors = record { task = None; card = card_by (fresh_words shape.geometry.origin_blocks) blank_card steps; orders = []; buffer = [] } ∷ all_resting rest;
+    actors = record { task = None; card = card_by (fresh_words shape.geometry.origin_blocks) blank_card steps; orders = []; awaiting = []; buffer = [] } ∷ all_resting rest;
   }) (no_seals none_then.root.clean 0 none_then.root.geometry.cache_blocks)
 
   opened_known : IsKnown P A shape opened

@@ -109,7 +109,7 @@ module _ (P A : Type 0) (global : Global) (cache_blocks meta_sectors : ℕ) (wit
     devices = record { metadata = metadata; cache = cache; origin = origin };
     commit = None;
     phase = Stands (record { words = fresh_words 1; desk = desk });
-    actors = record { task = None; card = blank_card; orders = []; buffer = [] } ∷ rest;
+    actors = record { task = None; card = blank_card; orders = []; awaiting = []; buffer = [] } ∷ rest;
   }
 
   abbrev ordered : DeskState P

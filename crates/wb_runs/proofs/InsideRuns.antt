@@ -39,13 +39,13 @@ use Rattle.wb_devices.specs.declared.devices.Devices.{Devices}
 use Rattle.wb_devices.specs.declared.running.RunningCommit.{RunningCommit}
 use Rattle.wb_devices.specs.Moving.{device_in}
 use Rattle.wb_runs.specs.declared.job.Job.{Job}
-use Rattle.wb_runs.specs.declared.job.Job.TheVariants.{Read, Write, Flush, Open, Migrate}
+use Rattle.wb_runs.specs.declared.job.Job.TheVariants.{Read, Write, Flush, Open, Migrate, Replace}
 use Rattle.wb_runs.specs.declared.event.Event.{Event}
 use Rattle.wb_runs.specs.declared.event.Event.TheVariants.{Start, Step, FaultStep, Stop}
 use Rattle.wb_runs.specs.declared.event.What.{What}
 use Rattle.wb_runs.specs.declared.event.What.TheVariants.{Skipped, Refused, Started, Stepped, Stopped}
 use Rattle.wb_runs.specs.States.{Shape, State, Actor, Phase, Stands, Gone, Opens, OfTarget, resting, with_device, block_size, sector_count, cache_sector_count, start}
-use Rattle.wb_runs.specs.Happenings.{Chosen, Plain, Cut, Orders, Opened, Happening, OfSome, Gives, Falters, MayFailAt, StartGives, MayBe, orders_in, order_for, task_job, extent_refusal}
+use Rattle.wb_runs.specs.Happenings.{Chosen, Plain, Cut, Orders, Opened, Happening, OfSome, Gives, Falters, MayFailAt, StartGives, MayBe, orders_in, order_for, task_job, extent_refusal, begun_as}
 use Rattle.wb_runs.specs.Effects.{put_by, contents_for, device_done, device_failed, devices_then, commit_then, phase_then, phase_opened, phase_given, task_then, actor_then, cut_of, stepped, with_actor, cleared, given, started, job_of, all_resting, after_what, after_happening, after_all, IsRun}
 use Rattle.wb_runs.specs.Clerk.{Notes, formatted}
 use Rattle.wb_runs.specs.Headline.{note_happening}
@@ -56,11 +56,12 @@ use Rattle.wb_runs.proofs.Extents.{MayStart, Within, AllWithin, may_start, cut_w
 use Rattle.wb_runs.proofs.Images.{Images}
 use Rattle.wb_runs.proofs.Metadata.{MetadataKept}
 use Rattle.wb_runs.proofs.Stepping.{done_kept}
-use Rattle.wb_runs.proofs.Ordering.{OrderInside, OrdersInside}
+use Rattle.wb_runs.proofs.Ordering.{OrderInside, OrdersInside, in_orders}
 use Rattle.wb_runs.proofs.Ruling.{each_set, all_rest}
-use Rattle.wb_runs.proofs.Using.{order_inside}
+use Rattle.wb_runs.proofs.Using.{order_inside, replacement_inside}
 use Rattle.wb_runs.proofs.Bounds.{SealInside, SealsInside, seals_after, fresh_inside, sealed_inside, AllInside, PartInside, JobInside, MigrationInside, inside_after}
 use Rattle.wb_runs.proofs.LinkedRuns.{Base, base_after, base_start}
+use Rattle.wb_policy.specs.declared.order.Order.{Order}
 
 -- ---- sizes
 
@@ -156,23 +157,24 @@ want_inside shape plan a = by_steps plan.steps a
 module _ (P A : Type 0) (shape : Shape) where
   -- ---- a step of an actor
 
-  plain_read : (w : State P A) (got : Got) (read : List Bytes) (chosen : Chosen P A) (job : Job) (d : Dev) (e : Extent) → Gives shape w job (Device (ReadExtent d e)) got read chosen → chosen ≡ Plain
-  plain_read w got read chosen (Read x) d e g = g.1
-  plain_read w got read chosen (Write x c) d e g = absurd g
-  plain_read w got read chosen Flush d e g = absurd g
-  plain_read w got read chosen (Open mode) d e g = absurd g
-  plain_read w got read chosen (Migrate migration block) d e g = g.1.1
+  plain_read : (w : State P A) (actor : Actor) (got : Got) (read : List Bytes) (chosen : Chosen P A) (job : Job) (d : Dev) (e : Extent) → Gives shape w actor job (Device (ReadExtent d e)) got read chosen → chosen ≡ Plain
+  plain_read w actor got read chosen (Read x) d e g = g.1
+  plain_read w actor got read chosen (Write x c) d e g = absurd g
+  plain_read w actor got read chosen Flush d e g = absurd g
+  plain_read w actor got read chosen (Open mode) d e g = absurd g
+  plain_read w actor got read chosen (Migrate migration block) d e g = g.1.1
+  plain_read w actor got read chosen (Replace old new) d e g = absurd g
 
-  done_sizes : (w : State P A) (got : Got) (read : List Bytes) (chosen : Chosen P A) (job : Job) (buffer : List Bytes) (next : Want) → Gives shape w job next got read chosen → SameSizes w.devices (devices_then (λ step. device_done job buffer step chosen) w.devices next)
-  done_sizes w got read chosen job buffer (Device (ReadExtent d e)) g = same_with d w.devices _ (λ h. ap (λ (c : Chosen P A). length (put_by c (device_in d w.devices))) (plain_read w got read chosen job d e g))
-  done_sizes w got read chosen job buffer (Device (WriteExtent d e)) g = same_with d w.devices _ (λ h. length-written_where (λ at. true) (device_in d w.devices) e.first (contents_for job buffer e.count))
-  done_sizes w got read chosen job buffer (Device (Sync d)) g = same_with d w.devices _ (λ h. length-map (device_in d w.devices) (λ (h : History). only (newest h)))
-  done_sizes w got read chosen job buffer (Device (ReadMetadata k)) g = (refl, refl)
-  done_sizes w got read chosen job buffer (Device (WriteNode k)) g = (refl, refl)
-  done_sizes w got read chosen job buffer (Device WriteRoot) g = (refl, refl)
-  done_sizes w got read chosen job buffer (Cell step) g = (refl, refl)
-  done_sizes w got read chosen job buffer (Desk step) g = (refl, refl)
-  done_sizes w got read chosen job buffer (End answer) g = (refl, refl)
+  done_sizes : (w : State P A) (actor : Actor) (got : Got) (read : List Bytes) (chosen : Chosen P A) (job : Job) (buffer : List Bytes) (next : Want) → Gives shape w actor job next got read chosen → SameSizes w.devices (devices_then (λ step. device_done job buffer step chosen) w.devices next)
+  done_sizes w actor got read chosen job buffer (Device (ReadExtent d e)) g = same_with d w.devices _ (λ h. ap (λ (c : Chosen P A). length (put_by c (device_in d w.devices))) (plain_read w actor got read chosen job d e g))
+  done_sizes w actor got read chosen job buffer (Device (WriteExtent d e)) g = same_with d w.devices _ (λ h. length-written_where (λ at. true) (device_in d w.devices) e.first (contents_for job buffer e.count))
+  done_sizes w actor got read chosen job buffer (Device (Sync d)) g = same_with d w.devices _ (λ h. length-map (device_in d w.devices) (λ (h : History). only (newest h)))
+  done_sizes w actor got read chosen job buffer (Device (ReadMetadata k)) g = (refl, refl)
+  done_sizes w actor got read chosen job buffer (Device (WriteNode k)) g = (refl, refl)
+  done_sizes w actor got read chosen job buffer (Device WriteRoot) g = (refl, refl)
+  done_sizes w actor got read chosen job buffer (Cell step) g = (refl, refl)
+  done_sizes w actor got read chosen job buffer (Desk step) g = (refl, refl)
+  done_sizes w actor got read chosen job buffer (End answer) g = (refl, refl)
 
   failed_sizes : (w : State P A) (choice : Choice) (chosen : Chosen P A) (job : Job) (buffer : List Bytes) (next : Want) → Falters w choice next chosen → SameSizes w.devices (devices_then (λ step. device_failed (lands (device_of step) choice) job buffer step chosen) w.devices next)
   failed_sizes w choice chosen job buffer (Device (ReadExtent d e)) g = same_with d w.devices _ (λ h. ap (λ (c : Chosen P A). length (put_by c (device_in d w.devices))) g.0)
@@ -194,24 +196,25 @@ module _ (P A : Type 0) (shape : Shape) where
   seal_found Gone step got b v s g e f = absurd g
   seal_found (Opens mode reading) step got b v s g e f = absurd g
 
-  cell_given : (w : State P A) (got : Got) (read : List Bytes) (chosen : Chosen P A) (job : Job) (step : CellStep) → Gives shape w job (Cell step) got read chosen → OfTarget w.phase (λ t. got ≡ got_of (result_of t.words step))
-  cell_given w got read chosen (Read x) step g = g.1
-  cell_given w got read chosen (Write x c) step g = g.1
-  cell_given w got read chosen Flush step g = g.1
-  cell_given w got read chosen (Open mode) step g = g.1
-  cell_given w got read chosen (Migrate migration block) step g = g.1
+  cell_given : (w : State P A) (actor : Actor) (got : Got) (read : List Bytes) (chosen : Chosen P A) (job : Job) (step : CellStep) → Gives shape w actor job (Cell step) got read chosen → OfTarget w.phase (λ t. got ≡ got_of (result_of t.words step))
+  cell_given w actor got read chosen (Read x) step g = g.1
+  cell_given w actor got read chosen (Write x c) step g = g.1
+  cell_given w actor got read chosen Flush step g = g.1
+  cell_given w actor got read chosen (Open mode) step g = g.1
+  cell_given w actor got read chosen (Migrate migration block) step g = g.1
+  cell_given w actor got read chosen (Replace old new) step g = g.1
 
-  plan_on : (w : State P A) (got : Got) (read : List Bytes) (chosen : Chosen P A) (job : Job) (plan : Plan) (next : Want) → SealsHere shape w.phase → PlanInside shape (Some (job, plan)) → next ≡ want plan → Gives shape w job next got read chosen → PlanInside shape (task_then (Some (job, plan)) next got)
-  plan_on w got read chosen job plan (End answer) s i h g = tt
-  plan_on w got read chosen job plan (Cell step) s i h g = (
+  plan_on : (w : State P A) (actor : Actor) (got : Got) (read : List Bytes) (chosen : Chosen P A) (job : Job) (plan : Plan) (next : Want) → SealsHere shape w.phase → PlanInside shape (Some (job, plan)) → next ≡ want plan → Gives shape w actor job next got read chosen → PlanInside shape (task_then (Some (job, plan)) next got)
+  plan_on w actor got read chosen job plan (End answer) s i h g = tt
+  plan_on w actor got read chosen job plan (Cell step) s i h g = (
     subst (λ (j : TaskJob). JobInside shape j) (sym (job_stays plan got)) i.0,
-    inside_after shape plan got i.0 i.1 (λ b v e f. seal_found w.phase step got b v s (cell_given w got read chosen job step g) (let x : Cell step ≡ Cell (Look (SealWord b)) = h ∙ e in cc) f) (λ answer e. absurd (let x : Cell step ≡ End answer = h ∙ e in cc)),
+    inside_after shape plan got i.0 i.1 (λ b v e f. seal_found w.phase step got b v s (cell_given w actor got read chosen job step g) (let x : Cell step ≡ Cell (Look (SealWord b)) = h ∙ e in cc) f) (λ answer e. absurd (let x : Cell step ≡ End answer = h ∙ e in cc)),
   )
-  plan_on w got read chosen job plan (Device step) s i h g = (
+  plan_on w actor got read chosen job plan (Device step) s i h g = (
     subst (λ (j : TaskJob). JobInside shape j) (sym (job_stays plan got)) i.0,
     inside_after shape plan got i.0 i.1 (λ b v e f. absurd (let x : Device step ≡ Cell (Look (SealWord b)) = h ∙ e in cc)) (λ answer e. absurd (let x : Device step ≡ End answer = h ∙ e in cc)),
   )
-  plan_on w got read chosen job plan (Desk step) s i h g = (
+  plan_on w actor got read chosen job plan (Desk step) s i h g = (
     subst (λ (j : TaskJob). JobInside shape j) (sym (job_stays plan got)) i.0,
     inside_after shape plan got i.0 i.1 (λ b v e f. absurd (let x : Desk step ≡ Cell (Look (SealWord b)) = h ∙ e in cc)) (λ answer e. absurd (let x : Desk step ≡ End answer = h ∙ e in cc)),
   )
@@ -253,19 +256,19 @@ module _ (P A : Type 0) (shape : Shape) where
       tasks = each_set w.actors a x (actor_then shape w.phase w.devices x next got) (λ (z : Actor). PlanInside shape z.task) e p i.tasks;
     }
 
-  step_inside : (w : State P A) (n : Notes) (a : ℕ) (next : Want) (got : Got) (read : List Bytes) (chosen : Chosen P A) (o : Option Actor) → slice_get w.actors a ≡ o → Base P A shape w n → Inside shape w → OfSome o (λ x. OfSome x.task (λ doing. (next ≡ want doing.1) × Gives shape w doing.0 next got read chosen)) →
+  step_inside : (w : State P A) (n : Notes) (a : ℕ) (next : Want) (got : Got) (read : List Bytes) (chosen : Chosen P A) (o : Option Actor) → slice_get w.actors a ≡ o → Base P A shape w n → Inside shape w → OfSome o (λ x. OfSome x.task (λ doing. (next ≡ want doing.1) × Gives shape w x doing.0 next got read chosen)) →
       Inside shape (with_actor w o (λ x. stepped shape w a x next got chosen (λ step. device_done (job_of x.task) x.buffer step chosen)))
   step_inside w n a next got read chosen None e b i h = absurd h
   step_inside w n a next got read chosen (Some x) e b i h = by_task x.task refl h
     where
-      by_task : (t : Option (Job × Plan)) → x.task ≡ t → OfSome t (λ doing. (next ≡ want doing.1) × Gives shape w doing.0 next got read chosen) → Inside shape (stepped shape w a x next got chosen (λ step. device_done (job_of x.task) x.buffer step chosen))
+      by_task : (t : Option (Job × Plan)) → x.task ≡ t → OfSome t (λ doing. (next ≡ want doing.1) × Gives shape w x doing.0 next got read chosen) → Inside shape (stepped shape w a x next got chosen (λ step. device_done (job_of x.task) x.buffer step chosen))
       by_task None xt h = absurd h
       by_task (Some doing) xt h =
           let p = subst (λ (t : Option (Job × Plan)). PlanInside shape t) xt (i.tasks a x e) in
-          let k = done_kept P A shape w got read chosen b.known.images x.buffer doing.0 next b.known.known h.1 in
+          let k = done_kept P A shape w x got read chosen b.known.images x.buffer doing.0 next b.known.known h.1 in
           subst (λ (j : Job). Inside shape (stepped shape w a x next got chosen (λ step. device_done j x.buffer step chosen))) (sym (ap job_of xt))
-          (goes w i a x next got chosen (λ step. device_done doing.0 x.buffer step chosen) k.now e (done_sizes w got read chosen doing.0 x.buffer next h.1) (subst (λ (v : Want). StepInside shape v) (sym h.0) (want_inside shape doing.1 p.1)) k.kept
-          (subst (λ (t : Option (Job × Plan)). PlanInside shape (task_then t next got)) (sym xt) (plan_on w got read chosen doing.0 doing.1 next i.seals p h.0 h.1)))
+          (goes w i a x next got chosen (λ step. device_done doing.0 x.buffer step chosen) k.now e (done_sizes w x got read chosen doing.0 x.buffer next h.1) (subst (λ (v : Want). StepInside shape v) (sym h.0) (want_inside shape doing.1 p.1)) k.kept
+          (subst (λ (t : Option (Job × Plan)). PlanInside shape (task_then t next got)) (sym xt) (plan_on w x got read chosen doing.0 doing.1 next i.seals p h.0 h.1)))
 
   fault_inside : (w : State P A) (n : Notes) (a : ℕ) (choice : Choice) (next : Want) (chosen : Chosen P A) (o : Option Actor) → slice_get w.actors a ≡ o → Base P A shape w n → Inside shape w → OfSome o (λ x. OfSome x.task (λ doing. (next ≡ want doing.1) × MayFailAt w.devices choice next × Falters w choice next chosen)) →
       Inside shape (with_actor w o (λ x. stepped shape w a x next Fault chosen (λ step. device_failed (lands (device_of step) choice) (job_of x.task) x.buffer step chosen)))
@@ -303,6 +306,15 @@ module _ (P A : Type 0) (shape : Shape) where
   same_seals (Stands t) (Migrate migration block) (Rattle.wb_runs.specs.Happenings.Commits commit tree) s = s
   same_seals (Stands t) (Migrate migration block) (Rattle.wb_runs.specs.Happenings.Asks new) s = s
   same_seals (Stands t) (Migrate migration block) (Opened policy) s = s
+  same_seals (Stands t) (Replace old new) (Orders cut cache) s = s
+  same_seals (Stands t) (Replace old new) Plain s = s
+  same_seals (Stands t) (Replace old new) (Cut cut) s = s
+  same_seals (Stands t) (Replace old new) (Rattle.wb_runs.specs.Happenings.Begins now) s = s
+  same_seals (Stands t) (Replace old new) (Rattle.wb_runs.specs.Happenings.Reaches now commit) s = s
+  same_seals (Stands t) (Replace old other) (Rattle.wb_runs.specs.Happenings.Puts new) s = s
+  same_seals (Stands t) (Replace old new) (Rattle.wb_runs.specs.Happenings.Commits commit tree) s = s
+  same_seals (Stands t) (Replace old other) (Rattle.wb_runs.specs.Happenings.Asks new) s = s
+  same_seals (Stands t) (Replace old new) (Opened policy) s = s
   same_seals (Stands t) (Read extent) chosen s = s
   same_seals (Stands t) (Write extent content) chosen s = s
   same_seals (Stands t) Flush chosen s = s
@@ -324,17 +336,27 @@ module _ (P A : Type 0) (shape : Shape) where
   cut_migrated phase actor migration block (Orders cut cache) g = g.0
   cut_migrated phase actor migration block chosen g = absurd g
 
-  table_inside : (w : State P A) (n : Notes) (a : ℕ) (job : Job) (chosen : Chosen P A) → Base P A shape w n → StartGives shape w.phase (slice_get w.actors a) job Started chosen → PlanInside shape (Some (job, table (task_job shape job (cut_of chosen))))
-  table_inside w n a (Read extent) (Cut cut) b g = (part_inside shape extent (record { 0 = extent.first / block_size shape }) cut (may_start shape extent g.0) g.1, (tt, (tt, tt)))
-  table_inside w n a (Write extent content) (Cut cut) b g = (part_inside shape extent (record { 0 = extent.first / block_size shape }) cut (may_start shape extent g.0) g.1, (tt, (tt, tt)))
-  table_inside w n a Flush chosen b g = (tt, (tt, (tt, tt)))
-  table_inside w n a (Open mode) chosen b g = (tt, (tt, (tt, (tt, (tt, (tt, (tt, tt)))))))
-  table_inside w n a (Migrate migration block) chosen b g =
-      let kept = orders_of_actor w a (slice_get w.actors a) (λ x e. b.used.orders a x e) in
+  cut_replacing : (phase : Phase P A) (actor : Option Actor) (old new : OBlock) (chosen : Chosen P A) → StartGives shape phase actor (Replace old new) Started chosen → IsCutInto (whole_block (block_size shape) old) (cut_of chosen)
+  cut_replacing phase actor old new (Cut cut) g = g.0
+  cut_replacing phase actor old new (Orders cut cache) g = g.0
+  cut_replacing phase actor old new chosen g = absurd g
+
+  table_inside : (w : State P A) (n : Notes) (a : ℕ) (job : Job) (chosen : Chosen P A) → Base P A shape w n → StartGives shape w.phase (slice_get w.actors a) job Started chosen →
+      (awaiting : List Order) → PlanInside shape (Some (begun_as job, table (task_job shape awaiting job (cut_of chosen))))
+  table_inside w n a (Read extent) (Cut cut) b g awaiting = (part_inside shape extent (record { 0 = extent.first / block_size shape }) cut (may_start shape extent g.0) g.1, (tt, (tt, tt)))
+  table_inside w n a (Write extent content) (Cut cut) b g awaiting = (part_inside shape extent (record { 0 = extent.first / block_size shape }) cut (may_start shape extent g.0) g.1, (tt, (tt, tt)))
+  table_inside w n a Flush chosen b g awaiting = (tt, (tt, (tt, tt)))
+  table_inside w n a (Open mode) chosen b g awaiting = (tt, (tt, (tt, (tt, (tt, (tt, (tt, tt)))))))
+  table_inside w n a (Migrate migration block) chosen b g awaiting =
+      let kept = orders_of_actor w a (slice_get w.actors a) (λ x e order m. b.used.orders a x e order (in_orders x order m)) in
       let inside = migration_inside migration block (order_inside P A shape b.known.images w.phase w.commit w.devices.metadata (slice_get w.actors a) migration block chosen b.known.known kept g) in
       ((part_inside shape (whole_block (block_size shape) block) block (cut_of chosen) (whole_starts shape block inside.0) (cut_migrated w.phase (slice_get w.actors a) migration block chosen g), inside.1), (tt, (tt, tt)))
-  table_inside w n a (Read extent) chosen b g = absurd g
-  table_inside w n a (Write extent content) chosen b g = absurd g
+  table_inside w n a (Replace old new) chosen b g awaiting =
+      let kept = orders_of_actor w a (slice_get w.actors a) (λ x e order m. b.used.orders a x e order (in_orders x order m)) in
+      let inside = replacement_inside P A shape b.known.images w.phase w.commit w.devices.metadata (slice_get w.actors a) old new chosen b.known.known kept g in
+      ((part_inside shape (whole_block (block_size shape) old) old (cut_of chosen) (whole_starts shape old inside.1.0) (cut_replacing w.phase (slice_get w.actors a) old new chosen g), tt), (tt, (tt, tt)))
+  table_inside w n a (Read extent) chosen b g awaiting = absurd g
+  table_inside w n a (Write extent content) chosen b g awaiting = absurd g
 
   rest_inside : (actors : List Actor) (a : ℕ) (x : Actor) → slice_get (all_resting actors) a ≡ Some x → PlanInside shape x.task
   rest_inside actors a x e = subst (λ (v : Actor). PlanInside shape v.task) (sym (all_rest actors a x e)) tt
@@ -345,8 +367,9 @@ module _ (P A : Type 0) (shape : Shape) where
   clear w (Write extent content) i = i
   clear w Flush i = i
   clear w (Migrate migration block) i = i
+  clear w (Replace old new) i = i
 
-  starts : (w : State P A) (n : Notes) (a : ℕ) (job : Job) (chosen : Chosen P A) → Base P A shape w n → Inside shape (cleared w job) → PlanInside shape (Some (job, table (task_job shape job (cut_of chosen)))) → Inside shape (started shape w a job chosen)
+  starts : (w : State P A) (n : Notes) (a : ℕ) (job : Job) (chosen : Chosen P A) → Base P A shape w n → Inside shape (cleared w job) → ((awaiting : List Order) → PlanInside shape (Some (begun_as job, table (task_job shape awaiting job (cut_of chosen))))) → Inside shape (started shape w a job chosen)
   starts w n a job chosen b i p = by_actor (slice_get (cleared w job).actors a) refl
     where
       by_actor : (o : Option Actor) → slice_get (cleared w job).actors a ≡ o → Inside shape (with_actor (cleared w job) o (λ x. record (cleared w job) { phase = phase_given (cleared w job).phase job chosen; actors = slice_set (cleared w job).actors a (given shape x job chosen) }))
@@ -355,7 +378,7 @@ module _ (P A : Type 0) (shape : Shape) where
         cache = i.cache;
         origin = i.origin;
         seals = same_seals (cleared w job).phase job chosen i.seals;
-        tasks = each_set (cleared w job).actors a x (given shape x job chosen) (λ (z : Actor). PlanInside shape z.task) e p i.tasks;
+        tasks = each_set (cleared w job).actors a x (given shape x job chosen) (λ (z : Actor). PlanInside shape z.task) e (p x.awaiting) i.tasks;
       }
 
   -- ---- every event

@@ -20,13 +20,13 @@ use Rattle.wb_tasks.specs.declared.step.Want.TheVariants.{Cell, Device, Desk, En
 use Rattle.wb_tasks.specs.declared.step.Got.{Got}
 use Rattle.wb_tasks.specs.declared.step.Got.TheVariants.{Fault}
 use Rattle.wb_runs.specs.declared.job.Job.{Job}
-use Rattle.wb_runs.specs.declared.job.Job.TheVariants.{Read, Write, Flush, Open, Migrate}
+use Rattle.wb_runs.specs.declared.job.Job.TheVariants.{Read, Write, Flush, Open, Migrate, Replace}
 use Rattle.wb_runs.specs.declared.event.Event.{Event}
 use Rattle.wb_runs.specs.declared.event.Event.TheVariants.{Start, Step, FaultStep, Stop}
 use Rattle.wb_runs.specs.declared.event.What.{What}
 use Rattle.wb_runs.specs.declared.event.What.TheVariants.{Skipped, Refused, Started, Stepped, Stopped}
 use Rattle.wb_runs.specs.States.{Shape, State, Actor, Phase, Stands, Gone, Opens, OfTarget, resting, start}
-use Rattle.wb_runs.specs.Happenings.{Chosen, Plain, Cut, Orders, Begins, Reaches, Puts, Commits, Asks, Opened, Happening, OfSome, Gives, MayFailAt, Falters, DoesNotApply, StartGives, MayBe, task_job}
+use Rattle.wb_runs.specs.Happenings.{Chosen, Plain, Cut, Orders, Begins, Reaches, Puts, Commits, Asks, Opened, Happening, OfSome, Gives, MayFailAt, Falters, DoesNotApply, StartGives, MayBe, task_job, begun_as}
 use Rattle.wb_runs.specs.Effects.{phase_then, phase_opened, phase_given, task_then, actor_then, stepped, with_actor, cleared, given, job_of, cut_of, device_done, device_failed, all_resting, after_what, after_happening, after_all, IsRun}
 use Rattle.wb_runs.specs.Clerk.{Notes, Doing, noted_step, noted_what, finished_note, begun, nobody, put, formatted}
 use Rattle.wb_runs.specs.Headline.{RefusedBy, RefusedRightly, RefusesByCause, AllRefuseByCause, IsCovered, DoingCovers, AnswerCovers, AllCover, SkipsRightly, AllSkipRightly, note_happening, noted}
@@ -149,6 +149,7 @@ module _ (P A : Type 0) (shape : Shape) where
       by_job (Write extent content) s = set_other n.doings a b None o
       by_job Flush s = set_other n.doings a b None o
       by_job (Migrate migration block) s = set_other n.doings a b None o
+      by_job (Replace old new) s = set_other n.doings a b None o
       by_job (Open mode) s = absurd s
 
   answer_mine : (shown : List Bytes) (n : Notes) (a : ℕ) (doing : Doing) (job : Job) (answer : Answer) (got : Got) (read : List Bytes) → IsServed job → doing.job ≡ job → slice_get n.doings a ≡ Some (Some doing) → slice_get (noted_step shape shown n a (Some (Some doing)) (End answer) got read).doings a ≡ Some None
@@ -160,6 +161,7 @@ module _ (P A : Type 0) (shape : Shape) where
       by_job (Write extent content) s = set_there n.doings a (Some doing) None e
       by_job Flush s = set_there n.doings a (Some doing) None e
       by_job (Migrate migration block) s = set_there n.doings a (Some doing) None e
+      by_job (Replace old new) s = set_there n.doings a (Some doing) None e
       by_job (Open mode) s = absurd s
 
   module _ (shown : List Bytes) (w : State P A) (n : Notes) (l : LinkedTo w n) (a : ℕ) (x : Actor) (e : slice_get w.actors a ≡ Some x) (job : Job) (plan : Plan) (xt : x.task ≡ Some (job, plan)) (answer : Answer) (got : Got) (read : List Bytes) (chosen : Chosen P A)
@@ -238,6 +240,7 @@ module _ (P A : Type 0) (shape : Shape) where
         opening (Write extent content) i = absurd i
         opening Flush i = absurd i
         opening (Migrate migration block) i = absurd i
+        opening (Replace old new) i = absurd i
 
   -- ---- whoever takes a step
 
@@ -248,13 +251,13 @@ module _ (P A : Type 0) (shape : Shape) where
     suits_for : (x : Actor) (job : Job) (plan : Plan) → slice_get w.actors a ≡ Some x → x.task ≡ Some (job, plan) → Suits shape.geometry.origin_blocks plan x.card
     suits_for x job plan e xt = subst (λ (t : Option (Job × Plan)). TaskSuits shape.geometry.origin_blocks x.card t) xt (u.suited a x e)
 
-    one_steps : (x : Actor) (job : Job) (plan : Plan) (next : Want) (got : Got) (read : List Bytes) (chosen : Chosen P A) → slice_get w.actors a ≡ Some x → x.task ≡ Some (job, plan) → next ≡ want plan → Gives shape w job next got read chosen →
+    one_steps : (x : Actor) (job : Job) (plan : Plan) (next : Want) (got : Got) (read : List Bytes) (chosen : Chosen P A) → slice_get w.actors a ≡ Some x → x.task ≡ Some (job, plan) → next ≡ want plan → Gives shape w x job next got read chosen →
         Linked shape (phase_then shape w.phase next got chosen) (slice_set w.actors a (actor_then shape w.phase w.devices x next got)) (noted_step shape shown n a (slice_get n.doings a) next got read)
     one_steps x job plan next got read chosen e xt h g =
         let d = noted_for x job plan e xt in
         subst (λ (o : Option (Option Doing)). Linked shape (phase_then shape w.phase next got chosen) (slice_set w.actors a (actor_then shape w.phase w.devices x next got)) (noted_step shape shown n a o next got read)) (sym d.is) (by_next d next h g)
       where
-        by_next : (d : Noted shape job plan (slice_get n.doings a)) (next : Want) → next ≡ want plan → Gives shape w job next got read chosen → Linked shape (phase_then shape w.phase next got chosen) (slice_set w.actors a (actor_then shape w.phase w.devices x next got)) (noted_step shape shown n a (Some (Some d.doing)) next got read)
+        by_next : (d : Noted shape job plan (slice_get n.doings a)) (next : Want) → next ≡ want plan → Gives shape w x job next got read chosen → Linked shape (phase_then shape w.phase next got chosen) (slice_set w.actors a (actor_then shape w.phase w.devices x next got)) (noted_step shape shown n a (Some (Some d.doing)) next got read)
         by_next d (Cell step) h g = goes_on w n l a x e (Cell step) got chosen (noted_step shape shown n a (Some (Some d.doing)) (Cell step) got read) (λ z. z) (λ b o. refl)
             (subst (λ (t : Option (Job × Plan)). TaskClaim shape (task_then t (Cell step) got) (slice_get (noted_step shape shown n a (Some (Some d.doing)) (Cell step) got read).doings a)) (sym xt)
             (claims_on P A shape w n known.images known.known a x d.doing d.is plan (suits_for x job plan e xt) shown job (Cell step) got read chosen tt d.job_is d.claim h g))
@@ -275,12 +278,12 @@ module _ (P A : Type 0) (shape : Shape) where
         (subst (λ (t : Option (Job × Plan)). TaskClaim shape (task_then t (Device step) Fault) (slice_get (noted_step shape shown n a (Some (Some d.doing)) (Device step) Fault read).doings a)) (sym xt)
         (claims_failed P A shape w n known.images known.known a x d.doing d.is plan (suits_for x job plan e xt) shown job step read d.job_is d.claim h)))
 
-    step_links : (next : Want) (got : Got) (read : List Bytes) (chosen : Chosen P A) (o : Option Actor) → slice_get w.actors a ≡ o → OfSome o (λ x. OfSome x.task (λ doing. (next ≡ want doing.1) × Gives shape w doing.0 next got read chosen)) →
+    step_links : (next : Want) (got : Got) (read : List Bytes) (chosen : Chosen P A) (o : Option Actor) → slice_get w.actors a ≡ o → OfSome o (λ x. OfSome x.task (λ doing. (next ≡ want doing.1) × Gives shape w x doing.0 next got read chosen)) →
         LinkedTo (with_actor w o (λ x. stepped shape w a x next got chosen (λ step. device_done (job_of x.task) x.buffer step chosen))) (noted_step shape shown n a (slice_get n.doings a) next got read)
     step_links next got read chosen None e h = absurd h
     step_links next got read chosen (Some x) e h = by_task x.task refl h
       where
-        by_task : (t : Option (Job × Plan)) → x.task ≡ t → OfSome t (λ doing. (next ≡ want doing.1) × Gives shape w doing.0 next got read chosen) →
+        by_task : (t : Option (Job × Plan)) → x.task ≡ t → OfSome t (λ doing. (next ≡ want doing.1) × Gives shape w x doing.0 next got read chosen) →
             LinkedTo (stepped shape w a x next got chosen (λ step. device_done (job_of x.task) x.buffer step chosen)) (noted_step shape shown n a (slice_get n.doings a) next got read)
         by_task None xt h = absurd h
         by_task (Some doing) xt h = one_steps x doing.0 doing.1 next got read chosen e xt h.0 h.1
@@ -314,6 +317,15 @@ module _ (P A : Type 0) (shape : Shape) where
   same_here (Stands t) (Migrate migration block) (Commits commit tree) (Some task) h = h
   same_here (Stands t) (Migrate migration block) (Asks new) (Some task) h = h
   same_here (Stands t) (Migrate migration block) (Opened policy) (Some task) h = h
+  same_here (Stands t) (Replace old new) (Orders cut cache) (Some task) h = h
+  same_here (Stands t) (Replace old new) Plain (Some task) h = h
+  same_here (Stands t) (Replace old new) (Cut cut) (Some task) h = h
+  same_here (Stands t) (Replace old new) (Begins now) (Some task) h = h
+  same_here (Stands t) (Replace old new) (Reaches now commit) (Some task) h = h
+  same_here (Stands t) (Replace old other) (Puts new) (Some task) h = h
+  same_here (Stands t) (Replace old new) (Commits commit tree) (Some task) h = h
+  same_here (Stands t) (Replace old other) (Asks new) (Some task) h = h
+  same_here (Stands t) (Replace old new) (Opened policy) (Some task) h = h
   same_here (Stands t) (Read extent) chosen (Some task) h = h
   same_here (Stands t) (Write extent content) chosen (Some task) h = h
   same_here (Stands t) Flush chosen (Some task) h = h
@@ -331,6 +343,15 @@ module _ (P A : Type 0) (shape : Shape) where
   same_alone t (Migrate migration block) (Commits commit tree) actors = tt
   same_alone t (Migrate migration block) (Asks new) actors = tt
   same_alone t (Migrate migration block) (Opened policy) actors = tt
+  same_alone t (Replace old new) (Orders cut cache) actors = tt
+  same_alone t (Replace old new) Plain actors = tt
+  same_alone t (Replace old new) (Cut cut) actors = tt
+  same_alone t (Replace old new) (Begins now) actors = tt
+  same_alone t (Replace old new) (Reaches now commit) actors = tt
+  same_alone t (Replace old other) (Puts new) actors = tt
+  same_alone t (Replace old new) (Commits commit tree) actors = tt
+  same_alone t (Replace old other) (Asks new) actors = tt
+  same_alone t (Replace old new) (Opened policy) actors = tt
   same_alone t (Read extent) chosen actors = tt
   same_alone t (Write extent content) chosen actors = tt
   same_alone t Flush chosen actors = tt
@@ -340,12 +361,12 @@ module _ (P A : Type 0) (shape : Shape) where
   Started_so shown w n a job chosen o = LinkedTo (with_actor (cleared w job) o (λ x. record (cleared w job) { phase = phase_given (cleared w job).phase job chosen; actors = slice_set (cleared w job).actors a (given shape x job chosen) })) (noted_what shape shown n (Start a job) Started [])
 
   -- a request, a flush or a migration starts where a target stands
-  served_starts : (phase : Phase P A) (actors : List Actor) (n : Notes) (a : ℕ) (x y : Actor) (job : Job) (plan : Plan) (chosen : Chosen P A) → Linked shape phase actors n → slice_get actors a ≡ Some x → x.task ≡ None → y.task ≡ Some (job, plan) → IsServed job → JobClaim shape job plan (begun n job) → (¬ ¬ OfTarget phase (λ t. Unit {0})) →
-      Linked shape (phase_given phase job chosen) (slice_set actors a y) (put n a (Some (begun n job)))
+  served_starts : (phase : Phase P A) (actors : List Actor) (n : Notes) (a : ℕ) (x y : Actor) (job : Job) (plan : Plan) (chosen : Chosen P A) → Linked shape phase actors n → slice_get actors a ≡ Some x → x.task ≡ None → y.task ≡ Some (begun_as job, plan) → IsServed (begun_as job) → JobClaim shape (begun_as job) plan (begun n (begun_as job)) → (¬ ¬ OfTarget phase (λ t. Unit {0})) →
+      Linked shape (phase_given phase job chosen) (slice_set actors a y) (put n a (Some (begun n (begun_as job))))
   served_starts (Stands t) actors n a x y job plan chosen l e xt yt s c there = record {
-    claims = claim_set shape actors n.doings (slice_set n.doings a (Some (begun n job))) a x y e (λ b o. set_other n.doings a b (Some (begun n job)) o)
-        (subst (λ (q : Option (Job × Plan)). TaskClaim shape q (slice_get (slice_set n.doings a (Some (begun n job))) a)) (sym yt)
-        (subst (λ (o : Option (Option Doing)). NotedClaim shape job plan o) (sym (set_there n.doings a None (Some (begun n job)) (subst (λ (q : Option (Job × Plan)). TaskClaim shape q (slice_get n.doings a)) xt (l.claims a x e)))) (refl, c))) l.claims;
+    claims = claim_set shape actors n.doings (slice_set n.doings a (Some (begun n (begun_as job)))) a x y e (λ b o. set_other n.doings a b (Some (begun n (begun_as job))) o)
+        (subst (λ (q : Option (Job × Plan)). TaskClaim shape q (slice_get (slice_set n.doings a (Some (begun n (begun_as job)))) a)) (sym yt)
+        (subst (λ (o : Option (Option Doing)). NotedClaim shape (begun_as job) plan o) (sym (set_there n.doings a None (Some (begun n (begun_as job))) (subst (λ (q : Option (Job × Plan)). TaskClaim shape q (slice_get n.doings a)) xt (l.claims a x e)))) (refl, c))) l.claims;
     here = each_set actors a x y (λ (z : Actor). TaskHere (phase_given (Stands t) job chosen) z.task) e (same_here (Stands t) job chosen y.task (subst (λ (q : Option (Job × Plan)). TaskHere {P = P} {A = A} (Stands t) q) (sym yt) s)) (λ b z f. same_here (Stands t) job chosen z.task (l.here b z f));
     alone = same_alone t job chosen (slice_set actors a y);
   }
@@ -367,13 +388,13 @@ module _ (P A : Type 0) (shape : Shape) where
           let y : Actor = given shape x (Open mode) chosen in
           let old = all_idle w.actors n l.claims in
           let mine = set_there (nobody n.doings) a None (Some m) (old a x f).1 in
-          let yt : y.task ≡ Some (Open mode, table (task_job shape (Open mode) (cut_of chosen))) = refl in
+          let yt : y.task ≡ Some (Open mode, table (task_job shape [] (Open mode) (cut_of chosen))) = refl in
           record {
             claims = λ b z g. elim (cases_eq b a) [
               | inl s ↦ let is : Some y ≡ Some z = sym (set_there (all_resting w.actors) a x y f) ∙ ap (slice_get (slice_set (all_resting w.actors) a y)) (sym s) ∙ g in
                   let same : y ≡ z = cc in
                   subst (λ (k : ℕ). TaskClaim shape z.task (slice_get (slice_set (nobody n.doings) a (Some m)) k)) (sym s) (subst (λ (v : Actor). TaskClaim shape v.task (slice_get (slice_set (nobody n.doings) a (Some m)) a)) same
-                  (subst (λ (o : Option (Option Doing)). NotedClaim shape (Open mode) (table (task_job shape (Open mode) (cut_of chosen))) o) (sym mine) (refl, record { left = shape.geometry.meta_sectors; job_is = refl; fine = tt; cause = λ q h. absurd (cc) })))
+                  (subst (λ (o : Option (Option Doing)). NotedClaim shape (Open mode) (table (task_job shape [] (Open mode) (cut_of chosen))) o) (sym mine) (refl, record { left = shape.geometry.meta_sectors; job_is = refl; fine = tt; cause = λ q h. absurd (cc) })))
               | inr o ↦ let was = old b z (sym (set_other (all_resting w.actors) a b y o) ∙ g) in
                   subst (λ (t : Option (Job × Plan)). TaskClaim shape t (slice_get (slice_set (nobody n.doings) a (Some m)) b)) (sym was.0) (set_other (nobody n.doings) a b (Some m) o ∙ was.1)
             ];
@@ -389,11 +410,11 @@ module _ (P A : Type 0) (shape : Shape) where
   starts shown w n a (Read extent) (Cut cut) l applies gives =
       let f = free P A w a (Read extent) applies in
       subst (λ (o : Option Actor). Started_so shown w n a (Read extent) (Cut cut) o) (sym f.1)
-      (served_starts w.phase w.actors n a f.0 (given {P = P} {A = A} shape f.0 (Read extent) (Cut cut)) (Read extent) (table (task_job shape (Read extent) cut)) (Cut cut) l f.1 f.2 refl tt (record { cut = cut; is_job = refl; cuts = gives.1; inside = gives.0; covers = λ d. refl }) (λ p. applies (inr (inr p))))
+      (served_starts w.phase w.actors n a f.0 (given {P = P} {A = A} shape f.0 (Read extent) (Cut cut)) (Read extent) (table (task_job shape [] (Read extent) cut)) (Cut cut) l f.1 f.2 refl tt (record { cut = cut; is_job = refl; cuts = gives.1; inside = gives.0; covers = λ d. refl }) (λ p. applies (inr (inr p))))
   starts shown w n a (Write extent content) (Cut cut) l applies gives =
       let f = free P A w a (Write extent content) applies in
       subst (λ (o : Option Actor). Started_so shown w n a (Write extent content) (Cut cut) o) (sym f.1)
-      (served_starts w.phase w.actors n a f.0 (given {P = P} {A = A} shape f.0 (Write extent content) (Cut cut)) (Write extent content) (table (task_job shape (Write extent content) cut)) (Cut cut) l f.1 f.2 refl tt (record { cut = cut; is_job = refl; cuts = gives.1; inside = gives.0; covers = λ d. refl }) (λ p. applies (inr (inr p))))
+      (served_starts w.phase w.actors n a f.0 (given {P = P} {A = A} shape f.0 (Write extent content) (Cut cut)) (Write extent content) (table (task_job shape [] (Write extent content) cut)) (Cut cut) l f.1 f.2 refl tt (record { cut = cut; is_job = refl; cuts = gives.1; inside = gives.0; covers = λ d. refl }) (λ p. applies (inr (inr p))))
   starts shown w n a Flush chosen l applies gives =
       let f = free P A w a Flush applies in
       subst (λ (o : Option Actor). Started_so shown w n a Flush chosen o) (sym f.1)
@@ -402,6 +423,10 @@ module _ (P A : Type 0) (shape : Shape) where
       let f = free P A w a (Migrate migration block) applies in
       subst (λ (o : Option Actor). Started_so shown w n a (Migrate migration block) chosen o) (sym f.1)
       (served_starts w.phase w.actors n a f.0 (given shape f.0 (Migrate migration block) chosen) (Migrate migration block) _ chosen l f.1 f.2 refl tt tt (λ p. applies (inr (inr p))))
+  starts shown w n a (Replace old new) chosen l applies gives =
+      let f = free P A w a (Replace old new) applies in
+      subst (λ (o : Option Actor). Started_so shown w n a (Replace old new) chosen o) (sym f.1)
+      (served_starts w.phase w.actors n a f.0 (given shape f.0 (Replace old new) chosen) (Replace old new) _ chosen l f.1 f.2 refl tt tt (λ p. applies (inr (inr p))))
   starts shown w n a (Read extent) chosen l applies gives = absurd gives
   starts shown w n a (Write extent content) chosen l applies gives = absurd gives
 
@@ -468,6 +493,7 @@ module _ (P A : Type 0) (shape : Shape) where
   refused_by (Write extent content) plan doing refusal c e = tt
   refused_by Flush plan doing refusal c e = tt
   refused_by (Migrate migration block) plan doing refusal c e = tt
+  refused_by (Replace old new) plan doing refusal c e = tt
 
   covered : (job : Job) (plan : Plan) (x : Actor) (doing : Doing) (answer : Answer) → Suits shape.geometry.origin_blocks plan x.card → JobClaim shape job plan doing → End answer ≡ want plan → IsCovered doing job answer
   covered (Read extent) plan x doing Finished s c e = read_ends shape plan x s extent doing c e
@@ -477,11 +503,11 @@ module _ (P A : Type 0) (shape : Shape) where
   module _ (w : State P A) (n : Notes) (b : Base w n) (a : ℕ) (answer : Answer) where
     -- what an answer says, of whoever gives it
     of_answer : (Says : Doing → Job → Type 0) (got : Got) (read : List Bytes) (chosen : Chosen P A) → ((x : Actor) (job : Job) (plan : Plan) (doing : Doing) → Suits shape.geometry.origin_blocks plan x.card → JobClaim shape job plan doing → End answer ≡ want plan → Says doing job) → (o : Option Actor) → slice_get w.actors a ≡ o →
-        OfSome o (λ x. OfSome x.task (λ doing. (End answer ≡ want doing.1) × Gives shape w doing.0 (End answer) got read chosen)) → (d : Doing) × (slice_get n.doings a ≡ Some (Some d)) × Says d d.job
+        OfSome o (λ x. OfSome x.task (λ doing. (End answer ≡ want doing.1) × Gives shape w x doing.0 (End answer) got read chosen)) → (d : Doing) × (slice_get n.doings a ≡ Some (Some d)) × Says d d.job
     of_answer Says got read chosen says None e h = absurd h
     of_answer Says got read chosen says (Some x) e h = by_task x.task refl h
       where
-        by_task : (t : Option (Job × Plan)) → x.task ≡ t → OfSome t (λ doing. (End answer ≡ want doing.1) × Gives shape w doing.0 (End answer) got read chosen) → (d : Doing) × (slice_get n.doings a ≡ Some (Some d)) × Says d d.job
+        by_task : (t : Option (Job × Plan)) → x.task ≡ t → OfSome t (λ doing. (End answer ≡ want doing.1) × Gives shape w x doing.0 (End answer) got read chosen) → (d : Doing) × (slice_get n.doings a ≡ Some (Some d)) × Says d d.job
         by_task None xt h = absurd h
         by_task (Some doing) xt h =
             let d = noted_of shape doing.0 doing.1 (slice_get n.doings a) (subst (λ (t : Option (Job × Plan)). TaskClaim shape t (slice_get n.doings a)) xt (b.linked.claims a x e)) in

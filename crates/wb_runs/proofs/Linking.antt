@@ -21,7 +21,7 @@ use Rattle.wb_tasks.specs.declared.step.Want.TheVariants.{Cell, Device, Desk, En
 use Rattle.wb_tasks.specs.declared.step.Got.{Got}
 use Rattle.wb_tasks.specs.declared.step.Got.TheVariants.{Done, Fault}
 use Rattle.wb_runs.specs.declared.job.Job.{Job}
-use Rattle.wb_runs.specs.declared.job.Job.TheVariants.{Read, Write, Flush, Open, Migrate}
+use Rattle.wb_runs.specs.declared.job.Job.TheVariants.{Read, Write, Flush, Open, Migrate, Replace}
 use Rattle.wb_runs.specs.States.{Shape, State, Actor, Phase, Stands, Gone, Opens, OfTarget}
 use Rattle.wb_runs.specs.Happenings.{Chosen, Gives, block_range}
 use Rattle.wb_runs.specs.Effects.{task_then}
@@ -110,6 +110,7 @@ module _ (shape : Shape) (shown : List Bytes) (n : Notes) (a : ℕ) (x : Actor) 
       nothing Flush z m mid = refl
       nothing (Open mode) z m mid = refl
       nothing (Migrate migration block) z m mid = refl
+      nothing (Replace old new) z m mid = refl
 
   -- nothing is noted
   pub plain_words : (step : CellStep) (got : Got) (read : List Bytes) → JobClaim shape job (after plan got) doing → Then (Cell step) got read
@@ -180,7 +181,7 @@ module _ (P A : Type 0) (shape : Shape) where
     some_words : Words
     some_words = Rattle.wb_words.specs.SharedWords.fresh_words 0
 
-    read_goes : (extent : Extent) (next : Want) (got : Got) (read : List Bytes) (chosen : Chosen P A) → NoAnswer next → doing.job ≡ Read extent → JobClaim shape (Read extent) plan doing → next ≡ want plan → Gives shape w (Read extent) next got read chosen → Then_of (Read extent) next got read
+    read_goes : (extent : Extent) (next : Want) (got : Got) (read : List Bytes) (chosen : Chosen P A) → NoAnswer next → doing.job ≡ Read extent → JobClaim shape (Read extent) plan doing → next ≡ want plan → Gives shape w x (Read extent) next got read chosen → Then_of (Read extent) next got read
     read_goes extent (Cell step) got read chosen z j c h g = let t = target_there w.phase step got g.1 in
         subst (λ (v : Got). Then_of (Read extent) (Cell step) v read) (sym t.1) (plain_words shape shown n a x doing noted (Read extent) plan j step _ read (read_words shape plan x suits extent doing t.0 step h c))
     read_goes extent (Device (ReadExtent d ex)) got read chosen z j c h g = subst (λ (v : Got). Then_of (Read extent) (Device (ReadExtent d ex)) v read) (sym g.2) (extent_read shape shown n a x doing noted plan suits extent ex d some_words read j h g.3 c)
@@ -192,7 +193,7 @@ module _ (P A : Type 0) (shape : Shape) where
     read_goes extent (Desk step) got read chosen z j c h g = absurd (own (ReadingPart (block_range shape extent c.cut)) (Desk step) c.is_job h)
     read_goes extent (End answer) got read chosen z j c h g = absurd z
 
-    write_goes : (extent : Extent) (content : Bytes) (next : Want) (got : Got) (read : List Bytes) (chosen : Chosen P A) → NoAnswer next → doing.job ≡ Write extent content → JobClaim shape (Write extent content) plan doing → next ≡ want plan → Gives shape w (Write extent content) next got read chosen → Then_of (Write extent content) next got read
+    write_goes : (extent : Extent) (content : Bytes) (next : Want) (got : Got) (read : List Bytes) (chosen : Chosen P A) → NoAnswer next → doing.job ≡ Write extent content → JobClaim shape (Write extent content) plan doing → next ≡ want plan → Gives shape w x (Write extent content) next got read chosen → Then_of (Write extent content) next got read
     write_goes extent content (Cell step) got read chosen z j c h g = let t = target_there w.phase step got g.1 in
         subst (λ (v : Got). Then_of (Write extent content) (Cell step) v read) (sym t.1) (plain_words shape shown n a x doing noted (Write extent content) plan j step _ read (write_words shape plan x suits extent content doing t.0 step h c))
     write_goes extent content (Device (WriteExtent d ex)) got read chosen z j c h g = subst (λ (v : Got). Then_of (Write extent content) (Device (WriteExtent d ex)) v read) (sym g.2) (extent_written shape shown n a x doing noted plan suits extent ex content d some_words read j h c)
@@ -208,6 +209,7 @@ module _ (P A : Type 0) (shape : Shape) where
     abbrev IsUnclaimed : Job → Type 0
     IsUnclaimed Flush = Unit {0}
     IsUnclaimed (Migrate migration block) = Unit {0}
+    IsUnclaimed (Replace old new) = Unit {0}
     IsUnclaimed job = ⊥
 
     unclaimed : (job : Job) (next : Want) (got : Got) (read : List Bytes) → IsUnclaimed job → NoAnswer next → doing.job ≡ job → Then_of job next got read
@@ -217,12 +219,15 @@ module _ (P A : Type 0) (shape : Shape) where
     unclaimed (Migrate migration block) (Cell step) got read u z j = plain_words shape shown n a x doing noted (Migrate migration block) plan j step got read tt
     unclaimed (Migrate migration block) (Device step) got read u z j = plain_device shape shown n a x doing noted (Migrate migration block) plan j step got read tt tt
     unclaimed (Migrate migration block) (Desk step) got read u z j = plain_desk shape shown n a x doing noted (Migrate migration block) plan j step got read tt
+    unclaimed (Replace old new) (Cell step) got read u z j = plain_words shape shown n a x doing noted (Replace old new) plan j step got read tt
+    unclaimed (Replace old new) (Device step) got read u z j = plain_device shape shown n a x doing noted (Replace old new) plan j step got read tt tt
+    unclaimed (Replace old new) (Desk step) got read u z j = plain_desk shape shown n a x doing noted (Replace old new) plan j step got read tt
     unclaimed job (End answer) got read u z j = absurd z
     unclaimed (Read extent) next got read u z j = absurd u
     unclaimed (Write extent content) next got read u z j = absurd u
     unclaimed (Open mode) next got read u z j = absurd u
 
-    open_goes : (mode : Mode) (next : Want) (got : Got) (read : List Bytes) (chosen : Chosen P A) → NoAnswer next → doing.job ≡ Open mode → JobClaim shape (Open mode) plan doing → next ≡ want plan → Gives shape w (Open mode) next got read chosen → Then_of (Open mode) next got read
+    open_goes : (mode : Mode) (next : Want) (got : Got) (read : List Bytes) (chosen : Chosen P A) → NoAnswer next → doing.job ≡ Open mode → JobClaim shape (Open mode) plan doing → next ≡ want plan → Gives shape w x (Open mode) next got read chosen → Then_of (Open mode) next got read
     open_goes mode next got read chosen z j c h g = by_next next z (subst (λ (v : Want). IsOpenNext v) (sym h) (open_next plan doing c)) h g
       where
         on : (step : DeviceStep) → Device step ≡ want plan → Comes got → ((refusal : Refusal) → Causes step got refusal → Rattle.wb_runs.specs.Headline.MayRefuse (failing doing step got) refusal) → Then_of (Open mode) (Device step) got read
@@ -231,7 +236,7 @@ module _ (P A : Type 0) (shape : Shape) where
         done : (step : DeviceStep) → got ≡ Done → (refusal : Refusal) → Causes step got refusal → Rattle.wb_runs.specs.Headline.MayRefuse (failing doing step got) refusal
         done step e refusal c = absurd (subst (λ (v : Got). Causes step v refusal) e c)
 
-        by_next : (next : Want) → NoAnswer next → IsOpenNext next → next ≡ want plan → Gives shape w (Open mode) next got read chosen → Then_of (Open mode) next got read
+        by_next : (next : Want) → NoAnswer next → IsOpenNext next → next ≡ want plan → Gives shape w x (Open mode) next got read chosen → Then_of (Open mode) next got read
         by_next (Device (Sync Metadata)) z i h g = on (Sync Metadata) h (subst Comes (sym g.1) tt) (done (Sync Metadata) g.1)
         by_next (Device (Sync Cache)) z i h g = on (Sync Cache) h (subst Comes (sym g.1) tt) (done (Sync Cache) g.1)
         by_next (Device (Sync Origin)) z i h g = on (Sync Origin) h (subst Comes (sym g.1) tt) (done (Sync Origin) g.1)
@@ -245,12 +250,13 @@ module _ (P A : Type 0) (shape : Shape) where
         by_next (Device (WriteNode k)) z i h g = absurd i
 
     -- a step of any job that is no answer
-    pub claims_on : (job : Job) (next : Want) (got : Got) (read : List Bytes) (chosen : Chosen P A) → NoAnswer next → doing.job ≡ job → JobClaim shape job plan doing → next ≡ want plan → Gives shape w job next got read chosen → Then_of job next got read
+    pub claims_on : (job : Job) (next : Want) (got : Got) (read : List Bytes) (chosen : Chosen P A) → NoAnswer next → doing.job ≡ job → JobClaim shape job plan doing → next ≡ want plan → Gives shape w x job next got read chosen → Then_of job next got read
     claims_on (Read extent) next got read chosen z j c h g = read_goes extent next got read chosen z j c h g
     claims_on (Write extent content) next got read chosen z j c h g = write_goes extent content next got read chosen z j c h g
     claims_on Flush next got read chosen z j c h g = unclaimed Flush next got read tt z j
     claims_on (Open mode) next got read chosen z j c h g = open_goes mode next got read chosen z j c h g
     claims_on (Migrate migration block) next got read chosen z j c h g = unclaimed (Migrate migration block) next got read tt z j
+    claims_on (Replace old new) next got read chosen z j c h g = unclaimed (Replace old new) next got read tt z j
 
     -- one that fails
     pub claims_failed : (job : Job) (step : DeviceStep) (read : List Bytes) → doing.job ≡ job → JobClaim shape job plan doing → Device step ≡ want plan → Then_of job (Device step) Fault read
@@ -274,4 +280,5 @@ module _ (P A : Type 0) (shape : Shape) where
         by_step WriteRoot h o = absurd o
     claims_failed Flush step read j c h = unclaimed Flush (Device step) Fault read tt tt j
     claims_failed (Migrate migration block) step read j c h = unclaimed (Migrate migration block) (Device step) Fault read tt tt j
+    claims_failed (Replace old new) step read j c h = unclaimed (Replace old new) (Device step) Fault read tt tt j
     claims_failed (Open mode) step read j c h = plain_device shape shown n a x doing noted (Open mode) plan j step Fault read tt (open_on plan doing (failing doing step Fault) step Fault c h tt (still_refuses doing step Fault) (fault_why doing step))

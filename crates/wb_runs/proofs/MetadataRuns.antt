@@ -14,13 +14,14 @@ use Rattle.wb_tasks.specs.declared.step.Got.{Got}
 use Rattle.wb_tasks.specs.declared.step.Got.TheVariants.{Fault}
 use Rattle.wb_roots.specs.Roots.{AreOneOf}
 use Rattle.wb_runs.specs.declared.job.Job.{Job}
-use Rattle.wb_runs.specs.declared.job.Job.TheVariants.{Read, Write, Flush, Open, Migrate}
+use Rattle.wb_runs.specs.declared.job.Job.TheVariants.{Read, Write, Flush, Open, Migrate, Replace}
 use Rattle.wb_runs.specs.declared.event.Event.{Event}
 use Rattle.wb_runs.specs.declared.event.Event.TheVariants.{Start, Step, FaultStep, Stop}
 use Rattle.wb_runs.specs.declared.event.What.{What}
 use Rattle.wb_runs.specs.declared.event.What.TheVariants.{Skipped, Refused, Started, Stepped, Stopped}
 use Rattle.wb_devices.specs.declared.running.RunningCommit.{RunningCommit}
 use Rattle.wb_runs.specs.States.{Shape, State, Actor, Phase, Stands, Gone, Opens, start}
+use Rattle.wb_policy.specs.declared.order.Order.TheVariants.{Replace as ReplaceOrder}
 use Rattle.wb_runs.specs.Happenings.{Chosen, Cut, Orders, Happening, OfSome, Gives, Falters, MayFailAt, StartGives, MayBe, order_for}
 use Rattle.wb_runs.specs.Effects.{device_done, device_failed, devices_then, commit_then, phase_then, stepped, with_actor, job_of, cleared, given, phase_given, started, after_what, after_happening, after_all, IsRun}
 use Rattle.wb_runs.specs.Headline.{CanBeRead}
@@ -45,15 +46,15 @@ module _ (P A : Type 0) (shape : Shape) where
   same i w k = stays (λ now. Known now w) i k
 
   by_step : (i : Images) (w : State P A) (a : ℕ) (next : Want) (got : Got) (read : List Bytes) (chosen : Chosen P A) (o : Option Actor) → Known i w →
-      OfSome o (λ x. OfSome x.task (λ doing. (next ≡ want doing.1) × Gives shape w doing.0 next got read chosen)) →
+      OfSome o (λ x. OfSome x.task (λ doing. (next ≡ want doing.1) × Gives shape w x doing.0 next got read chosen)) →
       Knows i (with_actor w o (λ x. stepped shape w a x next got chosen (λ step. device_done (job_of x.task) x.buffer step chosen)))
   by_step i w a next got read chosen None k h = absurd h
   by_step i w a next got read chosen (Some x) k h = by_task x.task h
     where
-      by_task : (t : Option (Job × Plan)) → OfSome t (λ doing. (next ≡ want doing.1) × Gives shape w doing.0 next got read chosen) →
+      by_task : (t : Option (Job × Plan)) → OfSome t (λ doing. (next ≡ want doing.1) × Gives shape w x doing.0 next got read chosen) →
           Turns (λ now. MetadataKept shape.geometry now (phase_then shape w.phase next got chosen) (commit_then w.phase w.commit next got chosen) (devices_then (λ step. device_done (job_of t) x.buffer step chosen) w.devices next).metadata) i
       by_task None h = absurd h
-      by_task (Some doing) h = done_kept P A shape w got read chosen i x.buffer doing.0 next k h.1
+      by_task (Some doing) h = done_kept P A shape w x got read chosen i x.buffer doing.0 next k h.1
 
   by_fault : (i : Images) (w : State P A) (a : ℕ) (choice : Choice) (next : Want) (chosen : Chosen P A) (o : Option Actor) → Known i w →
       OfSome o (λ x. OfSome x.task (λ doing. (next ≡ want doing.1) × MayFailAt w.devices choice next × Falters w choice next chosen)) →
@@ -72,6 +73,9 @@ module _ (P A : Type 0) (shape : Shape) where
   ordered i (Stands t) commit m actor (Migrate migration block) (Orders cut cache) k g = reserved_stands P shape.geometry i t.desk commit m cache (order_for migration block) k g.1
   ordered i (Stands t) commit m actor (Migrate migration block) (Cut cut) k g = k
   ordered i (Stands t) commit m actor (Migrate migration block) chosen k g = absurd g
+  ordered i (Stands t) commit m actor (Replace old new) (Orders cut cache) k g = reserved_stands P shape.geometry i t.desk commit m cache (ReplaceOrder old new cache) k g.1
+  ordered i (Stands t) commit m actor (Replace old new) (Cut cut) k g = k
+  ordered i (Stands t) commit m actor (Replace old new) chosen k g = absurd g
   ordered i (Stands t) commit m actor (Read extent) chosen k g = k
   ordered i (Stands t) commit m actor (Write extent content) chosen k g = k
   ordered i (Stands t) commit m actor Flush chosen k g = k
@@ -105,6 +109,11 @@ module _ (P A : Type 0) (shape : Shape) where
       by_start_over : (o : Option Actor) → Knows i (with_actor w o (λ x. record w { phase = phase_given w.phase (Migrate migration block) chosen; actors = slice_set w.actors a (given shape x (Migrate migration block) chosen) }))
       by_start_over None = same i w k
       by_start_over (Some x) = stays (λ now. MetadataKept shape.geometry now (phase_given w.phase (Migrate migration block) chosen) w.commit w.devices.metadata) i (ordered i w.phase w.commit w.devices.metadata (slice_get w.actors a) (Migrate migration block) chosen k g)
+  by_start i w a (Replace old new) chosen k g = by_start_over (slice_get w.actors a)
+    where
+      by_start_over : (o : Option Actor) → Knows i (with_actor w o (λ x. record w { phase = phase_given w.phase (Replace old new) chosen; actors = slice_set w.actors a (given shape x (Replace old new) chosen) }))
+      by_start_over None = same i w k
+      by_start_over (Some x) = stays (λ now. MetadataKept shape.geometry now (phase_given w.phase (Replace old new) chosen) w.commit w.devices.metadata) i (ordered i w.phase w.commit w.devices.metadata (slice_get w.actors a) (Replace old new) chosen k g)
 
   by_what : (i : Images) (w : State P A) (event : Event) (what : What) (read : List Bytes) (chosen : Chosen P A) → Known i w → MayBe shape w event what read chosen → Knows i (after_what shape w event what chosen)
   by_what i w (Start a job) Started read chosen k h = by_start i w a job chosen k h.2

@@ -16,6 +16,7 @@ use Rattle.wb_desk.specs.Entries.{Brings}
 use Rattle.wb_stage.specs.Asking.{is_of}
 use Rattle.wb_runs.specs.States.{Actor}
 use Rattle.wb_runs.specs.Effects.{dropped}
+use Rattle.wb_runs.proofs.Ordering.{held_of}
 use Rattle.wb_runs.proofs.Lists.{set_other, set_there, first_or}
 
 -- ---- orders of a block
@@ -46,16 +47,16 @@ dropped_is b (o ∷ orders) order h = by_test (is_of b o) refl h (λ later. drop
 
 -- ---- what is had
 
--- Each order that an actor has lives on the desk, and somebody has taken it; no two actors have one.
+-- Each order that an actor has, whether it waits for a flush or not, lives on the desk, and somebody has taken it; no two actors have one.
 pub record Owned {P : Type 0} (desk : DeskState P) (actors : List Actor) : Type 0 where
-  pub live : (a : ℕ) (x : Actor) (order : Order) → slice_get actors a ≡ Some x → Contains x.orders order → IsLive desk order
-  pub one : (a b : ℕ) (x z : Actor) (order : Order) → slice_get actors a ≡ Some x → slice_get actors b ≡ Some z → Contains x.orders order → Contains z.orders order → a ≡ b
+  pub live : (a : ℕ) (x : Actor) (order : Order) → slice_get actors a ≡ Some x → Contains (held_of x) order → IsLive desk order
+  pub one : (a b : ℕ) (x z : Actor) (order : Order) → slice_get actors a ≡ Some x → slice_get actors b ≡ Some z → Contains (held_of x) order → Contains (held_of z) order → a ≡ b
 
 -- nobody has one
-pub owned_none : (P : Type 0) (desk : DeskState P) (actors : List Actor) → ((a : ℕ) (x : Actor) → slice_get actors a ≡ Some x → x.orders ≡ []) → Owned desk actors
+pub owned_none : (P : Type 0) (desk : DeskState P) (actors : List Actor) → ((a : ℕ) (x : Actor) → slice_get actors a ≡ Some x → held_of x ≡ []) → Owned desk actors
 owned_none P desk actors none = record { live = λ a x order e h. absurd (nothing a x order e h); one = λ a b x z order e f h i. absurd (nothing a x order e h) }
   where
-    nothing : (a : ℕ) (x : Actor) (order : Order) → slice_get actors a ≡ Some x → Contains x.orders order → ⊥
+    nothing : (a : ℕ) (x : Actor) (order : Order) → slice_get actors a ≡ Some x → Contains (held_of x) order → ⊥
     nothing a x order e h = let i = subst (λ (os : List Order). Contains os order) (none a x e) h in omega (arith, i.1)
 
 -- an order that lives in another cache block lives on
@@ -70,7 +71,7 @@ live_beside P desk desk' cache s order same l n = record {
 
 module _ (P : Type 0) (desk : DeskState P) (actors : List Actor) (a : ℕ) (x y : Actor) (e : slice_get actors a ≡ Some x) (owned : Owned desk actors) where
   -- an actor has these now, of another desk
-  owned_by : (desk' : DeskState P) → ((order : Order) → Contains y.orders order → IsLive desk' order) → ((b : ℕ) (z : Actor) (order : Order) → b ≢ a → slice_get actors b ≡ Some z → Contains z.orders order → IsLive desk' order × (Contains y.orders order → ⊥)) → Owned desk' (slice_set actors a y)
+  owned_by : (desk' : DeskState P) → ((order : Order) → Contains (held_of y) order → IsLive desk' order) → ((b : ℕ) (z : Actor) (order : Order) → b ≢ a → slice_get actors b ≡ Some z → Contains (held_of z) order → IsLive desk' order × (Contains (held_of y) order → ⊥)) → Owned desk' (slice_set actors a y)
   owned_by desk' mine others = record { live = live_at; one = one_at }
     where
       is_mine : (z : Actor) (f : slice_get (slice_set actors a y) a ≡ Some z) → y ≡ z
@@ -79,43 +80,47 @@ module _ (P : Type 0) (desk : DeskState P) (actors : List Actor) (a : ℕ) (x y 
       there : (b : ℕ) (z : Actor) → b ≢ a → slice_get (slice_set actors a y) b ≡ Some z → slice_get actors b ≡ Some z
       there b z n f = sym (set_other actors a b y n) ∙ f
 
-      live_at : (b : ℕ) (z : Actor) (order : Order) → slice_get (slice_set actors a y) b ≡ Some z → Contains z.orders order → IsLive desk' order
+      live_at : (b : ℕ) (z : Actor) (order : Order) → slice_get (slice_set actors a y) b ≡ Some z → Contains (held_of z) order → IsLive desk' order
       live_at b z order f h = elim (cases_eq b a) [
-        | inl s ↦ mine order (subst (λ (v : Actor). Contains v.orders order) (sym (is_mine z (subst (λ k. slice_get (slice_set actors a y) k ≡ Some z) s f))) h)
+        | inl s ↦ mine order (subst (λ (v : Actor). Contains (held_of v) order) (sym (is_mine z (subst (λ k. slice_get (slice_set actors a y) k ≡ Some z) s f))) h)
         | inr n ↦ (others b z order n (there b z n f) h).0
       ]
 
-      one_at : (b c : ℕ) (z v : Actor) (order : Order) → slice_get (slice_set actors a y) b ≡ Some z → slice_get (slice_set actors a y) c ≡ Some v → Contains z.orders order → Contains v.orders order → b ≡ c
+      one_at : (b c : ℕ) (z v : Actor) (order : Order) → slice_get (slice_set actors a y) b ≡ Some z → slice_get (slice_set actors a y) c ≡ Some v → Contains (held_of z) order → Contains (held_of v) order → b ≡ c
       one_at b c z v order f g h i = elim (cases_eq b a) [
         | inl s ↦ elim (cases_eq c a) [
           | inl t ↦ s ∙ sym t
-          | inr m ↦ absurd ((others c v order m (there c v m g) i).1 (subst (λ (w : Actor). Contains w.orders order) (sym (is_mine z (subst (λ k. slice_get (slice_set actors a y) k ≡ Some z) s f))) h))
+          | inr m ↦ absurd ((others c v order m (there c v m g) i).1 (subst (λ (w : Actor). Contains (held_of w) order) (sym (is_mine z (subst (λ k. slice_get (slice_set actors a y) k ≡ Some z) s f))) h))
         ]
         | inr n ↦ elim (cases_eq c a) [
-          | inl t ↦ absurd ((others b z order n (there b z n f) h).1 (subst (λ (w : Actor). Contains w.orders order) (sym (is_mine v (subst (λ k. slice_get (slice_set actors a y) k ≡ Some v) t g))) i))
+          | inl t ↦ absurd ((others b z order n (there b z n f) h).1 (subst (λ (w : Actor). Contains (held_of w) order) (sym (is_mine v (subst (λ k. slice_get (slice_set actors a y) k ≡ Some v) t g))) i))
           | inr m ↦ owned.one b c z v order (there b z n f) (there c v m g) h i
         ]
       ]
 
-  -- it has the same orders, and they live on
-  pub owned_same : (desk' : DeskState P) → y.orders ≡ x.orders → desk'.orders ≡ desk.orders → Owned desk' (slice_set actors a y)
-  owned_same desk' mine same = owned_by desk'
-      (λ order h. on order (owned.live a x order e (subst (λ (os : List Order). Contains os order) mine h)))
-      (λ b z order n f h. (on order (owned.live b z order f h), λ i. n (owned.one b a z x order f e h (subst (λ (os : List Order). Contains os order) mine i))))
+  -- it has some of its orders, and they live on
+  pub owned_within : (desk' : DeskState P) → ((order : Order) → Contains (held_of y) order → Contains (held_of x) order) → desk'.orders ≡ desk.orders → Owned desk' (slice_set actors a y)
+  owned_within desk' within same = owned_by desk'
+      (λ order h. on order (owned.live a x order e (within order h)))
+      (λ b z order n f h. (on order (owned.live b z order f h), λ i. n (owned.one b a z x order f e h (within order i))))
     where
       on : (order : Order) → IsLive desk order → IsLive desk' order
       on order l = record { cache = l.cache; live = l.live; there = ap (λ (os : Rattle.wb_orders.specs.Orders.Orders). order_at os.slots l.cache.0) same ∙ l.there; same = l.same; taken = l.taken }
 
+  -- it has the same orders, and they live on
+  pub owned_same : (desk' : DeskState P) → held_of y ≡ held_of x → desk'.orders ≡ desk.orders → Owned desk' (slice_set actors a y)
+  owned_same desk' mine same = owned_within desk' (λ order h. subst (λ (os : List Order). Contains os order) mine h) same
+
   -- one more is given to it
-  pub owned_given : (cache : CBlock) (order : Order) → AreOrders desk.orders → MayReserve desk cache order → y.orders ≡ order ∷ x.orders → Owned (reserved desk cache order false) (slice_set actors a y)
+  pub owned_given : (cache : CBlock) (order : Order) → AreOrders desk.orders → MayReserve desk cache order → held_of y ≡ order ∷ held_of x → Owned (reserved desk cache order false) (slice_set actors a y)
   owned_given cache order are may mine = owned_by (reserved desk cache order false)
-      (λ o h. first_or order o x.orders (IsLive (reserved desk cache order false) o) (subst (λ (os : List Order). Contains os o) mine h)
+      (λ o h. first_or order o (held_of x) (IsLive (reserved desk cache order false) o) (subst (λ (os : List Order). Contains os o) mine h)
       (λ same. subst (λ (p : Order). IsLive (reserved desk cache order false) p) (sym same) new)
       (λ later. on o (owned.live a x o e later)))
       (λ b z o n f h. (
         on o (owned.live b z o f h),
-        λ i. first_or order o x.orders ⊥ (subst (λ (os : List Order). Contains os o) mine i)
-            (λ same. fresh (owned.live b z order f (subst (λ (p : Order). Contains z.orders p) same h)))
+        λ i. first_or order o (held_of x) ⊥ (subst (λ (os : List Order). Contains os o) mine i)
+            (λ same. fresh (owned.live b z order f (subst (λ (p : Order). Contains (held_of z) p) same h)))
             (λ later. n (owned.one b a z x o f e h later)),
       ))
     where
@@ -141,16 +146,16 @@ module _ (P : Type 0) (desk : DeskState P) (actors : List Actor) (a : ℕ) (x y 
           let idle = get_or_from_slice_get desk.orders.busy (first_of order).0 false false may.give.idle.0 in
           absurd (cc)
 
-  module _ (order : Order) (b : OBlock) (cache : CBlock) (live : LiveOrder) (has : Contains x.orders order) (there : order_at desk.orders.slots cache.0 ≡ Some live) (is : live.order ≡ order) (named : is_of b order ≡ true) (mine : y.orders ≡ dropped b x.orders) where
+  module _ (order : Order) (b : OBlock) (cache : CBlock) (live : LiveOrder) (has : Contains (held_of x) order) (there : order_at desk.orders.slots cache.0 ≡ Some live) (is : live.order ≡ order) (named : is_of b order ≡ true) (mine : (o : Order) → Contains (held_of y) o → Contains (held_of x) o × (is_of b o ≡ false)) where
     -- Its order is over, the only one of its block.
     pub owned_over : (desk' : DeskState P) → desk'.orders.slots ≡ slice_set desk.orders.slots cache.0 None → Owned desk' (slice_set actors a y)
     owned_over desk' same = owned_by desk'
-        (λ o h. let r = dropped_is b x.orders o (subst (λ (os : List Order). Contains os o) mine h) in
+        (λ o h. let r = mine o h in
         let l = owned.live a x o e r.0 in
         live_beside P desk desk' cache None o same l (λ s. absurd (let f : is_of b o ≡ true = ap (is_of b) (at_cache o l s) ∙ named in cc)))
         (λ c z o n f h. let l = owned.live c z o f h in (
-          live_beside P desk desk' cache None o same l (λ s. n (owned.one c a z x order f e (subst (λ (p : Order). Contains z.orders p) (at_cache o l s) h) has)),
-          λ i. n (owned.one c a z x o f e h (dropped_is b x.orders o (subst (λ (os : List Order). Contains os o) mine i)).0),
+          live_beside P desk desk' cache None o same l (λ s. n (owned.one c a z x order f e (subst (λ (p : Order). Contains (held_of z) p) (at_cache o l s) h) has)),
+          λ i. n (owned.one c a z x o f e h (mine o i).0),
         ))
       where
         -- an order that lives in this cache block is this one

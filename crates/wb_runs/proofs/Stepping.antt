@@ -26,14 +26,16 @@ use Rattle.wb_desk.specs.Desks.{DeskState}
 use Rattle.wb_stage.specs.Stages.{is_all_done}
 use Rattle.wb_devices.specs.Opened.{HasCome}
 use Rattle.wb_runs.specs.declared.job.Job.{Job}
-use Rattle.wb_runs.specs.declared.job.Job.TheVariants.{Read, Write, Flush, Open, Migrate}
-use Rattle.wb_runs.specs.States.{Shape, State, Target, Phase, Stands, Gone, Opens, OfTarget, OfReading, with_device}
-use Rattle.wb_runs.specs.Happenings.{Chosen, Plain, Cut, Orders, Begins, Reaches, Puts, Commits, Asks, Opened, DoesPut, DoesSync, DoesRead, DoesBegin, DoesMap, DoesRelease, DoesOpen, Gives, order_for, DoesUnmap}
+use Rattle.wb_runs.specs.declared.job.Job.TheVariants.{Read, Write, Flush, Open, Migrate, Replace}
+use Rattle.wb_runs.specs.States.{Shape, State, Target, Phase, Stands, Gone, Opens, OfTarget, OfReading, with_device, Actor}
+use Rattle.wb_runs.specs.Happenings.{Chosen, Plain, Cut, Orders, Begins, Reaches, Puts, Commits, Asks, Opened, DoesPut, DoesSync, DoesRead, DoesBegin, DoesMap, DoesRelease, DoesOpen, Gives, DoesUnmap}
 use Rattle.wb_runs.specs.Effects.{device_done, devices_then, commit_then, phase_then}
 use Rattle.wb_runs.proofs.Images.{Images, Turns, stays}
-use Rattle.wb_runs.proofs.Desks.{mapped_stands, given_up_stands, unmapped_stands}
+use Rattle.wb_runs.proofs.Desks.{mapped_stands, unmapped_stands, released_for}
 use Rattle.wb_runs.proofs.Underway.{Readable, Found, led_on, sync_does, sync_found, found_readable}
 use Rattle.wb_runs.proofs.Metadata.{AtDesk, HasReached, Rooting, AtOpening, MetadataKept, begins_over, ends_over, root_begins, target_stands, kept_readable}
+use Rattle.wb_types.specs.declared.number.OBlock.{OBlock}
+use Rattle.wb_stage.specs.Asking.{order_of}
 
 -- a device on which blocks stand is not the metadata device
 data_device : (device : Dev) → HoldsBlocks device → (devices : Devices (List History)) (new : List History) → (with_device device devices new).metadata ≡ devices.metadata
@@ -231,12 +233,12 @@ module _ (P A : Type 0) (shape : Shape) where
   unmap_keeps i Gone commit m b got chosen k s = absurd s
   unmap_keeps i (Opens mode reading) commit m b got chosen k s = absurd s
 
-  pub release_keeps : (i : Images) (phase : Phase P A) (commit : Option RunningCommit) (m : List History) (b : _) (order : Order) (got : Got) (chosen : Chosen P A) → K i phase commit m → OfTarget phase (λ t. DoesRelease order t.desk chosen) →
+  pub release_keeps : (i : Images) (phase : Phase P A) (commit : Option RunningCommit) (m : List History) (b : OBlock) (orders : List Order) (got : Got) (chosen : Chosen P A) → K i phase commit m → OfTarget phase (λ t. DoesRelease orders b t.desk chosen) →
       T i (phase_then shape phase (Desk (ReleaseOrder b)) got chosen) (commit_then phase commit (Desk (ReleaseOrder b)) got chosen) m
-  release_keeps i (Stands t) commit m b order got (Asks new) k s = same i (phase_then shape (Stands t) (Desk (ReleaseOrder b)) got (Asks new)) commit m (given_up_stands P shape.geometry i t.desk commit m new order k s)
-  release_keeps i (Stands t) commit m b order got chosen k s = absurd s
-  release_keeps i Gone commit m b order got chosen k s = absurd s
-  release_keeps i (Opens mode reading) commit m b order got chosen k s = absurd s
+  release_keeps i (Stands t) commit m b orders got (Asks new) k s = same i (phase_then shape (Stands t) (Desk (ReleaseOrder b)) got (Asks new)) commit m (released_for P shape.geometry i t.desk commit m new (order_of b orders) k s)
+  release_keeps i (Stands t) commit m b orders got chosen k s = absurd s
+  release_keeps i Gone commit m b orders got chosen k s = absurd s
+  release_keeps i (Opens mode reading) commit m b orders got chosen k s = absurd s
 
   -- ---- answers
 
@@ -263,12 +265,12 @@ module _ (P A : Type 0) (shape : Shape) where
 
   -- ---- a step of any kind that is done
 
-  module _ (w : State P A) (got : Got) (read : List Bytes) (chosen : Chosen P A) where
+  module _ (w : State P A) (actor : Actor) (got : Got) (read : List Bytes) (chosen : Chosen P A) where
     abbrev m : List History
     m = w.devices.metadata
 
     abbrev G : Job → Want → Type 0
-    G job next = Gives shape w job next got read chosen
+    G job next = Gives shape w actor job next got read chosen
 
     -- what is known of the metadata after it
     abbrev After : Images → List Bytes → Job → Want → Type 0
@@ -280,6 +282,7 @@ module _ (P A : Type 0) (shape : Shape) where
     read_fact Flush d e g = absurd g
     read_fact (Open mode) d e g = absurd g
     read_fact (Migrate migration block) d e g = g.0
+    read_fact (Replace old new) d e g = absurd g
 
     write_fact : (job : Job) (d : Dev) (e : _) → G job (Device (WriteExtent d e)) → HoldsBlocks d
     write_fact (Read x) d e g = absurd g
@@ -287,6 +290,7 @@ module _ (P A : Type 0) (shape : Shape) where
     write_fact Flush d e g = absurd g
     write_fact (Open mode) d e g = absurd g
     write_fact (Migrate migration block) d e g = g.0
+    write_fact (Replace old new) d e g = absurd g
 
     pub sync_fact : (job : Job) → G job (Device (Sync Metadata)) → (got ≡ Done) × DoesSync w.phase w.commit m chosen
     sync_fact (Read x) g = (g.1, g.2)
@@ -294,6 +298,7 @@ module _ (P A : Type 0) (shape : Shape) where
     sync_fact Flush g = (g.1, g.2)
     sync_fact (Open mode) g = (g.1, g.2)
     sync_fact (Migrate migration block) g = (g.1, g.2)
+    sync_fact (Replace old new) g = (g.1, g.2)
 
     pub node_fact : (job : Job) (number : ℕ) → G job (Device (WriteNode number)) → (got ≡ Done) × DoesPut w.commit (WriteNode number) m chosen
     node_fact (Read x) number g = (g.1, g.2)
@@ -301,6 +306,7 @@ module _ (P A : Type 0) (shape : Shape) where
     node_fact Flush number g = (g.1, g.2)
     node_fact (Open mode) number g = (g.1, g.2)
     node_fact (Migrate migration block) number g = (g.1, g.2)
+    node_fact (Replace old new) number g = (g.1, g.2)
 
     pub root_fact : (job : Job) → G job (Device WriteRoot) → (got ≡ Done) × DoesPut w.commit WriteRoot m chosen
     root_fact (Read x) g = (g.1, g.2)
@@ -308,6 +314,7 @@ module _ (P A : Type 0) (shape : Shape) where
     root_fact Flush g = (g.1, g.2)
     root_fact (Open mode) g = (g.1, g.2)
     root_fact (Migrate migration block) g = (g.1, g.2)
+    root_fact (Replace old new) g = (g.1, g.2)
 
     pub metadata_fact : (job : Job) (left : ℕ) → G job (Device (ReadMetadata left)) → (w.commit ≡ None) × OfReading w.phase (λ mode was. DoesRead shape.geometry left was m w.commit got chosen)
     metadata_fact (Read x) left g = (g.1, g.2)
@@ -315,6 +322,7 @@ module _ (P A : Type 0) (shape : Shape) where
     metadata_fact Flush left g = (g.1, g.2)
     metadata_fact (Open mode) left g = (g.1, g.2)
     metadata_fact (Migrate migration block) left g = (g.1, g.2)
+    metadata_fact (Replace old new) left g = (g.1, g.2)
 
     pub begin_fact : (job : Job) (clean : Bool) (most : ℕ) → G job (Desk (BeginCommit clean most)) → OfTarget w.phase (λ t. DoesBegin most t.desk got chosen)
     begin_fact (Read x) clean most g = g.2
@@ -322,6 +330,7 @@ module _ (P A : Type 0) (shape : Shape) where
     begin_fact Flush clean most g = g.2
     begin_fact (Open mode) clean most g = g.2
     begin_fact (Migrate migration block) clean most g = g.2
+    begin_fact (Replace old new) clean most g = g.2
 
     pub end_fact : (job : Job) → G job (Desk EndCommit) → OfTarget w.phase (λ t. is_all_done w.commit ≡ true)
     end_fact (Read x) g = g.2
@@ -329,6 +338,7 @@ module _ (P A : Type 0) (shape : Shape) where
     end_fact Flush g = g.2
     end_fact (Open mode) g = g.2
     end_fact (Migrate migration block) g = g.2
+    end_fact (Replace old new) g = g.2
 
     pub map_fact : (job : Job) (b c : _) → G job (Desk (Map b c)) → OfTarget w.phase (λ t. DoesMap b c t.desk got chosen)
     map_fact (Read x) b c g = absurd g
@@ -336,6 +346,7 @@ module _ (P A : Type 0) (shape : Shape) where
     map_fact Flush b c g = absurd g
     map_fact (Open mode) b c g = absurd g
     map_fact (Migrate migration block) b c g = g.1
+    map_fact (Replace old new) b c g = absurd g
 
     pub unmap_fact : (job : Job) (b : _) → G job (Desk (Unmap b)) → OfTarget w.phase (λ t. DoesUnmap b t.desk chosen)
     unmap_fact (Read x) b g = absurd g
@@ -343,13 +354,15 @@ module _ (P A : Type 0) (shape : Shape) where
     unmap_fact Flush b g = absurd g
     unmap_fact (Open mode) b g = absurd g
     unmap_fact (Migrate migration block) b g = g.2
+    unmap_fact (Replace old new) b g = absurd g
 
-    pub release_fact : (job : Job) (b : _) → G job (Desk (ReleaseOrder b)) → (order : Order) × OfTarget w.phase (λ t. DoesRelease order t.desk chosen)
+    pub release_fact : (job : Job) (b : OBlock) → G job (Desk (ReleaseOrder b)) → (orders : List Order) × OfTarget w.phase (λ t. DoesRelease orders b t.desk chosen)
     release_fact (Read x) b g = absurd g
     release_fact (Write x y) b g = absurd g
-    release_fact Flush b g = absurd g
+    release_fact Flush b g = (actor.awaiting, g.2)
     release_fact (Open mode) b g = absurd g
-    release_fact (Migrate migration block) b g = (order_for migration block, g.2)
+    release_fact (Migrate migration block) b g = (actor.orders, g.2)
+    release_fact (Replace old new) b g = absurd g
 
     pub answer_fact : (job : Job) (answer : Answer) → G job (End answer) → (chosen ≡ Plain) ⊎ ((answer ≡ Finished) × DoesOpen w.phase w.commit chosen)
     answer_fact (Read x) answer g = inl g.0.1
@@ -358,6 +371,7 @@ module _ (P A : Type 0) (shape : Shape) where
     answer_fact (Open mode) Finished g = inr (refl, g.2)
     answer_fact (Open mode) (Refuses refusal) g = inl g.0.1
     answer_fact (Migrate migration block) answer g = inl g.0.1
+    answer_fact (Replace old new) answer g = inl g.0.1
 
     -- its device is not that of the metadata
     moves_data : (i : Images) (buffer : List Bytes) (job : Job) (step : DeviceStep) (d : Dev) → HoldsBlocks d → device_of step ≡ d → IsData step → K i w.phase w.commit m → After i buffer job (Device step)

@@ -24,8 +24,8 @@ use Rattle.wb_tasks.specs.declared.step.Got.TheVariants.{Done, Fault, Refused as
 use Rattle.wb_devices.specs.declared.running.RunningCommit.{RunningCommit}
 use Rattle.wb_devices.specs.Opened.{HasCome, got_of_refusal}
 use Rattle.wb_runs.specs.declared.job.Job.{Job}
-use Rattle.wb_runs.specs.declared.job.Job.TheVariants.{Read, Write, Flush, Open, Migrate}
-use Rattle.wb_runs.specs.States.{Shape, State, Phase, Stands, Gone, Opens, OfTarget, OfReading}
+use Rattle.wb_runs.specs.declared.job.Job.TheVariants.{Read, Write, Flush, Open, Migrate, Replace}
+use Rattle.wb_runs.specs.States.{Actor, Shape, State, Phase, Stands, Gone, Opens, OfTarget, OfReading}
 use Rattle.wb_runs.specs.Happenings.{Chosen, Plain, Cut, Orders, Begins, Reaches, Puts, Commits, Asks, Opened, DoesRead, DoesBegin, DoesMap, Gives}
 use Rattle.wb_runs.proofs.Stepping.{metadata_fact, begin_fact, map_fact, sync_fact, node_fact, root_fact}
 
@@ -94,7 +94,7 @@ read_fits shape left was device commit got (Puts new) d = absurd d
 read_fits shape left was device commit got (Commits c tree) d = absurd d
 read_fits shape left was device commit got (Opened policy) d = absurd d
 
-module _ (P A : Type 0) (shape : Shape) (w : State P A) (got : Got) (read : List Bytes) (chosen : Chosen P A) where
+module _ (P A : Type 0) (shape : Shape) (w : State P A) (actor : Actor) (got : Got) (read : List Bytes) (chosen : Chosen P A) where
   on_words : (phase : Phase P A) (step : CellStep) → OfTarget phase (λ t. got ≡ got_of (result_of t.words step)) → Fits (Cell step) got
   on_words (Stands t) step e = subst (λ (g : Got). Fits (Cell step) g) (sym e) (cell_fits t.words step)
   on_words Gone step e = absurd e
@@ -111,32 +111,36 @@ module _ (P A : Type 0) (shape : Shape) (w : State P A) (got : Got) (read : List
   on_metadata (Opens mode None) left d = absurd d
   on_metadata (Opens mode (Some was)) left d = read_fits shape left was w.devices.metadata w.commit got chosen d
 
-  data_sync : (job : Job) (d : Dev) → Gives shape w job (Device (Sync d)) got read chosen → got ≡ Done
-  data_sync job Metadata g = (sync_fact P A shape w got read chosen job g).0
+  data_sync : (job : Job) (d : Dev) → Gives shape w actor job (Device (Sync d)) got read chosen → got ≡ Done
+  data_sync job Metadata g = (sync_fact P A shape w actor got read chosen job g).0
   data_sync (Read x) Cache g = g.1
   data_sync (Write x c) Cache g = g.1
   data_sync Flush Cache g = g.1
   data_sync (Open mode) Cache g = g.1
   data_sync (Migrate migration block) Cache g = g.1
+  data_sync (Replace old new) Cache g = g.1
   data_sync (Read x) Origin g = g.1
   data_sync (Write x c) Origin g = g.1
   data_sync Flush Origin g = g.1
   data_sync (Open mode) Origin g = g.1
   data_sync (Migrate migration block) Origin g = g.1
+  data_sync (Replace old new) Origin g = g.1
 
-  word_given : (job : Job) (step : CellStep) → Gives shape w job (Cell step) got read chosen → OfTarget w.phase (λ t. got ≡ got_of (result_of t.words step))
+  word_given : (job : Job) (step : CellStep) → Gives shape w actor job (Cell step) got read chosen → OfTarget w.phase (λ t. got ≡ got_of (result_of t.words step))
   word_given (Read x) step g = g.1
   word_given (Write x c) step g = g.1
   word_given Flush step g = g.1
   word_given (Open mode) step g = g.1
   word_given (Migrate migration block) step g = g.1
+  word_given (Replace old new) step g = g.1
 
-  end_given : (job : Job) → Gives shape w job (Desk EndCommit) got read chosen → got ≡ Done
+  end_given : (job : Job) → Gives shape w actor job (Desk EndCommit) got read chosen → got ≡ Done
   end_given (Read x) g = g.1
   end_given (Write x c) g = g.1
   end_given Flush g = g.1
   end_given (Open mode) g = g.1
   end_given (Migrate migration block) g = g.1
+  end_given (Replace old new) g = g.1
 
   map_fits : (desk : DeskState P) (b c : _) (got : Got) (ch : Chosen P A) → DoesMap b c desk got ch → Fits (Desk (Map b c)) got
   map_fits desk b c Done (Asks new) d = tt
@@ -148,40 +152,44 @@ module _ (P A : Type 0) (shape : Shape) (w : State P A) (got : Got) (read : List
   map_given Gone b c d = absurd d
   map_given (Opens mode reading) b c d = absurd d
 
-  released_done : (job : Job) (b : _) → Gives shape w job (Desk (ReleaseOrder b)) got read chosen → got ≡ Done
+  released_done : (job : Job) (b : _) → Gives shape w actor job (Desk (ReleaseOrder b)) got read chosen → got ≡ Done
   released_done (Read x) b g = absurd g
   released_done (Write x c) b g = absurd g
-  released_done Flush b g = absurd g
+  released_done Flush b g = g.1
   released_done (Open mode) b g = absurd g
   released_done (Migrate migration block) b g = g.1
+  released_done (Replace old new) b g = absurd g
 
-  unmapped_done : (job : Job) (b : _) → Gives shape w job (Desk (Unmap b)) got read chosen → got ≡ Done
+  unmapped_done : (job : Job) (b : _) → Gives shape w actor job (Desk (Unmap b)) got read chosen → got ≡ Done
   unmapped_done (Read x) b g = absurd g
   unmapped_done (Write x c) b g = absurd g
   unmapped_done Flush b g = absurd g
   unmapped_done (Open mode) b g = absurd g
   unmapped_done (Migrate migration block) b g = g.1
+  unmapped_done (Replace old new) b g = absurd g
 
   -- each result fits the step that gave it
-  pub gives_fits : (job : Job) (next : Want) → IsStep next → Gives shape w job next got read chosen → Fits next got
+  pub gives_fits : (job : Job) (next : Want) → IsStep next → Gives shape w actor job next got read chosen → Fits next got
   gives_fits job (Cell step) i g = on_words w.phase step (word_given job step g)
   gives_fits (Read x) (Device (ReadExtent d e)) i g = done_fits (Device (ReadExtent d e)) got tt g.2
   gives_fits (Write x c) (Device (ReadExtent d e)) i g = absurd g
   gives_fits Flush (Device (ReadExtent d e)) i g = absurd g
   gives_fits (Open mode) (Device (ReadExtent d e)) i g = absurd g
   gives_fits (Migrate migration block) (Device (ReadExtent d e)) i g = done_fits (Device (ReadExtent d e)) got tt g.2
+  gives_fits (Replace old new) (Device (ReadExtent d e)) i g = absurd g
   gives_fits (Read x) (Device (WriteExtent d e)) i g = absurd g
   gives_fits (Write x c) (Device (WriteExtent d e)) i g = done_fits (Device (WriteExtent d e)) got tt g.2
   gives_fits Flush (Device (WriteExtent d e)) i g = absurd g
   gives_fits (Open mode) (Device (WriteExtent d e)) i g = absurd g
   gives_fits (Migrate migration block) (Device (WriteExtent d e)) i g = done_fits (Device (WriteExtent d e)) got tt g.2
+  gives_fits (Replace old new) (Device (WriteExtent d e)) i g = absurd g
   gives_fits job (Device (Sync d)) i g = done_fits (Device (Sync d)) got tt (data_sync job d g)
-  gives_fits job (Device (WriteNode number)) i g = done_fits (Device (WriteNode number)) got tt (node_fact P A shape w got read chosen job number g).0
-  gives_fits job (Device WriteRoot) i g = done_fits (Device WriteRoot) got tt (root_fact P A shape w got read chosen job g).0
-  gives_fits job (Device (ReadMetadata left)) i g = on_metadata w.phase left (metadata_fact P A shape w got read chosen job left g).1
-  gives_fits job (Desk (BeginCommit clean most)) i g = on_desk w.phase clean most (begin_fact P A shape w got read chosen job clean most g)
+  gives_fits job (Device (WriteNode number)) i g = done_fits (Device (WriteNode number)) got tt (node_fact P A shape w actor got read chosen job number g).0
+  gives_fits job (Device WriteRoot) i g = done_fits (Device WriteRoot) got tt (root_fact P A shape w actor got read chosen job g).0
+  gives_fits job (Device (ReadMetadata left)) i g = on_metadata w.phase left (metadata_fact P A shape w actor got read chosen job left g).1
+  gives_fits job (Desk (BeginCommit clean most)) i g = on_desk w.phase clean most (begin_fact P A shape w actor got read chosen job clean most g)
   gives_fits job (Desk EndCommit) i g = done_fits (Desk EndCommit) got tt (end_given job g)
-  gives_fits job (Desk (Map b c)) i g = map_given w.phase b c (map_fact P A shape w got read chosen job b c g)
+  gives_fits job (Desk (Map b c)) i g = map_given w.phase b c (map_fact P A shape w actor got read chosen job b c g)
   gives_fits job (Desk (Unmap b)) i g = done_fits (Desk (Unmap b)) got tt (unmapped_done job b g)
   gives_fits job (Desk (ReleaseOrder b)) i g = done_fits (Desk (ReleaseOrder b)) got tt (released_done job b g)
   gives_fits job (End answer) i g = absurd i

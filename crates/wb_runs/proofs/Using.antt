@@ -1,5 +1,5 @@
 -- In every run each actor has what its task needs, and the words of the target that stands keep their rule.
-use Rattle.std.proofs.Common.{◌≡◌, ◌<◌, ◌*◌, ◌/◌, inr, ℕ, List, [], ◌∷◌, Option, Some, None, refl, sym, ap, subst, slice_get, slice_set, arith, mul_comm}
+use Rattle.std.proofs.Common.{◌≡◌, ◌<◌, ◌*◌, ◌/◌, inr, ℕ, List, [], ◌∷◌, Option, Some, None, refl, sym, ap, subst, slice_get, slice_set, arith, mul_comm, ◌++◌, inl}
 use mathlib.Core.Option.{some}
 use lib.ListN.{get_elem?}
 use Rattle.wb_types.specs.declared.mode.Mode.{Mode}
@@ -31,14 +31,14 @@ use Rattle.wb_tasks.specs.declared.step.Want.TheVariants.{Cell, Device, Desk, En
 use Rattle.wb_tasks.specs.declared.step.Got.{Got}
 use Rattle.wb_tasks.specs.declared.step.Got.TheVariants.{Fault}
 use Rattle.wb_runs.specs.declared.job.Job.{Job}
-use Rattle.wb_runs.specs.declared.job.Job.TheVariants.{Read, Write, Flush, Open, Migrate}
+use Rattle.wb_runs.specs.declared.job.Job.TheVariants.{Read, Write, Flush, Open, Migrate, Replace}
 use Rattle.wb_runs.specs.declared.event.Event.{Event}
 use Rattle.wb_runs.specs.declared.event.Event.TheVariants.{Start, Step, FaultStep, Stop}
 use Rattle.wb_runs.specs.declared.event.What.{What}
 use Rattle.wb_runs.specs.declared.event.What.TheVariants.{Skipped, Refused, Started, Stepped, Stopped}
 use Rattle.wb_runs.specs.States.{Shape, State, Actor, Target, Phase, Stands, Gone, Opens, OfTarget, resting, start}
-use Rattle.wb_runs.specs.Happenings.{Chosen, Plain, Cut, Orders, order_for, Opened, Happening, OfSome, DoesNotApply, DoesOpen, MayFailAt, Falters, StartGives, Gives, MayBe}
-use Rattle.wb_runs.specs.Effects.{task_then, card_then, actor_then, card_over, card_by, words_by, seals_of, sealing_steps, words_then, desk_then, phase_then, phase_opened, target_over, stepped, with_actor, cleared, given, phase_given, started, job_of, device_done, device_failed, all_resting, after_what, after_happening, after_all, IsRun}
+use Rattle.wb_runs.specs.Happenings.{Chosen, Plain, Cut, Orders, order_for, Opened, Happening, OfSome, DoesNotApply, DoesOpen, MayFailAt, Falters, StartGives, Gives, MayBe, KeepsMigration, blocks_left}
+use Rattle.wb_runs.specs.Effects.{task_then, card_then, actor_then, card_over, card_by, words_by, seals_of, sealing_steps, words_then, desk_then, phase_then, phase_opened, target_over, stepped, with_actor, cleared, given, phase_given, started, job_of, device_done, device_failed, all_resting, after_what, after_happening, after_all, IsRun, orders_then, awaiting_then, orders_given}
 use Rattle.wb_runs.specs.Holding.{cards_of, TaskSuits, AllSuited, AreUsedRightly}
 use Rattle.wb_runs.proofs.Extents.{MayStart, may_start, some_sectors}
 use Rattle.wb_types.specs.declared.number.OBlock.{OBlock}
@@ -48,12 +48,14 @@ use Rattle.wb_policy.specs.declared.order.Order.{Order}
 use Rattle.wb_devices.specs.declared.devices.Devices.{Devices}
 use Rattle.wb_runs.proofs.Lists.{replicated, free, first_or}
 use Rattle.wb_runs.proofs.Images.{Turns}
-use Rattle.wb_runs.proofs.Ordering.{OrderInside, OrdersInside, AllOrdersInside, orders_left, order_given}
+use Rattle.wb_runs.proofs.Ordering.{OrderInside, OrdersInside, AllOrdersInside, orders_left, order_given, held_of, in_orders}
 use Rattle.wb_runs.proofs.Sealing.{EntriesInside, fresh_taken, all_sealed, Sealed}
 use Rattle.wb_runs.proofs.MetadataRuns.{IsKnown, known_after, known_at_start}
 use Rattle.wb_runs.proofs.Stepping.{done_kept}
 use Rattle.wb_runs.proofs.Ruling.{rule_after, rule_same, AllBlank, fresh_ruled, each_set, all_rest, cards_set, card_at}
 use Rattle.wb_runs.proofs.Suiting.{gives_fits}
+use Rattle.wb_policy.specs.declared.order.Order.TheVariants.{Promote as PromoteOrder, Replace as ReplaceOrder, Demote as DemoteOrder, Clean as CleanOrder}
+use Rattle.wb_types.specs.declared.number.CBlock.{CBlock}
 
 -- an actor that has a task opens
 abbrev pub OpensOrRests : Option (Job × Plan) → Type 0
@@ -94,11 +96,11 @@ module _ (P A : Type 0) (shape : Shape) where
     set_suited : (y : Actor) → TaskSuits blocks y.card y.task → AllSuited blocks (slice_set actors a y)
     set_suited y s = each_set actors a x y (λ (z : Actor). TaskSuits blocks z.card z.task) e s all
 
-    set_orders : (y : Actor) → OrdersInside shape.geometry y.orders → AllOrdersInside shape.geometry (slice_set actors a y)
-    set_orders y s = each_set actors a x y (λ (z : Actor). OrdersInside shape.geometry z.orders) e s ords
+    set_orders : (y : Actor) → OrdersInside shape.geometry (held_of y) → AllOrdersInside shape.geometry (slice_set actors a y)
+    set_orders y s = each_set actors a x y (λ (z : Actor). OrdersInside shape.geometry (held_of z)) e s ords
 
-    left : (next : Want) (got : Got) → OrdersInside shape.geometry (Rattle.wb_runs.specs.Effects.orders_then x.orders next got)
-    left next got = orders_left shape.geometry x.orders next got (ords a x e)
+    left : (next : Want) (got : Got) → OrdersInside shape.geometry (orders_then x (job_of x.task) next got ++ awaiting_then x (job_of x.task) next got)
+    left next got = orders_left shape.geometry x (job_of x.task) next got (ords a x e)
 
     -- by a step
     goes_on : (next : Want) (got : Got) (card' : Card) → next ≡ want plan → Fits next got → MayMake next got x.card card' → TaskSuits blocks card' (Some (job, after plan got))
@@ -176,7 +178,7 @@ module _ (P A : Type 0) (shape : Shape) where
     on_answer t answer got chosen i h = record {
       suited = set_suited _ (subst (λ (o : Option (Job × Plan)). TaskSuits blocks x.card (task_then o (End answer) got)) (sym xt) (ends answer h));
       here = rule_same blocks t.words actors a x _ i e refl;
-      orders = set_orders _ (ords a x e);
+      orders = set_orders _ (left (End answer) got);
     }
 
     gone_answer : (answer : Answer) (got : Got) (chosen : Chosen P A) → InPhase Gone actors → End answer ≡ want plan →
@@ -184,7 +186,7 @@ module _ (P A : Type 0) (shape : Shape) where
     gone_answer answer got chosen i h = record {
       suited = set_suited _ (subst (λ (o : Option (Job × Plan)). TaskSuits blocks x.card (task_then o (End answer) got)) (sym xt) (ends answer h));
       here = blank_set _ (i a x e) i;
-      orders = set_orders _ (ords a x e);
+      orders = set_orders _ (left (End answer) got);
     }
 
     -- an opening that is refused
@@ -193,7 +195,7 @@ module _ (P A : Type 0) (shape : Shape) where
     refused_answer mode reading refusal got b h = record {
       suited = set_suited _ (subst (λ (o : Option (Job × Plan)). TaskSuits blocks x.card (task_then o (End (Refuses refusal)) got)) (sym xt) (ends (Refuses refusal) h));
       here = blank_set _ (b a x e) b;
-      orders = set_orders _ (ords a x e);
+      orders = set_orders _ (left (End (Refuses refusal)) got);
     }
 
     -- and one that is done
@@ -202,7 +204,7 @@ module _ (P A : Type 0) (shape : Shape) where
     opened_answer mode stored policy got b inside = record {
       suited = set_suited _ (subst (λ (o : Option (Job × Plan)). TaskSuits blocks (card_over shape x.card (Some (AllRead stored))) (task_then o (End Finished) got)) (sym xt) done.nothing);
       here = subst (λ (cs : List Card). LockRule blocks (words_by (fresh_words blocks) (seals_of stored)) cs) (sym (cards_set actors a (actor_then {P = P} {A = A} shape (Opens mode (Some (AllRead stored))) devices x (End Finished) got))) done.rule;
-      orders = set_orders _ (ords a x e);
+      orders = set_orders _ (left (End Finished) got);
     }
       where
         done : Sealed blocks stored.root.clean a (words_by (fresh_words blocks) (seals_of stored)) (cards_of actors) (card_by (fresh_words blocks) blank_card (seals_of stored))
@@ -216,21 +218,22 @@ module _ (P A : Type 0) (shape : Shape) where
     Then phase next = UsedRightly (phase_then shape phase next got chosen) (slice_set w.actors a (actor_then {P = P} {A = A} shape phase w.devices x next got))
 
     -- an opening's answer
-    opens : (mode : Mode) (reading : Option (ReadSteps A)) (answer : Answer) → w.phase ≡ Opens mode reading → AllSuited blocks w.actors → AllOrdersInside shape.geometry w.actors → InPhase (Opens mode reading) w.actors → End answer ≡ want plan → Gives shape w job (End answer) got read chosen → Then (Opens mode reading) (End answer)
+    opens : (mode : Mode) (reading : Option (ReadSteps A)) (answer : Answer) → w.phase ≡ Opens mode reading → AllSuited blocks w.actors → AllOrdersInside shape.geometry w.actors → InPhase (Opens mode reading) w.actors → End answer ≡ want plan → Gives shape w x job (End answer) got read chosen → Then (Opens mode reading) (End answer)
     opens mode reading (Refuses refusal) p all ords i h g =
         subst (λ (c : Chosen P A). UsedRightly (phase_then shape (Opens mode reading) (End (Refuses refusal)) got c) (slice_set w.actors a (actor_then {P = P} {A = A} shape (Opens mode reading) w.devices x (End (Refuses refusal)) got))) (sym (plain job g))
         (refused_answer w.devices w.actors a x e job plan xt all ords mode reading refusal got i.0 h)
       where
-        plain : (j : Job) → Gives shape w j (End (Refuses refusal)) got read chosen → chosen ≡ Plain
+        plain : (j : Job) → Gives shape w x j (End (Refuses refusal)) got read chosen → chosen ≡ Plain
         plain (Read extent) g = g.0.1
         plain (Write extent content) g = g.0.1
         plain Flush g = g.0.1
         plain (Open m) g = g.0.1
         plain (Migrate migration block) g = g.0.1
+        plain (Replace old new) g = g.0.1
     opens mode reading Finished p all ords i h g =
         let o = is_open w.devices w.actors a x e job plan xt all ords i.1 in
-        let done : Gives shape w (Open o.0) (End Finished) got read chosen = subst (λ (j : Job). Gives shape w j (End Finished) got read chosen) o.1 g in
-        let kept = done_kept P A shape w got read chosen known.images x.buffer (Open o.0) (End Finished) known.known done in
+        let done : Gives shape w x (Open o.0) (End Finished) got read chosen = subst (λ (j : Job). Gives shape w x j (End Finished) got read chosen) o.1 g in
+        let kept = done_kept P A shape w x got read chosen known.images x.buffer (Open o.0) (End Finished) known.known done in
         by_reading reading chosen (subst (λ (q : Phase P A). DoesOpen q w.commit chosen) p done.2)
         (subst (λ (q : Phase P A). Turns (λ now. Rattle.wb_runs.proofs.Metadata.MetadataKept shape.geometry now (phase_then shape q (End Finished) got chosen) (Rattle.wb_runs.specs.Effects.commit_then q w.commit (End Finished) got chosen) w.devices.metadata) known.images) p kept)
       where
@@ -244,32 +247,33 @@ module _ (P A : Type 0) (shape : Shape) where
         by_reading None (Opened policy) d k = absurd d.0
         by_reading r c d k = absurd d
 
-    answers : (phase : Phase P A) (answer : Answer) → w.phase ≡ phase → AllSuited blocks w.actors → AllOrdersInside shape.geometry w.actors → InPhase phase w.actors → End answer ≡ want plan → Gives shape w job (End answer) got read chosen → Then phase (End answer)
+    answers : (phase : Phase P A) (answer : Answer) → w.phase ≡ phase → AllSuited blocks w.actors → AllOrdersInside shape.geometry w.actors → InPhase phase w.actors → End answer ≡ want plan → Gives shape w x job (End answer) got read chosen → Then phase (End answer)
     answers (Stands t) answer p all ords i h g = on_answer w.devices w.actors a x e job plan xt all ords t answer got chosen i h
     answers Gone answer p all ords i h g = gone_answer w.devices w.actors a x e job plan xt all ords answer got chosen i h
     answers (Opens mode reading) answer p all ords i h g = opens mode reading answer p all ords i h g
 
-    given_word : (j : Job) (step : CellStep) → Gives shape w j (Cell step) got read chosen → OfTarget w.phase (λ t. got ≡ got_of (result_of t.words step))
+    given_word : (j : Job) (step : CellStep) → Gives shape w x j (Cell step) got read chosen → OfTarget w.phase (λ t. got ≡ got_of (result_of t.words step))
     given_word (Read extent) step g = g.1
     given_word (Write extent content) step g = g.1
     given_word Flush step g = g.1
     given_word (Open mode) step g = g.1
     given_word (Migrate migration block) step g = g.1
+    given_word (Replace old new) step g = g.1
 
-    steps : (next : Want) → UsedRightly w.phase w.actors → next ≡ want plan → Gives shape w job next got read chosen → Then w.phase next
-    steps (Cell step) u h g = on_words w.devices w.actors a x e job plan xt u.suited u.orders w.phase step got chosen u.here h (gives_fits P A shape w got read chosen job (Cell step) tt g) (given_word job step g)
-    steps (Device step) u h g = on_device w.devices w.actors a x e job plan xt u.suited u.orders w.phase step got chosen u.here h (gives_fits P A shape w got read chosen job (Device step) tt g)
-    steps (Desk step) u h g = on_desk w.devices w.actors a x e job plan xt u.suited u.orders w.phase step got chosen u.here h (gives_fits P A shape w got read chosen job (Desk step) tt g)
+    steps : (next : Want) → UsedRightly w.phase w.actors → next ≡ want plan → Gives shape w x job next got read chosen → Then w.phase next
+    steps (Cell step) u h g = on_words w.devices w.actors a x e job plan xt u.suited u.orders w.phase step got chosen u.here h (gives_fits P A shape w x got read chosen job (Cell step) tt g) (given_word job step g)
+    steps (Device step) u h g = on_device w.devices w.actors a x e job plan xt u.suited u.orders w.phase step got chosen u.here h (gives_fits P A shape w x got read chosen job (Device step) tt g)
+    steps (Desk step) u h g = on_desk w.devices w.actors a x e job plan xt u.suited u.orders w.phase step got chosen u.here h (gives_fits P A shape w x got read chosen job (Desk step) tt g)
     steps (End answer) u h g = answers w.phase answer refl u.suited u.orders u.here h g
 
   -- whoever takes it
   stepped_used : (w : State P A) (a : ℕ) (next : Want) (got : Got) (read : List Bytes) (chosen : Chosen P A) (o : Option Actor) → slice_get w.actors a ≡ o → IsKnown P A shape w → UsedRightly w.phase w.actors →
-      OfSome o (λ x. OfSome x.task (λ doing. (next ≡ want doing.1) × Gives shape w doing.0 next got read chosen)) →
+      OfSome o (λ x. OfSome x.task (λ doing. (next ≡ want doing.1) × Gives shape w x doing.0 next got read chosen)) →
       UsedRightly (phase_then shape w.phase next got chosen) (with_actor w o (λ x. stepped shape w a x next got chosen (λ step. device_done (job_of x.task) x.buffer step chosen))).actors
   stepped_used w a next got read chosen None e k u h = absurd h
   stepped_used w a next got read chosen (Some x) e k u h = by_task x.task refl h
     where
-      by_task : (t : Option (Job × Plan)) → x.task ≡ t → OfSome t (λ doing. (next ≡ want doing.1) × Gives shape w doing.0 next got read chosen) →
+      by_task : (t : Option (Job × Plan)) → x.task ≡ t → OfSome t (λ doing. (next ≡ want doing.1) × Gives shape w x doing.0 next got read chosen) →
           UsedRightly (phase_then shape w.phase next got chosen) (slice_set w.actors a (actor_then {P = P} {A = A} shape w.phase w.devices x next got))
       by_task None xt h = absurd h
       by_task (Some doing) xt h = steps w got read chosen a x doing.0 doing.1 k e xt next u h.0 h.1
@@ -303,7 +307,7 @@ module _ (P A : Type 0) (shape : Shape) where
   rest_open actors a x e = subst (λ (v : Actor). OpensOrRests v.task) (sym (all_rest actors a x e)) tt
 
   rest_orders : (actors : List Actor) → AllOrdersInside shape.geometry (all_resting actors)
-  rest_orders actors a x e = subst (λ (v : Actor). OrdersInside shape.geometry v.orders) (sym (all_rest actors a x e)) (λ order m. absurd (omega (arith, m.1)))
+  rest_orders actors a x e = subst (λ (v : Actor). OrdersInside shape.geometry (held_of v)) (sym (all_rest actors a x e)) (λ order m. absurd (omega (arith, m.1)))
 
   -- an order that is given leaves the words
   same_here : (phase : Phase P A) (job : Job) (chosen : Chosen P A) (actors : List Actor) → InPhase phase actors → InPhase (phase_given phase job chosen) actors
@@ -316,6 +320,15 @@ module _ (P A : Type 0) (shape : Shape) where
   same_here (Stands t) (Migrate migration block) (Rattle.wb_runs.specs.Happenings.Commits commit tree) actors i = i
   same_here (Stands t) (Migrate migration block) (Rattle.wb_runs.specs.Happenings.Asks new) actors i = i
   same_here (Stands t) (Migrate migration block) (Opened policy) actors i = i
+  same_here (Stands t) (Replace old new) (Orders cut cache) actors i = i
+  same_here (Stands t) (Replace old new) Plain actors i = i
+  same_here (Stands t) (Replace old new) (Cut cut) actors i = i
+  same_here (Stands t) (Replace old new) (Rattle.wb_runs.specs.Happenings.Begins now) actors i = i
+  same_here (Stands t) (Replace old new) (Rattle.wb_runs.specs.Happenings.Reaches now commit) actors i = i
+  same_here (Stands t) (Replace old other) (Rattle.wb_runs.specs.Happenings.Puts new) actors i = i
+  same_here (Stands t) (Replace old new) (Rattle.wb_runs.specs.Happenings.Commits commit tree) actors i = i
+  same_here (Stands t) (Replace old other) (Rattle.wb_runs.specs.Happenings.Asks new) actors i = i
+  same_here (Stands t) (Replace old new) (Opened policy) actors i = i
   same_here (Stands t) (Read extent) chosen actors i = i
   same_here (Stands t) (Write extent content) chosen actors i = i
   same_here (Stands t) Flush chosen actors i = i
@@ -324,11 +337,11 @@ module _ (P A : Type 0) (shape : Shape) where
   same_here (Opens mode reading) job chosen actors i = i
 
   -- a task of an actor that has none
-  starts_task : (phase : Phase P A) (actors : List Actor) (a : ℕ) (x y : Actor) → slice_get actors a ≡ Some x → y.card ≡ x.card → TaskSuits blocks y.card y.task → OrdersInside shape.geometry y.orders → (¬ ¬ OfTarget phase (λ t. Unit {0})) → UsedRightly phase actors → UsedRightly phase (slice_set actors a y)
+  starts_task : (phase : Phase P A) (actors : List Actor) (a : ℕ) (x y : Actor) → slice_get actors a ≡ Some x → y.card ≡ x.card → TaskSuits blocks y.card y.task → OrdersInside shape.geometry (held_of y) → (¬ ¬ OfTarget phase (λ t. Unit {0})) → UsedRightly phase actors → UsedRightly phase (slice_set actors a y)
   starts_task (Stands t) actors a x y e c s o n u = record {
     suited = each_set actors a x y (λ (z : Actor). TaskSuits blocks z.card z.task) e s u.suited;
     here = rule_same blocks t.words actors a x y u.here e c;
-    orders = each_set actors a x y (λ (z : Actor). OrdersInside shape.geometry z.orders) e o u.orders;
+    orders = each_set actors a x y (λ (z : Actor). OrdersInside shape.geometry (held_of z)) e o u.orders;
   }
   starts_task Gone actors a x y e c s o n u = absurd (n (λ z. z))
   starts_task (Opens mode reading) actors a x y e c s o n u = absurd (n (λ z. z))
@@ -348,18 +361,54 @@ module _ (P A : Type 0) (shape : Shape) where
   block_inside Demote block i = i
   block_inside Clean block i = i
 
-  -- the order of a migration that starts, which its actor kept or is given
+  -- the order of a migration that starts, which its actor kept or is given; a promotion may follow under a replacement
+  kept_inside : (t : Target P) (kept : List Order) (migration : Migration) (block : OBlock) → OrdersInside shape.geometry kept → KeepsMigration t.desk kept migration block → OrderInside shape.geometry (order_for migration block)
+  kept_inside t kept (Promote c) block o k = elim k [
+    | inl m ↦ o (PromoteOrder block c) m
+    | inr f ↦ let i = o (ReplaceOrder f.0 block c) f.1 in (i.1, i.2)
+  ]
+  kept_inside t kept Demote block o k = o (DemoteOrder block) k
+  kept_inside t kept Clean block o k = o (CleanOrder block) k
+
   pub order_inside : (i : _) (phase : Phase P A) (commit : _) (m : List History) (actor : Option Actor) (migration : Migration) (block : OBlock) (chosen : Chosen P A) → Rattle.wb_runs.proofs.Metadata.MetadataKept shape.geometry i phase commit m →
       OrdersInside shape.geometry (Rattle.wb_runs.specs.Happenings.orders_in actor) → StartGives shape phase actor (Migrate migration block) Started chosen → OrderInside shape.geometry (order_for migration block)
-  order_inside i phase commit m actor migration block (Cut cut) k o g = o (order_for migration block) g.1
-  order_inside i (Stands t) commit m actor migration block (Orders cut cache) k o g = order_given P shape.geometry t.desk cache migration block k.is g.1
+  order_inside i (Stands t) commit m actor migration block (Cut cut) k o g = kept_inside t (Rattle.wb_runs.specs.Happenings.orders_in actor) migration block o g.1
+  order_inside i (Stands t) commit m actor migration block (Orders cut cache) k o g = order_given P shape.geometry t.desk cache (order_for migration block) k.is g.1
+  order_inside i (Stands t) commit m actor migration block chosen k o g = absurd g
+  order_inside i Gone commit m actor migration block (Cut cut) k o g = absurd g.1
   order_inside i Gone commit m actor migration block (Orders cut cache) k o g = absurd g.1
+  order_inside i Gone commit m actor migration block chosen k o g = absurd g
+  order_inside i (Opens mode reading) commit m actor migration block (Cut cut) k o g = absurd g.1
   order_inside i (Opens mode reading) commit m actor migration block (Orders cut cache) k o g = absurd g.1
-  order_inside i phase commit m actor migration block chosen k o g = absurd g
+  order_inside i (Opens mode reading) commit m actor migration block chosen k o g = absurd g
 
-  given_orders : (migration : Migration) (block : OBlock) (orders : List Order) (chosen : Chosen P A) → OrderInside shape.geometry (order_for migration block) → OrdersInside shape.geometry orders → OrdersInside shape.geometry (Rattle.wb_runs.specs.Effects.orders_given orders (Migrate migration block) chosen)
-  given_orders migration block orders (Orders cut cache) n o = λ order m. first_or (order_for migration block) order orders (OrderInside shape.geometry order) m (λ e. subst (λ (p : Order). OrderInside shape.geometry p) (sym e) n) (λ r. o order r)
-  given_orders migration block orders chosen n o = o
+  -- and of a replacement, with the cache block that it takes
+  pub replacement_inside : (i : _) (phase : Phase P A) (commit : _) (m : List History) (actor : Option Actor) (old new : OBlock) (chosen : Chosen P A) → Rattle.wb_runs.proofs.Metadata.MetadataKept shape.geometry i phase commit m →
+      OrdersInside shape.geometry (Rattle.wb_runs.specs.Happenings.orders_in actor) → StartGives shape phase actor (Replace old new) Started chosen → (cache : CBlock) × OrderInside shape.geometry (ReplaceOrder old new cache)
+  replacement_inside i (Stands t) commit m actor old new (Cut cut) k o g = (g.1.0, o (ReplaceOrder old new g.1.0) g.1.1)
+  replacement_inside i (Stands t) commit m actor old new (Orders cut cache) k o g = (cache, order_given P shape.geometry t.desk cache (ReplaceOrder old new cache) k.is g.1)
+  replacement_inside i (Stands t) commit m actor old new chosen k o g = absurd g
+  replacement_inside i Gone commit m actor old new (Cut cut) k o g = absurd g.1
+  replacement_inside i Gone commit m actor old new (Orders cut cache) k o g = absurd g.1
+  replacement_inside i Gone commit m actor old new chosen k o g = absurd g
+  replacement_inside i (Opens mode reading) commit m actor old new (Cut cut) k o g = absurd g.1
+  replacement_inside i (Opens mode reading) commit m actor old new (Orders cut cache) k o g = absurd g.1
+  replacement_inside i (Opens mode reading) commit m actor old new chosen k o g = absurd g
+
+  -- one order more is inside, where it is and all others are
+  one_more : (order : Order) (orders : List Order) → OrderInside shape.geometry order → OrdersInside shape.geometry orders → OrdersInside shape.geometry (order ∷ orders)
+  one_more order orders n o = λ p m. first_or order p orders (OrderInside shape.geometry p) m (λ e. subst (λ (q : Order). OrderInside shape.geometry q) (sym e) n) (λ r. o p r)
+
+  given_orders : (migration : Migration) (block : OBlock) (x : Actor) (chosen : Chosen P A) → OrderInside shape.geometry (order_for migration block) → OrdersInside shape.geometry (held_of x) → OrdersInside shape.geometry (orders_given x.orders (Migrate migration block) chosen ++ x.awaiting)
+  given_orders migration block x (Orders cut cache) n o = one_more (order_for migration block) (held_of x) n o
+  given_orders migration block x chosen n o = o
+
+  replacement_given : (i : _) (phase : Phase P A) (commit : _) (m : List History) (old new : OBlock) (x : Actor) (chosen : Chosen P A) → Rattle.wb_runs.proofs.Metadata.MetadataKept shape.geometry i phase commit m →
+      StartGives shape phase (Some x) (Replace old new) Started chosen → OrdersInside shape.geometry (held_of x) → OrdersInside shape.geometry (orders_given x.orders (Replace old new) chosen ++ x.awaiting)
+  replacement_given i (Stands t) commit m old new x (Orders cut cache) k g o = one_more (ReplaceOrder old new cache) (held_of x) (order_given P shape.geometry t.desk cache (ReplaceOrder old new cache) k.is g.1) o
+  replacement_given i Gone commit m old new x (Orders cut cache) k g o = absurd g.1
+  replacement_given i (Opens mode reading) commit m old new x (Orders cut cache) k g o = absurd g.1
+  replacement_given i phase commit m old new x chosen k g o = o
 
   starts : (w : State P A) (a : ℕ) (job : Job) (chosen : Chosen P A) → IsKnown P A shape w → UsedRightly w.phase w.actors → (¬ DoesNotApply w (Start a job)) → StartGives shape w.phase (slice_get w.actors a) job Started chosen → Started_so w a job chosen (slice_get (cleared w job).actors a)
   starts w a (Open mode) chosen k u applies gives = by_actor (slice_get (all_resting w.actors) a) refl
@@ -372,12 +421,12 @@ module _ (P A : Type 0) (shape : Shape) where
           record {
             suited = each_set (all_resting w.actors) a x y (λ (z : Actor). TaskSuits blocks z.card z.task) e (opening_begins blocks shape.geometry.meta_sectors x.card (ap (λ (c : Card). c.hold) blank)) (rest_used w.actors);
             here = (each_set (all_resting w.actors) a x y (λ (z : Actor). z.card ≡ blank_card) e blank (rest_blank w.actors), each_set (all_resting w.actors) a x y (λ (z : Actor). OpensOrRests z.task) e (mode, refl) (rest_open w.actors));
-            orders = each_set (all_resting w.actors) a x y (λ (z : Actor). OrdersInside shape.geometry z.orders) e (rest_orders w.actors a x e) (rest_orders w.actors);
+            orders = each_set (all_resting w.actors) a x y (λ (z : Actor). OrdersInside shape.geometry (held_of z)) e (rest_orders w.actors a x e) (rest_orders w.actors);
           }
   starts w a Flush chosen k u applies gives =
       let f = free P A w a Flush applies in
       subst (λ (o : Option Actor). Started_so w a Flush chosen o) (sym f.1)
-      (over Flush chosen w.phase w.actors (given shape f.0 Flush chosen) a (starts_task w.phase w.actors a f.0 (given shape f.0 Flush chosen) f.1 refl (flush_begins blocks [] (Rattle.wb_types.specs.Limits.node_count shape.geometry.cache_blocks) f.0.card (holds_nothing w f.0 a u f.1 f.2)) (u.orders a f.0 f.1) (λ m. applies (inr (inr m))) u))
+      (over Flush chosen w.phase w.actors (given shape f.0 Flush chosen) a (starts_task w.phase w.actors a f.0 (given shape f.0 Flush chosen) f.1 refl (flush_begins blocks (blocks_left f.0.awaiting) (Rattle.wb_types.specs.Limits.node_count shape.geometry.cache_blocks) f.0.card (holds_nothing w f.0 a u f.1 f.2)) (u.orders a f.0 f.1) (λ m. applies (inr (inr m))) u))
     where
       over : (job : Job) (chosen : Chosen P A) (phase : Phase P A) (actors : List Actor) (y : Actor) (a : ℕ) → UsedRightly phase (slice_set actors a y) → UsedRightly (phase_given phase job chosen) (slice_set actors a y)
       over job chosen phase actors y a u = record { suited = u.suited; here = same_here phase job chosen (slice_set actors a y) u.here; orders = u.orders }
@@ -397,14 +446,24 @@ module _ (P A : Type 0) (shape : Shape) where
       over {actors} u = record { suited = u.suited; here = same_here w.phase (Write extent content) (Cut cut) actors u.here; orders = u.orders }
   starts w a (Migrate migration block) chosen k u applies gives =
       let f = free P A w a (Migrate migration block) applies in
-      let kept : OrdersInside shape.geometry (Rattle.wb_runs.specs.Happenings.orders_in (slice_get w.actors a)) = subst (λ (o : Option Actor). OrdersInside shape.geometry (Rattle.wb_runs.specs.Happenings.orders_in o)) (sym f.1) (u.orders a f.0 f.1) in
+      let kept = subst (λ (o : Option Actor). OrdersInside shape.geometry (Rattle.wb_runs.specs.Happenings.orders_in o)) (sym f.1) (λ order m. u.orders a f.0 f.1 order (in_orders f.0 order m)) in
       let inside = order_inside k.images w.phase w.commit w.devices.metadata (slice_get w.actors a) migration block chosen k.known kept gives in
       subst (λ (o : Option Actor). Started_so w a (Migrate migration block) chosen o) (sym f.1)
       (over (starts_task w.phase w.actors a f.0 (given {P = P} {A = A} shape f.0 (Migrate migration block) chosen) f.1 refl (block_inside migration block inside, (holds_nothing w f.0 a u f.1 f.2, refl))
-      (given_orders migration block f.0.orders chosen inside (u.orders a f.0 f.1)) (λ m. applies (inr (inr m))) u))
+      (given_orders migration block f.0 chosen inside (u.orders a f.0 f.1)) (λ m. applies (inr (inr m))) u))
     where
       over : {actors : List Actor} → UsedRightly w.phase actors → UsedRightly (phase_given w.phase (Migrate migration block) chosen) actors
       over {actors} u = record { suited = u.suited; here = same_here w.phase (Migrate migration block) chosen actors u.here; orders = u.orders }
+  starts w a (Replace old new) chosen k u applies gives =
+      let f = free P A w a (Replace old new) applies in
+      let kept = subst (λ (o : Option Actor). OrdersInside shape.geometry (Rattle.wb_runs.specs.Happenings.orders_in o)) (sym f.1) (λ order m. u.orders a f.0 f.1 order (in_orders f.0 order m)) in
+      let inside = replacement_inside k.images w.phase w.commit w.devices.metadata (slice_get w.actors a) old new chosen k.known kept gives in
+      subst (λ (o : Option Actor). Started_so w a (Replace old new) chosen o) (sym f.1)
+      (over (starts_task w.phase w.actors a f.0 (given {P = P} {A = A} shape f.0 (Replace old new) chosen) f.1 refl (inside.1.0, (holds_nothing w f.0 a u f.1 f.2, refl))
+      (replacement_given k.images w.phase w.commit w.devices.metadata old new f.0 chosen k.known (subst (λ (o : Option Actor). StartGives shape w.phase o (Replace old new) Started chosen) f.1 gives) (u.orders a f.0 f.1)) (λ m. applies (inr (inr m))) u))
+    where
+      over : {actors : List Actor} → UsedRightly w.phase actors → UsedRightly (phase_given w.phase (Replace old new) chosen) actors
+      over {actors} u = record { suited = u.suited; here = same_here w.phase (Replace old new) chosen actors u.here; orders = u.orders }
   starts w a (Read extent) chosen k u applies gives = absurd gives
   starts w a (Write extent content) chosen k u applies gives = absurd gives
 
@@ -455,7 +514,7 @@ module _ (P A : Type 0) (shape : Shape) where
   used_start metadata = record {
     suited = λ a x e. subst (λ (v : Actor). TaskSuits blocks v.card v.task) (sym (replicated shape.actors a resting x e)) refl;
     here = λ a x e. ap (λ (v : Actor). v.card) (replicated shape.actors a resting x e);
-    orders = λ a x e. subst (λ (v : Actor). OrdersInside shape.geometry v.orders) (sym (replicated shape.actors a resting x e)) (λ order m. absurd (omega (arith, m.1)));
+    orders = λ a x e. subst (λ (v : Actor). OrdersInside shape.geometry (held_of v)) (sym (replicated shape.actors a resting x e)) (λ order m. absurd (omega (arith, m.1)));
   }
 
   pub run_used : (metadata : List History) (hs : List (Happening P A)) → IsFormatted shape.geometry metadata → Rattle.std.specs.Prelude.length metadata ≡ shape.geometry.meta_sectors → IsRun shape (start shape metadata) hs → AreUsedRightly shape (after_all shape (start shape metadata) hs)

@@ -164,6 +164,40 @@ const WRITE_BACKS: [Row; 2] = [
     },
 ];
 
+/// A block makes way for another, which takes its cache block after a flush of the actor that told both.
+const REPLACEMENTS: [Row; 5] = [
+    Row {
+        name: "a block follows one that it replaces, once its actor's flush is done, and nobody else takes the cache block",
+        lines: "setup writeback 64 4 10 4\nstart 0 w 0 1 11\nend 0\nstart 0 promote 0 0\nend 0\nstart 0 flush\nend 0\nstart 0 replace 0 5\nend 0\nstart 0 promote 5 0\nstart 0 flush\nend 0\nstart 1 promote 6 0\nstart 0 promote 5 0\nend 0\nstop old\nopen writeback\nview 0 1\n",
+        prints: "0 done\n0 done\n0 done\n0 done\n0 refused 3 Busy\n0 done\n1 refused 3 Busy\n0 done\nopen 4 0 0\n0 11\n",
+        ends: Ended::Played,
+    },
+    Row {
+        name: "another's flush ends the quarantine, and its own is wanted all the same; the line that replaces is busy once its block has left",
+        lines: "setup writeback 64 4 10 4\nstart 0 w 0 1 11\nend 0\nstart 0 promote 0 0\nend 0\nstart 0 flush\nend 0\nstart 0 replace 0 5\nend 0\nstart 1 flush\nend 1\nstart 0 promote 5 0\nstart 0 replace 0 5\nstart 1 promote 5 0\nstart 0 flush\nend 0\nstart 0 replace 0 5\nstart 0 promote 5 1\nstart 0 promote 5 0\nend 0\nstart 0 r 320 1\nend 0\nstart 0 flush\nend 0\nstop old\nopen writeback\nview 0 1\nview 320 1\n",
+        prints: "0 done\n0 done\n0 done\n0 done\n1 done\n0 refused 3 Busy\n0 refused 3 Busy\n1 refused 3 Busy\n0 done\n0 refused 3 Busy\n0 refused 3 Busy\n0 done\n0 320 00\n0 done\n0 done\nopen 6 1 0\n0 11\n320 00\n",
+        ends: Ended::Played,
+    },
+    Row {
+        name: "a replacement that lost its block to a write keeps its order, and starts again by the same line; a dirty block goes home",
+        lines: "setup writeback 64 4 10 4\nstart 0 w 0 1 11\nend 0\nstart 0 promote 0 0\nend 0\nstart 0 flush\nend 0\nstart 1 w 0 1 22\nstep 1 3\nstart 0 replace 0 5\nend 0\nstart 1 replace 0 6\nstart 0 replace 0 6\nend 1\nstart 0 replace 0 5\nend 0\nstart 0 r 0 1\nend 0\nstart 0 flush\nend 0\nstop old\nopen writeback\nview 0 1\n",
+        prints: "0 done\n0 done\n0 done\n0 refused 3 Busy\nskipped\n0 refused 3 Busy\n1 done\n0 done\n0 0 22\n0 done\n0 done\nopen 4 0 0\n0 22\n",
+        ends: Ended::Played,
+    },
+    Row {
+        name: "one flush serves two replacements",
+        lines: "setup writeback 64 4 10 4\nstart 0 w 0 1 11\nend 0\nstart 0 promote 0 0\nend 0\nstart 0 flush\nend 0\nstart 0 promote 1 1\nend 0\nstart 0 replace 0 5\nend 0\nstart 0 replace 1 6\nend 0\nstart 0 flush\nend 0\nstart 0 promote 6 1\nend 0\nstart 0 promote 5 0\nend 0\nstart 0 flush\nend 0\nstop old\nopen writeback\n",
+        prints: "0 done\n0 done\n0 done\n0 done\n0 done\n0 done\n0 done\n0 done\n0 done\n0 done\nopen 5 2 0\n",
+        ends: Ended::Played,
+    },
+    Row {
+        name: "a replacement whose read fails gives its order up, and another may be given",
+        lines: "setup writeback 64 4 10 4\nstart 0 w 0 1 11\nend 0\nstart 0 promote 0 0\nend 0\nstart 0 flush\nend 0\nstart 0 w 0 1 22\nend 0\nstart 0 replace 0 5\nstep 0 5\nfault 0 old\nend 0\nstart 1 replace 0 6\nend 1\nstart 1 flush\nend 1\nstart 1 promote 6 0\nstep 1 5\nfault 1 old\nend 1\nstart 0 promote 6 0\nend 0\nstart 0 r 0 1\nend 0\n",
+        prints: "0 done\n0 done\n0 done\n0 done\n0 refused 5 Io cache\n1 done\n1 done\n1 refused 5 Io origin\n0 done\n0 0 22\n0 done\n",
+        ends: Ended::Played,
+    },
+];
+
 /// Lines that do not apply, that are refused at the start, and that do nothing.
 const SKIPPED: [Row; 3] = [
     Row {
@@ -219,8 +253,8 @@ const ENDED: [Row; 6] = [
         ends: Ended::Refused,
     },
     Row {
-        name: "a replacement, which there is none of yet",
-        lines: "setup writeback 64 4 10 4\nstart 0 replace 0 5\n",
+        name: "a suspend, which there is none of yet",
+        lines: "setup writeback 64 4 10 4\nstart 0 suspend\n",
         prints: "bad line 2\n",
         ends: Ended::Refused,
     },
@@ -282,6 +316,11 @@ fn what_was_demoted_is_at_home(rt: HostRuntime) -> Result<(), Fail> {
 #[test]
 fn what_was_written_back_is_on_both(rt: HostRuntime) -> Result<(), Fail> {
     compare(rt.alloc(), &WRITE_BACKS)
+}
+
+#[test]
+fn a_block_makes_way_for_another(rt: HostRuntime) -> Result<(), Fail> {
+    compare(rt.alloc(), &REPLACEMENTS)
 }
 
 #[test]

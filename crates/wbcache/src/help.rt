@@ -42,9 +42,11 @@ with sectors in a block, and sectors of 512 bytes. The other lines:
   start A r S N, start A w S N hh, start A flush   give actor A, 0 to 63, a task
   start A promote B C   copy block B into the cache's block C and map it there
   start A demote B      copy block B home where it is dirty, and unmap it
-  start A clean B       copy block B home where it is dirty; these three are
-                refused as busy where they may not start, kept where they are
-                busy later, and then started again by the same line
+  start A clean B       copy block B home where it is dirty
+  start A replace V X   demote block V, to be followed by block X in its place:
+                once A has done that, its next flush, and then promote X C
+                These four are refused as busy where they may not start, kept
+                where they are busy later, and then started again by the same line
   step A [M]    M of its steps, 1 by default, fewer where it answers
   end A         its steps up to its answer
   fault A old, fault A new   its next step, one on a device, fails, and what it
