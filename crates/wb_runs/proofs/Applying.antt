@@ -312,7 +312,7 @@ StillStands desk old new order = (cache : CBlock) × (order ≡ ReplaceOrder old
 still_stands : {P : Type 0} (desk : DeskState P) (old new : OBlock) (order : Order) → Decided (StillStands desk old new order)
 still_stands desk old new (ReplaceOrder v x c) = elim (two_of (one_order (ReplaceOrder v x c) (ReplaceOrder old new c)) (is_mapped_block (slice_get desk.space.blocks c.0))) [
   | inl d ↦ inl (c, d.0, d.1)
-  | inr none ↦ inr (λ s. none (let e = s.1 in let same : c ≡ s.0 = cc in (s.1 ∙ sym (ap (λ (k : CBlock). ReplaceOrder old new k) same), subst (λ (k : CBlock). slice_get desk.space.blocks k.0 ≡ Some Mapped) (sym same) s.2)))
+  | inr none ↦ inr (λ s. none (let e = s.1 in let same : s.0 ≡ c = cc in subst (λ (k : CBlock). (ReplaceOrder v x c ≡ ReplaceOrder old new k) × (slice_get desk.space.blocks k.0 ≡ Some Mapped)) same (e, s.2)))
 ]
 still_stands desk old new (PromoteOrder b c) = inr (λ s. absurd (let e = s.1 in cc))
 still_stands desk old new (DemoteOrder b) = inr (λ s. absurd (let e = s.1 in cc))
