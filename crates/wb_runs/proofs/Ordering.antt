@@ -83,7 +83,7 @@ answered_had x Flush order c = from_both (x.awaiting ++ x.orders) [] x order
 answered_had x job order c = c
 
 -- a step leaves its actor none that it had not
-pub then_had : (x : Actor) (job : Job) (next : Want) (got : Got) (order : Order) → Contains (orders_then x job next got ++ awaiting_then x job next got) order → Contains (held_of x) order
+pub then_had : (x : Actor) (job : Job) (next : Want) (got : Got) (order : Order) → Contains (orders_then x.orders x.awaiting job next got ++ awaiting_then x.orders x.awaiting job next got) order → Contains (held_of x) order
 then_had x job (Desk (Map b c)) Done order m = from_both (dropped b x.orders) x.awaiting x order (λ n. in_orders x order (dropped_had b x.orders order n)) (in_awaiting x order) m
 then_had x job (Desk (Unmap b)) Done order m = from_both (dropped b x.orders) (replacing b x.orders ++ x.awaiting) x order (λ n. in_orders x order (dropped_had b x.orders order n))
     (λ n. from_both (replacing b x.orders) x.awaiting x order (λ k. in_orders x order (replacing_had b x.orders order k)) (in_awaiting x order) n) m
@@ -91,7 +91,7 @@ then_had x job (Desk (ReleaseOrder b)) Done order m = released_had x b job order
 then_had x job (End Finished) got order m = answered_had x job order m
 then_had x job next got order m = m
 
-pub orders_left : (g : Geometry) (x : Actor) (job : Job) (next : Want) (got : Got) → OrdersInside g (held_of x) → OrdersInside g (orders_then x job next got ++ awaiting_then x job next got)
+pub orders_left : (g : Geometry) (x : Actor) (job : Job) (next : Want) (got : Got) → OrdersInside g (held_of x) → OrdersInside g (orders_then x.orders x.awaiting job next got ++ awaiting_then x.orders x.awaiting job next got)
 orders_left g x job next got i = λ order m. i order (then_had x job next got order m)
 
 -- an order that is given names blocks that are there

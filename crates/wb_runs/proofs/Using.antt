@@ -99,7 +99,7 @@ module _ (P A : Type 0) (shape : Shape) where
     set_orders : (y : Actor) → OrdersInside shape.geometry (held_of y) → AllOrdersInside shape.geometry (slice_set actors a y)
     set_orders y s = each_set actors a x y (λ (z : Actor). OrdersInside shape.geometry (held_of z)) e s ords
 
-    left : (next : Want) (got : Got) → OrdersInside shape.geometry (orders_then x (job_of x.task) next got ++ awaiting_then x (job_of x.task) next got)
+    left : (next : Want) (got : Got) → OrdersInside shape.geometry (orders_then x.orders x.awaiting (job_of x.task) next got ++ awaiting_then x.orders x.awaiting (job_of x.task) next got)
     left next got = orders_left shape.geometry x (job_of x.task) next got (ords a x e)
 
     -- by a step
