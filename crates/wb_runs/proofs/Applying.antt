@@ -193,13 +193,6 @@ is_free_block (Some Mapped) = inr (λ e. cc)
 is_free_block (Some Reserved) = inr (λ e. cc)
 is_free_block (Some (Quarantined claimed early)) = inr (λ e. cc)
 
-is_mapped_block : (o : Option Block) → Decided (o ≡ Some Mapped)
-is_mapped_block None = inr (λ e. cc)
-is_mapped_block (Some Free) = inr (λ e. cc)
-is_mapped_block (Some Mapped) = inl refl
-is_mapped_block (Some Reserved) = inr (λ e. cc)
-is_mapped_block (Some (Quarantined claimed early)) = inr (λ e. cc)
-
 is_reserved_block : (o : Option Block) → Decided (o ≡ Some Reserved)
 is_reserved_block None = inr (λ e. cc)
 is_reserved_block (Some Free) = inr (λ e. cc)
@@ -305,22 +298,9 @@ keeps_migration desk kept (Promote c) block = elim (has_order kept (PromoteOrder
 keeps_migration desk kept Demote block = has_order kept (DemoteOrder block)
 keeps_migration desk kept Clean block = has_order kept (CleanOrder block)
 
--- the order is the replacement of these two blocks, whose first one has not left
-abbrev StillStands : {P : Type 0} → DeskState P → (old new : OBlock) → Order → Type 0
-StillStands desk old new order = (cache : CBlock) × (order ≡ ReplaceOrder old new cache) × (slice_get desk.space.blocks cache.0 ≡ Some Mapped)
-
-still_stands : {P : Type 0} (desk : DeskState P) (old new : OBlock) (order : Order) → Decided (StillStands desk old new order)
-still_stands desk old new (ReplaceOrder v x c) = elim (two_of (one_order (ReplaceOrder v x c) (ReplaceOrder old new c)) (is_mapped_block (slice_get desk.space.blocks c.0))) [
-  | inl d ↦ inl (c, d.0, d.1)
-  | inr none ↦ inr (λ s. none (let e = s.1 in let same : s.0 ≡ c = cc in subst (λ (k : CBlock). (ReplaceOrder v x c ≡ ReplaceOrder old new k) × (slice_get desk.space.blocks k.0 ≡ Some Mapped)) same (e, s.2)))
-]
-still_stands desk old new (PromoteOrder b c) = inr (λ s. absurd (let e = s.1 in cc))
-still_stands desk old new (DemoteOrder b) = inr (λ s. absurd (let e = s.1 in cc))
-still_stands desk old new (CleanOrder b) = inr (λ s. absurd (let e = s.1 in cc))
-
 -- whether a replacement may start again
 pub keeps_replacement : {P : Type 0} (desk : DeskState P) (kept : List Order) (old new : OBlock) → Decided (KeepsReplacement desk kept old new)
-keeps_replacement desk kept old new = elim (some_order (StillStands desk old new) (still_stands desk old new) kept) [
-  | inl s ↦ inl (s.2.0, subst (λ (o : Order). Contains kept o) s.2.1 s.1, s.2.2)
-  | inr none ↦ inr (λ k. none (ReplaceOrder old new k.0, k.1, (k.0, refl, k.2)))
+keeps_replacement desk kept old new = elim (found_where (holdings desk) old.0 (λ c. Contains kept (ReplaceOrder old new (record { 0 = c }))) (λ c. has_order kept (ReplaceOrder old new (record { 0 = c })))) [
+  | inl d ↦ inl (record { 0 = d.0 }, d.2, d.1)
+  | inr none ↦ inr (λ k. none (k.0.0, k.2, k.1))
 ]
