@@ -14,7 +14,9 @@ ghost use Rattle.wb_machine.specs.Keeping.{IsLeft};
 ghost use Rattle.wb_machine.specs.Serving.{CanStep, Comes, FailsOrRests, GetsOrder, Starts, Steps, TakesOrder, held_for, is_copied, is_ordered};
 ghost use Rattle.wb_machine.specs.Standing.{IsRoomy};
 
-use crate::keeping::{awaiting_after, keep, keeps_migration, keeps_replacement, orders_after};
+use crate::keeping::{
+    awaiting_after, keep, keeps_migration, keeps_replacement, orders_after, see_desk,
+};
 use crate::moving::fail_step;
 use crate::outcome::Outcome;
 use crate::requests::{begun_as, is_ordered, order_for, refusal_of, task_of};
@@ -121,6 +123,7 @@ impl Member {
                 if keeps_replacement(desk, self.orders.as_slice(), *old, *new) {
                     return Ok(true);
                 }
+                see_desk(desk);
                 let Some(cache) = desk.place(*old) else {
                     return Ok(false);
                 };
