@@ -1,3 +1,4 @@
+pub mod Keeping
 pub mod Life
 pub mod Log
 pub mod Making

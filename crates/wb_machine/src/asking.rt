@@ -1,38 +1,38 @@
 //! The desk is asked for a commit, for an entry, to let one go, or to give up an order.
 
-ghost use Rattle.std.specs.Prelude.{◌≡◌, ◌≤◌, false, length, All};
+ghost use Rattle.std.specs.Prelude.{◌≡◌, ◌≤◌, false, length, All, List};
 ghost use Rattle.wb_types.specs.declared.number.Place.{Place as PlaceValue};
 ghost use Rattle.wb_format.specs.declared.node.Node.{Node as NodeValue};
 ghost use Rattle.wb_types.specs.Limits.{node_count};
 ghost use Rattle.wb_tasks.specs.Plan.{Fits};
+ghost use Rattle.wb_policy.specs.declared.order.Order.{Order as OrderValue};
 ghost use Rattle.wb_runs.specs.declared.job.Job.{Job as JobValue};
 ghost use Rattle.wb_tasks.specs.declared.step.DeskStep.TheVariants.{BeginCommit};
 ghost use Rattle.wb_tasks.specs.declared.step.Want.TheVariants.{Desk as OnDesk};
-ghost use Rattle.wb_stage.specs.Asking.{IsGivenUp};
-ghost use Rattle.wb_machine.specs.Serving.{Allows, IsAskable, WasAsked, order_of};
+ghost use Rattle.wb_machine.specs.Serving.{Allows, IsAskable, WasAsked};
 
-use crate::requests::order_of;
 use std::alloc::Global;
 use wb_desk::Desk;
 use wb_devices::RunningCommit;
 use wb_format::Node;
-use wb_policy::Quiet;
+use wb_policy::{Order, Quiet};
 use wb_runs::Job;
-use wb_stage::asking::{begin, end, map, unmap};
+use wb_stage::asking::{begin, end, map, release, unmap};
 use wb_tasks::{DeskStep, Got};
 use wb_types::Place;
 
-/// A commit begins or ends, a block gets its entry or loses it, or the order of a job is given up; and what that gave.
+/// A commit begins or ends, a block gets its entry or loses it, or one of these orders of a job is given up; and what that gave.
 pub(crate) fn ask(
     alloc: Global,
     desk: &mut Desk<Quiet>,
     commit: &mut Option<RunningCommit>,
     job: &Job,
+    held: &[Order],
     step: DeskStep,
 ) -> Got
     requires askable { IsAskable commit.old job.now step }
     requires enough { Allows (node_count desk.old.geometry.cache_blocks) (OnDesk step) }
-    ensures asked { WasAsked desk.old commit.old job.now step result desk.new commit.new }
+    ensures asked { WasAsked desk.old commit.old job.now held.now step result desk.new commit.new }
     ensures kind { Fits (OnDesk step) result }
 {
     match step {
@@ -43,24 +43,13 @@ pub(crate) fn ask(
             Got::Done
         }
         DeskStep::Map(block, to) => map(desk, block, to),
-        DeskStep::ReleaseOrder(_) => {
-            give_up(desk, job);
+        DeskStep::ReleaseOrder(block) => {
+            release(desk, held, block);
             Got::Done
         }
         DeskStep::Unmap(block) => {
             unmap(desk, block);
             Got::Done
-        }
-    }
-}
-
-/// The order under which a job runs is given up, where it lives.
-fn give_up(desk: &mut Desk<Quiet>, job: &Job)
-    ensures { IsGivenUp (order_of job.now) desk.old desk.new }
-{
-    if let Some(order) = order_of(job) {
-        if desk.is_live(order) {
-            desk.release(order);
         }
     }
 }
@@ -73,7 +62,7 @@ fn begin_commit(
     most: u32,
 ) -> Got
     requires { node_count desk.old.geometry.cache_blocks ≤ most }
-    ensures asked { (job : JobValue) → WasAsked desk.old commit.old job (BeginCommit false most) result desk.new commit.new }
+    ensures asked { (job : JobValue) (held : List OrderValue) → WasAsked desk.old commit.old job held (BeginCommit false most) result desk.new commit.new }
     ensures kind { Fits (OnDesk (BeginCommit false most)) result }
 {
     match begin(alloc, desk, most) {

@@ -9,14 +9,17 @@ ghost use Rattle.wb_runs.specs.Holding.{TaskSuits};
 ghost use Rattle.wb_machine.specs.declared.machine.TheConstants.{ACTORS};
 ghost use Rattle.wb_machine.specs.Life.{contents_of, shape_of, wants_target};
 ghost use Rattle.wb_machine.specs.Members.{free};
-ghost use Rattle.wb_runs.specs.Effects.{orders_then, task_then};
-ghost use Rattle.wb_machine.specs.Serving.{CanStep, Comes, FailsOrRests, Starts, Steps, TakesOrder, block_ended, is_copied};
+ghost use Rattle.wb_runs.specs.Effects.{task_then};
+ghost use Rattle.wb_machine.specs.Keeping.{IsLeft};
+ghost use Rattle.wb_machine.specs.Serving.{CanStep, Comes, FailsOrRests, GetsOrder, Starts, Steps, TakesOrder, held_for, is_copied, is_ordered};
 ghost use Rattle.wb_machine.specs.Standing.{IsRoomy};
 
-use crate::keeping::{drop_of, keep, keeps};
+use crate::keeping::{
+    awaiting_after, keep, keeps_migration, keeps_replacement, orders_after, see_desk,
+};
 use crate::moving::fail_step;
 use crate::outcome::Outcome;
-use crate::requests::{order_of, refusal_of, task_of};
+use crate::requests::{begun_as, is_ordered, order_for, refusal_of, task_of};
 use crate::target::Target;
 use crate::work::Work;
 use std::alloc::Global;
@@ -26,15 +29,17 @@ use wb_devices::{Devices, RunningCommit};
 use wb_disk::{CrashChoice, MemDisk};
 use wb_policy::{Order, Quiet};
 use wb_runs::{Job, What};
-use wb_tasks::{DeskStep, DeviceStep, Got, Task, Want};
-use wb_types::{Content, Geometry, OBlock, Refusal};
+use wb_tasks::{DeviceStep, Got, Task, Want};
+use wb_types::{Content, Geometry, Refusal};
 
-/// What an actor is at: its job and what is left of its task, if it has one; the orders that it has, the newest first; and what its
-/// migration has read last, which it writes next. What it knows of the shared words is on its card in the crew.
+/// What an actor is at: its job and what is left of its task, if it has one; the orders that it has, the newest first, and those of
+/// replacements whose block has left, which wait for a flush of it; and what its migration has read last, which it writes next. What it
+/// knows of the shared words is on its card in the crew.
 #[derive(Drop)]
 pub struct Member {
     task: Option<(Job, Work)>,
     orders: Vec<Order>,
+    awaiting: Vec<Order>,
     buffer: Vec<Content>,
 }
 
@@ -43,7 +48,7 @@ impl Model for Member {
 
     ghost Value = { MemberValue };
 
-    ghost view = { λ m. record { task = m.task; orders = m.orders.items; buffer = m.buffer.items } };
+    ghost view = { λ m. record { task = m.task; orders = m.orders.items; awaiting = m.awaiting.items; buffer = m.buffer.items } };
 }
 
 impl Member {
@@ -54,6 +59,7 @@ impl Member {
         Member {
             task: None,
             orders: Vec::new(alloc),
+            awaiting: Vec::new(alloc),
             buffer: Vec::new(alloc),
         }
     }
@@ -65,9 +71,10 @@ impl Member {
         self.task.is_some()
     }
 
-    /// Gets a job, if it has none and the job may be started. Each of its steps on a device takes one sector. A migration starts under
-    /// an order that it has, or under one that the desk gives; it is refused as busy where it gives none. `Memory` where there is no
-    /// room for the order; then nothing has changed.
+    /// Gets a job, if it has none and the job may be started. Each of its steps on a device takes one sector. A migration or replacement
+    /// starts under an order that it has, or under one that the desk gives; it is refused as busy where it gives none. A flush serves
+    /// the replacements that wait for it. `Memory` where there is none for the order, or for the list of what is served; then nothing
+    /// has changed.
     pub(crate) fn start(
         &mut self,
         alloc: Global,
@@ -86,25 +93,52 @@ impl Member {
         if let Some(refusal) = refusal_of(geometry, job) {
             return Ok(What::Refused(refusal));
         }
-        if let Some(order) = order_of(job) {
-            let has_order = self.take_order(desk, order)?;
+        let task = task_of(alloc, geometry, self.awaiting.as_slice(), job)?;
+        if is_ordered(job) {
+            let has_order = self.take_order(desk, job)?;
             if !has_order {
                 return Ok(What::Refused(Refusal::Busy));
             }
         }
-        self.task = Some((*job, task_of(alloc, geometry, job)));
+        self.task = Some((begun_as(job), task));
         Ok(What::Started)
     }
 
-    /// Whether it has this order, given now where it had not. `Memory` where there is no room for it; then nothing has changed.
-    fn take_order(&mut self, desk: &mut Desk<Quiet>, order: Order) -> Result<bool, Refusal>
-        ensures ok { IfOk result (λ has. TakesOrder desk.old self.old order has desk.new self.new) }
+    /// Whether it has an order under which the job may start, given now where it had none. `Memory` where there is no room for it; then
+    /// nothing has changed.
+    fn take_order(&mut self, desk: &mut Desk<Quiet>, job: &Job) -> Result<bool, Refusal>
+        requires ordered { is_ordered job.now ≡ true }
+        ensures ok { IfOk result (λ has. TakesOrder desk.old self.old job.now has desk.new self.new) }
         ensures err { OnErr result ((desk.new ≡ desk.old) × (self.new ≡ self.old)) }
         ensures refusal { IfErr result (λ refusal. refusal ≡ Memory) }
     {
-        if keeps(self.orders.as_slice(), order) {
-            return Ok(true);
+        match job {
+            Job::Migrate(migration, block) => {
+                if keeps_migration(desk, self.orders.as_slice(), *migration, *block) {
+                    return Ok(true);
+                }
+                self.get_order(desk, order_for(*migration, *block))
+            }
+            Job::Replace(old, new) => {
+                if keeps_replacement(desk, self.orders.as_slice(), *old, *new) {
+                    return Ok(true);
+                }
+                see_desk(desk);
+                let Some(cache) = desk.place(*old) else {
+                    return Ok(false);
+                };
+                self.get_order(desk, Order::Replace(*old, *new, cache))
+            }
+            _ => unreachable!(),
         }
+    }
+
+    /// Whether it is given this order. `Memory` where there is no room for it; then nothing has changed.
+    fn get_order(&mut self, desk: &mut Desk<Quiet>, order: Order) -> Result<bool, Refusal>
+        ensures ok { IfOk result (λ has. GetsOrder desk.old self.old order has desk.new self.new) }
+        ensures err { OnErr result ((desk.new ≡ desk.old) × (self.new ≡ self.old)) }
+        ensures refusal { IfErr result (λ refusal. refusal ≡ Memory) }
+    {
         keep(&mut self.orders, order)?;
         if desk.reserve(order).is_err() {
             self.orders.remove(0);
@@ -137,10 +171,17 @@ impl Member {
         };
         let want = task.want();
         let copies = is_copied(job, want);
+        let orders = self.orders.as_slice();
+        let awaiting = self.awaiting.as_slice();
+        let orders_then = orders_after(alloc, orders, awaiting, job, want)?;
+        let awaiting_then = awaiting_after(alloc, orders, awaiting, job, want)?;
+        let held = held_for(job, orders, awaiting);
         let buffer = self.buffer.as_slice();
-        let (got, read) = target.perform(number, alloc, devices, job, buffer, want)?;
+        let (got, read) = target.perform(number, alloc, devices, job, held, buffer, want)?;
         self.go_on(want, got);
-        self.end_orders(want, got);
+        if got == Got::Done {
+            self.change_orders(orders_then, awaiting_then);
+        }
         let what = What::Stepped(want, got);
         if copies {
             self.take_read(read);
@@ -154,6 +195,7 @@ impl Member {
         requires { Comes self.old.task want got }
         ensures task { self.new.task ≡ task_then self.old.task want got }
         ensures orders { self.new.orders ≡ self.old.orders }
+        ensures awaiting { self.new.awaiting ≡ self.old.awaiting }
         ensures buffer { self.new.buffer ≡ self.old.buffer }
     {
         let Some((_, task)) = &mut self.task else {
@@ -166,14 +208,18 @@ impl Member {
         }
     }
 
-    /// The orders of a block go whose order a step with this result ends.
-    fn end_orders(&mut self, want: Want, got: Got)
+    /// It has these orders from now on, and these wait for a flush, where they are given.
+    fn change_orders(&mut self, orders: Option<Vec<Order>>, awaiting: Option<Vec<Order>>)
         ensures task { self.new.task ≡ self.old.task }
-        ensures orders { self.new.orders ≡ orders_then self.old.orders want got }
+        ensures orders { IsLeft self.old.orders orders self.new.orders }
+        ensures awaiting { IsLeft self.old.awaiting awaiting self.new.awaiting }
         ensures buffer { self.new.buffer ≡ self.old.buffer }
     {
-        if let Some(block) = block_ended(want, got) {
-            drop_of(&mut self.orders, block);
+        if let Some(left) = orders {
+            self.orders = left;
+        }
+        if let Some(left) = awaiting {
+            self.awaiting = left;
         }
     }
 
@@ -181,6 +227,7 @@ impl Member {
     fn take_read(&mut self, read: Vec<Content>)
         ensures task { self.new.task ≡ self.old.task }
         ensures orders { self.new.orders ≡ self.old.orders }
+        ensures awaiting { self.new.awaiting ≡ self.old.awaiting }
         ensures buffer { self.new.buffer ≡ read.items }
     {
         self.buffer = read;
@@ -227,14 +274,12 @@ fn is_copied(job: &Job, want: Want) -> bool
     )
 }
 
-/// The block whose order a step with this result ends, if it ends one.
-fn block_ended(want: Want, got: Got) -> Option<OBlock>
-    ensures { result ≡ block_ended want got }
+/// The orders of which a step of a job may give one up.
+fn held_for<'a>(job: &Job, orders: &'a [Order], awaiting: &'a [Order]) -> &'a [Order]
+    ensures { result.now ≡ held_for job.now orders.now awaiting.now }
 {
-    match (want, got) {
-        (Want::Desk(DeskStep::Map(block, _)), Got::Done) => Some(block),
-        (Want::Desk(DeskStep::Unmap(block)), Got::Done) => Some(block),
-        (Want::Desk(DeskStep::ReleaseOrder(block)), Got::Done) => Some(block),
-        _ => None,
+    match job {
+        Job::Flush => awaiting,
+        _ => orders,
     }
 }

@@ -206,7 +206,7 @@ fn write_extent(
             }
             write_each_landing(disk, device, there, buffer, choice);
         }
-        Job::Read(_) | Job::Flush | Job::Open(_) => {}
+        Job::Read(_) | Job::Flush | Job::Open(_) | Job::Replace(_, _) => {}
     }
     Ok(())
 }

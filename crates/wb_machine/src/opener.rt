@@ -25,9 +25,9 @@ ghost use Rattle.wb_machine.specs.Life.{FailsOn, Happens, PutsCommitted, commit_
 ghost use Rattle.wb_machine.specs.Making.{HasMade, MadeBy, reading_of};
 ghost use Rattle.wb_machine.specs.Standing.{HasReadAll, IsReading, StandsAt};
 
+use crate::machine::ACTORS;
 use crate::making::{Made, make};
 use crate::rooting::{fail_root, put_committed};
-use crate::machine::ACTORS;
 use wb_devices::{Devices, Opening, RunningCommit};
 use wb_disk::{CrashChoice, Disk, MemDisk};
 use wb_flow::OpenTask;

@@ -19,13 +19,14 @@ use crate::target::Target;
 use std::alloc::Global;
 use wb_devices::Devices;
 use wb_disk::MemDisk;
+use wb_policy::Order;
 use wb_runs::Job;
 use wb_tasks::{Got, Want};
 use wb_types::{Content, Refusal};
 use wb_words::CellStep;
 
 impl Target {
-    /// One step of an actor on a job, what it gave, and what it read. `Memory` where what is read, or what a write adds, wants more
+    /// One step of an actor on a job, which may give up one of these orders, what it gave, and what it read. `Memory` where what is read, or what a write adds, wants more
     /// than there is; then no content has changed.
     pub(crate) fn perform(
         &mut self,
@@ -33,6 +34,7 @@ impl Target {
         alloc: Global,
         devices: &mut Devices<MemDisk>,
         job: &Job,
+        held: &[Order],
         buffer: &[Content],
         want: Want,
     ) -> Result<(Got, Vec<Content>), Refusal>
@@ -41,7 +43,7 @@ impl Target {
         requires ready { MayTake self.old.crew.blocks (card_of self.old.crew actor) want }
         requires possible { IsPossible (contents_of devices.old) self.old.commit job.now want }
         requires enough { Allows (node_count self.old.desk.geometry.cache_blocks) want }
-        ensures ok { IfOk result (λ given. Performs (contents_of devices.old) self.old actor job.now buffer.now want given.0 given.1.items (contents_of devices.new) self.new) }
+        ensures ok { IfOk result (λ given. Performs (contents_of devices.old) self.old actor job.now held.now buffer.now want given.0 given.1.items (contents_of devices.new) self.new) }
         ensures kind { IfOk result (λ given. IsStep want → Fits want given.0) }
         ensures size { length devices.new.metadata.contents ≡ length devices.old.metadata.contents }
         ensures err { OnErr result ((contents_of devices.new ≡ contents_of devices.old) × (self.new ≡ self.old)) }
@@ -54,7 +56,7 @@ impl Target {
                 Ok((Got::Done, read))
             }
             Want::Desk(step) => {
-                let got = ask(alloc, &mut self.desk, &mut self.commit, job, step);
+                let got = ask(alloc, &mut self.desk, &mut self.commit, job, held, step);
                 Ok((got, Vec::new(alloc)))
             }
             Want::End(_) => Ok((Got::Done, Vec::new(alloc))),

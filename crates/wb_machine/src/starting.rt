@@ -8,10 +8,10 @@ ghost use Rattle.wb_machine.specs.Life.{Happens, IsThere, is_busy, is_opening, i
 ghost use Rattle.wb_machine.specs.Members.{works_there};
 ghost use Rattle.wb_machine.specs.Standing.{IsSound};
 
+use crate::machine::ACTORS;
 use crate::member::Member;
 use crate::opener::Opener;
 use crate::phase::Phase;
-use crate::machine::ACTORS;
 use std::alloc::Global;
 use wb_devices::{Devices, Opening};
 use wb_disk::MemDisk;
