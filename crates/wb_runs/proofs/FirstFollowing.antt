@@ -2,6 +2,12 @@
 use Rattle.std.proofs.Common.{Global, ◌≡◌, ◌∙◌, ◌≤◌, ◌+◌, ◌*◌, ◌^◌, ◌<◌, inl, inr, ℕ, zero, suc, true, false, List, [], ◌∷◌, ◌++◌, Option, Some, None, refl, sym, ap, subst, arith, length, replicate, is_some}
 use Rattle.std.specs.List.{count_by}
 use Rattle.std.proofs.lemmas.List.{length-map, length-replicate}
+use Rattle.wb_types.specs.Limits.{node_count}
+use Rattle.wb_types.specs.declared.refusal.Refusal.TheVariants.{Memory}
+use Rattle.wb_types.specs.declared.number.CBlock.{CBlock}
+use Rattle.wb_orders.specs.declared.live_order.LiveOrder.{LiveOrder}
+use Rattle.wb_desk.specs.Calls.{released}
+use Rattle.wb_stage.specs.Asking.{DidRelease}
 use Rattle.wb_types.specs.Limits.{IsWithinLimits}
 use Rattle.wb_types.specs.declared.entry.Entry.{Entry}
 use Rattle.wb_types.specs.declared.geometry.Geometry.{Geometry}
@@ -26,25 +32,25 @@ use Rattle.wb_orders.specs.Orders.{order_at}
 use Rattle.wb_desk.specs.Desks.{DeskState, IsLive}
 use Rattle.wb_desk.specs.Commits.{MayBegin}
 use Rattle.wb_desk.specs.Opening.{opened}
-use Rattle.wb_tasks.specs.Plan.{Plan}
-use Rattle.wb_tasks.specs.declared.step.Answer.TheVariants.{Done as Finished}
+use Rattle.wb_tasks.specs.Plan.{Plan, table, want}
+use Rattle.wb_tasks.specs.declared.step.Answer.TheVariants.{Done as Finished, Refused as IsRefused}
 use Rattle.wb_tasks.specs.declared.step.Migration.TheVariants.{Promote, Demote}
 use Rattle.wb_tasks.specs.declared.step.DeviceStep.TheVariants.{Read as ReadExtent, Write as WriteExtent}
-use Rattle.wb_tasks.specs.declared.step.DeskStep.TheVariants.{Map}
+use Rattle.wb_tasks.specs.declared.step.DeskStep.TheVariants.{Map, ReleaseOrder, BeginCommit}
 use Rattle.wb_tasks.specs.declared.step.Want.{Want}
 use Rattle.wb_tasks.specs.declared.step.Want.TheVariants.{Cell, Device, Desk, End}
 use Rattle.wb_tasks.specs.declared.step.Got.{Got}
-use Rattle.wb_tasks.specs.declared.step.Got.TheVariants.{Done, Word}
+use Rattle.wb_tasks.specs.declared.step.Got.TheVariants.{Done, Word, Refused as GotRefused}
 use Rattle.wb_runs.specs.declared.job.Job.{Job}
 use Rattle.wb_runs.specs.declared.job.Job.TheVariants.{Write, Flush, Migrate, Replace}
 use Rattle.wb_runs.specs.declared.event.Event.TheVariants.{Start}
 use Rattle.wb_runs.specs.declared.event.What.TheVariants.{Started}
 use Rattle.wb_runs.specs.States.{Shape, State, Actor, OfTarget, resting, cache_sector_count, start}
-use Rattle.wb_runs.specs.Happenings.{Chosen, Plain, Cut, Asks, Happening, task_job}
+use Rattle.wb_runs.specs.Happenings.{AtWork, Chosen, Plain, Cut, Asks, Happening, task_job}
 use Rattle.wb_runs.specs.Effects.{after_all, all_resting, contents_at, IsRun}
 use Rattle.wb_runs.specs.Clerk.{Notes, formatted as formatted_notes}
 use Rattle.wb_runs.specs.Headline.{place_of, noted}
-use Rattle.wb_runs.specs.Possible.{PassesThrough, AboutToAnswer, two_blocks, first_block, second_block, first_cache_block, first_sector, replacement, FirstHas, FirstCacheBlockIs, Replaces, CanReplace}
+use Rattle.wb_runs.specs.Possible.{PassesThrough, AboutToAnswer, two_blocks, first_block, second_block, first_cache_block, first_sector, replacement, FirstHas, FirstCacheBlockIs, Replaces, CanReplace, GivesUp, CanGiveUp}
 use Rattle.wb_runs.proofs.Shown.{nowhere}
 use Rattle.wb_runs.proofs.Beginning.{bare_commit}
 use Rattle.wb_runs.proofs.Rooted.{rooted}
@@ -68,6 +74,14 @@ on_stretch P A shape w hs To Is more known r is then n = (
       (then r.card (subst (λ (v : State P A). IsKnown P A shape v) r.is (known_always P A shape w hs known r.run)) (noted shape w n hs)),
 )
 
+-- two runs, one after the other
+then_reaches : (P A : Type 0) (shape : Shape) (w : State P A) (hs ks : List (Happening P A)) (Mid To : Card → State P A) → Reaches shape w hs Mid → ((card : Card) → Reaches shape (Mid card) ks To) → Reaches shape w (hs ++ ks) To
+then_reaches P A shape w hs ks Mid To r then = let s = then r.card in record {
+  run = run_append shape w hs ks r.run (subst (λ (v : State P A). IsRun shape v ks) (sym r.is) s.run);
+  card = s.card;
+  is = after_append shape w hs ks ∙ ap (λ (v : State P A). after_all shape v ks) r.is ∙ s.is;
+}
+
 module _ (P A : Type 0) (global : Global) (k meta_sectors : ℕ) (within : IsWithinLimits 64 (suc k) 2 meta_sectors) (threshold others : ℕ) (rest : List Actor) (policy : P) (generation : ℕ) (more : generation + 1 < 2 ^ 64) (room : 128 ≤ threshold) where
   abbrev shape : Shape
   shape = record { geometry = two_blocks (suc k) meta_sectors within; threshold = threshold; actors = suc others }
@@ -86,6 +100,10 @@ module _ (P A : Type 0) (global : Global) (k meta_sectors : ℕ) (within : IsWit
 
   abbrev at_settled : (metadata cache origin : List History) → Option (Job × Plan) → (orders awaiting : List Order) → (buffer : List Bytes) → Card → State P A
   at_settled metadata cache origin task orders awaiting buffer card = now P A global k meta_sectors within threshold others rest metadata cache origin (words_of 0 0 1) (settled P A global k meta_sectors within threshold others rest policy generation room) task orders awaiting buffer card
+
+  -- the second block begins to follow
+  abbrev begun : Option (Job × Plan)
+  begun = Some (Migrate (Promote first_cache_block) second_block, table (task_job shape [] (Migrate (Promote first_cache_block) second_block) (next_whole ∷ [])))
 
   abbrev at_followed : (metadata cache origin : List History) → (buffer : List Bytes) → Card → State P A
   at_followed metadata cache origin buffer card = now P A global k meta_sectors within threshold others rest metadata cache origin (words_of 0 2 1) (followed P A global k meta_sectors within threshold others rest policy generation room) following [] [] buffer card
@@ -121,22 +139,86 @@ module _ (P A : Type 0) (global : Global) (k meta_sectors : ℕ) (within : IsWit
       is = refl;
     }
 
+  -- ---- or it is refused, and gives the order up
+
+  abbrev given_up : DeskState P
+  given_up = released (left P A global k meta_sectors within threshold others rest policy generation room) first_cache_block
+
+  abbrev refused : Option (Job × Plan)
+  refused = Some (Flush, record { job = task_job shape (replacement ∷ []) Flush []; steps = []; answer = IsRefused Memory })
+
+  abbrev pub refuses : List (Happening P A)
+  refuses =
+      step (End Finished) Done Plain
+      ∷ happened global (Start 0 Flush) Started Plain
+      ∷ step (Cell (Look Fail)) (Word 0) Plain
+      ∷ step (Desk (BeginCommit false (node_count shape.geometry.cache_blocks))) (GotRefused Memory) Plain
+      ∷ step (Desk (ReleaseOrder first_block)) Done (Asks given_up)
+      ∷ []
+
+  abbrev at_given_up : (metadata cache origin : List History) → (buffer : List Bytes) → Card → State P A
+  at_given_up metadata cache origin buffer card = now P A global k meta_sectors within threshold others rest metadata cache origin (words_of 0 0 1) given_up refused [] [] buffer card
+
+  -- it lives on the first cache block alone
+  lives_there : (live : IsLive (left P A global k meta_sectors within threshold others rest policy generation room) replacement) → live.cache ≡ first_cache_block
+  lives_there live = by_cache live.cache.0 (live.live) live.there
+    where
+      by_cache : (at : ℕ) (o : LiveOrder) → order_at (left P A global k meta_sectors within threshold others rest policy generation room).orders.slots at ≡ Some o → record { 0 = at } ≡ first_cache_block
+      by_cache zero o e = refl
+      by_cache (suc at) o e = absurd (nobody k at o e)
+        where
+          nobody : (n at : ℕ) (o : LiveOrder) → order_at (replicate n None) at ≡ Some o → ⊥
+          nobody zero at o e = absurd (cc)
+          nobody (suc n) zero o e = absurd (cc)
+          nobody (suc n) (suc at) o e = nobody n at o e
+
+  gives_up : DidRelease (replacement ∷ []) first_block (left P A global k meta_sectors within threshold others rest policy generation room) given_up
+  gives_up = (
+    λ live. ap (λ (c : CBlock). released (left P A global k meta_sectors within threshold others rest policy generation room) c) (sym (lives_there live)),
+    λ not. absurd (not (record { cache = first_cache_block; live = record { order = replacement; sectors = 128; threshold = threshold; number = 1; waits = false }; there = refl; same = refl; taken = refl })),
+  )
+
+  pub refuses_reaches : (metadata cache origin : List History) (buffer : List Bytes) (card : Card) → Reaches shape (at_left metadata cache origin leaving buffer card) refuses (at_given_up metadata cache origin buffer)
+  refuses_reaches metadata cache origin buffer card = record {
+    run = (
+      (refl, ((refl, refl), refl)),
+      (
+        (refl, (λ d. elim d [ inl gone ↦ absurd (cc) | inr more ↦ elim more [ inl task ↦ task | inr out ↦ out tt ] ]), tt),
+        ((refl, ((refl, refl), refl)), ((refl, (refl, refl, record { idle = refl; next = more })), ((refl, (refl, refl, gives_up)), tt))),
+      ),
+    );
+    card = first_card (after_all shape (at_left metadata cache origin leaving buffer card) refuses).actors;
+    is = refl;
+  }
+
   -- ---- it is answered, and the second block follows
 
   module _ (metadata cache origin : List History) (buffer : List Bytes) (cache_size : 64 ≤ length cache) (origin_size : 128 ≤ length origin) where
     abbrev pub answers : List (Happening P A)
-    answers = step (End Finished) Done Plain ∷ []
+    answers =
+        step (End Finished) Done Plain
+        ∷ happened global (Start 0 (Migrate (Promote first_cache_block) second_block)) Started (Cut (next_whole ∷ []))
+        ∷ []
 
-    pub answers_reaches : (card : Card) → Reaches shape (at_settled metadata cache origin flushed [] (replacement ∷ []) buffer card) answers (at_settled metadata cache origin None (replacement ∷ []) [] buffer)
-    answers_reaches card = record { run = ((refl, ((refl, refl), refl)), tt); card = card; is = refl }
+    pub answers_reaches : (card : Card) → Reaches shape (at_settled metadata cache origin flushed [] (replacement ∷ []) buffer card) answers (at_settled metadata cache origin begun (replacement ∷ []) [] buffer)
+    answers_reaches card = record {
+      run = (
+        (refl, ((refl, refl), refl)),
+        (
+          (refl, (λ d. elim d [ inl gone ↦ absurd (cc) | inr more ↦ elim more [ inl task ↦ task | inr out ↦ out tt ] ]), (uncut next_whole (omega arith), inr (first_block, (0, omega arith, refl), refl))),
+          tt,
+        ),
+      );
+      card = card;
+      is = refl;
+    }
 
     abbrev follower : DeskState P
     follower = followed P A global k meta_sectors within threshold others rest policy generation room
 
     abbrev pub follows : List (Happening P A)
     follows =
-        happened global (Start 0 (Migrate (Promote first_cache_block) second_block)) Started (Cut (next_whole ∷ []))
-        ∷ step (Cell (Look Fail)) (Word 0) Plain
+        step (Cell (Look Fail)) (Word 0) Plain
         ∷ step (Cell (Look (LockWord second_block))) (Word 0) Plain
         ∷ step (Cell (Take Owned second_block 0)) Done Plain
         ∷ step (Cell (Look (SealWord second_block))) (Word 0) Plain
@@ -151,9 +233,9 @@ module _ (P A : Type 0) (global : Global) (k meta_sectors : ℕ) (within : IsWit
     abbrev pub brought : List Bytes
     brought = contents_at origin next_whole
 
-    follows_run : (card : Card) → IsRun shape (at_settled metadata cache origin None (replacement ∷ []) [] buffer card) follows
+    follows_run : (card : Card) → IsRun shape (at_settled metadata cache origin begun (replacement ∷ []) [] buffer card) follows
     follows_run card = (
-      (refl, (λ d. elim d [ inl gone ↦ absurd (cc) | inr more ↦ elim more [ inl task ↦ task | inr out ↦ out tt ] ]), (uncut next_whole (omega arith), inr (first_block, (0, omega arith, refl), refl))),
+      (refl, ((refl, refl), refl)),
       (
         (refl, ((refl, refl), refl)),
         (
@@ -163,15 +245,12 @@ module _ (P A : Type 0) (global : Global) (k meta_sectors : ℕ) (within : IsWit
             (
               (refl, ((refl, refl), refl)),
               (
-                (refl, ((refl, refl), refl)),
+                (refl, (tt, (refl, refl), refl, omega (arith, origin_size))),
                 (
-                  (refl, (tt, (refl, refl), refl, omega (arith, origin_size))),
+                  (refl, (tt, (refl, refl), refl, cache_size)),
                   (
-                    (refl, (tt, (refl, refl), refl, cache_size)),
-                    (
-                      (refl, (refl, (may_follow P A global k meta_sectors within threshold others rest policy generation room, follows_tree P A global k meta_sectors within threshold others rest policy generation room, refl))),
-                      ((refl, ((refl, refl), refl)), ((refl, ((refl, refl), refl)), tt)),
-                    ),
+                    (refl, (refl, (may_follow P A global k meta_sectors within threshold others rest policy generation room, follows_tree P A global k meta_sectors within threshold others rest policy generation room, refl))),
+                    ((refl, ((refl, refl), refl)), ((refl, ((refl, refl), refl)), tt)),
                   ),
                 ),
               ),
@@ -181,8 +260,8 @@ module _ (P A : Type 0) (global : Global) (k meta_sectors : ℕ) (within : IsWit
       ),
     )
 
-    pub follows_reaches : (card : Card) → Reaches shape (at_settled metadata cache origin None (replacement ∷ []) [] buffer card) follows (at_followed metadata (written_each cache 0 brought) origin brought)
-    follows_reaches card = record { run = follows_run card; card = first_card (after_all shape (at_settled metadata cache origin None (replacement ∷ []) [] buffer card) follows).actors; is = refl }
+    pub follows_reaches : (card : Card) → Reaches shape (at_settled metadata cache origin begun (replacement ∷ []) [] buffer card) follows (at_followed metadata (written_each cache 0 brought) origin brought)
+    follows_reaches card = record { run = follows_run card; card = first_card (after_all shape (at_settled metadata cache origin begun (replacement ∷ []) [] buffer card) follows).actors; is = refl }
 
 -- ---- after an opening
 
@@ -256,7 +335,7 @@ module _ (P A : Type 0) (policy : P) (alloc : A) (global : Global) (k meta_secto
   WasServed w = AboutToAnswer Flush w × FirstHas [] (replacement ∷ []) w × FirstCacheBlockIs Reserved w
 
   abbrev HasBack : State P A → Type 0
-  HasBack w = FirstHas (replacement ∷ []) [] w
+  HasBack w = AtWork w 0 (λ job s. job ≡ Migrate (Promote first_cache_block) second_block) × FirstHas (replacement ∷ []) [] w
 
   abbrev Followed : State P A → Type 0
   Followed w = AboutToAnswer (Migrate (Promote first_cache_block) second_block) w × Gives w.devices.origin 0 content
@@ -313,7 +392,7 @@ module _ (P A : Type 0) (policy : P) (alloc : A) (global : Global) (k meta_secto
   last : (now_metadata : List History) (card : Card) → IsKnown P A shape' (at_settled P A global k meta_sectors within threshold others rest policy generation more room now_metadata (synced dirty) (synced at_home) (flushed P A global k meta_sectors within threshold others rest policy generation more room) [] (replacement ∷ []) carried card) → (n : Notes) →
       PassesThrough shape' (at_settled P A global k meta_sectors within threshold others rest policy generation more room now_metadata (synced dirty) (synced at_home) (flushed P A global k meta_sectors within threshold others rest policy generation more room) [] (replacement ∷ []) carried card) n ((answering, λ w n. HasBack w) ∷ (following_run, λ w n. Followed w) ∷ [])
   last now_metadata card known n = on_stretch P A shape' _ answering _ HasBack ((following_run, λ w n. Followed w) ∷ []) known
-      (answers_reaches P A global k meta_sectors within threshold others rest policy generation more room now_metadata (synced dirty) (synced at_home) carried dirty_size back_size card) (λ c. (refl, refl))
+      (answers_reaches P A global k meta_sectors within threshold others rest policy generation more room now_metadata (synced dirty) (synced at_home) carried dirty_size back_size card) (λ c. (refl, (refl, refl)))
       (λ c then. on_stretch P A shape' _ following_run _ Followed [] then
       (follows_reaches P A global k meta_sectors within threshold others rest policy generation more room now_metadata (synced dirty) (synced at_home) carried dirty_size back_size c)
       (λ d. ((refl, refl), sync_gives at_home content (home_gives P A global k meta_sectors within threshold others rest policy generation room m cache origin cache_size origin_size content), (refl, nowhere 0 1 k, refl)))
@@ -345,27 +424,57 @@ module _ (P A : Type 0) (policy : P) (alloc : A) (global : Global) (k meta_secto
       (writes_reaches P A global k meta_sectors within threshold others rest policy generation room m cache origin cache_size origin_size content card)
       (λ c. ((refl, refl), dirtied_gives P A global k meta_sectors within threshold others rest policy generation room m cache origin cache_size origin_size content)) from_written n
 
+  -- the same as far as the block has left
+  abbrev IsClaimed : State P A → Type 0
+  IsClaimed w = FirstHas [] (replacement ∷ []) w × FirstCacheBlockIs (Quarantined true false) w
+
+  abbrev WasGivenUp : State P A → Type 0
+  WasGivenUp w = AtWork w 0 (λ job s. (job ≡ Flush) × (want s ≡ End (IsRefused Memory))) × FirstHas [] [] w × FirstCacheBlockIs (Quarantined false false) w × OfTarget w.phase (λ target. order_at target.desk.orders.slots 0 ≡ None)
+
+  abbrev refusing : List (Happening P A)
+  refusing = refuses P A global k meta_sectors within threshold others rest policy generation more room
+
+  pub given_up_all : GivesUp P A shape' metadata
+  given_up_all = record {
+    leaving = (opening ++ promoting) ++ (writing ++ replacing);
+    refusing = refusing;
+    passes = on_stretch P A shape' (start shape' metadata) ((opening ++ promoting) ++ (writing ++ replacing)) _ IsClaimed ((refusing, λ w n. WasGivenUp w) ∷ []) (known_at_start P A shape' metadata formatted size)
+        (then_reaches P A shape' (start shape' metadata) (opening ++ promoting) (writing ++ replacing) came _ first_reaches (λ c.
+        then_reaches P A shape' (came c) writing replacing wrote _ (writes_reaches P A global k meta_sectors within threshold others rest policy generation room m cache origin cache_size origin_size content c)
+        (replaces_reaches P A global k meta_sectors within threshold others rest policy generation room m cache origin cache_size origin_size content)))
+        (λ c. ((refl, refl), refl))
+        (λ c known n. on_stretch P A shape' _ refusing _ WasGivenUp [] known (refuses_reaches P A global k meta_sectors within threshold others rest policy generation more room m dirty at_home carried c) (λ d. ((refl, refl), (refl, refl), refl, refl)) (λ d z o. tt) n) (formatted_notes shape');
+  }
+
   pub replaces_all : Replaces P A shape' metadata content
   replaces_all = record {
     promoting = opening ++ promoting;
     writing = writing;
     leaving = replacing;
     flushing = commit_run;
-    answering = answering;
+    starting = answering;
     following = following_run;
     passes = on_stretch P A shape' (start shape' metadata) (opening ++ promoting) came Came ((writing, λ w n. WasWritten w) ∷ (replacing, λ w n. Left w) ∷ (commit_run, λ w n. WasServed w) ∷ after_flush)
         (known_at_start P A shape' metadata formatted size) first_reaches (λ c. (refl, refl)) from_promoted (formatted_notes shape');
   }
 
-pub can_replace : (P A : Type 0) → CanReplace P A
-can_replace P A policy reading begun cache_blocks meta_sectors within threshold others metadata content room formatted size = by_blocks cache_blocks within formatted (by_reading reading begun)
-  where
-    by_reading : (r : ReadSteps A) → sectors_read r ≡ 0 → A × Global
-    by_reading (Begun alloc global) e = (alloc, global)
-    by_reading (FirstSlotRead alloc global found) e = absurd (omega (arith, e))
-    by_reading (RootFound global root loader) e = absurd (omega (arith, e))
-    by_reading (AllRead state) e = absurd (omega (arith, e))
+-- what a reading that has read nothing has
+by_reading : (P A : Type 0) (r : ReadSteps A) → sectors_read r ≡ 0 → A × Global
+by_reading P A (Begun alloc global) e = (alloc, global)
+by_reading P A (FirstSlotRead alloc global found) e = absurd (omega (arith, e))
+by_reading P A (RootFound global root loader) e = absurd (omega (arith, e))
+by_reading P A (AllRead state) e = absurd (omega (arith, e))
 
+pub can_give_up : (P A : Type 0) → CanGiveUp P A
+can_give_up P A policy reading begun cache_blocks meta_sectors within threshold others metadata room formatted size = by_blocks cache_blocks within formatted (by_reading P A reading begun)
+  where
+    by_blocks : (n : ℕ) (within : IsWithinLimits 64 n 2 meta_sectors) → IsFormatted (two_blocks n meta_sectors within) metadata → A × Global → GivesUp P A (record { geometry = two_blocks n meta_sectors within; threshold = threshold; actors = suc others }) metadata
+    by_blocks zero within formatted with = absurd (omega (arith, within.cache_from))
+    by_blocks (suc k) within formatted with = given_up_all P A policy with.0 with.1 k meta_sectors within threshold others metadata [] room formatted size
+
+pub can_replace : (P A : Type 0) → CanReplace P A
+can_replace P A policy reading begun cache_blocks meta_sectors within threshold others metadata content room formatted size = by_blocks cache_blocks within formatted (by_reading P A reading begun)
+  where
     by_blocks : (n : ℕ) (within : IsWithinLimits 64 n 2 meta_sectors) → IsFormatted (two_blocks n meta_sectors within) metadata → A × Global → Replaces P A (record { geometry = two_blocks n meta_sectors within; threshold = threshold; actors = suc others }) metadata content
     by_blocks zero within formatted with = absurd (omega (arith, within.cache_from))
     by_blocks (suc k) within formatted with = replaces_all P A policy with.0 with.1 k meta_sectors within threshold others metadata content room formatted size

@@ -4,6 +4,7 @@ use Rattle.wb_types.specs.Limits.{IsWithinLimits}
 use Rattle.wb_types.specs.declared.extent.Extent.{Extent}
 use Rattle.wb_types.specs.declared.geometry.Geometry.{Geometry}
 use Rattle.wb_types.specs.declared.mode.Dev.TheVariants.{Origin}
+use Rattle.wb_types.specs.declared.refusal.Refusal.TheVariants.{Memory}
 use Rattle.wb_types.specs.declared.number.OBlock.{OBlock}
 use Rattle.wb_types.specs.declared.number.CBlock.{CBlock}
 use Rattle.wb_policy.specs.declared.order.Order.{Order}
@@ -18,7 +19,7 @@ use Rattle.wb_meta.specs.Formats.{IsFormatted}
 use Rattle.wb_meta.specs.Reads.{sectors_read}
 use Rattle.wb_meta.specs.declared.read_steps.ReadSteps.{ReadSteps}
 use Rattle.wb_tasks.specs.Plan.{want}
-use Rattle.wb_tasks.specs.declared.step.Answer.TheVariants.{Done as Finished}
+use Rattle.wb_tasks.specs.declared.step.Answer.TheVariants.{Done as Finished, Refused as IsRefused}
 use Rattle.wb_tasks.specs.declared.step.Want.TheVariants.{End}
 use Rattle.wb_runs.specs.declared.job.Job.{Job}
 use Rattle.wb_runs.specs.declared.job.Job.TheVariants.{Read, Write, Flush, Migrate}
@@ -148,21 +149,21 @@ FirstCacheBlockIs block w = OfTarget w.phase (λ target. slice_get target.desk.s
 
 -- A run over such a geometry that passes through a promotion of the first block into the first cache block; a write to it there; the first
 -- half of its replacement, after which its cache block is claimed, and the order lives on and waits for a flush; a flush, which ends the
--- quarantine; its answer, which gives the order back; and under that order the promotion of the second block: that stands in the first
--- cache block then, the first block nowhere, no order lives there, and the origin has what was written.
+-- quarantine; its answer, which gives the order back, and under that order the start of a promotion of the second block; and the rest of
+-- that: the second block stands in the first cache block then, the first nowhere, no order lives there, and the origin has what was written.
 pub record Replaces (P A : Type 0) (shape : Shape) (metadata : List History) (content : Bytes) : Type 0 where
   pub promoting : List (Happening P A)
   pub writing : List (Happening P A)
   pub leaving : List (Happening P A)
   pub flushing : List (Happening P A)
-  pub answering : List (Happening P A)
+  pub starting : List (Happening P A)
   pub following : List (Happening P A)
   pub passes : PassesThrough shape (start shape metadata) (formatted shape) (
       (promoting, λ w n. AboutToAnswer (Migrate (Promote first_cache_block) first_block) w)
       ∷ (writing, λ w n. AboutToAnswer (Write first_sector content) w × Gives w.devices.cache 0 content)
       ∷ (leaving, λ w n. AboutToAnswer (Migrate Demote first_block) w × FirstHas [] (replacement ∷ []) w × FirstCacheBlockIs (Quarantined true false) w × OfTarget w.phase (λ target. IsLive target.desk replacement))
       ∷ (flushing, λ w n. AboutToAnswer Flush w × FirstHas [] (replacement ∷ []) w × FirstCacheBlockIs Reserved w)
-      ∷ (answering, λ w n. FirstHas (replacement ∷ []) [] w)
+      ∷ (starting, λ w n. AtWork w 0 (λ job s. job ≡ Migrate (Promote first_cache_block) second_block) × FirstHas (replacement ∷ []) [] w)
       ∷ (
         following,
         λ w n. AboutToAnswer (Migrate (Promote first_cache_block) second_block) w × Gives w.devices.origin 0 content
@@ -175,3 +176,17 @@ abbrev pub CanReplace : (P A : Type 0) → Type 0
 CanReplace P A = (policy : P) (reading : ReadSteps A) → sectors_read reading ≡ 0 → (cache_blocks meta_sectors : ℕ) (within : IsWithinLimits 64 cache_blocks 2 meta_sectors) (threshold others : ℕ) (metadata : List History) (content : Bytes) → 128 ≤ threshold
     → IsFormatted (two_blocks cache_blocks meta_sectors within) metadata → length metadata ≡ meta_sectors
     → Replaces P A (record { geometry = two_blocks cache_blocks meta_sectors within; threshold = threshold; actors = suc others }) metadata content
+
+-- A run that comes as far, but whose flush is refused for want of memory: the order is given up, and its cache block claimed no longer.
+pub record GivesUp (P A : Type 0) (shape : Shape) (metadata : List History) : Type 0 where
+  pub leaving : List (Happening P A)
+  pub refusing : List (Happening P A)
+  pub passes : PassesThrough shape (start shape metadata) (formatted shape) (
+      (leaving, λ w n. FirstHas [] (replacement ∷ []) w × FirstCacheBlockIs (Quarantined true false) w)
+      ∷ (refusing, λ w n. AtWork w 0 (λ job s. (job ≡ Flush) × (want s ≡ End (IsRefused Memory))) × FirstHas [] [] w × FirstCacheBlockIs (Quarantined false false) w × OfTarget w.phase (λ target. order_at target.desk.orders.slots 0 ≡ None))
+      ∷ [])
+
+abbrev pub CanGiveUp : (P A : Type 0) → Type 0
+CanGiveUp P A = (policy : P) (reading : ReadSteps A) → sectors_read reading ≡ 0 → (cache_blocks meta_sectors : ℕ) (within : IsWithinLimits 64 cache_blocks 2 meta_sectors) (threshold others : ℕ) (metadata : List History) → 128 ≤ threshold
+    → IsFormatted (two_blocks cache_blocks meta_sectors within) metadata → length metadata ≡ meta_sectors
+    → GivesUp P A (record { geometry = two_blocks cache_blocks meta_sectors within; threshold = threshold; actors = suc others }) metadata
