@@ -9,10 +9,10 @@ ghost use Rattle.wb_machine.specs.Making.{IsMade, read_of};
 ghost use Rattle.wb_machine.specs.Members.{free};
 
 use crate::known_crew::KnownCrew;
+use crate::machine::ACTORS;
 use crate::member::Member;
 use crate::sealing::seal_all;
 use crate::target::Target;
-use crate::machine::ACTORS;
 use std::alloc::{AllocError, Global};
 use wb_desk::Desk;
 use wb_format::Root;
