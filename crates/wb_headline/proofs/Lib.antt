@@ -26,6 +26,9 @@ mod Promise
 mod Carrying
 mod Owned
 mod Migrations
+mod Seen
+mod Plans
+mod Alike
 mod Seeing
 mod Carried
 mod Placed

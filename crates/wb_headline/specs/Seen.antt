@@ -60,8 +60,13 @@ without_releases [] = []
 without_releases (Desk (ReleaseOrder block) ∷ ws) = without_releases ws
 without_releases (w ∷ ws) = w ∷ without_releases ws
 
+abbrev pub steps_seen : TaskJob → List Want → List Want
+steps_seen (OnBlock job) steps = steps
+steps_seen (Flushing serves most) steps = without_releases steps
+steps_seen (Opening left) steps = steps
+
 abbrev pub plan_seen : Job → Plan → Plan
-plan_seen Flush plan = record { job = job_seen plan.job; steps = without_releases plan.steps; answer = plan.answer }
+plan_seen Flush plan = record { job = job_seen plan.job; steps = steps_seen plan.job plan.steps; answer = plan.answer }
 plan_seen job plan = plan
 
 abbrev pub task_seen : Option (Job × Plan) → Option (Job × Plan)

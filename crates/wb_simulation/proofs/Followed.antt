@@ -120,6 +120,7 @@ followed size most blocks words committing orders devices actors a x plan step s
 followed size most blocks words committing orders devices actors a x plan step s y rule ex ey Flush q e suits next g st = absurd q
 followed size most blocks words committing orders devices actors a x plan step s y rule ex ey (Open mode) q e suits next g st = absurd q
 followed size most blocks words committing orders devices actors a x plan step s y rule ex ey (Migrate migration block) q e suits next g st = absurd q
+followed size most blocks words committing orders devices actors a x plan step s y rule ex ey (Replace old new) q e suits next g st = absurd q
 
 pub cell_steps_followed : CellStepsFollowed
 cell_steps_followed size most blocks words committing orders devices actors a x job plan step s q rule ex task suits next g =
