@@ -378,8 +378,8 @@ impl<P: Policy> Desk<P> {
         }
     }
 
-    /// Where an origin block is cached.
-    fn place(&self, b: OBlock) -> Option<CBlock>
+    /// Where an origin block is cached; none where it has no entry, or is outside.
+    pub fn place(&self, b: OBlock) -> Option<CBlock>
         ensures mapped { IfSome result (λ c. IsMappedAt (holdings self.now) b.0 c.0) }
         ensures none { IfNone result (IsUnmapped (holdings self.now) b.0) }
     {

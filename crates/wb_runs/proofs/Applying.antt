@@ -1,4 +1,4 @@
--- Whether an event applies is decided, and so is whether a promotion may be given its order.
+-- Whether an event applies is decided, and so is whether a migration or a replacement may start under an order that is kept or given.
 use Rattle.std.proofs.Common.{◌≡◌, ◌≢◌, ◌≤◌, ◌<◌, ◌+◌, ◌^◌, inl, inr, ℕ, zero, suc, Bool, true, false, List, [], ◌∷◌, Option, Some, None, Contains, refl, sym, ap, subst, arith, length, slice_get}
 use Rattle.wb_tasks.specs.declared.step.Migration.{Migration}
 use Rattle.std.specs.Prelude.{All}
@@ -16,7 +16,7 @@ use Rattle.wb_types.specs.declared.number.CBlock.{CBlock}
 use Rattle.wb_types.specs.declared.number.OBlock.{OBlock}
 use Rattle.wb_types.proofs.Lists.{Contains-first, Contains-behind}
 use Rattle.wb_policy.specs.declared.order.Order.{Order}
-use Rattle.wb_policy.specs.declared.order.Order.TheVariants.{Promote as PromoteOrder, Demote as DemoteOrder, Clean as CleanOrder}
+use Rattle.wb_policy.specs.declared.order.Order.TheVariants.{Promote as PromoteOrder, Replace as ReplaceOrder, Demote as DemoteOrder, Clean as CleanOrder}
 use Rattle.wb_policy.specs.Law.{Holdings, IsUnmapped, IsMappedAt}
 use Rattle.wb_space.specs.declared.block.Block.{Block}
 use Rattle.wb_space.specs.declared.block.Block.TheVariants.{Free, Mapped, Reserved, Quarantined}
@@ -31,9 +31,9 @@ use Rattle.wb_tasks.specs.declared.step.Want.TheVariants.{Cell, Device, Desk, En
 use Rattle.wb_devices.specs.declared.devices.Devices.{Devices}
 use Rattle.wb_devices.specs.Moving.{device_in}
 use Rattle.wb_runs.specs.declared.job.Job.{Job}
-use Rattle.wb_runs.specs.declared.job.Job.TheVariants.{Read, Write, Flush, Open, Migrate}
+use Rattle.wb_runs.specs.declared.job.Job.TheVariants.{Read, Write, Flush, Open, Migrate, Replace}
 use Rattle.wb_runs.specs.States.{Phase, Stands, Gone, Opens}
-use Rattle.wb_runs.specs.Happenings.{MayFailAt, MayStop, MayOrder, IsOutOfPlace, order_for}
+use Rattle.wb_runs.specs.Happenings.{MayFailAt, MayStop, MayOrder, MayFollow, KeepsMigration, KeepsReplacement, IsOutOfPlace, order_for}
 use Rattle.wb_runs.proofs.Spelling.{Decided, two_of, at_most}
 use Rattle.wb_runs.proofs.Lists.{first_or}
 use Rattle.wb_runs.proofs.Desks.{one_order, found_where}
@@ -145,8 +145,11 @@ out_of_place (Stands t) (Read extent) = inr (λ o. o tt)
 out_of_place (Stands t) (Write extent content) = inr (λ o. o tt)
 out_of_place (Stands t) Flush = inr (λ o. o tt)
 out_of_place (Stands t) (Migrate migration block) = inr (λ o. o tt)
+out_of_place (Stands t) (Replace old new) = inr (λ o. o tt)
 out_of_place Gone (Migrate migration block) = inl (λ f. f)
 out_of_place (Opens m r) (Migrate migration block) = inl (λ f. f)
+out_of_place Gone (Replace old new) = inl (λ f. f)
+out_of_place (Opens m r) (Replace old new) = inl (λ f. f)
 out_of_place Gone (Read extent) = inl (λ f. f)
 out_of_place Gone (Write extent content) = inl (λ f. f)
 out_of_place Gone Flush = inl (λ f. f)
@@ -167,6 +170,17 @@ has_order (o ∷ os) order = elim (one_order order o) [
   ]
 ]
 
+-- whether an actor has an order of which something holds that is decided
+some_order : (Holds : Order → Type 0) → ((order : Order) → Decided (Holds order)) → (orders : List Order) → Decided ((order : Order) × Contains orders order × Holds order)
+some_order Holds holds [] = inr (λ s. omega (arith, s.1.1))
+some_order Holds holds (o ∷ os) = elim (holds o) [
+  | inl here ↦ inl (o, Contains-first o os, here)
+  | inr not ↦ elim (some_order Holds holds os) [
+    | inl s ↦ inl (s.0, Contains-behind o os s.0 s.1, s.2)
+    | inr none ↦ inr (λ s. first_or o s.0 os ⊥ s.1 (λ e. not (subst Holds e s.2)) (λ c. none (s.0, c, s.2)))
+  ]
+]
+
 not_passthrough : (mode : Mode) → Decided (mode ≢ Passthrough)
 not_passthrough Writeback = inl (λ e. cc)
 not_passthrough Writethrough = inl (λ e. cc)
@@ -178,6 +192,13 @@ is_free_block (Some Free) = inl refl
 is_free_block (Some Mapped) = inr (λ e. cc)
 is_free_block (Some Reserved) = inr (λ e. cc)
 is_free_block (Some (Quarantined claimed early)) = inr (λ e. cc)
+
+is_reserved_block : (o : Option Block) → Decided (o ≡ Some Reserved)
+is_reserved_block None = inr (λ e. cc)
+is_reserved_block (Some Free) = inr (λ e. cc)
+is_reserved_block (Some Mapped) = inr (λ e. cc)
+is_reserved_block (Some Reserved) = inl refl
+is_reserved_block (Some (Quarantined claimed early)) = inr (λ e. cc)
 
 is_vacant : (o : Option (Option LiveOrder)) → Decided (o ≡ Some None)
 is_vacant None = inr (λ e. cc)
@@ -216,7 +237,7 @@ may_give desk c order = elim (two_of (two_of (is_vacant (slice_get desk.orders.s
     ]
 
 -- whether a promotion's order may be given
-may_promote : {P : Type 0} (desk : DeskState P) (block : OBlock) (c : CBlock) → Decided (MayOrder desk (PromoteOrder block c))
+may_promote : {P : Type 0} (desk : DeskState P) (block : OBlock) (c : CBlock) → Decided (MayOrder desk (λ cache. PromoteOrder block c))
 may_promote desk block c = elim (two_of (two_of (not_passthrough desk.mode) (two_of (is_free_block (slice_get desk.space.blocks c.0)) (is_unmapped (holdings desk) block.0))) (may_give desk c (PromoteOrder block c))) [
   | inl d ↦ inl (c, record { mode = d.0.0; lawful = (refl, d.0.1.0, d.0.1.1); give = d.1 })
   | inr none ↦ inr (λ may. none (
@@ -226,15 +247,60 @@ may_promote desk block c = elim (two_of (two_of (not_passthrough desk.mode) (two
 ]
 
 -- whether one of a block's order may be given that takes the cache block where it stands
-may_where : {P : Type 0} (desk : DeskState P) (block : OBlock) (order : Order) → ((cache : CBlock) → IsMappedAt (holdings desk) block.0 cache.0 → IsLawful desk cache order) →
-    ((cache : CBlock) → IsLawful desk cache order → IsMappedAt (holdings desk) block.0 cache.0) → Decided (MayOrder desk order)
-may_where desk block order to from = elim (two_of (not_passthrough desk.mode) (found_where (holdings desk) block.0 (λ c. MayGive desk.orders (record { 0 = c }) order (sectors_asked desk.geometry order) desk.threshold) (λ c. may_give desk (record { 0 = c }) order))) [
-  | inl d ↦ inl (record { 0 = d.1.0 }, record { mode = d.0; lawful = to (record { 0 = d.1.0 }) d.1.1; give = d.1.2 })
-  | inr none ↦ inr (λ may. none (may.1.mode, (may.0.0, from may.0 may.1.lawful, may.1.give)))
-]
+may_where : {P : Type 0} (desk : DeskState P) (block : OBlock) (order : CBlock → Order) → ((cache : CBlock) → IsMappedAt (holdings desk) block.0 cache.0 → IsLawful desk cache (order cache)) →
+    ((cache : CBlock) → IsLawful desk cache (order cache) → IsMappedAt (holdings desk) block.0 cache.0) → Decided (MayOrder desk order)
+may_where desk block order to from = elim (two_of (not_passthrough desk.mode)
+    (found_where (holdings desk) block.0 (λ c. MayGive desk.orders (record { 0 = c }) (order (record { 0 = c })) (sectors_asked desk.geometry (order (record { 0 = c }))) desk.threshold) (λ c. may_give desk (record { 0 = c }) (order (record { 0 = c }))))) [
+      | inl d ↦ inl (record { 0 = d.1.0 }, record { mode = d.0; lawful = to (record { 0 = d.1.0 }) d.1.1; give = d.1.2 })
+      | inr none ↦ inr (λ may. none (may.1.mode, (may.0.0, from may.0 may.1.lawful, may.1.give)))
+    ]
 
 -- whether a migration's order may be given
-pub may_order : {P : Type 0} (desk : DeskState P) (migration : Migration) (block : OBlock) → Decided (MayOrder desk (order_for migration block))
+pub may_order : {P : Type 0} (desk : DeskState P) (migration : Migration) (block : OBlock) → Decided (MayOrder desk (λ cache. order_for migration block))
 may_order desk (Promote c) block = may_promote desk block c
-may_order desk Demote block = may_where desk block (DemoteOrder block) (λ cache at. at) (λ cache at. at)
-may_order desk Clean block = may_where desk block (CleanOrder block) (λ cache at. at) (λ cache at. at)
+may_order desk Demote block = may_where desk block (λ cache. DemoteOrder block) (λ cache at. at) (λ cache at. at)
+may_order desk Clean block = may_where desk block (λ cache. CleanOrder block) (λ cache at. at) (λ cache at. at)
+
+-- whether a replacement's may: the block that is to follow has to be unmapped
+pub may_replace : {P : Type 0} (desk : DeskState P) (old new : OBlock) → Decided (MayOrder desk (λ cache. ReplaceOrder old new cache))
+may_replace desk old new = elim (is_unmapped (holdings desk) new.0) [
+  | inl bare ↦ may_where desk old (λ cache. ReplaceOrder old new cache) (λ cache at. (refl, at, bare)) (λ cache lawful. lawful.1)
+  | inr held ↦ inr (λ may. held may.1.lawful.2)
+]
+
+-- ---- orders under which a job starts again
+
+-- the order is the replacement by which this block follows on this cache block
+is_followed : (block : OBlock) (cache : CBlock) (order : Order) → Decided ((old : OBlock) × (order ≡ ReplaceOrder old block cache))
+is_followed block cache (ReplaceOrder v x c) = elim (one_order (ReplaceOrder v x c) (ReplaceOrder v block cache)) [
+  | inl same ↦ inl (v, same)
+  | inr other ↦ inr (λ f. other (let e = f.1 in cc))
+]
+is_followed block cache (PromoteOrder b c) = inr (λ f. absurd (let e = f.1 in cc))
+is_followed block cache (DemoteOrder b) = inr (λ f. absurd (let e = f.1 in cc))
+is_followed block cache (CleanOrder b) = inr (λ f. absurd (let e = f.1 in cc))
+
+may_follow : {P : Type 0} (desk : DeskState P) (kept : List Order) (block : OBlock) (cache : CBlock) → Decided (MayFollow desk kept block cache)
+may_follow desk kept block cache = elim (two_of (some_order (λ o. (old : OBlock) × (o ≡ ReplaceOrder old block cache)) (is_followed block cache) kept) (is_reserved_block (slice_get desk.space.blocks cache.0))) [
+  | inl d ↦ inl (d.0.2.0, subst (λ (o : Order). Contains kept o) d.0.2.1 d.0.1, d.1)
+  | inr none ↦ inr (λ m. none ((ReplaceOrder m.0 block cache, m.1, (m.0, refl)), m.2))
+]
+
+-- whether a migration may start under an order that its actor keeps
+pub keeps_migration : {P : Type 0} (desk : DeskState P) (kept : List Order) (migration : Migration) (block : OBlock) → Decided (KeepsMigration desk kept migration block)
+keeps_migration desk kept (Promote c) block = elim (has_order kept (PromoteOrder block c)) [
+  | inl own ↦ inl (inl own)
+  | inr none ↦ elim (may_follow desk kept block c) [
+    | inl follows ↦ inl (inr follows)
+    | inr not ↦ inr (λ k. elim k [ inl own ↦ none own | inr follows ↦ not follows ])
+  ]
+]
+keeps_migration desk kept Demote block = has_order kept (DemoteOrder block)
+keeps_migration desk kept Clean block = has_order kept (CleanOrder block)
+
+-- whether a replacement may start again
+pub keeps_replacement : {P : Type 0} (desk : DeskState P) (kept : List Order) (old new : OBlock) → Decided (KeepsReplacement desk kept old new)
+keeps_replacement desk kept old new = elim (found_where (holdings desk) old.0 (λ c. Contains kept (ReplaceOrder old new (record { 0 = c }))) (λ c. has_order kept (ReplaceOrder old new (record { 0 = c })))) [
+  | inl d ↦ inl (record { 0 = d.0 }, d.2, d.1)
+  | inr none ↦ inr (λ k. none (k.0.0, k.2, k.1))
+]

@@ -1,5 +1,5 @@
 -- A write, a read of what it wrote, a flush and a write that fails, where an opening was just answered done over an origin of one block.
-use Rattle.std.proofs.Common.{Global, ◌≡◌, ◌≤◌, inl, inr, ℕ, suc, List, [], ◌∷◌, ◌++◌, Option, Some, None, refl, arith, slice_get}
+use Rattle.std.proofs.Common.{Global, ◌≡◌, ◌≤◌, inl, inr, ℕ, suc, List, [], ◌∷◌, ◌++◌, Option, Some, None, refl, arith, slice_get, subst, sym}
 use Rattle.std.proofs.lemmas.List.Elements.{All-nil, All-cons}
 use Rattle.std.proofs.lemmas.List.Sorted.{IsPermutation-refl}
 use Rattle.wb_types.specs.Limits.{IsWithinLimits}
@@ -31,14 +31,14 @@ use Rattle.wb_tasks.specs.declared.step.Want.{Want}
 use Rattle.wb_tasks.specs.declared.step.Want.TheVariants.{Cell, Device, End}
 use Rattle.wb_tasks.specs.declared.step.Got.{Got}
 use Rattle.wb_tasks.specs.declared.step.Got.TheVariants.{Done, Word, Fault}
-use Rattle.wb_runs.specs.declared.job.Job.TheVariants.{Read, Write, Flush}
+use Rattle.wb_runs.specs.declared.job.Job.TheVariants.{Read, Write, Flush, Open, Migrate, Replace}
 use Rattle.wb_runs.specs.declared.event.Event.{Event}
 use Rattle.wb_runs.specs.declared.event.Event.TheVariants.{Start, Step, FaultStep, Stop}
 use Rattle.wb_runs.specs.declared.event.What.{What}
 use Rattle.wb_runs.specs.declared.event.What.TheVariants.{Started, Stepped, Stopped}
 use Rattle.wb_runs.specs.States.{Shape, State, Actor, Target, Phase, Stands, Gone, resting}
 use Rattle.wb_runs.specs.Happenings.{Plain, Cut, Happening, May, task_job}
-use Rattle.wb_runs.specs.Effects.{after_happening, after_all, all_resting, IsRun}
+use Rattle.wb_runs.specs.Effects.{after_happening, after_all, all_resting, IsRun, orders_answered, awaiting_answered}
 use Rattle.wb_runs.specs.Clerk.{Notes, Doing, greater_of}
 use Rattle.wb_runs.specs.Headline.{noted, note_happening}
 use Rattle.wb_runs.specs.Possible.{one_block, first_sector, AboutToAnswer, FirstDoes}
@@ -47,6 +47,7 @@ use Rattle.wb_runs.proofs.FirstFlush.{happened, flushing, flush_run, flush_done}
 use Rattle.wb_runs.proofs.Metadata.{Quiet}
 use Rattle.wb_runs.proofs.Bare.{BareDesk}
 use Rattle.wb_runs.proofs.MetadataRuns.{IsKnown, known_after, known_always}
+use Rattle.wb_policy.specs.declared.order.Order.{Order}
 
 -- one that was given a sector
 abbrev pub was_given : {P A : Type 0} → Global → Bytes → Event → What → Happening P A
@@ -249,12 +250,24 @@ module _ (P A : Type 0) (global : Global) (cache_blocks meta_sectors : ℕ) (wit
       actors = record { task = task; card = card; orders = []; awaiting = []; buffer = [] } ∷ rest;
     }
 
+    -- whoever had no order has none once it has answered
+    abbrev idle_with : Card → List Order → List Order → Actor
+    idle_with card orders awaiting = record { task = None; card = card; orders = orders; awaiting = awaiting; buffer = [] }
+
+    answered : (job : Job) (card : Card) → idle_with card (orders_answered job [] []) (awaiting_answered job []) ≡ idle_with card [] []
+    answered (Read extent) card = refl
+    answered (Write extent content) card = refl
+    answered Flush card = refl
+    answered (Open mode) card = refl
+    answered (Migrate migration block) card = refl
+    answered (Replace old new) card = refl
+
     module _ (job : Job) (origin : List History) (To : Card → State P A) where
       on_words : (words : Words) (plan : Plan) (card : Card) (step : CellStep) (got : Got) (hs : List (Happening P A)) → ((card' : Card) → Leads (working (words_after words step) origin (Some (job, after plan got)) card') hs To) → Leads (working words origin (Some (job, plan)) card) (does (Cell step) got ∷ hs) To
       on_words words plan card step got hs k = let r = k (card_after words step card) in record { card = r.card; is = r.is }
 
       on_answer : (words : Words) (plan : Plan) (card : Card) (hs : List (Happening P A)) → Leads (working words origin None card) hs To → Leads (working words origin (Some (job, plan)) card) (does (End Finished) Done ∷ hs) To
-      on_answer words plan card hs k = record { card = k.card; is = k.is }
+      on_answer words plan card hs k = record { card = k.card; is = subst (λ (v : Actor). after_all shape (record { devices = record { metadata = metadata; cache = cache; origin = origin }; commit = None; phase = Stands (record { words = words; desk = desk }); actors = v ∷ rest }) hs ≡ To k.card) (sym (answered job card)) k.is }
 
     module _ (origin : List History) (To : Card → State P A) where
       on_write : (words : Words) (card : Card) (hs : List (Happening P A)) → ((card' : Card) → Leads (working words origin (Some (the_write, table (task_job shape [] the_write (first_sector ∷ [])))) card') hs To) → Leads (working words origin None card) (happened global (Start 0 the_write) Started (Cut (first_sector ∷ [])) ∷ hs) To

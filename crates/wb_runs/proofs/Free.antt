@@ -4,27 +4,33 @@ use Rattle.wb_types.specs.declared.mode.Mode.{Mode}
 use Rattle.wb_types.specs.declared.mode.Dev.{Dev}
 use Rattle.wb_types.specs.declared.mode.Dev.TheVariants.{Metadata, Cache, Origin}
 use Rattle.wb_types.specs.declared.refusal.Refusal.{Refusal}
+use Rattle.wb_types.specs.declared.number.CBlock.{CBlock}
+use Rattle.wb_types.specs.declared.extent.Extent.{Extent}
 use Rattle.wb_types.specs.declared.refusal.Refusal.TheVariants.{Busy}
 use Rattle.wb_types.proofs.Cutting.{pieces_cut}
-use Rattle.wb_types.specs.Extents.{pieces}
+use Rattle.wb_types.specs.Extents.{IsCutInto, pieces}
 use Rattle.wb_disk.specs.Device.{History}
 use Rattle.wb_disk.specs.Crash.{Choice}
 use Rattle.wb_meta.specs.Formats.{IsFormatted}
 use Rattle.wb_meta.specs.Reads.{sectors_read}
 use Rattle.wb_meta.specs.declared.read_steps.ReadSteps.{ReadSteps}
 use Rattle.wb_meta.specs.declared.read_steps.ReadSteps.TheVariants.{Begun, FirstSlotRead, RootFound, Done as AllRead}
+use Rattle.wb_policy.specs.declared.order.Order.{Order}
+use Rattle.wb_policy.specs.declared.order.Order.TheVariants.{Replace as ReplaceOrder}
+use Rattle.wb_desk.specs.Desks.{DeskState}
 use Rattle.wb_tasks.specs.Plan.{Plan, want}
 use Rattle.wb_tasks.specs.Ready.{HoldsBlocks, IsOwnStep}
 use Rattle.wb_tasks.specs.Tables.{BlockJob, Reading, Writing, Migrating, OnBlock, whole_block}
 use Rattle.wb_tasks.specs.declared.step.Got.TheVariants.{Fault}
 use Rattle.wb_devices.specs.Moving.{device_in}
 use Rattle.wb_runs.specs.declared.job.Job.{Job}
-use Rattle.wb_runs.specs.declared.job.Job.TheVariants.{Read, Write, Flush, Open, Migrate}
+use Rattle.wb_runs.specs.declared.job.Job.TheVariants.{Read, Write, Flush, Open, Migrate, Replace}
 use Rattle.wb_runs.specs.declared.event.Event.{Event}
 use Rattle.wb_runs.specs.declared.event.Event.TheVariants.{Start, Step, FaultStep, Stop}
+use Rattle.wb_runs.specs.declared.event.What.{What}
 use Rattle.wb_runs.specs.declared.event.What.TheVariants.{Skipped, Refused, Started, Stepped, Stopped}
 use Rattle.wb_runs.specs.States.{Shape, State, Actor, Target, Phase, Stands, Gone, Opens, OfTarget, block_size, start}
-use Rattle.wb_runs.specs.Happenings.{Plain, Cut, Orders, Happening, OfSome, AtWork, MayFailAt, DoesNotApply, Gives, Falters, MigrationStarts, extent_refusal, block_range, orders_in, order_for}
+use Rattle.wb_runs.specs.Happenings.{Chosen, Plain, Cut, Orders, Happening, OfSome, OnTask, MayFailAt, DoesNotApply, Gives, Falters, KeepsMigration, KeepsReplacement, MayOrder, MigrationStarts, StartGives, extent_refusal, block_range, orders_in, order_for}
 use Rattle.wb_runs.specs.Effects.{after_all, IsRun}
 use Rattle.wb_runs.specs.Headline.{GivesSomething}
 use Rattle.wb_runs.specs.Holding.{TaskSuits}
@@ -35,7 +41,8 @@ use Rattle.wb_runs.proofs.Claims.{JobClaim, TaskClaim, Noted, noted_of}
 use Rattle.wb_runs.proofs.Linking.{IsOpeningJob, IsServed, InPhase, TaskHere}
 use Rattle.wb_runs.proofs.InsideRuns.{run_inside}
 use Rattle.wb_runs.proofs.Making.{desk_begins}
-use Rattle.wb_runs.proofs.Applying.{may_stop, may_fail_at, out_of_place, has_order, may_order}
+use Rattle.wb_runs.proofs.Applying.{may_stop, may_fail_at, out_of_place, may_order, may_replace, keeps_migration, keeps_replacement}
+use Rattle.wb_runs.proofs.Spelling.{Decided}
 use Rattle.wb_runs.proofs.Points.{FlushJob, FlushTask, OpenJob, OpenTask, Going}
 use Rattle.wb_runs.proofs.Giving.{CanGive, CanFalter, read_gives, write_gives, migration_gives, block_falters, flush_gives, flush_falters, open_gives, open_falters}
 use Rattle.wb_runs.proofs.Progressing.{Kept, run_kept, own_step}
@@ -50,30 +57,30 @@ pub record Tasked {P A : Type 0} (w : State P A) (a : ℕ) : Type 0 where
   pub there : slice_get w.actors a ≡ Some actor
   pub task : actor.task ≡ Some (job, plan)
 
-abbrev IsAt : Option Actor → (Job → Plan → Type 0) → Type 0
-IsAt o on = OfSome o (λ x. OfSome x.task (λ doing. on doing.0 doing.1))
+abbrev IsAt : Option Actor → (Actor → Job → Plan → Type 0) → Type 0
+IsAt o on = OfSome o (λ x. OfSome x.task (λ doing. on x doing.0 doing.1))
 
-no_task : (x : Actor) (task : Option (Job × Plan)) (on : Job → Plan → Type 0) → task ≡ None → OfSome task (λ doing. on doing.0 doing.1) → ⊥
+no_task : (x : Actor) (task : Option (Job × Plan)) (on : Actor → Job → Plan → Type 0) → task ≡ None → OfSome task (λ doing. on x doing.0 doing.1) → ⊥
 no_task x None on e h = h
 no_task x (Some t) on e h = absurd (cc)
 
 module _ (P A : Type 0) (w : State P A) (a : ℕ) where
-  tasked : Tasked w a ⊎ ((on : Job → Plan → Type 0) → ¬ AtWork w a on)
+  tasked : Tasked w a ⊎ ((on : Actor → Job → Plan → Type 0) → ¬ OnTask w a on)
   tasked = by_actor (slice_get w.actors a) refl
     where
-      by_task : (x : Actor) → slice_get w.actors a ≡ Some x → (task : Option (Job × Plan)) → x.task ≡ task → Tasked w a ⊎ ((on : Job → Plan → Type 0) → ¬ IsAt (Some x) on)
+      by_task : (x : Actor) → slice_get w.actors a ≡ Some x → (task : Option (Job × Plan)) → x.task ≡ task → Tasked w a ⊎ ((on : Actor → Job → Plan → Type 0) → ¬ IsAt (Some x) on)
       by_task x e None xt = inr (λ on. no_task x x.task on xt)
       by_task x e (Some t) xt = inl (record { actor = x; job = t.0; plan = t.1; there = e; task = xt })
 
-      by_actor : (o : Option Actor) → slice_get w.actors a ≡ o → Tasked w a ⊎ ((on : Job → Plan → Type 0) → ¬ IsAt o on)
+      by_actor : (o : Option Actor) → slice_get w.actors a ≡ o → Tasked w a ⊎ ((on : Actor → Job → Plan → Type 0) → ¬ IsAt o on)
       by_actor None e = inr (λ on h. h)
       by_actor (Some x) e = by_task x e x.task refl
 
-  is_at : (k : Tasked w a) (on : Job → Plan → Type 0) → on k.job k.plan → AtWork w a on
-  is_at k on h = subst (λ (o : Option Actor). IsAt o on) (sym k.there) (subst (λ (t : Option (Job × Plan)). OfSome t (λ doing. on doing.0 doing.1)) (sym k.task) h)
+  is_at : (k : Tasked w a) (on : Actor → Job → Plan → Type 0) → on k.actor k.job k.plan → OnTask w a on
+  is_at k on h = subst (λ (o : Option Actor). IsAt o on) (sym k.there) (subst (λ (t : Option (Job × Plan)). OfSome t (λ doing. on k.actor doing.0 doing.1)) (sym k.task) h)
 
-  was_at : (k : Tasked w a) (on : Job → Plan → Type 0) → AtWork w a on → on k.job k.plan
-  was_at k on h = subst (λ (t : Option (Job × Plan)). OfSome t (λ doing. on doing.0 doing.1)) k.task (subst (λ (o : Option Actor). IsAt o on) k.there h)
+  was_at : (k : Tasked w a) (on : Actor → Job → Plan → Type 0) → OnTask w a on → on k.actor k.job k.plan
+  was_at k on h = subst (λ (t : Option (Job × Plan)). OfSome t (λ doing. on k.actor doing.0 doing.1)) k.task (subst (λ (o : Option Actor). IsAt o on) k.there h)
 
 module _ (P A : Type 0) (shape : Shape) (policy : P) (first : ReadSteps A) (begins : sectors_read first ≡ 0) where
   -- ---- what is left of a task can go on
@@ -112,43 +119,47 @@ module _ (P A : Type 0) (shape : Shape) (policy : P) (first : ReadSteps A) (begi
         cases Gone known goes h = absurd h
         cases (Opens mode reading) known goes h = opens mode reading known h (subst (λ (q : Option (Job × Plan)). OpenTask reading w.commit q) k.task (goes a k.actor k.there))
 
-    steps_on : CanGive shape w k.job (want k.plan)
-    steps_on = by_phase (λ phase job plan. CanGive {P = P} {A = A} shape (At phase) job (want plan)) (λ t known leader s f. stands t known leader k.job s f claim.claim) (λ mode reading known o f. opens mode reading known k.job o f)
+    steps_on : CanGive shape w k.actor k.job (want k.plan)
+    steps_on = by_phase (λ phase job plan. CanGive {P = P} {A = A} shape (At phase) k.actor job (want plan)) (λ t known leader s f. stands t known leader k.job s f claim.claim) (λ mode reading known o f. opens mode reading known k.job o f)
       where
-        stands : (t : Target P) → AtDesk shape.geometry kept.base.known.images t.desk w.commit w.devices.metadata → (leader : ℕ) → (job : Job) → IsServed job → FlushJob w.commit (a ≡ leader) job k.plan → JobClaim shape job k.plan claim.doing → CanGive {P = P} {A = A} shape (At (Stands t)) job (want k.plan)
-        stands t known leader (Read extent) s f c = read_gives P A shape w.devices w.commit w.actors t known.is.kept sizes extent (block_range shape extent c.cut) (want k.plan) (own (Reading (block_range shape extent c.cut)) c.is_job) inside
-        stands t known leader (Write extent content) s f c = write_gives P A shape w.devices w.commit w.actors t known.is.kept sizes extent content (block_range shape extent c.cut) (want k.plan) (own (Writing (block_range shape extent c.cut)) c.is_job) inside
-        stands t known leader (Migrate migration block) s f c = migration_gives P A shape w.devices w.commit w.actors t known.is.kept sizes known.is.sound migration block f.0 (want k.plan) (own (Migrating migration f.0) f.1) inside
-        stands t known leader Flush s f c = subst (λ (p : Plan). CanGive {P = P} {A = A} shape (At (Stands t)) Flush (want p)) (sym f.is)
-            (flush_gives P A shape w.devices w.commit w.actors t kept.base.known.images known f.most f.answer f.point f.at)
+        stands : (t : Target P) → AtDesk shape.geometry kept.base.known.images t.desk w.commit w.devices.metadata → (leader : ℕ) → (job : Job) → IsServed job → FlushJob w.commit (a ≡ leader) job k.plan → JobClaim shape job k.plan claim.doing → CanGive {P = P} {A = A} shape (At (Stands t)) k.actor job (want k.plan)
+        stands t known leader (Read extent) s f c = read_gives P A shape w.devices w.commit w.actors k.actor t known.is.kept sizes extent (block_range shape extent c.cut) (want k.plan) (own (Reading (block_range shape extent c.cut)) c.is_job) inside
+        stands t known leader (Write extent content) s f c = write_gives P A shape w.devices w.commit w.actors k.actor t known.is.kept sizes extent content (block_range shape extent c.cut) (want k.plan) (own (Writing (block_range shape extent c.cut)) c.is_job) inside
+        stands t known leader (Migrate migration block) s f c = migration_gives P A shape w.devices w.commit w.actors k.actor t known.is.kept sizes known.is.sound migration block f.0 (want k.plan) (own (Migrating migration f.0) f.1) inside
+        stands t known leader Flush s f c = subst (λ (p : Plan). CanGive {P = P} {A = A} shape (At (Stands t)) k.actor Flush (want p)) (sym f.is)
+            (flush_gives P A shape w.devices w.commit w.actors k.actor t kept.base.known.images known f.serves f.most f.answer f.point f.at)
         stands t known leader (Open mode) s f c = absurd s
+        stands t known leader (Replace old new) s f c = absurd f
 
-        opens : (mode : Mode) (reading : Option (ReadSteps A)) → AtOpening shape.geometry kept.base.known.images reading w.commit w.devices.metadata → (job : Job) → IsOpeningJob job → OpenJob reading w.commit job k.plan → CanGive {P = P} {A = A} shape (At (Opens mode reading)) job (want k.plan)
-        opens mode reading known (Open m') o f = subst (λ (p : Plan). CanGive {P = P} {A = A} shape (At (Opens mode reading)) (Open m') (want p)) (sym f.is)
-            (open_gives P A shape w.devices w.commit w.actors mode m' reading kept.base.known.images known f.sectors policy first begins f.point f.at)
+        opens : (mode : Mode) (reading : Option (ReadSteps A)) → AtOpening shape.geometry kept.base.known.images reading w.commit w.devices.metadata → (job : Job) → IsOpeningJob job → OpenJob reading w.commit job k.plan → CanGive {P = P} {A = A} shape (At (Opens mode reading)) k.actor job (want k.plan)
+        opens mode reading known (Open m') o f = subst (λ (p : Plan). CanGive {P = P} {A = A} shape (At (Opens mode reading)) k.actor (Open m') (want p)) (sym f.is)
+            (open_gives P A shape w.devices w.commit w.actors k.actor mode m' reading kept.base.known.images known f.sectors policy first begins f.point f.at)
         opens mode reading known (Read extent) o f = absurd o
         opens mode reading known (Write extent content) o f = absurd o
         opens mode reading known Flush o f = absurd o
         opens mode reading known (Migrate migration block) o f = absurd o
+        opens mode reading known (Replace old new) o f = absurd o
 
     fails_on : (choice : Choice) → MayFailAt w.devices choice (want k.plan) → CanFalter w choice (want k.plan)
     fails_on choice m = by_phase (λ phase job plan. CanFalter {P = P} {A = A} (At phase) choice (want plan)) (λ t known leader s f. stands t known leader k.job s f claim.claim) (λ mode reading known o f. opens mode reading known k.job o f)
       where
         stands : (t : Target P) → AtDesk shape.geometry kept.base.known.images t.desk w.commit w.devices.metadata → (leader : ℕ) → (job : Job) → IsServed job → FlushJob w.commit (a ≡ leader) job k.plan → JobClaim shape job k.plan claim.doing → CanFalter {P = P} {A = A} (At (Stands t)) choice (want k.plan)
-        stands t known leader (Read extent) s f c = block_falters P A shape w.devices w.commit w.actors t (Reading (block_range shape extent c.cut)) choice (want k.plan) (own (Reading (block_range shape extent c.cut)) c.is_job) m
-        stands t known leader (Write extent content) s f c = block_falters P A shape w.devices w.commit w.actors t (Writing (block_range shape extent c.cut)) choice (want k.plan) (own (Writing (block_range shape extent c.cut)) c.is_job) m
-        stands t known leader (Migrate migration block) s f c = block_falters P A shape w.devices w.commit w.actors t (Migrating migration f.0) choice (want k.plan) (own (Migrating migration f.0) f.1) m
+        stands t known leader (Read extent) s f c = block_falters P A shape w.devices w.commit w.actors k.actor t (Reading (block_range shape extent c.cut)) choice (want k.plan) (own (Reading (block_range shape extent c.cut)) c.is_job) m
+        stands t known leader (Write extent content) s f c = block_falters P A shape w.devices w.commit w.actors k.actor t (Writing (block_range shape extent c.cut)) choice (want k.plan) (own (Writing (block_range shape extent c.cut)) c.is_job) m
+        stands t known leader (Migrate migration block) s f c = block_falters P A shape w.devices w.commit w.actors k.actor t (Migrating migration f.0) choice (want k.plan) (own (Migrating migration f.0) f.1) m
         stands t known leader Flush s f c = subst (λ (p : Plan). CanFalter {P = P} {A = A} (At (Stands t)) choice (want p)) (sym f.is)
-            (flush_falters P A shape w.devices w.commit w.actors t kept.base.known.images known f.most f.answer choice f.point f.at (subst (λ (p : Plan). MayFailAt w.devices choice (want p)) f.is m))
+            (flush_falters P A shape w.devices w.commit w.actors k.actor t kept.base.known.images known f.serves f.most f.answer choice f.point f.at (subst (λ (p : Plan). MayFailAt w.devices choice (want p)) f.is m))
         stands t known leader (Open mode) s f c = absurd s
+        stands t known leader (Replace old new) s f c = absurd f
 
         opens : (mode : Mode) (reading : Option (ReadSteps A)) → AtOpening shape.geometry kept.base.known.images reading w.commit w.devices.metadata → (job : Job) → IsOpeningJob job → OpenJob reading w.commit job k.plan → CanFalter {P = P} {A = A} (At (Opens mode reading)) choice (want k.plan)
         opens mode reading known (Open m') o f = subst (λ (p : Plan). CanFalter {P = P} {A = A} (At (Opens mode reading)) choice (want p)) (sym f.is)
-            (open_falters P A shape w.devices w.commit w.actors mode m' reading kept.base.known.images known f.sectors policy first begins choice f.point f.at (subst (λ (p : Plan). MayFailAt w.devices choice (want p)) f.is m))
+            (open_falters P A shape w.devices w.commit w.actors k.actor mode m' reading kept.base.known.images known f.sectors policy first begins choice f.point f.at (subst (λ (p : Plan). MayFailAt w.devices choice (want p)) f.is m))
         opens mode reading known (Read extent) o f = absurd o
         opens mode reading known (Write extent content) o f = absurd o
         opens mode reading known Flush o f = absurd o
         opens mode reading known (Migrate migration block) o f = absurd o
+        opens mode reading known (Replace old new) o f = absurd o
 
   -- ---- every event
 
@@ -165,11 +176,37 @@ module _ (P A : Type 0) (shape : Shape) (policy : P) (first : ReadSteps A) (begi
     got = g.got;
     read = g.read;
     chosen = g.chosen;
-    may = is_at P A w a k (λ job s. (want k.plan ≡ want s) × Gives shape w job (want k.plan) g.got g.read g.chosen) (refl, g.gives);
+    may = is_at P A w a k (λ x job s. (want k.plan ≡ want s) × Gives shape w x job (want k.plan) g.got g.read g.chosen) (refl, g.gives);
   }
 
   skipped : (w : State P A) (event : Event) → DoesNotApply w event → HasHappening shape w event
   skipped w event d = record { what = Skipped; read = []; chosen = Plain; may = ((refl, refl), d) }
+
+  -- A job on a whole block starts or is refused, where it is decided whether its actor keeps an order for it, and whether one may be given.
+  block_starts : (w : State P A) (a : ℕ) (job : Job) → (¬ DoesNotApply w (Start a job)) → (¬ ¬ OfTarget w.phase (λ t. Unit {0})) → (whole : Extent) (Keeps : DeskState P → Type 0) → ((desk : DeskState P) → Decided (Keeps desk)) →
+      (order : CBlock → Order) → ((desk : DeskState P) → Decided (MayOrder desk order)) → ((what : What) (chosen : Chosen P A) → MigrationStarts whole w.phase Keeps order what chosen → StartGives shape w.phase (slice_get w.actors a) job what chosen) →
+      HasHappening shape w (Start a job)
+  block_starts w a job applies place whole Keeps keeps order may gives = by_phase w.phase refl
+    where
+      Comes : What → Chosen P A → Phase P A → Type 0
+      Comes what chosen phase = MigrationStarts whole phase Keeps order what chosen
+
+      cut : List Extent
+      cut = pieces 1 whole
+
+      cut_into : IsCutInto whole cut
+      cut_into = pieces_cut 1 whole (omega arith)
+
+      by_phase : (phase : Phase P A) → w.phase ≡ phase → HasHappening shape w (Start a job)
+      by_phase (Stands t) e = elim (keeps t.desk) [
+        | inl kept ↦ record { what = Started; read = []; chosen = Cut cut; may = (refl, applies, gives Started (Cut cut) (subst (Comes Started (Cut cut)) (sym e) (cut_into, kept))) }
+        | inr none ↦ elim (may t.desk) [
+          | inl m ↦ record { what = Started; read = []; chosen = Orders cut m.0; may = (refl, applies, gives Started (Orders cut m.0) (subst (Comes Started (Orders cut m.0)) (sym e) (cut_into, m.1))) }
+          | inr never ↦ record { what = Refused Busy; read = []; chosen = Plain; may = (refl, applies, gives (Refused Busy) Plain (subst (Comes (Refused Busy) Plain) (sym e) (none, never))) }
+        ]
+      ]
+      by_phase Gone e = absurd (place (λ o. subst (λ (p : Phase P A). OfTarget p (λ t. Unit {0})) e o))
+      by_phase (Opens mode reading) e = absurd (place (λ o. subst (λ (p : Phase P A). OfTarget p (λ t. Unit {0})) e o))
 
   starts : (w : State P A) (a : ℕ) (job : Job) → (¬ DoesNotApply w (Start a job)) → HasHappening shape w (Start a job)
   starts w a (Read extent) applies = by_refusal (extent_refusal shape extent) refl
@@ -184,18 +221,12 @@ module _ (P A : Type 0) (shape : Shape) (policy : P) (first : ReadSteps A) (begi
       by_refusal None e = record { what = Started; read = []; chosen = Cut (pieces 1 extent); may = (refl, applies, (e, pieces_cut 1 extent (omega arith))) }
   starts w a Flush applies = record { what = Started; read = []; chosen = Plain; may = (refl, applies, tt) }
   starts w a (Open mode) applies = record { what = Started; read = []; chosen = Plain; may = (refl, applies, tt) }
-  starts w a (Migrate migration block) applies = by_phase w.phase refl
-    where
-      by_phase : (phase : Phase P A) → w.phase ≡ phase → HasHappening shape w (Start a (Migrate migration block))
-      by_phase (Stands t) e = elim (has_order (orders_in (slice_get w.actors a)) (order_for migration block)) [
-        | inl kept ↦ record { what = Started; read = []; chosen = Cut (pieces 1 (whole_block (block_size shape) block)); may = (refl, applies, subst (λ (p : Phase P A). MigrationStarts (whole_block (block_size shape) block) p (orders_in (slice_get w.actors a)) (order_for migration block) Started (Cut (pieces 1 (whole_block (block_size shape) block)))) (sym e) (pieces_cut 1 (whole_block (block_size shape) block) (omega arith), kept)) }
-        | inr none ↦ elim (may_order t.desk migration block) [
-          | inl may ↦ record { what = Started; read = []; chosen = Orders (pieces 1 (whole_block (block_size shape) block)) may.0; may = (refl, applies, subst (λ (p : Phase P A). MigrationStarts (whole_block (block_size shape) block) p (orders_in (slice_get w.actors a)) (order_for migration block) Started (Orders (pieces 1 (whole_block (block_size shape) block)) may.0)) (sym e) (pieces_cut 1 (whole_block (block_size shape) block) (omega arith), may.1)) }
-          | inr never ↦ record { what = Refused Busy; read = []; chosen = Plain; may = (refl, applies, subst (λ (p : Phase P A). MigrationStarts (whole_block (block_size shape) block) p (orders_in (slice_get w.actors a)) (order_for migration block) (Refused Busy) Plain) (sym e) (none, never)) }
-        ]
-      ]
-      by_phase Gone e = absurd (applies (inr (inr (λ o. subst (λ (p : Phase P A). OfTarget p (λ t. Unit {0})) e o))))
-      by_phase (Opens mode reading) e = absurd (applies (inr (inr (λ o. subst (λ (p : Phase P A). OfTarget p (λ t. Unit {0})) e o))))
+  starts w a (Migrate migration block) applies = let kept = orders_in (slice_get w.actors a) in
+      block_starts w a (Migrate migration block) applies (λ p. applies (inr (inr p))) (whole_block (block_size shape) block) (λ desk. KeepsMigration desk kept migration block) (λ desk. keeps_migration desk kept migration block)
+      (λ cache. order_for migration block) (λ desk. may_order desk migration block) (λ what chosen s. s)
+  starts w a (Replace old new) applies = let kept = orders_in (slice_get w.actors a) in
+      block_starts w a (Replace old new) applies (λ p. applies (inr (inr p))) (whole_block (block_size shape) old) (λ desk. KeepsReplacement desk kept old new) (λ desk. keeps_replacement desk kept old new)
+      (λ cache. ReplaceOrder old new cache) (λ desk. may_replace desk old new) (λ what chosen s. s)
 
   start_happens : (w : State P A) (a : ℕ) (job : Job) → HasHappening shape w (Start a job)
   start_happens w a job = by_actor (slice_get w.actors a) refl
@@ -203,12 +234,12 @@ module _ (P A : Type 0) (shape : Shape) (policy : P) (first : ReadSteps A) (begi
       by_actor : (o : Option Actor) → slice_get w.actors a ≡ o → HasHappening shape w (Start a job)
       by_actor None e = skipped w (Start a job) (inl e)
       by_actor (Some x) e = elim (tasked P A w a) [
-        | inl k ↦ skipped w (Start a job) (inr (inl (is_at P A w a k (λ job s. Unit {0}) tt)))
+        | inl k ↦ skipped w (Start a job) (inr (inl (is_at P A w a k (λ x job s. Unit {0}) tt)))
         | inr none ↦ elim (out_of_place w.phase job) [
           | inl out ↦ skipped w (Start a job) (inr (inr out))
           | inr place ↦ starts w a job (λ d. elim d [
             | inl gone ↦ absurd (let bad : Some x ≡ None = sym e ∙ gone in cc)
-            | inr more ↦ elim more [ inl task ↦ none (λ job s. Unit {0}) task | inr out ↦ place out ]
+            | inr more ↦ elim more [ inl task ↦ none (λ x job s. Unit {0}) task | inr out ↦ place out ]
           ])
         ]
       ]
@@ -216,7 +247,7 @@ module _ (P A : Type 0) (shape : Shape) (policy : P) (first : ReadSteps A) (begi
   step_happens : (w : State P A) → Kept P A shape w → StaysInside shape w → (a : ℕ) → HasHappening shape w (Step a)
   step_happens w kept stays a = elim (tasked P A w a) [
     | inl k ↦ let g = steps w kept stays a k in record { what = Stepped g.next g.got; read = g.read; chosen = g.chosen; may = g.may }
-    | inr none ↦ skipped w (Step a) (none (λ job s. Unit {0}))
+    | inr none ↦ skipped w (Step a) (none (λ x job s. Unit {0}))
   ]
 
   fault_happens : (w : State P A) → Kept P A shape w → StaysInside shape w → (a : ℕ) (choice : Choice) → HasHappening shape w (FaultStep a choice)
@@ -226,11 +257,11 @@ module _ (P A : Type 0) (shape : Shape) (policy : P) (first : ReadSteps A) (begi
         what = Stepped (want k.plan) Fault;
         read = [];
         chosen = f.chosen;
-        may = (refl, refl, is_at P A w a k (λ job s. (want k.plan ≡ want s) × MayFailAt w.devices choice (want k.plan) × Falters w choice (want k.plan) f.chosen) (refl, m, f.falters));
+        may = (refl, refl, is_at P A w a k (λ x job s. (want k.plan ≡ want s) × MayFailAt w.devices choice (want k.plan) × Falters w choice (want k.plan) f.chosen) (refl, m, f.falters));
       }
-      | inr n ↦ skipped w (FaultStep a choice) (λ h. n (was_at P A w a k (λ job s. MayFailAt w.devices choice (want s)) h))
+      | inr n ↦ skipped w (FaultStep a choice) (λ h. n (was_at P A w a k (λ x job s. MayFailAt w.devices choice (want s)) h))
     ]
-    | inr none ↦ skipped w (FaultStep a choice) (none (λ job s. MayFailAt w.devices choice (want s)))
+    | inr none ↦ skipped w (FaultStep a choice) (none (λ x job s. MayFailAt w.devices choice (want s)))
   ]
 
   happens : (w : State P A) → Kept P A shape w → StaysInside shape w → (event : Event) → HasHappening shape w event
@@ -251,7 +282,7 @@ module _ (P A : Type 0) (shape : Shape) (policy : P) (first : ReadSteps A) (begi
         events = happens w kept stays;
         steps = λ a h. elim (tasked P A w a) [
           | inl k ↦ steps w kept stays a k
-          | inr none ↦ absurd (none (λ job s. Unit {0}) h)
+          | inr none ↦ absurd (none (λ x job s. Unit {0}) h)
         ];
         commits = λ t most is once enough may. desk_begins (heap_of first begins) P A shape.geometry kept.base.known.images t.desk w.commit w.devices.metadata
             (subst (λ (phase : Phase P A). MetadataKept shape.geometry kept.base.known.images phase w.commit w.devices.metadata) is kept.base.known.known) once most enough may;

@@ -30,7 +30,7 @@ use Rattle.wb_policy.specs.declared.order.Order.{Order}
 use Rattle.wb_desk.specs.Calls.{released}
 use Rattle.wb_desk.specs.Desks.{DeskState, DeskInvariant}
 use Rattle.wb_desk.proofs.Kept.{found_at, takes_there}
-use Rattle.wb_stage.specs.Asking.{IsGivenUp}
+use Rattle.wb_stage.specs.Asking.{IsGivenUp, DidRelease, order_of}
 use Rattle.wb_words.specs.Effects.{result_of}
 use Rattle.wb_tasks.specs.Ready.{HoldsBlocks, IsOwnStep, source_of, target_of}
 use Rattle.wb_tasks.specs.Tables.{BlockRange, BlockJob, Reading, Writing, Migrating, OnBlock, Flushing, Opening}
@@ -52,7 +52,7 @@ use Rattle.wb_devices.specs.Moving.{device_in}
 use Rattle.wb_runs.specs.declared.job.Job.{Job}
 use Rattle.wb_runs.specs.declared.job.Job.TheVariants.{Read, Write, Flush, Open, Migrate}
 use Rattle.wb_runs.specs.States.{Shape, State, Actor, Target, Stands, Opens, OfReading}
-use Rattle.wb_runs.specs.Happenings.{Chosen, Plain, Begins, Puts, Asks, Opened, OfSome, LandedOr, sector_put, DoesBegin, DoesPut, FailsPut, Gives, Falters, order_for}
+use Rattle.wb_runs.specs.Happenings.{Chosen, Plain, Begins, Puts, Asks, Opened, OfSome, LandedOr, sector_put, DoesBegin, DoesPut, FailsPut, Gives, Falters}
 use Rattle.wb_runs.specs.Inside.{StepInside, size_on}
 use Rattle.wb_runs.proofs.Images.{Images}
 use Rattle.wb_runs.proofs.Spelled.{IsSmall, node_spelling, spelled_node}
@@ -62,7 +62,7 @@ use Rattle.wb_runs.proofs.Metadata.{AtDesk, AtOpening, unknowing}
 use Rattle.wb_runs.proofs.Desks.{is_live, can_unmap}
 use Rattle.wb_runs.proofs.Plans.{plan_of}
 use Rattle.wb_runs.proofs.Readings.{generation_fits, can_read}
-use Rattle.wb_runs.proofs.Points.{Runs, FlushPoint, ToLook, ToBegin, ToSyncCache, ToSyncOrigin, ToWriteNodes, ToWriteRoot, ToSyncRoot, ToEnd, ToSetFailed, ToAnswer, flush_left, AtFlush, OpenPoint, AtFirst, AtCache, AtOrigin, AtRead, AtRoot, AtRootSync, AtEnd, AtRefusal, open_left, open_answer, AtOpen}
+use Rattle.wb_runs.proofs.Points.{Runs, FlushPoint, ToLook, ToBegin, ToSyncCache, ToSyncOrigin, ToWriteNodes, ToWriteRoot, ToSyncRoot, ToEnd, ToSetFailed, ToRelease, flush_left, AtFlush, OpenPoint, AtFirst, AtCache, AtOrigin, AtRead, AtRoot, AtRootSync, AtEnd, AtRefusal, open_left, open_answer, AtOpen}
 
 -- ---- reads
 
@@ -210,30 +210,38 @@ gives_up desk order kept = elim (is_live desk order) [
   | inr none ↦ (desk, ((λ live. absurd (none live)), (λ n. refl)))
 ]
 
+-- so can that of a block, of some orders, if one of them is of it
+releases : {P : Type 0} (desk : DeskState P) (orders : List Order) (block : OBlock) → DeskInvariant unknowing desk → (new : DeskState P) × DidRelease orders block desk new
+releases desk orders block kept = by_order (order_of block orders)
+  where
+    by_order : (o : Option Order) → (new : DeskState _) × IsGivenUp o desk new
+    by_order None = (desk, refl)
+    by_order (Some order) = gives_up desk order kept
+
 -- what an actor's step may give, and what was free where it fails
-pub record CanGive {P A : Type 0} (shape : Shape) (w : State P A) (job : Job) (next : Want) : Type 0 where
+pub record CanGive {P A : Type 0} (shape : Shape) (w : State P A) (x : Actor) (job : Job) (next : Want) : Type 0 where
   pub got : Got
   pub read : List Bytes
   pub chosen : Chosen P A
-  pub gives : Gives shape w job next got read chosen
+  pub gives : Gives shape w x job next got read chosen
 
 pub record CanFalter {P A : Type 0} (w : State P A) (choice : Choice) (next : Want) : Type 0 where
   pub chosen : Chosen P A
   pub falters : Falters w choice next chosen
 
-module _ (P A : Type 0) (shape : Shape) (devices : Devices (List History)) (commit : Option RunningCommit) (actors : List Actor) where
+module _ (P A : Type 0) (shape : Shape) (devices : Devices (List History)) (commit : Option RunningCommit) (actors : List Actor) (x : Actor) where
   -- ---- where a target stands
 
   module _ (t : Target P) where
     abbrev w : State P A
     w = record { devices = devices; commit = commit; phase = Stands t; actors = actors }
 
-    cell_gives : (job : Job) (step : _) → CanGive shape w job (Cell step)
+    cell_gives : (job : Job) (step : _) → CanGive shape w x job (Cell step)
     cell_gives job step = record { got = got_of (result_of t.words step); read = []; chosen = Plain; gives = ((refl, refl), refl) }
 
     -- a step on sectors of a device on which blocks stand
     module _ (kept : DeskInvariant unknowing t.desk) (sizes : (d : Dev) → HoldsBlocks d → length (device_in d devices) ≡ size_on shape d) where
-      pub read_gives : (extent : Extent) (part : BlockRange) (next : Want) → IsOwnStep (OnBlock (Reading part)) next → StepInside shape next → CanGive shape w (Read extent) next
+      pub read_gives : (extent : Extent) (part : BlockRange) (next : Want) → IsOwnStep (OnBlock (Reading part)) next → StepInside shape next → CanGive shape w x (Read extent) next
       read_gives extent part (Cell step) i s = cell_gives (Read extent) step
       read_gives extent part (Device (ReadExtent d e)) i s = let r = contents_from (device_in d devices) e.count e.first (omega (arith, s, sizes d i)) in
           record { got = Done; read = r.0; chosen = Plain; gives = (i, refl, refl, r.1, r.2) }
@@ -245,7 +253,7 @@ module _ (P A : Type 0) (shape : Shape) (devices : Devices (List History)) (comm
       read_gives extent part (Device WriteRoot) i s = absurd i
       read_gives extent part (Desk step) i s = absurd i
 
-      pub write_gives : (extent : Extent) (content : Bytes) (part : BlockRange) (next : Want) → IsOwnStep (OnBlock (Writing part)) next → StepInside shape next → CanGive shape w (Write extent content) next
+      pub write_gives : (extent : Extent) (content : Bytes) (part : BlockRange) (next : Want) → IsOwnStep (OnBlock (Writing part)) next → StepInside shape next → CanGive shape w x (Write extent content) next
       write_gives extent content part (Cell step) i s = cell_gives (Write extent content) step
       write_gives extent content part (Device (WriteExtent d e)) i s = record { got = Done; read = []; chosen = Plain; gives = (i, (refl, refl), refl, omega (arith, s, sizes d i)) }
       write_gives extent content part (End answer) i s = record { got = Done; read = []; chosen = Plain; gives = ((refl, refl), refl) }
@@ -257,13 +265,13 @@ module _ (P A : Type 0) (shape : Shape) (devices : Devices (List History)) (comm
       write_gives extent content part (Desk step) i s = absurd i
 
       -- a migration's step; where a promotion asks for its entry there may be no memory for that
-      pub migration_gives : IsSound t.desk.tree → (migration : Migration) (block : OBlock) (part : BlockRange) (next : Want) → IsOwnStep (OnBlock (Migrating migration part)) next → StepInside shape next → CanGive shape w (Migrate migration block) next
+      pub migration_gives : IsSound t.desk.tree → (migration : Migration) (block : OBlock) (part : BlockRange) (next : Want) → IsOwnStep (OnBlock (Migrating migration part)) next → StepInside shape next → CanGive shape w x (Migrate migration block) next
       migration_gives sound migration block part (Cell step) i s = cell_gives (Migrate migration block) step
       migration_gives sound migration block part (Device (ReadExtent d e)) i s = let h = subst HoldsBlocks (sym i) (source_holds migration) in record { got = Done; read = []; chosen = Plain; gives = (h, (refl, refl), refl, omega (arith, s, sizes d h)) }
       migration_gives sound migration block part (Device (WriteExtent d e)) i s = let h = subst HoldsBlocks (sym i) (target_holds migration) in record { got = Done; read = []; chosen = Plain; gives = (h, (refl, refl), refl, omega (arith, s, sizes d h)) }
       migration_gives sound migration block part (Desk (Map b place)) i s = record { got = GotRefused Memory; read = []; chosen = Plain; gives = (refl, refl) }
       migration_gives sound migration block part (Desk (Unmap b)) i s = let r = can_unmap t.desk b kept sound in record { got = Done; read = []; chosen = Asks r.0; gives = (refl, refl, r.1) }
-      migration_gives sound migration block part (Desk (ReleaseOrder b)) i s = let r = gives_up t.desk (order_for migration block) kept in record { got = Done; read = []; chosen = Asks r.0; gives = (refl, refl, r.1) }
+      migration_gives sound migration block part (Desk (ReleaseOrder b)) i s = let r = releases t.desk x.orders b kept in record { got = Done; read = []; chosen = Asks r.0; gives = (refl, refl, r.1) }
       migration_gives sound migration block part (End answer) i s = record { got = Done; read = []; chosen = Plain; gives = ((refl, refl), refl) }
       migration_gives sound migration block part (Desk (BeginCommit clean most)) i s = absurd i
       migration_gives sound migration block part (Desk EndCommit) i s = absurd i
@@ -296,14 +304,14 @@ module _ (P A : Type 0) (shape : Shape) (devices : Devices (List History)) (comm
     block_falters job choice (Desk step) i m = absurd m
     block_falters job choice (End answer) i m = absurd m
 
-    module _ (images : Images) (known : AtDesk shape.geometry images t.desk commit devices.metadata) (most : ℕ) (answer : Answer) where
+    module _ (images : Images) (known : AtDesk shape.geometry images t.desk commit devices.metadata) (serves : List OBlock) (most : ℕ) (answer : Answer) where
       abbrev F : FlushPoint → Plan
-      F point = plan_of (Flushing [] most) (flush_left most point) answer
+      F point = plan_of (Flushing serves most) (flush_left serves most point) answer
 
       fits : AllFit commit devices.metadata
       fits = desk_fits P A shape.geometry images t.desk commit devices.metadata known
 
-      sync_gives : (nodes : ℕ) (steps : CommitSteps) → Runs nodes steps commit → ((image : Image) → length image.nodes.items ≡ nodes → is_coming image steps (Sync Metadata) ≡ true) → CanGive shape w Flush (Device (Sync Metadata))
+      sync_gives : (nodes : ℕ) (steps : CommitSteps) → Runs nodes steps commit → ((image : Image) → length image.nodes.items ≡ nodes → is_coming image steps (Sync Metadata) ≡ true) → CanGive shape w x Flush (Device (Sync Metadata))
       sync_gives nodes steps r coming = let s = syncs_next P A nodes commit devices.metadata steps r fits coming in
           record { got = Done; read = []; chosen = Plain; gives = (refl, refl, subst (λ (c : Option RunningCommit). Rattle.wb_runs.specs.Happenings.DoesSync {P = P} {A = A} (Stands t) c devices.metadata Plain) (sym s.1) (s.2, refl)) }
 
@@ -311,7 +319,7 @@ module _ (P A : Type 0) (shape : Shape) (devices : Devices (List History)) (comm
       sync_falters choice nodes steps r coming = let s = syncs_next P A nodes commit devices.metadata steps r fits coming in
           record { chosen = Plain; falters = (refl, subst (λ (c : Option RunningCommit). Rattle.wb_runs.specs.Happenings.FailsSync {P = P} {A = A} (Stands t) c devices.metadata) (sym s.1) (s.2, tt)) }
 
-      pub flush_gives : (point : FlushPoint) → AtFlush point commit → CanGive shape w Flush (want (F point))
+      pub flush_gives : (point : FlushPoint) → AtFlush point commit → CanGive shape w x Flush (want (F point))
       flush_gives ToLook at = cell_gives Flush _
       flush_gives ToBegin at = let b = begins_or P A shape.geometry images t.desk commit devices.metadata most known in record { got = b.0; read = []; chosen = b.1.0; gives = (refl, refl, b.1.1) }
       flush_gives (ToSyncCache nodes) at = record { got = Done; read = []; chosen = Plain; gives = ((refl, refl), refl) }
@@ -326,7 +334,8 @@ module _ (P A : Type 0) (shape : Shape) (devices : Devices (List History)) (comm
           done None r = absurd r
           done (Some c) r = ap (λ (s : CommitSteps). Rattle.wb_devices.specs.Committing.is_committed s) r.2
       flush_gives ToSetFailed at = cell_gives Flush _
-      flush_gives ToAnswer at = record { got = Done; read = []; chosen = Plain; gives = ((refl, refl), refl) }
+      flush_gives (ToRelease []) at = record { got = Done; read = []; chosen = Plain; gives = ((refl, refl), refl) }
+      flush_gives (ToRelease (block ∷ blocks)) at = let r = releases t.desk x.awaiting block known.is.kept in record { got = Done; read = []; chosen = Asks r.0; gives = (refl, refl, r.1) }
 
       pub flush_falters : (choice : Choice) (point : FlushPoint) → AtFlush point commit → Rattle.wb_runs.specs.Happenings.MayFailAt devices choice (want (F point)) → CanFalter w choice (want (F point))
       flush_falters choice ToLook at m = absurd m
@@ -339,7 +348,8 @@ module _ (P A : Type 0) (shape : Shape) (devices : Devices (List History)) (comm
       flush_falters choice (ToSyncRoot nodes) at m = sync_falters choice nodes RootWritten at (λ i e. refl)
       flush_falters choice (ToEnd nodes) at m = absurd m
       flush_falters choice ToSetFailed at m = absurd m
-      flush_falters choice ToAnswer at m = absurd m
+      flush_falters choice (ToRelease []) at m = absurd m
+      flush_falters choice (ToRelease (block ∷ blocks)) at m = absurd m
 
   -- ---- an opening
 
@@ -354,7 +364,7 @@ module _ (P A : Type 0) (shape : Shape) (devices : Devices (List History)) (comm
     opens_fit = opening_fits P A shape.geometry images reading commit devices.metadata known
 
     reads_on : (left : ℕ) (r : Option (ReadSteps A)) (c : Option RunningCommit) → c ≡ None → AtOpening shape.geometry images r c devices.metadata → OfSome r (λ was. sectors_read was ≡ 0 → 1 ≤ left) →
-        CanGive {P = P} {A = A} shape (record { devices = devices; commit = c; phase = Opens mode r; actors = actors }) (Open m') (Device (ReadMetadata left))
+        CanGive {P = P} {A = A} shape (record { devices = devices; commit = c; phase = Opens mode r; actors = actors }) x (Open m') (Device (ReadMetadata left))
     reads_on left (Some was) None e k o = let some : 1 ≤ length devices.metadata = omega (arith, k.found.read.size, shape.geometry.within.meta_from) in
         let r = can_read P A shape.geometry devices.metadata images left was k o some in record { got = r.got; read = []; chosen = r.chosen; gives = (refl, refl, r.does) }
     reads_on left None c e k o = absurd o
@@ -366,7 +376,7 @@ module _ (P A : Type 0) (shape : Shape) (devices : Devices (List History)) (comm
     answers None (Some c) k at = absurd k
     answers (Some reading) (Some c) k at = (subst (λ (x : ReadSteps A). IsDone x) (sym k.all) tt, ap (λ (s : CommitSteps). Rattle.wb_devices.specs.Committing.is_committed s) at.2)
 
-    pub open_gives : (point : OpenPoint) → AtOpen n point reading commit → CanGive shape v (Open m') (want (O point))
+    pub open_gives : (point : OpenPoint) → AtOpen n point reading commit → CanGive shape v x (Open m') (want (O point))
     open_gives AtFirst at = record { got = Done; read = []; chosen = Begins first; gives = (refl, refl, subst (λ (c : Option RunningCommit). Rattle.wb_runs.specs.Happenings.DoesSync {P = P} {A = A} (Opens mode reading) c devices.metadata (Begins first)) (sym at.0) begins) }
     open_gives AtCache at = record { got = Done; read = []; chosen = Plain; gives = ((refl, refl), refl) }
     open_gives AtOrigin at = record { got = Done; read = []; chosen = Plain; gives = ((refl, refl), refl) }

@@ -7,6 +7,7 @@ use Rattle.wb_types.specs.declared.refusal.Refusal.{Refusal}
 use Rattle.wb_types.specs.declared.refusal.Refusal.TheVariants.{Busy, Failed, Io}
 use Rattle.wb_disk.specs.Device.{Content as Bytes, History}
 use Rattle.wb_disk.specs.Crash.{Choice}
+use Rattle.wb_types.specs.declared.number.OBlock.{OBlock}
 use Rattle.wb_types.specs.declared.number.Place.{Place}
 use Rattle.wb_format.specs.declared.node.Node.{Node}
 use Rattle.wb_tree.specs.declared.image.Image.{Image}
@@ -16,7 +17,7 @@ use Rattle.wb_meta.specs.declared.read_steps.ReadSteps.{ReadSteps}
 use Rattle.wb_meta.specs.declared.commit_steps.CommitSteps.{CommitSteps}
 use Rattle.wb_meta.specs.declared.commit_steps.CommitSteps.TheVariants.{NodesWritten, NodesSynced, RootWritten, Done as Committed}
 use Rattle.wb_tasks.specs.Tables.{Flushing, Opening}
-use Rattle.wb_tasks.specs.Plan.{Plan, want, after}
+use Rattle.wb_tasks.specs.Plan.{Plan, want, after, release_orders}
 use Rattle.wb_tasks.specs.declared.step.Answer.{Answer}
 use Rattle.wb_tasks.specs.declared.step.Answer.TheVariants.{Refused as Refuses}
 use Rattle.wb_tasks.specs.declared.step.Want.{Want}
@@ -28,14 +29,14 @@ use Rattle.wb_devices.specs.declared.running.RunningCommit.{RunningCommit}
 use Rattle.wb_devices.specs.Opened.{HasCome, got_of_refusal}
 use Rattle.wb_runs.specs.declared.job.Job.{Job}
 use Rattle.wb_runs.specs.declared.job.Job.TheVariants.{Flush, Open}
-use Rattle.wb_runs.specs.States.{Shape, State, Target, Stands, Opens}
+use Rattle.wb_runs.specs.States.{Shape, State, Actor, Target, Stands, Opens}
 use Rattle.wb_runs.specs.Happenings.{Chosen, Plain, Begins, Reaches, Commits, OfSome, HasGeneration, DoesSync, DoesRead, DoesBegin, Gives, Falters}
 use Rattle.wb_runs.specs.Effects.{commit_then, reading_then, task_then}
 use Rattle.wb_runs.proofs.Plans.{plan_of}
 use Rattle.wb_runs.proofs.Metadata.{AtDesk}
 use Rattle.wb_runs.proofs.Images.{Images}
 use Rattle.wb_runs.proofs.Making.{image_small, small_opening}
-use Rattle.wb_runs.proofs.Points.{Runs, FlushPoint, ToLook, ToBegin, ToSyncCache, ToSyncOrigin, ToWriteNodes, ToWriteRoot, ToSyncRoot, ToEnd, ToSetFailed, ToAnswer, flush_left, AtFlush, IsLeading, FlushAt, FlushJob, FlushTask, OpenPoint, AtFirst, AtCache, AtOrigin, AtRead, AtRoot, AtRootSync, AtEnd, AtRefusal, open_left, open_answer, AtOpen, OpenAt}
+use Rattle.wb_runs.proofs.Points.{Runs, FlushPoint, ToLook, ToBegin, ToSyncCache, ToSyncOrigin, ToWriteNodes, ToWriteRoot, ToSyncRoot, ToEnd, ToSetFailed, ToRelease, flush_left, AtFlush, IsLeading, FlushAt, FlushJob, FlushTask, OpenPoint, AtFirst, AtCache, AtOrigin, AtRead, AtRoot, AtRootSync, AtEnd, AtRefusal, open_left, open_answer, AtOpen, OpenAt}
 
 -- ---- a commit goes on
 
@@ -59,7 +60,7 @@ nodes_over from image e = ap (λ (o : Option (Place × Node)). Rattle.wb_meta.sp
 
 -- who does not lead is where it was, whatever becomes of the commit
 pub stays : (commit commit' : Option RunningCommit) (L L' : Type 0) (plan : Plan) (k : FlushAt commit L plan) → (IsLeading k.point → ⊥) → FlushAt commit' L' plan
-stays commit commit' L L' plan k none = record { most = k.most; answer = k.answer; point = k.point; is = k.is; at = by_point k.point none; leads = λ i. absurd (none i) }
+stays commit commit' L L' plan k none = record { serves = k.serves; most = k.most; answer = k.answer; point = k.point; is = k.is; at = by_point k.point none; leads = λ i. absurd (none i) }
   where
     by_point : (p : FlushPoint) → (IsLeading p → ⊥) → AtFlush p commit'
     by_point ToLook n = tt
@@ -71,7 +72,7 @@ stays commit commit' L L' plan k none = record { most = k.most; answer = k.answe
     by_point (ToSyncRoot nodes) n = absurd (n tt)
     by_point (ToEnd nodes) n = absurd (n tt)
     by_point ToSetFailed n = tt
-    by_point ToAnswer n = tt
+    by_point (ToRelease blocks) n = tt
 
 -- where it stands after a step, and what became of the others
 pub record Moved (commit commit' : Option RunningCommit) (a leader : ℕ) (task : Option (Job × Plan)) : Type 0 where
@@ -79,36 +80,36 @@ pub record Moved (commit commit' : Option RunningCommit) (a leader : ℕ) (task 
   pub here : FlushTask commit' (a ≡ leader') task
   pub others : (b : ℕ) (plan : Plan) → b ≢ a → FlushAt commit (b ≡ leader) plan → FlushAt commit' (b ≡ leader') plan
 
-module _ (P A : Type 0) (shape : Shape) (t : Target P) (commit : Option RunningCommit) (m : List History) (images : Images) (known : AtDesk shape.geometry images t.desk commit m) (a leader most : ℕ) (answer : Answer) where
+module _ (P A : Type 0) (shape : Shape) (t : Target P) (commit : Option RunningCommit) (m : List History) (images : Images) (known : AtDesk shape.geometry images t.desk commit m) (a leader : ℕ) (serves : List OBlock) (most : ℕ) (answer : Answer) where
   abbrev F : List Want → Plan
-  F ws = plan_of (Flushing [] most) ws answer
+  F ws = plan_of (Flushing serves most) ws answer
 
   abbrev Then : Option RunningCommit → Plan → Type 0
   Then commit' plan = Moved commit commit' a leader (Some (Flush, plan))
 
   -- it is at this point, and nobody else is concerned
-  quietly : (answer' : Answer) (point : FlushPoint) (plan : Plan) → plan ≡ plan_of (Flushing [] most) (flush_left most point) answer' → AtFlush point commit → (IsLeading point → a ≡ leader) → Then commit plan
-  quietly answer' point plan is at leads = record { leader' = leader; here = record { most = most; answer = answer'; point = point; is = is; at = at; leads = leads }; others = λ b p o k. k }
+  quietly : (answer' : Answer) (point : FlushPoint) (plan : Plan) → plan ≡ plan_of (Flushing serves most) (flush_left serves most point) answer' → AtFlush point commit → (IsLeading point → a ≡ leader) → Then commit plan
+  quietly answer' point plan is at leads = record { leader' = leader; here = record { serves = serves; most = most; answer = answer'; point = point; is = is; at = at; leads = leads }; others = λ b p o k. k }
 
   -- the leader went on, and no other leads
-  leading : (commit' : Option RunningCommit) (answer' : Answer) (point : FlushPoint) (plan : Plan) → plan ≡ plan_of (Flushing [] most) (flush_left most point) answer' → AtFlush point commit' → a ≡ leader → Then commit' plan
+  leading : (commit' : Option RunningCommit) (answer' : Answer) (point : FlushPoint) (plan : Plan) → plan ≡ plan_of (Flushing serves most) (flush_left serves most point) answer' → AtFlush point commit' → a ≡ leader → Then commit' plan
   leading commit' answer' point plan is at l = record {
     leader' = leader;
-    here = record { most = most; answer = answer'; point = point; is = is; at = at; leads = λ i. l };
+    here = record { serves = serves; most = most; answer = answer'; point = point; is = is; at = at; leads = λ i. l };
     others = λ b p o k. stays commit commit' (b ≡ leader) (b ≡ leader) p k (λ i. o (k.leads i ∙ sym l));
   }
 
-  looks : (got : Got) → got ≡ Word t.words.fail → Then commit (after (F (flush_left most ToLook)) got)
-  looks got e = subst (λ (g : Got). Then commit (after (F (flush_left most ToLook)) g)) (sym e) (by_test (t.words.fail == 0))
+  looks : (got : Got) → got ≡ Word t.words.fail → Then commit (after (F (flush_left serves most ToLook)) got)
+  looks got e = subst (λ (g : Got). Then commit (after (F (flush_left serves most ToLook)) g)) (sym e) (by_test (t.words.fail == 0))
     where
-      by_test : (b : Bool) → Then commit (if b then F (flush_left most ToBegin) else plan_of (Flushing [] most) [] (Refuses Failed))
+      by_test : (b : Bool) → Then commit (if b then F (flush_left serves most ToBegin) else plan_of (Flushing serves most) [] (Refuses Failed))
       by_test true = quietly answer ToBegin _ refl tt (λ i. absurd i)
-      by_test false = quietly (Refuses Failed) ToAnswer _ refl tt (λ i. absurd i)
+      by_test false = quietly (Refuses Failed) (ToRelease []) _ refl tt (λ i. absurd i)
 
-  begins : (got : Got) (chosen : Chosen P A) → DoesBegin most t.desk got chosen → Then (Rattle.wb_runs.specs.Effects.begun_commit chosen commit) (after (F (flush_left most ToBegin)) got)
+  begins : (got : Got) (chosen : Chosen P A) → DoesBegin most t.desk got chosen → Then (Rattle.wb_runs.specs.Effects.begun_commit chosen commit) (after (F (flush_left serves most ToBegin)) got)
   begins (Began nodes) (Commits c tree) s = record {
     leader' = a;
-    here = record { most = most; answer = answer; point = ToSyncCache nodes; is = refl; at = (sym s.1, image_small shape.geometry t.desk tree c known.is.geometry known.is.kept.mapping s.3 s.4, s.2); leads = λ i. refl };
+    here = record { serves = serves; most = most; answer = answer; point = ToSyncCache nodes; is = refl; at = (sym s.1, image_small shape.geometry t.desk tree c known.is.geometry known.is.kept.mapping s.3 s.4, s.2); leads = λ i. refl };
     others = λ b p o k. stays commit (Some c) (b ≡ leader) (b ≡ a) p k (λ i. no_leader commit known k.point i k.at);
   }
     where
@@ -123,15 +124,19 @@ module _ (P A : Type 0) (shape : Shape) (t : Target P) (commit : Option RunningC
       no_leader None k ToLook i at = i
       no_leader None k ToBegin i at = i
       no_leader None k ToSetFailed i at = i
-      no_leader None k ToAnswer i at = i
-  begins (GotRefused refusal) Plain s = quietly (Refuses refusal) ToAnswer _ (same refusal) tt (λ i. absurd i)
+      no_leader None k (ToRelease blocks) i at = i
+  begins (GotRefused refusal) Plain s = quietly (Refuses refusal) (ToRelease (let_go refusal)) _ (same refusal) tt (λ i. absurd i)
     where
-      same : (r : Refusal) → after (F (Desk (BeginCommit false most) ∷ [])) (GotRefused r) ≡ plan_of (Flushing [] most) [] (Refuses r)
+      let_go : Refusal → List OBlock
+      let_go Busy = []
+      let_go r = serves
+
+      same : (r : Refusal) → after (F (Desk (BeginCommit false most) ∷ [])) (GotRefused r) ≡ plan_of (Flushing serves most) (release_orders (let_go r)) (Refuses r)
       same Busy = refl
       same r = refl
   begins got chosen s = absurd s
 
-  module _ (w : State P A) (stands : w.phase ≡ Stands t) (runs : w.commit ≡ commit) (got : Got) (read : List Bytes) (chosen : Chosen P A) where
+  module _ (w : State P A) (x : Actor) (stands : w.phase ≡ Stands t) (runs : w.commit ≡ commit) (got : Got) (read : List Bytes) (chosen : Chosen P A) where
     abbrev After : Want → Plan → Type 0
     After next plan = Moved commit (commit_then {P = P} {A = A} (Stands t) commit next got chosen) a leader (task_then (Some (Flush, plan)) next got)
 
@@ -141,7 +146,7 @@ module _ (P A : Type 0) (shape : Shape) (t : Target P) (commit : Option RunningC
     led_done : (nodes : ℕ) → got ≡ Done → (steps steps' : CommitSteps) → Runs nodes steps commit → ((image : Image) → length image.nodes.items ≡ nodes → steps_after image steps ≡ steps') → Runs nodes steps' (Rattle.wb_runs.specs.Effects.led commit got)
     led_done nodes e steps steps' r f = subst (λ (g : Got). Runs nodes steps' (Rattle.wb_runs.specs.Effects.led commit g)) (sym e) (leads_on nodes commit steps r steps' f)
 
-    pub flush_moves : (point : FlushPoint) → AtFlush point commit → (IsLeading point → a ≡ leader) → Gives shape (record { devices = w.devices; commit = commit; phase = Stands t; actors = w.actors }) Flush (want (F (flush_left most point))) got read chosen → After (want (F (flush_left most point))) (F (flush_left most point))
+    pub flush_moves : (point : FlushPoint) → AtFlush point commit → (IsLeading point → a ≡ leader) → Gives shape (record { devices = w.devices; commit = commit; phase = Stands t; actors = w.actors }) x Flush (want (F (flush_left serves most point))) got read chosen → After (want (F (flush_left serves most point))) (F (flush_left serves most point))
     flush_moves ToLook at l g = looks got g.1
     flush_moves ToBegin at l g = begins got chosen g.2
     flush_moves (ToSyncCache nodes) at l g = done _ _ g.1 commit (leading commit answer (ToSyncOrigin nodes) _ refl at (l tt))
@@ -155,13 +160,14 @@ module _ (P A : Type 0) (shape : Shape) (t : Target P) (commit : Option RunningC
         (subst (λ (n : ℕ). Runs n (NodesWritten (from + 1)) (Rattle.wb_runs.specs.Effects.led commit got)) more (led_done (from + suc left) g.1 (NodesWritten from) (NodesWritten (from + 1)) at (node_over left from))) (l tt))
     flush_moves (ToWriteRoot nodes) at l g = done _ _ g.1 _ (leading _ answer (ToSyncRoot nodes) _ refl (led_done nodes g.1 NodesSynced RootWritten at (λ i e. refl)) (l tt))
     flush_moves (ToSyncRoot nodes) at l g = done _ _ g.1 _ (leading _ answer (ToEnd nodes) _ refl (led_done nodes g.1 RootWritten Committed at (λ i e. refl)) (l tt))
-    flush_moves (ToEnd nodes) at l g = done _ _ g.1 _ (leading None answer ToAnswer _ refl tt (l tt))
-    flush_moves ToSetFailed at l g = done _ _ g.1 commit (quietly answer ToAnswer _ refl tt (λ i. absurd i))
-    flush_moves ToAnswer at l g = record { leader' = leader; here = tt; others = λ b p o k. k }
+    flush_moves (ToEnd nodes) at l g = done _ _ g.1 _ (leading None answer (ToRelease []) _ refl tt (l tt))
+    flush_moves ToSetFailed at l g = done _ _ g.1 commit (quietly answer (ToRelease []) _ refl tt (λ i. absurd i))
+    flush_moves (ToRelease []) at l g = record { leader' = leader; here = tt; others = λ b p o k. k }
+    flush_moves (ToRelease (block ∷ blocks)) at l g = done _ _ g.1 commit (quietly answer (ToRelease blocks) _ refl tt (λ i. absurd i))
 
   -- a step that fails
-  pub flush_fails : (w : State P A) (choice : Choice) (chosen : Chosen P A) (point : FlushPoint) → AtFlush point commit → (IsLeading point → a ≡ leader) → Falters w choice (want (F (flush_left most point))) chosen →
-      Moved commit (commit_then {P = P} {A = A} (Stands t) commit (want (F (flush_left most point))) Fault chosen) a leader (task_then (Some (Flush, F (flush_left most point))) (want (F (flush_left most point))) Fault)
+  pub flush_fails : (w : State P A) (choice : Choice) (chosen : Chosen P A) (point : FlushPoint) → AtFlush point commit → (IsLeading point → a ≡ leader) → Falters w choice (want (F (flush_left serves most point))) chosen →
+      Moved commit (commit_then {P = P} {A = A} (Stands t) commit (want (F (flush_left serves most point))) Fault chosen) a leader (task_then (Some (Flush, F (flush_left serves most point))) (want (F (flush_left serves most point))) Fault)
   flush_fails w choice chosen ToLook at l g = absurd g
   flush_fails w choice chosen ToBegin at l g = absurd g
   flush_fails w choice chosen (ToSyncCache nodes) at l g = leading commit (Refuses (Io Cache)) ToSetFailed _ refl tt (l tt)
@@ -172,7 +178,8 @@ module _ (P A : Type 0) (shape : Shape) (t : Target P) (commit : Option RunningC
   flush_fails w choice chosen (ToSyncRoot nodes) at l g = leading _ (Refuses (Io Metadata)) ToSetFailed _ refl tt (l tt)
   flush_fails w choice chosen (ToEnd nodes) at l g = absurd g
   flush_fails w choice chosen ToSetFailed at l g = absurd g
-  flush_fails w choice chosen ToAnswer at l g = absurd g
+  flush_fails w choice chosen (ToRelease []) at l g = absurd g
+  flush_fails w choice chosen (ToRelease (block ∷ blocks)) at l g = absurd g
 
 -- ---- an opening
 
@@ -186,7 +193,7 @@ module _ (P A : Type 0) (shape : Shape) (mode m' : Mode) (reading : Option (Read
   refuses : (r' : Option (ReadSteps A)) (c' : Option RunningCommit) (refusal : Refusal) (plan : Plan) → plan ≡ O (AtRefusal refusal) → OpenAt r' c' plan
   refuses r' c' refusal plan e = record { sectors = n; point = AtRefusal refusal; is = e; at = tt }
 
-  module _ (got : Got) (read : List Bytes) (chosen : Chosen P A) where
+  module _ (x : Actor) (got : Got) (read : List Bytes) (chosen : Chosen P A) where
     syncs_first : (c : Option RunningCommit) → c ≡ None → 1 ≤ n → got ≡ Done → (ch : Chosen P A) → DoesSync {P = P} {A = A} (Opens mode reading) c w.devices.metadata ch →
         OpenAt (reading_then reading (want (O AtFirst)) got ch) (commit_then {P = P} {A = A} (Opens mode reading) c (want (O AtFirst)) got ch) (after (O AtFirst) got)
     syncs_first (Some c) e k g ch d = absurd (cc)
@@ -227,7 +234,7 @@ module _ (P A : Type 0) (shape : Shape) (mode m' : Mode) (reading : Option (Read
     on_to : (p q : OpenPoint) (r' : Option (ReadSteps A)) (c' : Option RunningCommit) → got ≡ Done → after (O p) Done ≡ O q → AtOpen n q r' c' → OpenAt r' c' (after (O p) got)
     on_to p q r' c' e is at = subst (λ (x : Got). OpenAt r' c' (after (O p) x)) (sym e) (record { sectors = n; point = q; is = is; at = at })
 
-    pub open_moves : (point : OpenPoint) → AtOpen n point reading commit → Gives shape here (Open m') (want (O point)) got read chosen →
+    pub open_moves : (point : OpenPoint) → AtOpen n point reading commit → Gives shape here x (Open m') (want (O point)) got read chosen →
         Rattle.wb_runs.proofs.Points.OpenTask (reading_then reading (want (O point)) got chosen) (commit_then {P = P} {A = A} (Opens mode reading) commit (want (O point)) got chosen) (task_then (Some (Open m', O point)) (want (O point)) got)
     open_moves AtFirst at g = syncs_first commit at.0 at.1 g.1 chosen g.2
     open_moves AtCache at g = on_to AtCache AtOrigin reading commit g.1 refl at

@@ -311,9 +311,9 @@ module _ (P A : Type 0) (shape : Shape) where
   same_seals (Stands t) (Replace old new) (Cut cut) s = s
   same_seals (Stands t) (Replace old new) (Rattle.wb_runs.specs.Happenings.Begins now) s = s
   same_seals (Stands t) (Replace old new) (Rattle.wb_runs.specs.Happenings.Reaches now commit) s = s
-  same_seals (Stands t) (Replace old new) (Rattle.wb_runs.specs.Happenings.Puts new) s = s
+  same_seals (Stands t) (Replace old other) (Rattle.wb_runs.specs.Happenings.Puts new) s = s
   same_seals (Stands t) (Replace old new) (Rattle.wb_runs.specs.Happenings.Commits commit tree) s = s
-  same_seals (Stands t) (Replace old new) (Rattle.wb_runs.specs.Happenings.Asks new) s = s
+  same_seals (Stands t) (Replace old other) (Rattle.wb_runs.specs.Happenings.Asks new) s = s
   same_seals (Stands t) (Replace old new) (Opened policy) s = s
   same_seals (Stands t) (Read extent) chosen s = s
   same_seals (Stands t) (Write extent content) chosen s = s

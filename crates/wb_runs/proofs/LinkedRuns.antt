@@ -161,7 +161,7 @@ module _ (P A : Type 0) (shape : Shape) where
       by_job (Write extent content) s = set_there n.doings a (Some doing) None e
       by_job Flush s = set_there n.doings a (Some doing) None e
       by_job (Migrate migration block) s = set_there n.doings a (Some doing) None e
-      by_job (Replace old new) s = set_other n.doings a b None o
+      by_job (Replace old new) s = set_there n.doings a (Some doing) None e
       by_job (Open mode) s = absurd s
 
   module _ (shown : List Bytes) (w : State P A) (n : Notes) (l : LinkedTo w n) (a : ℕ) (x : Actor) (e : slice_get w.actors a ≡ Some x) (job : Job) (plan : Plan) (xt : x.task ≡ Some (job, plan)) (answer : Answer) (got : Got) (read : List Bytes) (chosen : Chosen P A)
@@ -322,9 +322,9 @@ module _ (P A : Type 0) (shape : Shape) where
   same_here (Stands t) (Replace old new) (Cut cut) (Some task) h = h
   same_here (Stands t) (Replace old new) (Begins now) (Some task) h = h
   same_here (Stands t) (Replace old new) (Reaches now commit) (Some task) h = h
-  same_here (Stands t) (Replace old new) (Puts new) (Some task) h = h
+  same_here (Stands t) (Replace old other) (Puts new) (Some task) h = h
   same_here (Stands t) (Replace old new) (Commits commit tree) (Some task) h = h
-  same_here (Stands t) (Replace old new) (Asks new) (Some task) h = h
+  same_here (Stands t) (Replace old other) (Asks new) (Some task) h = h
   same_here (Stands t) (Replace old new) (Opened policy) (Some task) h = h
   same_here (Stands t) (Read extent) chosen (Some task) h = h
   same_here (Stands t) (Write extent content) chosen (Some task) h = h
@@ -348,9 +348,9 @@ module _ (P A : Type 0) (shape : Shape) where
   same_alone t (Replace old new) (Cut cut) actors = tt
   same_alone t (Replace old new) (Begins now) actors = tt
   same_alone t (Replace old new) (Reaches now commit) actors = tt
-  same_alone t (Replace old new) (Puts new) actors = tt
+  same_alone t (Replace old other) (Puts new) actors = tt
   same_alone t (Replace old new) (Commits commit tree) actors = tt
-  same_alone t (Replace old new) (Asks new) actors = tt
+  same_alone t (Replace old other) (Asks new) actors = tt
   same_alone t (Replace old new) (Opened policy) actors = tt
   same_alone t (Read extent) chosen actors = tt
   same_alone t (Write extent content) chosen actors = tt

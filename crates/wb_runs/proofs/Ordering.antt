@@ -42,7 +42,7 @@ abbrev pub AllOrdersInside : Geometry → List Actor → Type 0
 AllOrdersInside g actors = (a : ℕ) (x : Actor) → slice_get actors a ≡ Some x → OrdersInside g (held_of x)
 
 -- orders that were dropped are no more
-dropped_had : (b : OBlock) (orders : List Order) (order : Order) → Contains (dropped b orders) order → Contains orders order
+pub dropped_had : (b : OBlock) (orders : List Order) (order : Order) → Contains (dropped b orders) order → Contains orders order
 dropped_had b [] order c = c
 dropped_had b (o ∷ os) order c = by_test (is_of b o) (dropped_had b os order) c
   where
@@ -51,7 +51,7 @@ dropped_had b (o ∷ os) order c = by_test (is_of b o) (dropped_had b os order) 
     by_test false later c = first_or o order (dropped b os) (Contains (o ∷ os) order) c (λ e. subst (λ (p : Order). Contains (o ∷ os) p) (sym e) (Contains-first o os)) (λ r. Contains-behind o os order (later r))
 
 -- the replacements of a block are some of the orders
-replacing_had : (b : OBlock) (orders : List Order) (order : Order) → Contains (replacing b orders) order → Contains orders order
+pub replacing_had : (b : OBlock) (orders : List Order) (order : Order) → Contains (replacing b orders) order → Contains orders order
 replacing_had b [] order c = c
 replacing_had b (o ∷ os) order c = by_test (is_of b o && is_replacement o) (replacing_had b os order) c
   where
@@ -66,10 +66,10 @@ from_both xs ys x order f g c = elim (Contains-append_cases xs ys order c) [
   | inr m ↦ g m
 ]
 
-in_orders : (x : Actor) (order : Order) → Contains x.orders order → Contains (held_of x) order
+pub in_orders : (x : Actor) (order : Order) → Contains x.orders order → Contains (held_of x) order
 in_orders x order m = Contains-append_left x.orders x.awaiting order m
 
-in_awaiting : (x : Actor) (order : Order) → Contains x.awaiting order → Contains (held_of x) order
+pub in_awaiting : (x : Actor) (order : Order) → Contains x.awaiting order → Contains (held_of x) order
 in_awaiting x order m = Contains-append_right x.orders x.awaiting order m
 
 -- whoever gives up an order, or answers, has none that it had not
@@ -83,15 +83,15 @@ answered_had x Flush order c = from_both (x.awaiting ++ x.orders) [] x order
 answered_had x job order c = c
 
 -- a step leaves its actor none that it had not
-pub then_had : (x : Actor) (job : Job) (next : Want) (got : Got) (order : Order) → Contains (orders_then x job next got ++ awaiting_then x job next got) order → Contains (held_of x) order
+pub then_had : (x : Actor) (job : Job) (next : Want) (got : Got) (order : Order) → Contains (orders_then x.orders x.awaiting job next got ++ awaiting_then x.orders x.awaiting job next got) order → Contains (held_of x) order
 then_had x job (Desk (Map b c)) Done order m = from_both (dropped b x.orders) x.awaiting x order (λ n. in_orders x order (dropped_had b x.orders order n)) (in_awaiting x order) m
 then_had x job (Desk (Unmap b)) Done order m = from_both (dropped b x.orders) (replacing b x.orders ++ x.awaiting) x order (λ n. in_orders x order (dropped_had b x.orders order n))
     (λ n. from_both (replacing b x.orders) x.awaiting x order (λ k. in_orders x order (replacing_had b x.orders order k)) (in_awaiting x order) n) m
 then_had x job (Desk (ReleaseOrder b)) Done order m = released_had x b job order m
-then_had x job (End Finished) got order m = answered_had x job order m
+then_had x job (End Finished) Done order m = answered_had x job order m
 then_had x job next got order m = m
 
-pub orders_left : (g : Geometry) (x : Actor) (job : Job) (next : Want) (got : Got) → OrdersInside g (held_of x) → OrdersInside g (orders_then x job next got ++ awaiting_then x job next got)
+pub orders_left : (g : Geometry) (x : Actor) (job : Job) (next : Want) (got : Got) → OrdersInside g (held_of x) → OrdersInside g (orders_then x.orders x.awaiting job next got ++ awaiting_then x.orders x.awaiting job next got)
 orders_left g x job next got i = λ order m. i order (then_had x job next got order m)
 
 -- an order that is given names blocks that are there

@@ -1,6 +1,7 @@
 -- Where a flush or an opening stands in its table, and how far the commit and the reading have come there.
 use Rattle.std.proofs.Common.{◌≡◌, ◌≤◌, ◌+◌, ◌++◌, ℕ, false, List, [], ◌∷◌, Option, Some, None, length, slice_get}
 use Rattle.wb_types.specs.declared.mode.Dev.TheVariants.{Metadata, Cache, Origin}
+use Rattle.wb_types.specs.declared.number.OBlock.{OBlock}
 use Rattle.wb_types.specs.declared.refusal.Refusal.{Refusal}
 use Rattle.wb_words.specs.declared.step.CellStep.TheVariants.{SetFailed}
 use Rattle.wb_meta.specs.Reads.{sectors_read}
@@ -8,7 +9,7 @@ use Rattle.wb_meta.specs.declared.read_steps.ReadSteps.{ReadSteps}
 use Rattle.wb_meta.specs.declared.commit_steps.CommitSteps.{CommitSteps}
 use Rattle.wb_meta.specs.declared.commit_steps.CommitSteps.TheVariants.{NodesWritten, NodesSynced, RootWritten, Done as Committed}
 use Rattle.wb_tasks.specs.Tables.{BlockRange, Migrating, OnBlock, Flushing, Opening}
-use Rattle.wb_tasks.specs.Plan.{Plan, node_writes, commit_steps, root_steps, first_steps}
+use Rattle.wb_tasks.specs.Plan.{Plan, node_writes, commit_steps, root_steps, first_steps, release_orders}
 use Rattle.wb_tasks.specs.declared.step.Migration.{Migration}
 use Rattle.wb_tasks.specs.declared.step.Answer.{Answer}
 use Rattle.wb_tasks.specs.declared.step.Answer.TheVariants.{Done as Finished, Refused as Refuses}
@@ -18,7 +19,7 @@ use Rattle.wb_tasks.specs.declared.step.Want.{Want}
 use Rattle.wb_tasks.specs.declared.step.Want.TheVariants.{Cell, Device, Desk}
 use Rattle.wb_devices.specs.declared.running.RunningCommit.{RunningCommit}
 use Rattle.wb_runs.specs.declared.job.Job.{Job}
-use Rattle.wb_runs.specs.declared.job.Job.TheVariants.{Flush, Open, Migrate}
+use Rattle.wb_runs.specs.declared.job.Job.TheVariants.{Flush, Open, Migrate, Replace}
 use Rattle.wb_runs.specs.States.{Actor, Phase, Stands, Gone, Opens}
 use Rattle.wb_runs.specs.Happenings.{OfSome}
 use Rattle.wb_runs.proofs.Plans.{plan_of}
@@ -31,7 +32,8 @@ Runs nodes steps (Some c) = (length c.image.nodes.items ≡ nodes) × IsSmall c.
 
 -- ---- flushes
 
--- with each point of a commit go the nodes of its image; where they are written, those that are left and which one comes next
+-- With each point of a commit go the nodes of its image; where they are written, those that are left and which one comes next. Before its answer a
+-- flush may have to give up the orders of some blocks.
 pub data FlushPoint : Type 0 where
   ToLook : FlushPoint
   ToBegin : FlushPoint
@@ -42,19 +44,19 @@ pub data FlushPoint : Type 0 where
   ToSyncRoot : (nodes : ℕ) → FlushPoint
   ToEnd : (nodes : ℕ) → FlushPoint
   ToSetFailed : FlushPoint
-  ToAnswer : FlushPoint
+  ToRelease : (blocks : List OBlock) → FlushPoint
 
-abbrev pub flush_left : ℕ → FlushPoint → List Want
-flush_left most ToLook = first_steps (Flushing [] most)
-flush_left most ToBegin = Desk (BeginCommit false most) ∷ []
-flush_left most (ToSyncCache nodes) = commit_steps nodes
-flush_left most (ToSyncOrigin nodes) = Device (Sync Origin) ∷ (node_writes nodes 0 ++ root_steps)
-flush_left most (ToWriteNodes left from) = node_writes left from ++ root_steps
-flush_left most (ToWriteRoot nodes) = Device WriteRoot ∷ Device (Sync Metadata) ∷ Desk EndCommit ∷ []
-flush_left most (ToSyncRoot nodes) = Device (Sync Metadata) ∷ Desk EndCommit ∷ []
-flush_left most (ToEnd nodes) = Desk EndCommit ∷ []
-flush_left most ToSetFailed = Cell SetFailed ∷ []
-flush_left most ToAnswer = []
+abbrev pub flush_left : List OBlock → ℕ → FlushPoint → List Want
+flush_left serves most ToLook = first_steps (Flushing serves most)
+flush_left serves most ToBegin = Desk (BeginCommit false most) ∷ []
+flush_left serves most (ToSyncCache nodes) = commit_steps nodes
+flush_left serves most (ToSyncOrigin nodes) = Device (Sync Origin) ∷ (node_writes nodes 0 ++ root_steps)
+flush_left serves most (ToWriteNodes left from) = node_writes left from ++ root_steps
+flush_left serves most (ToWriteRoot nodes) = Device WriteRoot ∷ Device (Sync Metadata) ∷ Desk EndCommit ∷ []
+flush_left serves most (ToSyncRoot nodes) = Device (Sync Metadata) ∷ Desk EndCommit ∷ []
+flush_left serves most (ToEnd nodes) = Desk EndCommit ∷ []
+flush_left serves most ToSetFailed = Cell SetFailed ∷ []
+flush_left serves most (ToRelease blocks) = release_orders blocks
 
 abbrev pub AtFlush : FlushPoint → Option RunningCommit → Type 0
 AtFlush (ToSyncCache nodes) commit = Runs nodes (NodesWritten 0) commit
@@ -77,10 +79,11 @@ IsLeading point = ⊥
 
 -- A flush that leads is the leader's.
 pub record FlushAt (commit : Option RunningCommit) (IsLeader : Type 0) (plan : Plan) : Type 0 where
+  pub serves : List OBlock
   pub most : ℕ
   pub answer : Answer
   pub point : FlushPoint
-  pub is : plan ≡ plan_of (Flushing [] most) (flush_left most point) answer
+  pub is : plan ≡ plan_of (Flushing serves most) (flush_left serves most point) answer
   pub at : AtFlush point commit
   pub leads : IsLeading point → IsLeader
 
@@ -88,9 +91,11 @@ pub record FlushAt (commit : Option RunningCommit) (IsLeader : Type 0) (plan : P
 abbrev pub Migrates : Migration → Plan → Type 0
 Migrates migration plan = (part : BlockRange) × (plan.job ≡ OnBlock (Migrating migration part))
 
+-- nobody is at a replacement: it begins with the demotion of the block that leaves
 abbrev pub FlushJob : Option RunningCommit → Type 0 → Job → Plan → Type 0
 FlushJob commit IsLeader Flush plan = FlushAt commit IsLeader plan
 FlushJob commit IsLeader (Migrate migration block) plan = Migrates migration plan
+FlushJob commit IsLeader (Replace old new) plan = ⊥
 FlushJob commit IsLeader job plan = Unit {0}
 
 abbrev pub FlushTask : Option RunningCommit → Type 0 → Option (Job × Plan) → Type 0

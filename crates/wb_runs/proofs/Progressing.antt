@@ -23,13 +23,13 @@ use Rattle.wb_tasks.specs.declared.step.Got.TheVariants.{Fault}
 use Rattle.wb_devices.specs.declared.devices.Devices.{Devices}
 use Rattle.wb_devices.specs.declared.running.RunningCommit.{RunningCommit}
 use Rattle.wb_runs.specs.declared.job.Job.{Job}
-use Rattle.wb_runs.specs.declared.job.Job.TheVariants.{Read, Write, Flush, Open, Migrate}
+use Rattle.wb_runs.specs.declared.job.Job.TheVariants.{Read, Write, Flush, Open, Migrate, Replace}
 use Rattle.wb_runs.specs.declared.event.Event.{Event}
 use Rattle.wb_runs.specs.declared.event.Event.TheVariants.{Start, Step, FaultStep, Stop}
 use Rattle.wb_runs.specs.declared.event.What.{What}
 use Rattle.wb_runs.specs.declared.event.What.TheVariants.{Skipped, Refused, Started, Stepped, Stopped}
 use Rattle.wb_runs.specs.States.{Shape, State, Actor, Target, Phase, Stands, Gone, Opens, OfTarget, resting, start}
-use Rattle.wb_runs.specs.Happenings.{Chosen, Plain, Cut, Orders, Begins, Reaches, Puts, Commits, Asks, Opened, Happening, OfSome, Gives, Falters, MayFailAt, DoesNotApply, MayBe, block_range, migrated_range, task_job}
+use Rattle.wb_runs.specs.Happenings.{Chosen, Plain, Cut, Orders, Begins, Reaches, Puts, Commits, Asks, Opened, Happening, OfSome, Gives, Falters, MayFailAt, DoesNotApply, MayBe, block_range, migrated_range, blocks_left, task_job, begun_as}
 use Rattle.wb_runs.specs.Effects.{device_done, device_failed, commit_then, reading_then, task_then, phase_then, phase_opened, phase_given, actor_then, stepped, with_actor, cleared, given, started, job_of, cut_of, after_what, after_happening, after_all, IsRun}
 use Rattle.wb_runs.specs.Clerk.{Notes, formatted}
 use Rattle.wb_runs.specs.Headline.{note_happening}
@@ -53,6 +53,7 @@ lifted commit commit' L L' (Some (Read extent, plan)) f k = tt
 lifted commit commit' L L' (Some (Write extent content, plan)) f k = tt
 lifted commit commit' L L' (Some (Open mode, plan)) f k = tt
 lifted commit commit' L L' (Some (Migrate migration block, plan)) f k = k
+lifted commit commit' L L' (Some (Replace old new, plan)) f k = absurd k
 
 flushes_set : (actors : List Actor) (a : ℕ) (x y : Actor) (commit commit' : Option RunningCommit) (leader leader' : ℕ) → slice_get actors a ≡ Some x → ((b : ℕ) (z : Actor) → slice_get actors b ≡ Some z → FlushTask commit (b ≡ leader) z.task) →
     FlushTask commit' (a ≡ leader') y.task → ((b : ℕ) (plan : Plan) → b ≢ a → FlushAt commit (b ≡ leader) plan → FlushAt commit' (b ≡ leader') plan) →
@@ -173,6 +174,7 @@ module _ (P A : Type 0) (shape : Shape) where
     block_task (Migrate migration block) plan (Cell step) got o k f = (k.0, job_stays plan got ∙ k.1)
     block_task (Migrate migration block) plan (Device step) got o k f = (k.0, job_stays plan got ∙ k.1)
     block_task (Migrate migration block) plan (Desk step) got o k f = (k.0, job_stays plan got ∙ k.1)
+    block_task (Replace old new) plan next got o k f = absurd k
     block_task Flush plan (Cell step) got o k f = absurd (f refl)
     block_task Flush plan (Device step) got o k f = absurd (f refl)
     block_task Flush plan (Desk step) got o k f = absurd (f refl)
@@ -190,28 +192,29 @@ module _ (P A : Type 0) (shape : Shape) where
     served : (job : Job) (plan : Plan) → x.task ≡ Some (job, plan) → IsServed job
     served job plan xt = subst (λ (k : Option (Job × Plan)). TaskHere {P = P} {A = A} (Stands t) k) xt (l.here a x e)
 
-    flush_done : (plan : Plan) (next : Want) (got : Got) (read : List Bytes) (chosen : Chosen P A) (k : FlushAt commit (a ≡ leader) plan) → next ≡ want plan → Gives shape w Flush next got read chosen →
+    flush_done : (plan : Plan) (next : Want) (got : Got) (read : List Bytes) (chosen : Chosen P A) (k : FlushAt commit (a ≡ leader) plan) → next ≡ want plan → Gives shape w x Flush next got read chosen →
         Moved commit (commit_then {P = P} {A = A} (Stands t) commit next got chosen) a leader (task_then (Some (Flush, plan)) next got)
     flush_done plan next got read chosen k h g =
-        let F = plan_of (Rattle.wb_tasks.specs.Tables.Flushing [] k.most) (Rattle.wb_runs.proofs.Points.flush_left k.most k.point) k.answer in
+        let F = plan_of (Rattle.wb_tasks.specs.Tables.Flushing k.serves k.most) (Rattle.wb_runs.proofs.Points.flush_left k.serves k.most k.point) k.answer in
         subst (λ (s : Plan). Moved commit (commit_then {P = P} {A = A} (Stands t) commit next got chosen) a leader (task_then (Some (Flush, s)) next got)) (sym k.is)
-        (subst (λ (v : Want). Gives shape w Flush v got read chosen → Moved commit (commit_then {P = P} {A = A} (Stands t) commit v got chosen) a leader (task_then (Some (Flush, F)) v got)) (sym (h ∙ ap want k.is))
-        (λ g. flush_moves P A shape t commit devices.metadata images known a leader k.most k.answer w refl refl got read chosen k.point k.at k.leads g) g)
+        (subst (λ (v : Want). Gives shape w x Flush v got read chosen → Moved commit (commit_then {P = P} {A = A} (Stands t) commit v got chosen) a leader (task_then (Some (Flush, F)) v got)) (sym (h ∙ ap want k.is))
+        (λ g. flush_moves P A shape t commit devices.metadata images known a leader k.serves k.most k.answer w x refl refl got read chosen k.point k.at k.leads g) g)
 
     flush_failed : (plan : Plan) (next : Want) (choice : Choice) (chosen : Chosen P A) (k : FlushAt commit (a ≡ leader) plan) → next ≡ want plan → Falters w choice next chosen →
         Moved commit (commit_then {P = P} {A = A} (Stands t) commit next Fault chosen) a leader (task_then (Some (Flush, plan)) next Fault)
     flush_failed plan next choice chosen k h g =
-        let F = plan_of (Rattle.wb_tasks.specs.Tables.Flushing [] k.most) (Rattle.wb_runs.proofs.Points.flush_left k.most k.point) k.answer in
+        let F = plan_of (Rattle.wb_tasks.specs.Tables.Flushing k.serves k.most) (Rattle.wb_runs.proofs.Points.flush_left k.serves k.most k.point) k.answer in
         subst (λ (s : Plan). Moved commit (commit_then {P = P} {A = A} (Stands t) commit next Fault chosen) a leader (task_then (Some (Flush, s)) next Fault)) (sym k.is)
         (subst (λ (v : Want). Falters w choice v chosen → Moved commit (commit_then {P = P} {A = A} (Stands t) commit v Fault chosen) a leader (task_then (Some (Flush, F)) v Fault)) (sym (h ∙ ap want k.is))
-        (λ g. flush_fails P A shape t commit devices.metadata images known a leader k.most k.answer w choice chosen k.point k.at k.leads g) g)
+        (λ g. flush_fails P A shape t commit devices.metadata images known a leader k.serves k.most k.answer w choice chosen k.point k.at k.leads g) g)
 
-    stands_done : (job : Job) (plan : Plan) (next : Want) (got : Got) (read : List Bytes) (chosen : Chosen P A) → x.task ≡ Some (job, plan) → next ≡ want plan → Gives shape w job next got read chosen → Then next got chosen
+    stands_done : (job : Job) (plan : Plan) (next : Want) (got : Got) (read : List Bytes) (chosen : Chosen P A) → x.task ≡ Some (job, plan) → next ≡ want plan → Gives shape w x job next got read chosen → Then next got chosen
     stands_done (Read extent) plan next got read chosen xt h g = let c = (claim (Read extent) plan xt).claim in block_goes (Read extent) plan next got chosen (Reading (block_range shape extent c.cut), c.is_job) (λ f. cc) xt h
     stands_done (Write extent content) plan next got read chosen xt h g = let c = (claim (Write extent content) plan xt).claim in block_goes (Write extent content) plan next got chosen (Writing (block_range shape extent c.cut), c.is_job) (λ f. cc) xt h
     stands_done (Migrate migration block) plan next got read chosen xt h g = let m = mine (Migrate migration block) plan xt in block_goes (Migrate migration block) plan next got chosen (Migrating migration m.0, m.1) (λ f. cc) xt h
     stands_done Flush plan next got read chosen xt h g = from_moved next got chosen _ (ap (λ k. task_then k next got) xt) (flush_done plan next got read chosen (mine Flush plan xt) h g)
     stands_done (Open mode) plan next got read chosen xt h g = absurd (served (Open mode) plan xt)
+    stands_done (Replace old new) plan next got read chosen xt h g = absurd (mine (Replace old new) plan xt)
 
     stands_failed : (job : Job) (plan : Plan) (next : Want) (choice : Choice) (chosen : Chosen P A) → x.task ≡ Some (job, plan) → next ≡ want plan → Falters w choice next chosen → Then next Fault chosen
     stands_failed (Read extent) plan next choice chosen xt h g = let c = (claim (Read extent) plan xt).claim in block_goes (Read extent) plan next Fault chosen (Reading (block_range shape extent c.cut), c.is_job) (λ f. cc) xt h
@@ -219,6 +222,7 @@ module _ (P A : Type 0) (shape : Shape) where
     stands_failed (Migrate migration block) plan next choice chosen xt h g = let m = mine (Migrate migration block) plan xt in block_goes (Migrate migration block) plan next Fault chosen (Migrating migration m.0, m.1) (λ f. cc) xt h
     stands_failed Flush plan next choice chosen xt h g = from_moved next Fault chosen _ (ap (λ k. task_then k next Fault) xt) (flush_failed plan next choice chosen (mine Flush plan xt) h g)
     stands_failed (Open mode) plan next choice chosen xt h g = absurd (served (Open mode) plan xt)
+    stands_failed (Replace old new) plan next choice chosen xt h g = absurd (mine (Replace old new) plan xt)
 
   -- ---- an opening
 
@@ -256,14 +260,15 @@ module _ (P A : Type 0) (shape : Shape) where
     my_opening : (m' : Mode) (plan : Plan) → x.task ≡ Some (Open m', plan) → OpenAt reading commit plan
     my_opening m' plan xt = subst (λ (k : Option (Job × Plan)). OpenTask reading commit k) xt (each a x e)
 
-    opens_done : (job : Job) (plan : Plan) (next : Want) (got : Got) (read : List Bytes) (chosen : Chosen P A) → x.task ≡ Some (job, plan) → next ≡ want plan → Gives shape v job next got read chosen → Later next got chosen
+    opens_done : (job : Job) (plan : Plan) (next : Want) (got : Got) (read : List Bytes) (chosen : Chosen P A) → x.task ≡ Some (job, plan) → next ≡ want plan → Gives shape v x job next got read chosen → Later next got chosen
     opens_done (Open m') plan next got read chosen xt h g = let k = my_opening m' plan xt in goes_later (Open m') plan next got chosen xt
         (subst (λ (q : Option (Job × Plan)). OpenTask (reading_then reading next got chosen) (commit_then {P = P} {A = A} (Opens mode reading) commit next got chosen) (task_then q next got)) (sym xt)
-        (task_left m' plan next got chosen k h (λ u. Gives shape v (Open m') u got read chosen) g (λ g. open_moves P A shape mode m' reading commit v k.sectors got read chosen k.point k.at g)))
+        (task_left m' plan next got chosen k h (λ u. Gives shape v x (Open m') u got read chosen) g (λ g. open_moves P A shape mode m' reading commit v k.sectors x got read chosen k.point k.at g)))
     opens_done (Read extent) plan next got read chosen xt h g = absurd (opening_work (Read extent) plan xt)
     opens_done (Write extent content) plan next got read chosen xt h g = absurd (opening_work (Write extent content) plan xt)
     opens_done Flush plan next got read chosen xt h g = absurd (opening_work Flush plan xt)
     opens_done (Migrate migration block) plan next got read chosen xt h g = absurd (opening_work (Migrate migration block) plan xt)
+    opens_done (Replace old new) plan next got read chosen xt h g = absurd (opening_work (Replace old new) plan xt)
 
     opens_failed : (job : Job) (plan : Plan) (next : Want) (choice : Choice) (chosen : Chosen P A) → x.task ≡ Some (job, plan) → next ≡ want plan → Falters v choice next chosen → Later next Fault chosen
     opens_failed (Open m') plan next choice chosen xt h g = let k = my_opening m' plan xt in goes_later (Open m') plan next Fault chosen xt
@@ -273,6 +278,7 @@ module _ (P A : Type 0) (shape : Shape) where
     opens_failed (Write extent content) plan next choice chosen xt h g = absurd (opening_work (Write extent content) plan xt)
     opens_failed Flush plan next choice chosen xt h g = absurd (opening_work Flush plan xt)
     opens_failed (Migrate migration block) plan next choice chosen xt h g = absurd (opening_work (Migrate migration block) plan xt)
+    opens_failed (Replace old new) plan next choice chosen xt h g = absurd (opening_work (Replace old new) plan xt)
 
   -- ---- events
 
@@ -292,9 +298,9 @@ module _ (P A : Type 0) (shape : Shape) where
         cases Gone known l k d = tt
         cases (Opens mode reading) known l k d = opens mode reading d l k
 
-    steps_on : (next : Want) (got : Got) (read : List Bytes) (chosen : Chosen P A) → next ≡ want plan → Gives shape w job next got read chosen →
+    steps_on : (next : Want) (got : Got) (read : List Bytes) (chosen : Chosen P A) → next ≡ want plan → Gives shape w x job next got read chosen →
         Going {P = P} {A = A} (phase_then shape w.phase next got chosen) (commit_then w.phase w.commit next got chosen) (slice_set w.actors a (actor_then shape w.phase w.devices x next got))
-    steps_on next got read chosen h g = by_phase next got chosen (λ v. Gives shape v job next got read chosen) g
+    steps_on next got read chosen h g = by_phase next got chosen (λ v. Gives shape v x job next got read chosen) g
         (λ t d known l k. stands_done t w.devices w.commit w.actors n base.known.images known l base.used.suited k.0 k.1 a x e job plan next got read chosen xt h d)
         (λ mode reading d l k. opens_done mode reading w.devices w.commit w.actors n l k a x e job plan next got read chosen xt h d)
 
@@ -305,11 +311,11 @@ module _ (P A : Type 0) (shape : Shape) where
         (λ mode reading d l k. opens_failed mode reading w.devices w.commit w.actors n l k a x e job plan next choice chosen xt h d)
 
   by_step : (w : State P A) (n : Notes) (a : ℕ) (next : Want) (got : Got) (read : List Bytes) (chosen : Chosen P A) (o : Option Actor) → slice_get w.actors a ≡ o → Base P A shape w n → GoesOn w →
-      OfSome o (λ x. OfSome x.task (λ doing. (next ≡ want doing.1) × Gives shape w doing.0 next got read chosen)) → GoesOn (with_actor w o (λ x. stepped shape w a x next got chosen (λ step. device_done (job_of x.task) x.buffer step chosen)))
+      OfSome o (λ x. OfSome x.task (λ doing. (next ≡ want doing.1) × Gives shape w x doing.0 next got read chosen)) → GoesOn (with_actor w o (λ x. stepped shape w a x next got chosen (λ step. device_done (job_of x.task) x.buffer step chosen)))
   by_step w n a next got read chosen None e b k h = absurd h
   by_step w n a next got read chosen (Some x) e b k h = by_task x.task refl h
     where
-      by_task : (task : Option (Job × Plan)) → x.task ≡ task → OfSome task (λ doing. (next ≡ want doing.1) × Gives shape w doing.0 next got read chosen) → GoesOn (stepped shape w a x next got chosen (λ step. device_done (job_of x.task) x.buffer step chosen))
+      by_task : (task : Option (Job × Plan)) → x.task ≡ task → OfSome task (λ doing. (next ≡ want doing.1) × Gives shape w x doing.0 next got read chosen) → GoesOn (stepped shape w a x next got chosen (λ step. device_done (job_of x.task) x.buffer step chosen))
       by_task None xt h = absurd h
       by_task (Some doing) xt h = steps_on w n b k a x e doing.0 doing.1 xt next got read chosen h.0 h.1
 
@@ -340,7 +346,7 @@ module _ (P A : Type 0) (shape : Shape) where
       y : Actor
       y = given {P = P} {A = A} shape x (Open mode) chosen
 
-      first : OpenAt {A = A} None None (table (task_job shape (Open mode) (cut_of chosen)))
+      first : OpenAt {A = A} None None (table (task_job shape x.awaiting (Open mode) (cut_of chosen)))
       first = record { sectors = shape.geometry.meta_sectors; point = AtFirst; is = refl; at = (refl, omega (arith, shape.geometry.within.meta_from)) }
 
   -- an order that is given leaves where everybody stands
@@ -354,6 +360,15 @@ module _ (P A : Type 0) (shape : Shape) where
   given_goes (Stands t) commit actors (Migrate migration block) (Commits c tree) k = k
   given_goes (Stands t) commit actors (Migrate migration block) (Asks new) k = k
   given_goes (Stands t) commit actors (Migrate migration block) (Opened policy) k = k
+  given_goes (Stands t) commit actors (Replace old new) (Orders cut cache) k = k
+  given_goes (Stands t) commit actors (Replace old new) Plain k = k
+  given_goes (Stands t) commit actors (Replace old new) (Cut cut) k = k
+  given_goes (Stands t) commit actors (Replace old new) (Begins now) k = k
+  given_goes (Stands t) commit actors (Replace old new) (Reaches now c) k = k
+  given_goes (Stands t) commit actors (Replace old new) (Puts now) k = k
+  given_goes (Stands t) commit actors (Replace old new) (Commits c tree) k = k
+  given_goes (Stands t) commit actors (Replace old new) (Asks now) k = k
+  given_goes (Stands t) commit actors (Replace old new) (Opened policy) k = k
   given_goes (Stands t) commit actors (Read extent) chosen k = k
   given_goes (Stands t) commit actors (Write extent content) chosen k = k
   given_goes (Stands t) commit actors Flush chosen k = k
@@ -367,12 +382,13 @@ module _ (P A : Type 0) (shape : Shape) where
   task_by_phase (Stands t) commit actors a x job chosen e p k = given_goes (Stands t) commit _ job chosen
       (k.0, flushes_set actors a x (given {P = P} {A = A} shape x job chosen) commit commit k.0 k.0 e k.1 (by_job job) (λ b p o f. f))
     where
-      by_job : (job : Job) → FlushJob commit (a ≡ k.0) job (table (task_job shape job (cut_of chosen)))
-      by_job Flush = record { most = node_count shape.geometry.cache_blocks; answer = Finished; point = ToLook; is = refl; at = tt; leads = λ i. absurd i }
+      by_job : (job : Job) → FlushJob commit (a ≡ k.0) (begun_as job) (table (task_job shape x.awaiting job (cut_of chosen)))
+      by_job Flush = record { serves = blocks_left x.awaiting; most = node_count shape.geometry.cache_blocks; answer = Finished; point = ToLook; is = refl; at = tt; leads = λ i. absurd i }
       by_job (Read extent) = tt
       by_job (Write extent content) = tt
       by_job (Open mode) = tt
       by_job (Migrate migration block) = (migrated_range shape block (cut_of chosen), refl)
+      by_job (Replace old new) = (migrated_range shape old (cut_of chosen), refl)
   task_by_phase Gone commit actors a x job chosen e p k = tt
   task_by_phase (Opens mode reading) commit actors a x job chosen e p k = absurd (p (λ z. z))
 
@@ -391,6 +407,8 @@ module _ (P A : Type 0) (shape : Shape) where
       subst (λ (o : Option Actor). GoesOn (with_actor w o (λ x. record w { phase = phase_given w.phase Flush chosen; actors = slice_set w.actors a (given shape x Flush chosen) }))) (sym f.1) (task_by_phase w.phase w.commit w.actors a f.0 Flush chosen f.1 (λ p. applies (inr (inr p))) k)
   starts w a (Migrate migration block) chosen k applies = let f = free P A w a (Migrate migration block) applies in
       subst (λ (o : Option Actor). GoesOn (with_actor w o (λ x. record w { phase = phase_given w.phase (Migrate migration block) chosen; actors = slice_set w.actors a (given shape x (Migrate migration block) chosen) }))) (sym f.1) (task_by_phase w.phase w.commit w.actors a f.0 (Migrate migration block) chosen f.1 (λ p. applies (inr (inr p))) k)
+  starts w a (Replace old new) chosen k applies = let f = free P A w a (Replace old new) applies in
+      subst (λ (o : Option Actor). GoesOn (with_actor w o (λ x. record w { phase = phase_given w.phase (Replace old new) chosen; actors = slice_set w.actors a (given shape x (Replace old new) chosen) }))) (sym f.1) (task_by_phase w.phase w.commit w.actors a f.0 (Replace old new) chosen f.1 (λ p. applies (inr (inr p))) k)
 
   by_event : (w : State P A) (n : Notes) (event : Event) (what : What) (read : List Bytes) (chosen : Chosen P A) → Base P A shape w n → GoesOn w → MayBe shape w event what read chosen → GoesOn (after_what shape w event what chosen)
   by_event w n (Start a job) Started read chosen b k h = starts w a job chosen k h.1

@@ -55,6 +55,7 @@ use Rattle.wb_runs.proofs.Stepping.{done_kept}
 use Rattle.wb_runs.proofs.Ruling.{rule_after, rule_same, AllBlank, fresh_ruled, each_set, all_rest, cards_set, card_at}
 use Rattle.wb_runs.proofs.Suiting.{gives_fits}
 use Rattle.wb_policy.specs.declared.order.Order.TheVariants.{Promote as PromoteOrder, Replace as ReplaceOrder, Demote as DemoteOrder, Clean as CleanOrder}
+use Rattle.wb_types.specs.declared.number.CBlock.{CBlock}
 
 -- an actor that has a task opens
 abbrev pub OpensOrRests : Option (Job × Plan) → Type 0
@@ -98,7 +99,7 @@ module _ (P A : Type 0) (shape : Shape) where
     set_orders : (y : Actor) → OrdersInside shape.geometry (held_of y) → AllOrdersInside shape.geometry (slice_set actors a y)
     set_orders y s = each_set actors a x y (λ (z : Actor). OrdersInside shape.geometry (held_of z)) e s ords
 
-    left : (next : Want) (got : Got) → OrdersInside shape.geometry (orders_then x (job_of x.task) next got ++ awaiting_then x (job_of x.task) next got)
+    left : (next : Want) (got : Got) → OrdersInside shape.geometry (orders_then x.orders x.awaiting (job_of x.task) next got ++ awaiting_then x.orders x.awaiting (job_of x.task) next got)
     left next got = orders_left shape.geometry x (job_of x.task) next got (ords a x e)
 
     -- by a step
@@ -324,9 +325,9 @@ module _ (P A : Type 0) (shape : Shape) where
   same_here (Stands t) (Replace old new) (Cut cut) actors i = i
   same_here (Stands t) (Replace old new) (Rattle.wb_runs.specs.Happenings.Begins now) actors i = i
   same_here (Stands t) (Replace old new) (Rattle.wb_runs.specs.Happenings.Reaches now commit) actors i = i
-  same_here (Stands t) (Replace old new) (Rattle.wb_runs.specs.Happenings.Puts new) actors i = i
+  same_here (Stands t) (Replace old other) (Rattle.wb_runs.specs.Happenings.Puts new) actors i = i
   same_here (Stands t) (Replace old new) (Rattle.wb_runs.specs.Happenings.Commits commit tree) actors i = i
-  same_here (Stands t) (Replace old new) (Rattle.wb_runs.specs.Happenings.Asks new) actors i = i
+  same_here (Stands t) (Replace old other) (Rattle.wb_runs.specs.Happenings.Asks new) actors i = i
   same_here (Stands t) (Replace old new) (Opened policy) actors i = i
   same_here (Stands t) (Read extent) chosen actors i = i
   same_here (Stands t) (Write extent content) chosen actors i = i

@@ -246,18 +246,18 @@ awaiting_answered Flush awaiting = []
 awaiting_answered job awaiting = awaiting
 
 -- An entry that comes or goes ends its order, but that of a replacement waits for a flush once its block has left.
-abbrev pub orders_then : Actor → Job → Want → Got → List Order
-orders_then x job (Desk (Map b c)) Done = dropped b x.orders
-orders_then x job (Desk (Unmap b)) Done = dropped b x.orders
-orders_then x job (Desk (ReleaseOrder b)) Done = orders_released b job x.orders
-orders_then x job (End Finished) got = orders_answered job x.orders x.awaiting
-orders_then x job next got = x.orders
+abbrev pub orders_then : (orders awaiting : List Order) → Job → Want → Got → List Order
+orders_then orders awaiting job (Desk (Map b c)) Done = dropped b orders
+orders_then orders awaiting job (Desk (Unmap b)) Done = dropped b orders
+orders_then orders awaiting job (Desk (ReleaseOrder b)) Done = orders_released b job orders
+orders_then orders awaiting job (End Finished) Done = orders_answered job orders awaiting
+orders_then orders awaiting job next got = orders
 
-abbrev pub awaiting_then : Actor → Job → Want → Got → List Order
-awaiting_then x job (Desk (Unmap b)) Done = replacing b x.orders ++ x.awaiting
-awaiting_then x job (Desk (ReleaseOrder b)) Done = awaiting_released b job x.awaiting
-awaiting_then x job (End Finished) got = awaiting_answered job x.awaiting
-awaiting_then x job next got = x.awaiting
+abbrev pub awaiting_then : (orders awaiting : List Order) → Job → Want → Got → List Order
+awaiting_then orders awaiting job (Desk (Unmap b)) Done = replacing b orders ++ awaiting
+awaiting_then orders awaiting job (Desk (ReleaseOrder b)) Done = awaiting_released b job awaiting
+awaiting_then orders awaiting job (End Finished) Done = awaiting_answered job awaiting
+awaiting_then orders awaiting job next got = awaiting
 
 abbrev pub job_of : Option (Job × Plan) → Job
 job_of None = Flush
@@ -272,8 +272,8 @@ abbrev pub actor_then : {P A : Type 0} → Shape → Phase P A → Devices (List
 actor_then shape phase devices x next got = record {
   task = task_then x.task next got;
   card = card_then shape phase x.card next;
-  orders = orders_then x (job_of x.task) next got;
-  awaiting = awaiting_then x (job_of x.task) next got;
+  orders = orders_then x.orders x.awaiting (job_of x.task) next got;
+  awaiting = awaiting_then x.orders x.awaiting (job_of x.task) next got;
   buffer = buffer_then devices x.buffer next got (job_of x.task);
 }
 

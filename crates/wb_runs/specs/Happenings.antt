@@ -25,12 +25,13 @@ use Rattle.wb_meta.specs.declared.read_steps.ReadSteps.{ReadSteps}
 use Rattle.wb_meta.specs.declared.commit_steps.CommitStep.{CommitStep}
 use Rattle.wb_meta.specs.declared.commit_steps.CommitStep.TheVariants.{WriteNode as PutNode, Sync as SyncAll, WriteRoot as PutRoot}
 use Rattle.wb_meta.specs.declared.commit_steps.CommitSteps.TheVariants.{NodesWritten}
+use Rattle.wb_policy.specs.Law.{IsMappedAt}
 use Rattle.wb_policy.specs.declared.order.Order.{Order}
 use Rattle.wb_policy.specs.declared.order.Order.TheVariants.{Promote as PromoteOrder, Replace as ReplaceOrder, Demote as DemoteOrder, Clean as CleanOrder}
-use Rattle.wb_space.specs.declared.block.Block.TheVariants.{Mapped, Reserved}
+use Rattle.wb_space.specs.declared.block.Block.TheVariants.{Reserved}
 use Rattle.wb_orders.specs.Named.{first_of}
 use Rattle.wb_tree.specs.Edits.{IsChangedAt}
-use Rattle.wb_desk.specs.Desks.{DeskState, MayReserve}
+use Rattle.wb_desk.specs.Desks.{DeskState, MayReserve, holdings}
 use Rattle.wb_desk.specs.Entries.{MayMap, entry_of, mapped}
 use Rattle.wb_desk.specs.Commits.{IsBeginRefused, commit_begun}
 use Rattle.wb_tasks.specs.Tables.{TaskJob, Reading, Writing, Migrating, OnBlock, Flushing, Opening, BlockRange, whole_block}
@@ -333,9 +334,9 @@ abbrev pub KeepsMigration : {P : Type 0} → DeskState P → List Order → Migr
 KeepsMigration desk kept (Promote cache) block = Contains kept (PromoteOrder block cache) ⊎ MayFollow desk kept block cache
 KeepsMigration desk kept migration block = Contains kept (order_for migration block)
 
--- A replacement may start again: its block has not left its cache block.
+-- A replacement may start again: its block stands still in its cache block.
 abbrev pub KeepsReplacement : {P : Type 0} → DeskState P → List Order → (old new : OBlock) → Type 0
-KeepsReplacement desk kept old new = (cache : CBlock) × Contains kept (ReplaceOrder old new cache) × (slice_get desk.space.blocks cache.0 ≡ Some Mapped)
+KeepsReplacement desk kept old new = (cache : CBlock) × Contains kept (ReplaceOrder old new cache) × IsMappedAt (holdings desk) old.0 cache.0
 
 -- An order may be given that takes some cache block.
 abbrev pub MayOrder : {P : Type 0} → DeskState P → (CBlock → Order) → Type 0

@@ -147,6 +147,8 @@ enum Call {
     Entry(u32, Option<(u32, bool, u8)>),
     /// What a cache block is held for.
     Holds(u32, Holding),
+    /// Where a block of the origin is cached.
+    Stands(u32, Option<u32>),
     /// How many nodes a clean image writes that marks the last cache block dirty, and none of the others.
     Marked(usize),
     /// So many pseudo-random calls come out as the slow desk has them, and more entries come than these.
@@ -218,6 +220,7 @@ fn is_done<P: Policy>(desk: &mut Desk<P>, alloc: Global, call: Call) -> Result<b
         Call::Room(room) => Ok(desk.room() == room),
         Call::Entry(c, entry) => Ok(has_entry(desk, c, entry)),
         Call::Holds(c, holding) => Ok(is_held_for(desk, c, holding)),
+        Call::Stands(b, place) => Ok(desk.place(OBlock(b)) == place.map(CBlock)),
         Call::Marked(nodes) => clean::writes_of_one_mark(desk, alloc, nodes),
         Call::Random(calls, entries) => compared::is_as_slow(desk, alloc, calls, entries),
     }

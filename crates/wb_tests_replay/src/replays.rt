@@ -175,7 +175,7 @@ const REPLACEMENTS: [Row; 5] = [
     Row {
         name: "another's flush ends the quarantine, and its own is wanted all the same; the line that replaces is busy once its block has left",
         lines: "setup writeback 64 4 10 4\nstart 0 w 0 1 11\nend 0\nstart 0 promote 0 0\nend 0\nstart 0 flush\nend 0\nstart 0 replace 0 5\nend 0\nstart 1 flush\nend 1\nstart 0 promote 5 0\nstart 0 replace 0 5\nstart 1 promote 5 0\nstart 0 flush\nend 0\nstart 0 replace 0 5\nstart 0 promote 5 1\nstart 0 promote 5 0\nend 0\nstart 0 r 320 1\nend 0\nstart 0 flush\nend 0\nstop old\nopen writeback\nview 0 1\nview 320 1\n",
-        prints: "0 done\n0 done\n0 done\n0 done\n1 done\n0 refused 3 Busy\n0 refused 3 Busy\n1 refused 3 Busy\n0 done\n0 refused 3 Busy\n0 refused 3 Busy\n0 done\n0 320 00\n0 done\n0 done\nopen 6 1 0\n0 11\n320 00\n",
+        prints: "0 done\n0 done\n0 done\n0 done\n1 done\n0 refused 3 Busy\n0 refused 3 Busy\n1 refused 3 Busy\n0 done\n0 refused 3 Busy\n0 refused 3 Busy\n0 done\n0 320 00\n0 done\n0 done\nopen 6 1 1\n0 11\n320 00\n",
         ends: Ended::Played,
     },
     Row {
@@ -187,7 +187,7 @@ const REPLACEMENTS: [Row; 5] = [
     Row {
         name: "one flush serves two replacements",
         lines: "setup writeback 64 4 10 4\nstart 0 w 0 1 11\nend 0\nstart 0 promote 0 0\nend 0\nstart 0 flush\nend 0\nstart 0 promote 1 1\nend 0\nstart 0 replace 0 5\nend 0\nstart 0 replace 1 6\nend 0\nstart 0 flush\nend 0\nstart 0 promote 6 1\nend 0\nstart 0 promote 5 0\nend 0\nstart 0 flush\nend 0\nstop old\nopen writeback\n",
-        prints: "0 done\n0 done\n0 done\n0 done\n0 done\n0 done\n0 done\n0 done\n0 done\n0 done\nopen 5 2 0\n",
+        prints: "0 done\n0 done\n0 done\n0 done\n0 done\n0 done\n0 done\n0 done\n0 done\n0 done\nopen 5 2 2\n",
         ends: Ended::Played,
     },
     Row {

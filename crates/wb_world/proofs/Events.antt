@@ -3,7 +3,7 @@ use Rattle.std.proofs.Common.{◌≡◌, ◌∙◌, ◌++◌, ◌∷◌, [], Lis
 use Rattle.std.proofs.lemmas.List.{append_assoc, map-append, reverse-append}
 use Rattle.wb_runs.specs.declared.event.Event.{Event}
 use Rattle.wb_runs.specs.declared.event.Record.{Record}
-use Rattle.wb_world.specs.Life.{GoesOn, Life}
+use Rattle.wb_machine.specs.Life.{GoesOn, Life}
 use Rattle.wb_world.specs.Running.{events_of}
 
 -- one more has run

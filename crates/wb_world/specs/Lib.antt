@@ -1,9 +1,1 @@
-pub mod Life
-pub mod Log
-pub mod Making
-pub mod Members
 pub mod Running
-pub mod Serving
-pub mod Showing
-pub mod Standing
-pub mod Works

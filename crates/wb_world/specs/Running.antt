@@ -6,7 +6,7 @@ use Rattle.wb_runs.specs.Clerk.{formatted}
 use Rattle.wb_runs.specs.Headline.{Headline}
 use Rattle.wb_runs.specs.Latest.{AllReadRightly}
 use Rattle.wb_runs.specs.States.{Shape, start}
-use Rattle.wb_world.specs.Life.{IsReached, Life}
+use Rattle.wb_machine.specs.Life.{IsReached, Life}
 
 -- the events of these records, in order
 abbrev pub events_of : List Record → List Event

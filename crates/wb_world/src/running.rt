@@ -2,13 +2,13 @@
 
 ghost use Rattle.std.specs.Prelude.{◌≡◌, ◌++◌, IfOk, IfErr, OnOk, reverse};
 ghost use Rattle.wb_types.specs.declared.refusal.Refusal.TheVariants.{Memory};
-ghost use Rattle.wb_world.specs.declared.world.TheConstants.{ACTORS};
-ghost use Rattle.wb_world.specs.Life.{shape_of};
+ghost use Rattle.wb_machine.specs.declared.machine.TheConstants.{ACTORS};
+ghost use Rattle.wb_machine.specs.Life.{shape_of};
 ghost use Rattle.wb_world.specs.Running.{IsRightRun, events_of};
 
-use crate::trace::Trace;
 use crate::world::World;
 use std::alloc::Global;
+use wb_machine::Trace;
 use wb_runs::Event;
 use wb_types::{Geometry, Refusal};
 

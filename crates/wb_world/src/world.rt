@@ -1,57 +1,34 @@
 //! A world that runs.
 
 ghost use Rattle.std.specs.Prelude.{◌≡◌, [], OnOk, OnErr, IfOk, IfErr, slice_get};
-ghost use Rattle.std.specs.declared.alloc.Global.{Global};
 ghost use Rattle.wb_types.specs.declared.refusal.Refusal.TheVariants.{Memory};
 ghost use Rattle.wb_runs.specs.Headline.{shown};
-ghost use Rattle.wb_world.specs.declared.world.TheConstants.{ACTORS};
-ghost use Rattle.wb_world.specs.Life.{GoesOn, Happens, IsReached, IsThere, shape_of, state_of};
+ghost use Rattle.wb_machine.specs.declared.machine.TheConstants.{ACTORS};
+ghost use Rattle.wb_machine.specs.Life.{GoesOn, IsReached, shape_of};
+ghost use Rattle.wb_machine.specs.Showing.{opened_of};
 ghost use Rattle.wb_world.specs.Running.{IsRightRun, KeepsPromises, events_of};
-ghost use Rattle.wb_world.specs.Serving.{IsServed};
-ghost use Rattle.wb_world.specs.Showing.{opened_of};
-ghost use Rattle.wb_world.specs.Standing.{IsSound};
 
 use crate::law::headline;
-use crate::outcome::Outcome;
-use crate::phase::Phase;
-use crate::serving::{falter, start, step};
-use crate::stopping::stop;
-use crate::trace::Trace;
-use crate::viewing::{counts_of, view_of};
 use std::alloc::Global;
 use std::marker::Model;
-use wb_devices::Devices;
-use wb_disk::MemDisk;
 use wb_headline::reads_give_the_latest_write;
-use wb_meta::format;
+use wb_machine::{Machine, Trace};
 use wb_policy::Quiet;
-use wb_runs::{Event, Record, never_stuck, words_are_used_rightly};
+use wb_runs::Event;
 use wb_types::{Content, Geometry, Refusal};
 
-/// How many actors a world has.
-pub const ACTORS: usize = 64;
-
-/// Three devices in memory, what stands over them, and the trace of what happened.
+/// Three devices in memory, what stands over them, and the trace of what happened, of which all holds that is promised of every run.
 #[derive(Drop)]
 pub struct World {
-    alloc: Global,
-    geometry: Geometry,
-    devices: Devices<MemDisk>,
-    phase: Phase,
-    trace: Trace,
+    machine: Machine,
 }
 
 impl Model for World {
-    ghost use Rattle.wb_world.specs.declared.world.TheConstants.{ACTORS};
-    ghost use Rattle.wb_world.specs.Life.{Life, IsReached, IsThere, shape_of, state_of};
-    ghost use Rattle.wb_world.specs.Standing.{IsSound};
+    ghost use Rattle.wb_machine.specs.Life.{Life};
 
     ghost Value = { Life };
 
-    ghost view = { λ m. record { shape = shape_of m.geometry ACTORS; trace = m.trace.records; state = state_of ACTORS m.devices m.phase } };
-
-    ghost invariant = { λ m. IsReached (record { shape = shape_of m.geometry ACTORS; trace = m.trace.records; state = state_of ACTORS m.devices m.phase })
-        × (IsThere ACTORS m.phase × IsSound m.geometry ACTORS m.devices m.phase) };
+    ghost view = { λ w. w.machine };
 }
 
 impl World {
@@ -62,23 +39,8 @@ impl World {
         ensures trace { IfOk result (λ m. m.trace ≡ []) }
         ensures refusal { IfErr result (λ refusal. refusal ≡ Memory) }
     {
-        let mut metadata = MemDisk::new(alloc, u64::from(geometry.meta_sectors))?;
-        if format(&mut metadata, &geometry).is_err() {
-            return Err(Refusal::Memory);
-        }
-        let cache = MemDisk::new(alloc, geometry.cache_sectors())?;
-        let origin = MemDisk::new(alloc, geometry.origin_sectors())?;
-        Ok(World {
-            alloc,
-            geometry,
-            devices: Devices {
-                metadata,
-                cache,
-                origin,
-            },
-            phase: Phase::Closed,
-            trace: Trace::new(alloc),
-        })
+        let machine = Machine::new(alloc, geometry)?;
+        Ok(World { machine })
     }
 
     /// One event. It adds one record, which says what the event did. `Memory` where the record, or what the step reads or writes, wants
@@ -88,20 +50,7 @@ impl World {
         ensures err { OnErr result (self.new ≡ self.old) }
         ensures refusal { IfErr result (λ refusal. refusal ≡ Memory) }
     {
-        if self.trace.reserve().is_err() {
-            return Err(Refusal::Memory);
-        }
-        never_stuck::<Quiet, Global>();
-        words_are_used_rightly::<Quiet, Global>();
-        let Outcome { what, read } = happen(
-            &self.geometry,
-            self.alloc,
-            &mut self.devices,
-            &mut self.phase,
-            &event,
-        )?;
-        self.trace.push_reserved(Record { event, what, read });
-        Ok(())
+        self.machine.event(event)
     }
 
     /// What the target that stands shows of a sector of the origin: its newest content where its block stands. None where no target
@@ -110,7 +59,7 @@ impl World {
         ensures shown { result ≡ slice_get (shown self.old.shape self.old.state) at }
         ensures kept { self.new ≡ self.old }
     {
-        view_of(&self.geometry, &mut self.devices, &self.phase, at)
+        self.machine.view(at)
     }
 
     /// The generation of the newest root of the target that stands, how many of its cache blocks have an entry, and how many of these are
@@ -118,10 +67,7 @@ impl World {
     pub fn opened(&self) -> Option<(u64, u32, u32)>
         ensures { result ≡ opened_of self.now.state.phase }
     {
-        match &self.phase {
-            Phase::Standing(target, _) => Some(counts_of(target)),
-            _ => None,
-        }
+        self.machine.opened()
     }
 
     /// The trace. It is one of a run from formatted metadata, of which all holds that is promised of every run (`headline`): no event is
@@ -134,7 +80,7 @@ impl World {
     {
         headline();
         reads_give_the_latest_write::<Quiet, Global>();
-        &self.trace
+        self.machine.trace()
     }
 
     /// The trace of a world that is done with, and what is promised of it.
@@ -143,37 +89,6 @@ impl World {
     {
         headline();
         reads_give_the_latest_write::<Quiet, Global>();
-        self.trace
-    }
-}
-
-/// What an event does to the parts of a world, and what it reads.
-fn happen(
-    geometry: &Geometry,
-    alloc: Global,
-    devices: &mut Devices<MemDisk>,
-    phase: &mut Phase,
-    event: &Event,
-) -> Result<Outcome, Refusal>
-    requires there { IsThere ACTORS phase.old }
-    requires sound { IsSound geometry.now ACTORS devices.old phase.old }
-    requires served { IsServed geometry.now devices.old phase.old }
-    ensures there { IsThere ACTORS phase.new }
-    ensures sound { IsSound geometry.now ACTORS devices.new phase.new }
-    ensures ok { IfOk result (λ done. Happens (shape_of geometry.now ACTORS) (state_of ACTORS devices.old phase.old) event.now done.what done.read.items (state_of ACTORS devices.new phase.new)) }
-    ensures err { OnErr result (state_of ACTORS devices.new phase.new ≡ state_of ACTORS devices.old phase.old) }
-    ensures refusal { IfErr result (λ refusal. refusal ≡ Memory) }
-{
-    match event {
-        Event::Start(a, job) => {
-            let what = start(geometry, alloc, devices, phase, *a, job)?;
-            Ok(Outcome::told(alloc, what))
-        }
-        Event::Step(a) => step(geometry, alloc, devices, phase, *a),
-        Event::FaultStep(a, choice) => {
-            let what = falter(geometry, devices, phase, *a, choice)?;
-            Ok(Outcome::told(alloc, what))
-        }
-        Event::Stop(choice) => Ok(Outcome::told(alloc, stop(devices, phase, choice))),
+        self.machine.into_trace()
     }
 }

@@ -105,9 +105,12 @@ const REPLACE: Order = Order::Replace(OBlock(3), OBlock(6), CBlock(1));
 
 /// Block 3 makes way for block 6 in cache block 1: which comes in once a commit has ended that began after block 3 went,
 /// whoever asked for it. No one else gets the cache block meanwhile.
-const REPLACED: [(Call, bool); 19] = [
+const REPLACED: [(Call, bool); 23] = [
     (Call::Reserve(REPLACE), true),
     (Call::Holds(1, Holding::Mapped), true),
+    (Call::Stands(3, Some(1)), true),
+    (Call::Stands(6, None), true),
+    (Call::Stands(10, None), true),
     (Call::Begin, true),
     (Call::Unmap(6), false),
     (Call::Unmap(3), true),
@@ -123,6 +126,7 @@ const REPLACED: [(Call, bool); 19] = [
     (Call::Reserve(NEXT), false),
     (Call::Map(3, 1), false),
     (Call::Map(6, 1), true),
+    (Call::Stands(6, Some(1)), true),
     (Call::Release(REPLACE), false),
     (Call::Unmap(6), true),
     (Call::Entries(0, 1, 2), true),

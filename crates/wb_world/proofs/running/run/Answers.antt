@@ -1,7 +1,7 @@
 use Rattle.std.proofs.Common.{◌∙◌, ◌++◌, ap, reverse, subst}
 use Rattle.std.proofs.lemmas.List.{reverse-reverse}
-use Rattle.wb_world.specs.declared.world.TheConstants.{ACTORS}
-use Rattle.wb_world.specs.Life.{shape_of}
+use Rattle.wb_machine.specs.declared.machine.TheConstants.{ACTORS}
+use Rattle.wb_machine.specs.Life.{shape_of}
 use Rattle.wb_world.specs.Running.{IsRightRun, events_of}
 use Rattle.wb_world.proofs.running.run.Goals as goal
 

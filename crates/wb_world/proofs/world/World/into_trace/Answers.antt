@@ -1,6 +1,6 @@
 use Rattle.std.proofs.Common.{refl}
-use Rattle.wb_world.specs.declared.world.TheConstants.{ACTORS}
-use Rattle.wb_world.specs.Life.{Life, IsReached, shape_of, state_of}
+use Rattle.wb_machine.specs.declared.machine.TheConstants.{ACTORS}
+use Rattle.wb_machine.specs.Life.{Life, IsReached, shape_of, state_of}
 use Rattle.wb_world.proofs.world.World.into_trace.Goals as goal
 
 pub returns : goal.returns

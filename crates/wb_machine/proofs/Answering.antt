@@ -1,0 +1,129 @@
+-- The answer of an opening.
+use Rattle.std.proofs.Common.{◌≡◌, ◌<◌, ℕ, true, List, [], Option, Some, None, refl, sym, ap, subst, ◌∙◌, length, length-set, replicate, slice_set}
+use Rattle.wb_types.specs.declared.mode.Mode.TheVariants.{Writeback}
+use Rattle.wb_policy.specs.declared.quiet.Quiet.{Quiet}
+use Rattle.std.specs.declared.alloc.Global.{Global}
+use Rattle.wb_types.specs.Limits.{node_count}
+use Rattle.wb_types.specs.declared.geometry.Geometry.{Geometry}
+use Rattle.wb_types.specs.declared.refusal.Refusal.{Refusal}
+use Rattle.wb_disk.specs.Memory.{Memory}
+use Rattle.wb_words.specs.Cards.{blank_card}
+use Rattle.wb_words.specs.SharedWords.{fresh_words}
+use Rattle.wb_words.specs.declared.card.Card.{Card}
+use Rattle.wb_meta.specs.declared.commit_steps.CommitSteps.TheVariants.{Done as Committed}
+use Rattle.wb_meta.specs.declared.read_steps.ReadSteps.{ReadSteps}
+use Rattle.wb_devices.specs.Committing.{is_committed}
+use Rattle.wb_stage.specs.Stages.{is_all_done}
+use Rattle.wb_devices.specs.declared.devices.Devices.{Devices}
+use Rattle.wb_devices.specs.declared.running.RunningCommit.{RunningCommit}
+use Rattle.wb_tasks.specs.Plan.{want}
+use Rattle.wb_tasks.specs.declared.step.Answer.TheVariants.{Done as Finished, Refused as Refuses}
+use Rattle.wb_tasks.specs.declared.step.Want.{Want}
+use Rattle.wb_tasks.specs.declared.step.Want.TheVariants.{End}
+use Rattle.wb_tasks.specs.declared.step.Got.TheVariants.{Done}
+use Rattle.wb_runs.specs.declared.event.Event.TheVariants.{Step}
+use Rattle.wb_runs.specs.declared.event.What.{What}
+use Rattle.wb_runs.specs.declared.event.What.TheVariants.{Stepped}
+use Rattle.wb_runs.specs.declared.job.Job.TheVariants.{Open}
+use Rattle.wb_runs.specs.States.{Actor, Gone, Opens, Shape, Stands, Target, resting}
+use Rattle.wb_runs.specs.Happenings.{Opened, Plain}
+use Rattle.wb_runs.specs.Effects.{card_by, device_done, job_of, seals_of, stepped, target_over, with_actor}
+use Rattle.wb_machine.specs.declared.making.Made.{Made}
+use Rattle.wb_machine.specs.declared.opener.Opener.{Opener}
+use Rattle.wb_machine.specs.declared.phase.Phase.{Phase}
+use Rattle.wb_machine.specs.declared.phase.Phase.TheVariants.{Closed, Underway, Standing}
+use Rattle.wb_machine.specs.Life.{Happens, IsThere, Now, actors_of, answered, contents_of, device_step_of, opening_actor, shape_of, stands_by, state_of}
+use Rattle.wb_machine.specs.Making.{HasMade, IsMade, read_of, reading_by, reading_of}
+use Rattle.wb_machine.specs.Members.{Member, free, seated}
+use Rattle.wb_desk.specs.Desks.{DeskState}
+use Rattle.wb_machine.specs.Standing.{AllRoomy, Point, AtEnd, AtRefusal, HasMadeThere, HasReadAll, HasComeTo, StandsAt, StandsSo, plan_from}
+use Rattle.wb_machine.proofs.Members.{all_free}
+use Rattle.wb_machine.proofs.Served.{roomy_free}
+use Rattle.wb_machine.proofs.Openings.{busy, length_replicate, set_replicate, set_twice, there}
+
+-- the target is the one that was made
+target_is : (g : Geometry) (n a : ℕ) (made : Made) → IsMade g n a made → record { words = made.target.crew.words; desk = made.target.desk } ≡ target_over (shape_of g n) Writeback made.target.desk.policy (read_of made)
+target_is g n a made is = rw (← is.words_are, ← is.desk_is) refl
+
+sizes : (g : Geometry) (n a : ℕ) (made : Made) → IsMade g n a made → made.target.desk.geometry ≡ g
+sizes g n a made is = ap (λ (d : DeskState Quiet). d.geometry) is.desk_is
+
+module _ (g : Geometry) (n : ℕ) (devices : Devices Memory) (o : Opener) (made : Made) where
+  abbrev shape : Shape
+  shape = shape_of g n
+
+  abbrev over : Option Made → Now
+  over m = record { devices = contents_of devices; commit = o.opening.commit; phase = Opens Writeback (reading_by m o.opening.reading); actors = actors_of n (Underway o) }
+
+  abbrev standing : Option RunningCommit → Target Quiet → List Actor → Now
+  standing commit t xs = record { devices = contents_of devices; commit = commit; phase = Stands t; actors = xs }
+
+  abbrev card : Card
+  card = card_by (fresh_words g.origin_blocks) blank_card (seals_of (read_of made))
+
+  -- with nothing to do, and this card
+  abbrev rested : Actor
+  rested = record { task = None; card = card; orders = []; buffer = [] }
+
+  actors : IsMade g n o.actor made → seated made.members.items made.target.crew.cards ≡ slice_set (actors_of n (Underway o)) o.actor rested
+  actors is = ap (λ (ms : List Member). seated ms made.target.crew.cards) is.members_are ∙ ap (λ (cs : List Card). seated (replicate n free) cs) is.cards_are
+      ∙ all_free n o.actor card ∙ sym (set_twice (replicate n resting) o.actor (opening_actor o.task) rested)
+
+  -- its answer, which is done
+  pub opened : o.actor < n → want o.task ≡ End Finished → o.made ≡ Some made → IsMade g n o.actor made → is_all_done o.opening.commit ≡ true →
+      Happens shape (state_of n devices (Underway o)) (Step o.actor) (Stepped (End Finished) Done) [] (state_of n devices (Standing made.target made.members))
+  opened h next made_is is done = subst (λ (m : Option Made). Happens shape (over m) (Step o.actor) (Stepped (End Finished) Done) [] (state_of n devices (Standing made.target made.members))) (sym made_is) (record {
+    chosen = Opened made.target.desk.policy;
+    may = busy n o _ h (sym next, (refl, refl, (tt, done)));
+    leads = ap (λ (commit : Option RunningCommit). standing commit (record { words = made.target.crew.words; desk = made.target.desk }) (seated made.members.items made.target.crew.cards)) is.commit_is
+        ∙ ap (λ (xs : List Actor). standing None (record { words = made.target.crew.words; desk = made.target.desk }) xs) (actors is)
+        ∙ ap (λ (t : Target Quiet). standing None t (slice_set (actors_of n (Underway o)) o.actor rested)) (target_is g n o.actor made is)
+        ∙ sym (ap (λ (x : Option Actor). with_actor (over (Some made)) x (λ y. stepped shape (over (Some made)) o.actor y (End Finished) Done (Opened made.target.desk.policy) (λ step. device_done {P = Quiet} {A = Global} (job_of y.task) y.buffer step (Opened made.target.desk.policy)))) (there n o h));
+  })
+
+-- its answer, which is a refusal
+pub refused : (shape : Shape) (n : ℕ) (devices : Devices Memory) (o : Opener) → o.actor < n → (refusal : Refusal) (what : What) → want o.task ≡ End (Refuses refusal) → what ≡ Stepped (End (Refuses refusal)) Done →
+    Happens shape (state_of n devices (Underway o)) (Step o.actor) what [] (state_of n devices Closed)
+refused shape n devices o h refusal what next e = rw e (record {
+  chosen = Plain;
+  may = busy n o _ h (sym next, ((refl, refl), refl));
+  leads = ap (λ xs. record { devices = contents_of devices; commit = None; phase = Gone; actors = xs }) (sym (set_twice (replicate n resting) o.actor (opening_actor o.task) resting ∙ set_replicate n o.actor resting))
+      ∙ sym (ap (λ (x : Option Actor). with_actor (state_of n devices (Underway o)) x (λ y. stepped shape (state_of n devices (Underway o)) o.actor y (End (Refuses refusal)) Done Plain (λ step. device_done {P = Quiet} {A = Global} (Open Writeback) y.buffer step Plain))) (there n o h));
+})
+
+-- ---- wherever it stands, where its next step is none on a device
+
+pub record Answers (g : Geometry) (n : ℕ) (devices : Devices Memory) (o : Opener) (next : Phase) : Type 0 where
+  pub happens : Happens (shape_of g n) (state_of n devices (Underway o)) (Step o.actor) (Stepped (want o.task) Done) [] (state_of n devices next)
+  pub is_there : IsThere n next
+  pub so : StandsSo g n next
+
+answers_done : (g : Geometry) (n : ℕ) (devices : Devices Memory) (o : Opener) → o.actor < n → want o.task ≡ End Finished → is_all_done o.opening.commit ≡ true → (made : Option Made) → o.made ≡ made → HasMade g n o.actor made → Answers g n devices o (answered (Underway o))
+answers_done g n devices o h next done None made_is is = absurd is
+answers_done g n devices o h next done (Some made) made_is is =
+    let stood : stands_by (want o.task) o.made ≡ Standing made.target made.members = ap (λ (w : Want). stands_by w o.made) next ∙ ap (λ (m : Option Made). stands_by (End Finished) m) made_is in
+    subst (Answers g n devices o) (sym stood) (record {
+      happens = subst (λ (w : Want). Happens (shape_of g n) (state_of n devices (Underway o)) (Step o.actor) (Stepped w Done) [] (state_of n devices (Standing made.target made.members))) (sym next) (opened g n devices o made h next made_is is done);
+      is_there = (ap length is.cards_are ∙ length-set (replicate n blank_card) o.actor _ ∙ length_replicate n blank_card, ap length is.members_are ∙ length_replicate n free);
+      so = record { blocks = is.blocks_are; failed = is.failed_is; sizes = sizes g n o.actor made is; roomy = subst (λ (ms : List Member). AllRoomy (node_count g.cache_blocks) ms) (sym is.members_are) (roomy_free (node_count g.cache_blocks) n) };
+    })
+
+answers_refused : (g : Geometry) (n : ℕ) (devices : Devices Memory) (o : Opener) → o.actor < n → (refusal : Refusal) → want o.task ≡ End (Refuses refusal) → Answers g n devices o (answered (Underway o))
+answers_refused g n devices o h refusal next =
+    subst (Answers g n devices o) (sym (ap (λ (w : Want). stands_by w o.made) next)) (record {
+      happens = refused (shape_of g n) n devices o h refusal (Stepped (want o.task) Done) next (ap (λ (w : Want). Stepped w Done) next);
+      is_there = tt;
+      so = tt;
+    })
+
+all_done : (g : Geometry) (reading : Option (ReadSteps Global)) (commit : Option RunningCommit) → HasReadAll g Committed reading commit → is_all_done commit ≡ true
+all_done g reading commit all = ap is_all_done all.commit_is ∙ ap is_committed all.steps_are
+
+answers_at : (g : Geometry) (n : ℕ) (devices : Devices Memory) (o : Opener) → o.actor < n → (point : Point) → o.task ≡ plan_from g.meta_sectors point → HasComeTo g point (reading_of o) o.opening.commit → HasMadeThere g n point o.actor o.made → device_step_of (want (plan_from g.meta_sectors point)) ≡ None
+    → Answers g n devices o (answered (Underway o))
+answers_at g n devices o h AtEnd plan come made none = answers_done g n devices o h (ap want plan) (all_done g (reading_of o) o.opening.commit come) o.made refl made
+answers_at g n devices o h (AtRefusal refusal) plan come made none = answers_refused g n devices o h refusal (ap want plan)
+answers_at g n devices o h point plan come made none = absurd (cc)
+
+pub answers : (g : Geometry) (n : ℕ) (devices : Devices Memory) (o : Opener) → o.actor < n → StandsAt g n o → device_step_of (want o.task) ≡ None → Answers g n devices o (answered (Underway o))
+answers g n devices o h at none = answers_at g n devices o h at.point at.plan_is at.come at.made (ap (λ p. device_step_of (want p)) (sym at.plan_is) ∙ none)

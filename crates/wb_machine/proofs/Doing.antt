@@ -1,0 +1,340 @@
+-- What single steps of an actor do is what wb_runs says.
+use Rattle.std.proofs.Common.{◌≡◌, ◌≤◌, ◌==◌, ◌&&◌, ℕ, zero, suc, Bool, true, false, List, [], ◌∷◌, Option, Some, None, refl, sym, ap, subst, ◌∙◌, arith, drop, length, map, take, slice_get, is_some}
+use Rattle.std.specs.declared.alloc.Global.{Global}
+use Rattle.wb_types.specs.declared.mode.Dev.{Dev}
+use Rattle.wb_types.specs.declared.mode.Dev.TheVariants.{Metadata, Cache, Origin}
+use Rattle.wb_types.specs.declared.extent.Extent.{Extent}
+use Rattle.wb_types.specs.declared.refusal.Refusal.{Refusal}
+use Rattle.wb_disk.specs.Device.{Content as Bytes, History, newest, synced}
+use Rattle.wb_disk.specs.Extents.{GivesEach, written_each, written_where}
+use Rattle.wb_disk.specs.declared.crash_choice.Base.TheVariants.{Newest}
+use Rattle.wb_disk.specs.Crash.{Choice}
+use Rattle.wb_disk.specs.Failing.{lands, synced_where}
+use Rattle.wb_words.specs.Effects.{result_of}
+use Rattle.wb_words.specs.SharedWords.{Words, flag}
+use Rattle.wb_words.specs.declared.step.CellStep.{CellStep}
+use Rattle.wb_cells.specs.Crews.{CrewState, crew_after}
+use Rattle.wb_policy.specs.declared.quiet.Quiet.{Quiet}
+use Rattle.wb_tree.specs.declared.image.Image.{Image}
+use Rattle.wb_meta.specs.declared.commit_steps.CommitSteps.{CommitSteps}
+use Rattle.wb_meta.specs.declared.commit_steps.CommitSteps.TheVariants.{NodesWritten, NodesSynced, RootWritten, Done as Committed}
+use Rattle.wb_desk.specs.Commits.{IsBeginRefused, commit_begun}
+use Rattle.wb_desk.specs.Desks.{DeskState}
+use Rattle.wb_desk.specs.Entries.{MayUnmap, HasLeft, mapped, unmapped}
+use Rattle.wb_types.specs.declared.number.OBlock.{OBlock}
+use Rattle.wb_types.specs.declared.number.CBlock.{CBlock}
+use Rattle.wb_types.specs.declared.refusal.Refusal.TheVariants.{Memory}
+use Rattle.wb_tasks.specs.Plan.{Fits, got_of}
+use Rattle.wb_tasks.specs.declared.step.Answer.{Answer}
+use Rattle.wb_tasks.specs.declared.step.Answer.TheVariants.{Done as Finished, Refused as Refuses}
+use Rattle.wb_tasks.specs.declared.step.DeviceStep.{DeviceStep}
+use Rattle.wb_tasks.specs.declared.step.DeviceStep.TheVariants.{Read as ReadExtent, Write as WriteExtent, Sync, WriteNode, WriteRoot}
+use Rattle.wb_tasks.specs.declared.step.DeskStep.{DeskStep}
+use Rattle.wb_tasks.specs.declared.step.DeskStep.TheVariants.{Map, Unmap, ReleaseOrder, BeginCommit, EndCommit}
+use Rattle.wb_tasks.specs.declared.step.Want.TheVariants.{Cell, Device, Desk, End}
+use Rattle.wb_tasks.specs.declared.step.Got.{Got}
+use Rattle.wb_tasks.specs.declared.step.Got.TheVariants.{Done, Fault, Began, Refused as GotRefused}
+use Rattle.wb_devices.specs.declared.devices.Devices.{Devices}
+use Rattle.wb_devices.specs.declared.running.RunningCommit.{RunningCommit}
+use Rattle.wb_devices.specs.Committing.{is_coming}
+use Rattle.wb_devices.specs.Moving.{device_in}
+use Rattle.wb_stage.specs.Asking.{DidMap, DidUnmap, HasBegun, IsGivenUp, ended}
+use Rattle.wb_stage.specs.Stages.{is_all_done}
+use Rattle.wb_runs.specs.declared.job.Job.{Job}
+use Rattle.wb_runs.specs.declared.job.Job.TheVariants.{Read, Write, Flush, Open, Migrate}
+use Rattle.wb_runs.specs.States.{Shape, Actor, Stands, Target as RunTarget, with_device}
+use Rattle.wb_runs.specs.Happenings.{Plain, Commits, Asks, AreWhole, DoesSync, FailsSync, Gives}
+use Rattle.wb_runs.specs.Effects.{contents_for, led}
+use Rattle.wb_machine.specs.declared.target.Target.{Target}
+use Rattle.wb_machine.specs.Serving.{ComesNext, DoesOn, FailsAt, IsDoable, IsPossible, IsPut, MayBePut, Performs, PutsSector, WasAsked, WasPut, IsCopy, Migrates, chosen_at, commit_by, noted_read, order_of, over, stood, told}
+
+-- ---- devices
+
+-- a device in its own place
+same_device : (device : Dev) (devices : Devices (List History)) → with_device device devices (device_in device devices) ≡ devices
+same_device Metadata devices = refl
+same_device Cache devices = refl
+same_device Origin devices = refl
+
+-- where no sector is named, and the newest contents count, all land
+lands_all : (device : Dev) (choice : Choice) → choice.base ≡ Newest → choice.named ≡ [] → (old : List History) (at : ℕ) (contents : List Bytes) → written_where (lands device choice) old at contents ≡ written_each old at contents
+lands_all device choice b n old at contents = rw (b, n) refl
+
+first_there : {X : Type 0} (xs : List X) (i : ℕ) (x : X) → slice_get xs i ≡ Some x → slice_get (drop i xs) 0 ≡ Some x
+first_there [] zero x e = e
+first_there [] (suc i) x e = absurd (cc)
+first_there (y ∷ ys) zero x e = e
+first_there (y ∷ ys) (suc i) x e = first_there ys i x e
+
+drop_more : {X : Type 0} (xs : List X) (i : ℕ) (y : X) (ys : List X) → drop i xs ≡ y ∷ ys → drop (suc i) xs ≡ ys
+drop_more [] zero y ys e = absurd (cc)
+drop_more [] (suc i) y ys e = absurd (cc)
+drop_more (x ∷ xs) zero y ys e = cc
+drop_more (x ∷ xs) (suc i) y ys e = drop_more xs i y ys e
+
+-- what was read of each sector is what it holds
+given_copy : (device : List History) (first count : ℕ) (read : List Bytes) → length read ≡ count → GivesEach device first read → read ≡ map newest (take count (drop first device))
+given_copy device first zero [] many g = refl
+given_copy device first (suc count) [] many g = absurd (omega (arith, many))
+given_copy device first zero (c ∷ cs) many g = absurd (omega (arith, many))
+given_copy device first (suc count) (c ∷ cs) many g = one (drop first device) refl (given_copy device (suc first) count cs (omega (arith, many)) g.1)
+  where
+    one : (hs : List History) → drop first device ≡ hs → cs ≡ map newest (take count (drop (suc first) device)) → c ∷ cs ≡ map newest (take (suc count) hs)
+    one [] e rest = absurd (let none = first_there device first g.0.0 g.0.1 in let bad : slice_get {X = History} [] 0 ≡ Some g.0.0 = ap (λ hs. slice_get hs 0) (sym e) ∙ none in cc)
+    one (h ∷ hs) e rest =
+        let at : Some h ≡ Some g.0.0 = ap (λ hs. slice_get hs 0) (sym e) ∙ first_there device first g.0.0 g.0.1 in
+        let same : h ≡ g.0.0 = cc in
+        let here : c ≡ newest h = sym g.0.2 ∙ ap newest (sym same) in
+        let later : drop (suc first) device ≡ hs = drop_more device first h hs e in
+        ap (λ x. x ∷ cs) here ∙ ap (λ xs. newest h ∷ xs) (rest ∙ ap (λ xs. map newest (take count xs)) later)
+
+module _ (devices : Devices (List History)) (commit : Option RunningCommit) (devices' : Devices (List History)) (commit' : Option RunningCommit) where
+  -- what the job writes next is in its buffer
+  module _ (buffer : List Bytes) where
+    pub did_read : (job : Job) (device : Dev) (e : Extent) (read : List Bytes) → IsDoable devices commit job (ReadExtent device e) → length read ≡ e.count → GivesEach (device_in device devices) e.first read → devices' ≡ devices → commit' ≡ commit →
+        DoesOn devices commit job buffer (ReadExtent device e) read devices' commit'
+    did_read (Read extent) device e read can many each d c = record { gives = λ shape t actors. (can.1, refl, refl, many, each); copies = tt; devices_are = d ∙ sym (same_device device devices); commit_is = c }
+    did_read (Migrate migration block) device e read can many each d c = record {
+      gives = λ shape t actors. (can.1, (refl, refl), refl, can.2);
+      copies = given_copy (device_in device devices) e.first e.count read many each;
+      devices_are = d ∙ sym (same_device device devices);
+      commit_is = c;
+    }
+    did_read (Write extent content) device e read can many each d c = absurd can.0
+    did_read Flush device e read can many each d c = absurd can.0
+    did_read (Open mode) device e read can many each d c = absurd can.0
+
+    pub did_write : (job : Job) (device : Dev) (e : Extent) (choice : Choice) (read : List Bytes) → IsDoable devices commit job (WriteExtent device e) → choice.base ≡ Newest → choice.named ≡ [] → read ≡ [] →
+        devices' ≡ with_device device devices (written_where (lands device choice) (device_in device devices) e.first (contents_for job buffer e.count)) → commit' ≡ commit → DoesOn devices commit job buffer (WriteExtent device e) read devices' commit'
+    did_write (Read extent) device e choice read can b n r d c = absurd can.0
+    did_write (Write extent content) device e choice read can b n r d c = record {
+      gives = λ shape t actors. (can.1, (r, refl), refl, can.2);
+      copies = tt;
+      devices_are = d ∙ ap (λ new. with_device device devices new) (lands_all device choice b n (device_in device devices) e.first (contents_for (Write extent content) buffer e.count));
+      commit_is = c;
+    }
+    did_write (Migrate migration block) device e choice read can b n r d c = record {
+      gives = λ shape t actors. (can.1, (r, refl), refl, can.2);
+      copies = tt;
+      devices_are = d ∙ ap (λ new. with_device device devices new) (lands_all device choice b n (device_in device devices) e.first buffer);
+      commit_is = c;
+    }
+    did_write Flush device e choice read can b n r d c = absurd can.0
+    did_write (Open mode) device e choice read can b n r d c = absurd can.0
+
+  syncs_so : (commit : Option RunningCommit) → ComesNext commit (Sync Metadata) devices.metadata → (t : RunTarget Quiet) → DoesSync {P = Quiet} {A = Global} (Stands t) commit devices.metadata Plain
+  syncs_so None can t = can
+  syncs_so (Some running) can t = (can.0, refl)
+
+  module _ (buffer : List Bytes) where
+    pub did_sync : (job : Job) (device : Dev) (read : List Bytes) → IsDoable devices commit job (Sync device) → read ≡ [] → devices' ≡ with_device device devices (synced (device_in device devices)) → commit' ≡ commit_by commit (Device (Sync device)) Done Plain →
+        DoesOn devices commit job buffer (Sync device) read devices' commit'
+    did_sync (Read extent) Metadata read can r d c = record { gives = λ shape t actors. (r, refl, syncs_so commit can t); copies = tt; devices_are = d; commit_is = c }
+    did_sync (Write extent content) Metadata read can r d c = record { gives = λ shape t actors. (r, refl, syncs_so commit can t); copies = tt; devices_are = d; commit_is = c }
+    did_sync Flush Metadata read can r d c = record { gives = λ shape t actors. (r, refl, syncs_so commit can t); copies = tt; devices_are = d; commit_is = c }
+    did_sync (Open mode) Metadata read can r d c = record { gives = λ shape t actors. (r, refl, syncs_so commit can t); copies = tt; devices_are = d; commit_is = c }
+    did_sync (Migrate migration block) Metadata read can r d c = record { gives = λ shape t actors. (r, refl, syncs_so commit can t); copies = tt; devices_are = d; commit_is = c }
+    did_sync (Read extent) Cache read can r d c = record { gives = λ shape t actors. ((r, refl), refl); copies = tt; devices_are = d; commit_is = c }
+    did_sync (Write extent content) Cache read can r d c = record { gives = λ shape t actors. ((r, refl), refl); copies = tt; devices_are = d; commit_is = c }
+    did_sync Flush Cache read can r d c = record { gives = λ shape t actors. ((r, refl), refl); copies = tt; devices_are = d; commit_is = c }
+    did_sync (Open mode) Cache read can r d c = record { gives = λ shape t actors. ((r, refl), refl); copies = tt; devices_are = d; commit_is = c }
+    did_sync (Migrate migration block) Cache read can r d c = record { gives = λ shape t actors. ((r, refl), refl); copies = tt; devices_are = d; commit_is = c }
+    did_sync (Read extent) Origin read can r d c = record { gives = λ shape t actors. ((r, refl), refl); copies = tt; devices_are = d; commit_is = c }
+    did_sync (Write extent content) Origin read can r d c = record { gives = λ shape t actors. ((r, refl), refl); copies = tt; devices_are = d; commit_is = c }
+    did_sync Flush Origin read can r d c = record { gives = λ shape t actors. ((r, refl), refl); copies = tt; devices_are = d; commit_is = c }
+    did_sync (Open mode) Origin read can r d c = record { gives = λ shape t actors. ((r, refl), refl); copies = tt; devices_are = d; commit_is = c }
+    did_sync (Migrate migration block) Origin read can r d c = record { gives = λ shape t actors. ((r, refl), refl); copies = tt; devices_are = d; commit_is = c }
+
+    pub did_put : (job : Job) (step : DeviceStep) (read : List Bytes) → IsPut step → read ≡ [] → WasPut commit step devices.metadata devices'.metadata → devices' ≡ record devices { metadata = devices'.metadata } → commit' ≡ led commit Done →
+        DoesOn devices commit job buffer step read devices' commit'
+    did_put (Read extent) (WriteNode number) read put r p d c = record { gives = λ shape t actors. (r, refl, p); copies = tt; devices_are = d; commit_is = c }
+    did_put (Write extent content) (WriteNode number) read put r p d c = record { gives = λ shape t actors. (r, refl, p); copies = tt; devices_are = d; commit_is = c }
+    did_put Flush (WriteNode number) read put r p d c = record { gives = λ shape t actors. (r, refl, p); copies = tt; devices_are = d; commit_is = c }
+    did_put (Open mode) (WriteNode number) read put r p d c = record { gives = λ shape t actors. (r, refl, p); copies = tt; devices_are = d; commit_is = c }
+    did_put (Migrate migration block) (WriteNode number) read put r p d c = record { gives = λ shape t actors. (r, refl, p); copies = tt; devices_are = d; commit_is = c }
+    did_put (Read extent) WriteRoot read put r p d c = record { gives = λ shape t actors. (r, refl, p); copies = tt; devices_are = d; commit_is = c }
+    did_put (Write extent content) WriteRoot read put r p d c = record { gives = λ shape t actors. (r, refl, p); copies = tt; devices_are = d; commit_is = c }
+    did_put Flush WriteRoot read put r p d c = record { gives = λ shape t actors. (r, refl, p); copies = tt; devices_are = d; commit_is = c }
+    did_put (Open mode) WriteRoot read put r p d c = record { gives = λ shape t actors. (r, refl, p); copies = tt; devices_are = d; commit_is = c }
+    did_put (Migrate migration block) WriteRoot read put r p d c = record { gives = λ shape t actors. (r, refl, p); copies = tt; devices_are = d; commit_is = c }
+    did_put job step read put r p d c = absurd put
+
+  -- ---- that fail
+
+  module _ (choice : Choice) (job : Job) (buffer : List Bytes) where
+    pub failed_read : (device : Dev) (e : Extent) → IsDoable devices commit job (ReadExtent device e) → devices' ≡ devices → commit' ≡ commit → FailsAt choice devices commit job buffer (ReadExtent device e) devices' commit'
+    failed_read device e can d c = record { falters = λ t actors. (refl, can.1); devices_are = d ∙ sym (same_device device devices); commit_is = c }
+
+    pub failed_write : (device : Dev) (e : Extent) → IsDoable devices commit job (WriteExtent device e) → devices' ≡ with_device device devices (written_where (lands device choice) (device_in device devices) e.first (contents_for job buffer e.count)) → commit' ≡ commit → FailsAt choice devices commit job buffer (WriteExtent device e) devices' commit'
+    failed_write device e can d c = record { falters = λ t actors. (refl, can.1); devices_are = d; commit_is = c }
+
+    faults_so : (commit : Option RunningCommit) → ComesNext commit (Sync Metadata) devices.metadata → (t : RunTarget Quiet) → FailsSync {P = Quiet} {A = Global} (Stands t) commit devices.metadata
+    faults_so None can t = can
+    faults_so (Some running) can t = can
+
+    pub failed_sync : (device : Dev) → IsDoable devices commit job (Sync device) → devices' ≡ with_device device devices (synced_where (lands device choice) (device_in device devices)) → commit' ≡ commit_by commit (Device (Sync device)) Fault Plain → FailsAt choice devices commit job buffer (Sync device) devices' commit'
+    failed_sync Metadata can d c = record { falters = λ t actors. (refl, faults_so commit can t); devices_are = d; commit_is = c }
+    failed_sync Cache can d c = record { falters = λ t actors. refl; devices_are = d; commit_is = c }
+    failed_sync Origin can d c = record { falters = λ t actors. refl; devices_are = d; commit_is = c }
+
+    led_none : (commit : Option RunningCommit) → led commit Fault ≡ None
+    led_none None = refl
+    led_none (Some running) = refl
+
+    pub failed_put : (step : DeviceStep) → IsPut step → MayBePut commit choice step devices.metadata devices'.metadata → devices' ≡ record devices { metadata = devices'.metadata } → commit' ≡ None → FailsAt choice devices commit job buffer step devices' commit'
+    failed_put (WriteNode number) put p d c = record { falters = λ t actors. p; devices_are = d; commit_is = c ∙ sym (led_none commit) }
+    failed_put WriteRoot put p d c = record { falters = λ t actors. p; devices_are = d; commit_is = c ∙ sym (led_none commit) }
+    failed_put step put p d c = absurd put
+
+-- the step that comes next of a commit, and that writes
+pub puts_sector : (image : Image) (steps : CommitSteps) (step : DeviceStep) (b : Bool) → IsPut step → is_coming image steps step && b ≡ true → PutsSector image steps
+puts_sector image (NodesWritten count) (WriteNode number) b p e = there (number == count) (is_some (slice_get image.nodes.items count)) b e
+  where
+    there : (x y z : Bool) → (x && y) && z ≡ true → y ≡ true
+    there true true true e = refl
+    there true true false e = absurd (cc)
+    there true false z e = absurd (cc)
+    there false y z e = absurd (cc)
+puts_sector image NodesSynced WriteRoot b p e = tt
+puts_sector image (NodesWritten count) WriteRoot b p e = absurd (cc)
+puts_sector image NodesSynced (WriteNode number) b p e = absurd (cc)
+puts_sector image RootWritten step b p e = no_more step b p e
+  where
+    no_more : (step : DeviceStep) (b : Bool) → IsPut step → is_coming image RootWritten step && b ≡ true → PutsSector image RootWritten
+    no_more (WriteNode number) b p e = absurd (cc)
+    no_more WriteRoot b p e = absurd (cc)
+    no_more step b p e = absurd p
+puts_sector image Committed step b p e = absurd (cc)
+puts_sector image steps step b p e = absurd p
+
+-- ---- the desk
+
+module _ (desk : DeskState Quiet) (commit : Option RunningCommit) (desk' : DeskState Quiet) (commit' : Option RunningCommit) where
+  pub did_begin : (job : Job) (clean : Bool) (most nodes : ℕ) (running : RunningCommit) → clean ≡ false → nodes ≤ most → nodes ≡ length running.image.nodes.items → running.steps ≡ NodesWritten 0 → HasBegun desk running.image desk' → AreWhole running.image → commit' ≡ Some running →
+      WasAsked desk commit job (BeginCommit clean most) (Began nodes) desk' commit'
+  did_begin job clean most nodes running n few many steps begun whole c =
+      let same : HasBegun desk running.image (commit_begun desk desk'.tree) = subst (λ (d : DeskState Quiet). HasBegun desk running.image d) begun.state begun in
+      record { chosen = Commits running desk'.tree; gives = λ shape devices words actors. by_job same shape devices words actors job; desk_is = begun.state; commit_is = c }
+    where
+      by_job : HasBegun desk running.image (commit_begun desk desk'.tree) → (shape : Shape) (devices : Devices (List History)) (words : Words) (actors : List Actor) (job : Job) → Gives shape (stood devices commit (record { words = words; desk = desk }) actors) job (Desk (BeginCommit clean most)) (Began nodes) [] (Commits running desk'.tree)
+      by_job h shape devices words actors (Read extent) = (refl, n, (few, many, steps, h, whole))
+      by_job h shape devices words actors (Write extent content) = (refl, n, (few, many, steps, h, whole))
+      by_job h shape devices words actors Flush = (refl, n, (few, many, steps, h, whole))
+      by_job h shape devices words actors (Open mode) = (refl, n, (few, many, steps, h, whole))
+      by_job h shape devices words actors (Migrate migration block) = (refl, n, (few, many, steps, h, whole))
+
+  pub did_refuse : (job : Job) (clean : Bool) (most : ℕ) (refusal : Refusal) → clean ≡ false → IsBeginRefused desk refusal → desk' ≡ desk → commit' ≡ commit → WasAsked desk commit job (BeginCommit clean most) (GotRefused refusal) desk' commit'
+  did_refuse job clean most refusal n refused d c = record { chosen = Plain; gives = λ shape devices words actors. by_job shape devices words actors job; desk_is = d; commit_is = c }
+    where
+      by_job : (shape : Shape) (devices : Devices (List History)) (words : Words) (actors : List Actor) (job : Job) → Gives shape (stood devices commit (record { words = words; desk = desk }) actors) job (Desk (BeginCommit clean most)) (GotRefused refusal) [] Plain
+      by_job shape devices words actors (Read extent) = (refl, n, refused)
+      by_job shape devices words actors (Write extent content) = (refl, n, refused)
+      by_job shape devices words actors Flush = (refl, n, refused)
+      by_job shape devices words actors (Open mode) = (refl, n, refused)
+      by_job shape devices words actors (Migrate migration block) = (refl, n, refused)
+
+  pub did_end : (job : Job) → is_all_done commit ≡ true → desk' ≡ ended desk → commit' ≡ None → WasAsked desk commit job EndCommit Done desk' commit'
+  did_end job done d c = record { chosen = Plain; gives = λ shape devices words actors. by_job shape devices words actors job; desk_is = d; commit_is = c }
+    where
+      by_job : (shape : Shape) (devices : Devices (List History)) (words : Words) (actors : List Actor) (job : Job) → Gives shape (stood devices commit (record { words = words; desk = desk }) actors) job (Desk EndCommit) Done [] Plain
+      by_job shape devices words actors (Read extent) = ((refl, refl), refl, done)
+      by_job shape devices words actors (Write extent content) = ((refl, refl), refl, done)
+      by_job shape devices words actors Flush = ((refl, refl), refl, done)
+      by_job shape devices words actors (Open mode) = ((refl, refl), refl, done)
+      by_job shape devices words actors (Migrate migration block) = ((refl, refl), refl, done)
+
+  -- a migration's block is mapped, or there is no memory for that
+  pub did_map : (with_entry : Quiet → ℕ → ℕ → Quiet) (job : Job) (b : OBlock) (c : CBlock) (got : Got) → Migrates job → Fits (Desk (Map b c)) got → DidMap with_entry b c got desk desk' → commit' ≡ commit → WasAsked desk commit job (Map b c) got desk' commit'
+  did_map with_entry (Migrate migration block) b c Done m f did k = record {
+    chosen = Asks desk';
+    gives = λ shape devices words actors. (refl, (did.0, did.1.0, did.1.1 ∙ ap (λ (p : Quiet). mapped desk c desk'.tree p) (sym (ap (λ (d : DeskState Quiet). d.policy) did.1.1))));
+    desk_is = refl;
+    commit_is = k;
+  }
+  did_map with_entry (Migrate migration block) b c (GotRefused Memory) m f did k = record { chosen = Plain; gives = λ shape devices words actors. (refl, refl); desk_is = did; commit_is = k }
+  did_map with_entry (Migrate migration block) b c (GotRefused refusal) m f did k = absurd f
+  did_map with_entry (Migrate migration block) b c got m f did k = absurd did
+  did_map with_entry job b c got m f did k = absurd m
+
+  -- or it is unmapped, where the desk has it and its order lets it go
+  pub did_unmap : (without_entry : Quiet → ℕ → Quiet) (job : Job) (b : OBlock) → Migrates job → DidUnmap without_entry b desk desk' → commit' ≡ commit → WasAsked desk commit job (Unmap b) Done desk' commit'
+  did_unmap without_entry (Migrate migration block) b m did k = record { chosen = Asks desk'; gives = λ shape devices words actors. (refl, refl, (λ may. left may (did.0 may), did.1)); desk_is = refl; commit_is = k }
+    where
+      left : (may : MayUnmap desk b) → HasLeft without_entry desk b may.cache desk' → HasLeft (λ policy block. desk'.policy) desk b may.cache desk'
+      left may l = (l.0, l.1 ∙ ap (λ (p : Quiet). unmapped desk may.cache desk'.tree p) (sym (ap (λ (d : DeskState Quiet). d.policy) l.1)))
+  did_unmap without_entry job b m did k = absurd m
+
+  -- or its order is given up
+  pub did_release : (job : Job) (b : OBlock) → Migrates job → IsGivenUp (order_of job) desk desk' → commit' ≡ commit → WasAsked desk commit job (ReleaseOrder b) Done desk' commit'
+  did_release (Migrate migration block) b m up k = record { chosen = Asks desk'; gives = λ shape devices words actors. (refl, refl, up); desk_is = refl; commit_is = k }
+  did_release job b m up k = absurd m
+
+-- ---- an actor
+
+module _ (devices : Devices (List History)) (old : Target) (a : ℕ) (buffer : List Bytes) (devices' : Devices (List History)) (new : Target) where
+  pub performs_word : (job : Job) (step : CellStep) (got : Got) (read : List Bytes) → got ≡ got_of (result_of old.crew.words step) → read ≡ [] → devices' ≡ devices → new.crew ≡ crew_after old.crew a step → new.desk ≡ old.desk → new.commit ≡ old.commit → new.failed ≡ flag new.crew.words.fail →
+      Performs devices old a job buffer (Cell step) got read devices' new
+  performs_word job step got read g r d w k c f = record { chosen = Plain; gives = λ shape actors. by_job shape actors job; copies = no_copy job; leads = record { devices_are = d; crew_is = w; desk_is = k; commit_is = c; failed_is = f } }
+    where
+      no_copy : (job : Job) → IsCopy devices job (Cell step) read
+      no_copy (Read extent) = tt
+      no_copy (Write extent content) = tt
+      no_copy Flush = tt
+      no_copy (Open mode) = tt
+      no_copy (Migrate migration block) = tt
+
+      by_job : (shape : Shape) (actors : List Actor) (job : Job) → Gives shape (over devices old actors) job (Cell step) got (noted_read job (Cell step) read) Plain
+      by_job shape actors (Read extent) = ((r, refl), g)
+      by_job shape actors (Write extent content) = ((r, refl), g)
+      by_job shape actors Flush = ((r, refl), g)
+      by_job shape actors (Open mode) = ((r, refl), g)
+      by_job shape actors (Migrate migration block) = ((r, refl), g)
+
+  pub performs_end : (job : Job) (answer : Answer) (read : List Bytes) → IsPossible devices old.commit job (End answer) → read ≡ [] → devices' ≡ devices → new ≡ old → old.failed ≡ flag old.crew.words.fail → Performs devices old a job buffer (End answer) Done read devices' new
+  performs_end job answer read can r d n f = rw n (record { chosen = Plain; gives = λ shape actors. by_job shape actors job answer can; copies = no_copy job; leads = record { devices_are = d; crew_is = refl; desk_is = refl; commit_is = refl; failed_is = f } })
+    where
+      no_copy : (job : Job) → IsCopy devices job (End answer) read
+      no_copy (Read extent) = tt
+      no_copy (Write extent content) = tt
+      no_copy Flush = tt
+      no_copy (Open mode) = tt
+      no_copy (Migrate migration block) = tt
+
+      by_job : (shape : Shape) (actors : List Actor) (job : Job) (answer : Answer) → IsPossible devices old.commit job (End answer) → Gives shape (over devices old actors) job (End answer) Done (noted_read job (End answer) read) Plain
+      by_job shape actors (Read extent) answer can = ((r, refl), refl)
+      by_job shape actors (Write extent content) answer can = ((r, refl), refl)
+      by_job shape actors Flush answer can = ((r, refl), refl)
+      by_job shape actors (Migrate migration block) answer can = ((r, refl), refl)
+      by_job shape actors (Open mode) Finished can = absurd (can tt)
+      by_job shape actors (Open mode) (Refuses refusal) can = ((r, refl), refl)
+
+  pub performs_device : (job : Job) (step : DeviceStep) (read : List Bytes) (commit' : Option RunningCommit) → DoesOn devices old.commit job buffer step read devices' commit' → new ≡ record old { commit = commit' } → old.failed ≡ flag old.crew.words.fail → Performs devices old a job buffer (Device step) Done read devices' new
+  performs_device job step read commit' does n f = rw n (record {
+    chosen = chosen_at step devices';
+    gives = λ shape actors. does.gives shape (told old) actors;
+    copies = does.copies;
+    leads = record { devices_are = does.devices_are; crew_is = refl; desk_is = refl; commit_is = does.commit_is; failed_is = f };
+  })
+
+  pub performs_desk : (job : Job) (step : DeskStep) (got : Got) (read : List Bytes) (desk' : DeskState Quiet) (commit' : Option RunningCommit) → WasAsked old.desk old.commit job step got desk' commit' → read ≡ [] → devices' ≡ devices →
+      new.crew ≡ old.crew → new.failed ≡ old.failed → new.desk ≡ desk' → new.commit ≡ commit' → old.failed ≡ flag old.crew.words.fail → Performs devices old a job buffer (Desk step) got read devices' new
+  performs_desk job step got read desk' commit' asked r d w b k c f = rw r (record {
+    chosen = asked.chosen;
+    gives = λ shape actors. subst (λ (none : List Bytes). Gives shape (over devices old actors) job (Desk step) got none asked.chosen) (nothing job) (asked.gives shape devices old.crew.words actors);
+    copies = no_copy job;
+    leads = record { devices_are = d; crew_is = w; desk_is = k ∙ asked.desk_is; commit_is = c ∙ asked.commit_is; failed_is = b ∙ f ∙ sym (ap (λ (x : CrewState). flag x.words.fail) w) };
+  })
+    where
+      nothing : (job : Job) → [] ≡ noted_read job (Desk step) []
+      nothing (Read extent) = refl
+      nothing (Write extent content) = refl
+      nothing Flush = refl
+      nothing (Open mode) = refl
+      nothing (Migrate migration block) = refl
+
+      no_copy : (job : Job) → IsCopy devices job (Desk step) []
+      no_copy (Read extent) = tt
+      no_copy (Write extent content) = tt
+      no_copy Flush = tt
+      no_copy (Open mode) = tt
+      no_copy (Migrate migration block) = tt

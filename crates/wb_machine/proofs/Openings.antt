@@ -1,0 +1,373 @@
+-- What an event does to an opening is what wb_runs says.
+use Rattle.std.proofs.Common.{◌≡◌, ◌≢◌, ◌≤◌, ◌<◌, ◌⊎◌, not, inl, inr, ℕ, zero, suc, Bool, true, false, List, [], ◌∷◌, Option, Some, None, refl, sym, ap, subst, ◌∙◌, arith, slice_get, slice_set, length, length-set, replicate}
+use Rattle.std.proofs.lemmas.Option.{slice_get_past}
+use Rattle.std.proofs.lemmas.Bool.{eqb-false, eqb-true}
+use Rattle.std.specs.Bool.{OnTrue, OnFalse}
+use Rattle.std.specs.declared.alloc.Global.{Global}
+use Rattle.wb_types.specs.declared.geometry.Geometry.{Geometry}
+use Rattle.wb_words.specs.SharedWords.{flag}
+use Rattle.wb_types.specs.declared.mode.Mode.TheVariants.{Writeback}
+use Rattle.wb_types.specs.declared.mode.Dev.{Dev}
+use Rattle.wb_types.specs.declared.mode.Dev.TheVariants.{Metadata, Cache, Origin}
+use Rattle.wb_policy.specs.declared.quiet.Quiet.{Quiet}
+use Rattle.wb_disk.specs.Device.{Content as Bytes, History, synced}
+use Rattle.wb_disk.specs.Memory.{Memory}
+use Rattle.wb_disk.specs.Crash.{Choice, Applies, crashed}
+use Rattle.wb_disk.specs.Failing.{MayFail, lands, synced_where}
+use Rattle.wb_meta.specs.Steps.{DoesStep, coming_step, steps_after}
+use Rattle.wb_meta.specs.declared.read_steps.ReadSteps.{ReadSteps}
+use Rattle.wb_meta.specs.declared.read_steps.ReadSteps.TheVariants.{Begun}
+use Rattle.wb_tasks.specs.Plan.{Plan, want, after, table, device_of}
+use Rattle.wb_tasks.specs.Tables.{Opening}
+use Rattle.wb_tasks.specs.declared.step.DeviceStep.{DeviceStep}
+use Rattle.wb_tasks.specs.declared.step.DeviceStep.TheVariants.{Sync, ReadMetadata, WriteRoot}
+use Rattle.wb_tasks.specs.declared.step.Want.{Want}
+use Rattle.wb_tasks.specs.declared.step.Want.TheVariants.{Device}
+use Rattle.wb_tasks.specs.declared.step.Got.{Got}
+use Rattle.wb_tasks.specs.declared.step.Got.TheVariants.{Done, Fault}
+use Rattle.wb_devices.specs.declared.devices.Devices.{Devices}
+use Rattle.wb_devices.specs.Committing.{goes_on}
+use Rattle.wb_devices.specs.Moving.{device_in}
+use Rattle.wb_devices.specs.declared.running.RunningCommit.{RunningCommit}
+use Rattle.wb_runs.specs.declared.job.Job.{Job}
+use Rattle.wb_runs.specs.declared.job.Job.TheVariants.{Open, Migrate}
+use Rattle.wb_runs.specs.declared.event.Event.{Event}
+use Rattle.wb_runs.specs.declared.event.Event.TheVariants.{Start, Step, FaultStep, Stop}
+use Rattle.wb_runs.specs.declared.event.What.{What}
+use Rattle.wb_runs.specs.declared.event.What.TheVariants.{Skipped, Started, Stepped, Stopped}
+use Rattle.wb_runs.specs.States.{Shape, Actor, Opens, OfTarget, OfReading, resting, with_device}
+use Rattle.wb_runs.specs.Happenings.{Chosen, Plain, Begins, Reaches, Puts, LandedOr, sector_put, OfSome, DoesNotApply, DoesRead, MayStop}
+use Rattle.wb_runs.specs.Effects.{after_what, all_crashed, all_resting, job_of, stepped, with_actor, device_done, device_failed, went}
+use Rattle.wb_machine.specs.declared.opener.Opener.{Opener}
+use Rattle.wb_machine.specs.declared.phase.Phase.{Phase}
+use Rattle.wb_machine.specs.declared.phase.Phase.TheVariants.{Closed, Underway, Standing}
+use Rattle.wb_machine.specs.Life.{Now, Happens, FailsOn, IsThere, device_step_of, actors_of, contents_of, is_busy, is_opening, is_sound, opening_actor, phase_of, reading_synced, reading_failed, stands, state_of, wants_target}
+use Rattle.wb_machine.specs.Making.{reading_of}
+use Rattle.wb_machine.specs.Standing.{StandsSo}
+use Rattle.wb_machine.proofs.Members.{busy_there, idle_there, length_seated}
+
+-- ---- lists of one actor that opens, beside others that rest
+
+get_replicate : {X : Type 0} (n i : ℕ) (x : X) → i < n → slice_get (replicate n x) i ≡ Some x
+get_replicate zero i x h = absurd (omega arith)
+get_replicate (suc n) zero x h = refl
+get_replicate (suc n) (suc i) x h = get_replicate n i x (omega arith)
+
+pub set_replicate : {X : Type 0} (n i : ℕ) (x : X) → slice_set (replicate n x) i x ≡ replicate n x
+set_replicate zero i x = refl
+set_replicate (suc n) zero x = refl
+set_replicate (suc n) (suc i) x = ap (λ xs. x ∷ xs) (set_replicate n i x)
+
+pub set_twice : {X : Type 0} (xs : List X) (i : ℕ) (x y : X) → slice_set (slice_set xs i x) i y ≡ slice_set xs i y
+set_twice [] i x y = refl
+set_twice (z ∷ xs) zero x y = refl
+set_twice (z ∷ xs) (suc i) x y = ap (λ ys. z ∷ ys) (set_twice xs i x y)
+
+get_set : {X : Type 0} (xs : List X) (i : ℕ) (x y : X) → slice_get xs i ≡ Some x → slice_get (slice_set xs i y) i ≡ Some y
+get_set [] i x y e = absurd (cc)
+get_set (z ∷ xs) zero x y e = refl
+get_set (z ∷ xs) (suc i) x y e = get_set xs i x y e
+
+get_beside : {X : Type 0} (xs : List X) (i j : ℕ) (x : X) → i ≢ j → slice_get (slice_set xs i x) j ≡ slice_get xs j
+get_beside [] i j x h = refl
+get_beside (z ∷ xs) zero zero x h = absurd (h refl)
+get_beside (z ∷ xs) zero (suc j) x h = refl
+get_beside (z ∷ xs) (suc i) zero x h = refl
+get_beside (z ∷ xs) (suc i) (suc j) x h = get_beside xs i j x (λ e. h (ap suc e))
+
+slice_get_some : {X : Type 0} (xs : List X) (i : ℕ) → i < length xs → (x : X) × (slice_get xs i ≡ Some x)
+slice_get_some [] i h = absurd (omega arith)
+slice_get_some (z ∷ xs) zero h = (z, refl)
+slice_get_some (z ∷ xs) (suc i) h = slice_get_some xs i (omega arith)
+
+pub length_replicate : {X : Type 0} (n : ℕ) (x : X) → length (replicate n x) ≡ n
+length_replicate zero x = refl
+length_replicate (suc n) x = ap suc (length_replicate n x)
+
+resting_all : (xs : List Actor) → all_resting xs ≡ replicate (length xs) resting
+resting_all [] = refl
+resting_all (x ∷ xs) = ap (λ ys. resting ∷ ys) (resting_all xs)
+
+many : (n : ℕ) (o : Phase) → IsThere n o → length (actors_of n o) ≡ n
+many n Closed h = length_replicate n resting
+many n (Underway o) h = length-set (replicate n resting) o.actor (opening_actor o.task) ∙ length_replicate n resting
+many n (Standing t members) h = length_seated members.items t.crew.cards (h.1 ∙ sym h.0) ∙ h.0
+
+pub all_rest : (n : ℕ) (o : Phase) → IsThere n o → all_resting (actors_of n o) ≡ replicate n resting
+all_rest n o h = resting_all (actors_of n o) ∙ ap (λ k. replicate k resting) (many n o h)
+
+within : (n : ℕ) (o : Phase) → IsThere n o → (a : ℕ) → a < n → (x : Actor) × (slice_get (actors_of n o) a ≡ Some x)
+within n o t a h = slice_get_some (actors_of n o) a (let l = many n o t in omega (arith, l))
+
+pub there : (n : ℕ) (o : Opener) → o.actor < n → slice_get (actors_of n (Underway o)) o.actor ≡ Some (opening_actor o.task)
+there n o h = get_set (replicate n resting) o.actor resting (opening_actor o.task) (get_replicate n o.actor resting h)
+
+rests : (n a : ℕ) (P : Job × Plan → Type 0) → OfSome (slice_get (replicate n resting) a) (λ (x : Actor). OfSome x.task P) → ⊥
+rests zero a P h = h
+rests (suc n) zero P h = h
+rests (suc n) (suc a) P h = rests n a P h
+
+pub idle_beside : (n : ℕ) (o : Opener) (a : ℕ) (P : Job × Plan → Type 0) → o.actor ≢ a → OfSome (slice_get (actors_of n (Underway o)) a) (λ (x : Actor). OfSome x.task P) → ⊥
+idle_beside n o a P e h = rests n a P (subst (λ (x : Option Actor). OfSome x (λ (y : Actor). OfSome y.task P)) (get_beside (replicate n resting) o.actor a (opening_actor o.task) e) h)
+
+-- who has no task is at nothing
+pub idle : (n : ℕ) (o : Phase) (a : ℕ) (P : Job × Plan → Type 0) → is_busy a o ≡ false → OfSome (slice_get (actors_of n o) a) (λ (x : Actor). OfSome x.task P) → ⊥
+idle n Closed a P e h = rests n a P h
+idle n (Underway o) a P e h = idle_beside n o a P (eqb-false o.actor a e) h
+idle n (Standing t members) a P e h = idle_there members.items t.crew.cards a P e h
+
+-- where neither an opening is at work nor a target stands, nobody has one
+pub nobody_opens : (o : Phase) (a : ℕ) → stands o ≡ false → ((x : Opener) → o ≡ Underway x → ⊥) → is_busy a o ≡ false
+nobody_opens Closed a e h = refl
+nobody_opens (Underway x) a e h = absurd (h x refl)
+nobody_opens (Standing t members) a e h = absurd (cc)
+
+-- and who opens is at its opening
+pub busy : (n : ℕ) (o : Opener) (P : Job × Plan → Type 0) → o.actor < n → P (Open Writeback, o.task) → OfSome (slice_get (actors_of n (Underway o)) o.actor) (λ (x : Actor). OfSome x.task P)
+busy n o P h p = subst (λ (x : Option Actor). OfSome x (λ (y : Actor). OfSome y.task P)) (sym (there n o h)) p
+
+pub only_busy : (n : ℕ) (o : Opener) (P : Job × Plan → Type 0) → o.actor < n → OfSome (slice_get (actors_of n (Underway o)) o.actor) (λ (x : Actor). OfSome x.task P) → P (Open Writeback, o.task)
+only_busy n o P h p = subst (λ (x : Option Actor). OfSome x (λ (y : Actor). OfSome y.task P)) (there n o h) p
+
+-- ---- an event that does not apply
+
+pub passes : (shape : Shape) (w : Now) (event : Event) (what : What) → DoesNotApply w event → what ≡ Skipped → Happens shape w event what [] w
+passes shape w (Start a job) what d e = rw e (record { chosen = Plain; may = ((refl, refl), d); leads = refl })
+passes shape w (Step a) what d e = rw e (record { chosen = Plain; may = ((refl, refl), d); leads = refl })
+passes shape w (FaultStep a choice) what d e = rw e (record { chosen = Plain; may = ((refl, refl), d); leads = refl })
+passes shape w (Stop choice) what d e = rw e (record { chosen = Plain; may = ((refl, refl), d); leads = refl })
+
+-- ---- starts
+
+calm : (n : ℕ) → flag n ≡ false → n ≡ 0
+calm zero e = refl
+calm (suc n) e = absurd (cc)
+
+not_true : (b : Bool) → not b ≡ true → false ≡ b
+not_true false e = refl
+not_true true e = absurd (cc)
+
+has_not : (b : Bool) → not b ≡ false → b ≡ false → ⊥
+has_not false e f = cc
+has_not true e f = cc
+
+pub nobody_starts : (devices : Devices Memory) (n : ℕ) (o : Phase) → IsThere n o → (a : ℕ) (job : Job) → n ≤ a → DoesNotApply (state_of n devices o) (Start a job)
+nobody_starts devices n o t a job h = inl (slice_get_past (actors_of n o) a (let l = many n o t in omega (arith, l)))
+
+pub busy_starts : (devices : Devices Memory) (n : ℕ) (o : Phase) (a : ℕ) (job : Job) → IsThere n o → is_busy a o ≡ true → DoesNotApply (state_of n devices o) (Start a job)
+busy_starts devices n Closed a job h e = absurd (cc)
+busy_starts devices n (Underway o) a job h e =
+    let same : o.actor ≡ a = eqb-true o.actor a e in
+    inr (inl (subst (λ k. OfSome (slice_get (actors_of n (Underway o)) k) (λ (x : Actor). OfSome x.task (λ doing. Unit {0}))) same (busy n o (λ doing. Unit {0}) h tt)))
+busy_starts devices n (Standing t members) a job h e = inr (inl (busy_there members.items t.crew.cards a (let l = h.0 in let k = h.1 in omega (arith, l, k)) e))
+
+-- no opening in another mode starts
+pub no_mode : (devices : Devices Memory) (n : ℕ) (o : Phase) (a : ℕ) (job : Job) → is_opening job ≡ false → wants_target job ≡ false → DoesNotApply (state_of n devices o) (Start a job)
+no_mode devices n o a (Open Writeback) e f = absurd (cc)
+no_mode devices n o a (Open mode) e f = inr (inr (inr (λ same. cc)))
+no_mode devices n o a job e f = absurd (cc)
+
+-- no other job starts where no target stands
+pub no_target : (devices : Devices Memory) (n : ℕ) (o : Phase) (a : ℕ) (job : Job) → stands o ≡ false → wants_target job ≡ true → DoesNotApply (state_of n devices o) (Start a job)
+no_target devices n o a (Open mode) e f = absurd (cc)
+no_target devices n Closed a job e f = inr (inr (λ t. t))
+no_target devices n (Underway o) a job e f = inr (inr (λ t. t))
+no_target devices n (Standing t members) a job e f = absurd (cc)
+
+pub not_standing : (o : Phase) → ((t : _) (members : _) → o ≡ Standing t members → ⊥) → stands o ≡ false
+not_standing Closed h = refl
+not_standing (Underway o) h = refl
+not_standing (Standing t members) h = absurd (h t members refl)
+
+-- nor does one over a target that has not failed
+pub too_early : (g : Geometry) (devices : Devices Memory) (n : ℕ) (o : Phase) → StandsSo g n o → (a : ℕ) (job : Job) → is_opening job ≡ true → is_sound o ≡ true → DoesNotApply (state_of n devices o) (Start a job)
+too_early g devices n (Standing t members) s a (Open Writeback) e f = inr (inr (inl (calm t.crew.words.fail (sym s.failed ∙ sym (not_true t.failed f)))))
+too_early g devices n (Standing t members) s a job e f = absurd (cc)
+too_early g devices n o s a job e f = absurd (cc)
+
+begun_state : (n : ℕ) (devices : Devices Memory) (o : Phase) → IsThere n o → (a : ℕ) (plan : Plan) (new : Opener) → new.actor ≡ a → new.task ≡ plan → reading_of new ≡ None → new.opening.commit ≡ None →
+    state_of n devices (Underway new) ≡ record { devices = contents_of devices; commit = None; phase = Opens Writeback None; actors = slice_set (all_resting (actors_of n o)) a (opening_actor plan) }
+begun_state n devices o t a plan new e f g k = rw (e, f, g, k, all_rest n o t) refl
+
+no_standing : (g : Geometry) (n : ℕ) (o : Phase) → StandsSo g n o → is_sound o ≡ false → ((OfTarget (phase_of o) (λ t. t.words.fail ≡ 0)) ⊎ (Writeback ≢ Writeback)) → ⊥
+no_standing g n o s f (inr d) = d refl
+no_standing g n Closed s f (inl t) = t
+no_standing g n (Underway o) s f (inl t) = t
+no_standing g n (Standing x members) s f (inl t) = has_not x.failed f (s.failed ∙ ap flag t)
+
+pub starts : (shape : Shape) (devices : Devices Memory) (n : ℕ) (o : Phase) → IsThere n o → StandsSo shape.geometry n o → (a : ℕ) (job : Job) (what : What) (new : Opener) → is_opening job ≡ true → a < n → is_busy a o ≡ false → is_sound o ≡ false →
+    new.actor ≡ a → new.task ≡ table (Opening shape.geometry.meta_sectors) → reading_of new ≡ None → new.opening.commit ≡ None → what ≡ Started →
+    Happens shape (state_of n devices o) (Start a job) what [] (state_of n devices (Underway new))
+starts shape devices n o is_there so a (Open Writeback) what new j h i calm e f g k s = rw s (record {
+  chosen = Plain;
+  may = (refl, applies, tt);
+  leads = begun_state n devices o is_there a (table (Opening shape.geometry.meta_sectors)) new e f g k ∙ sym given;
+})
+  where
+    some : slice_get (all_resting (actors_of n o)) a ≡ Some resting
+    some = ap (λ xs. slice_get xs a) (all_rest n o is_there) ∙ get_replicate n a resting h
+
+    given : after_what shape (state_of n devices o) (Start a (Open Writeback)) Started Plain
+        ≡ record { devices = contents_of devices; commit = None; phase = Opens Writeback None; actors = slice_set (all_resting (actors_of n o)) a (opening_actor (table (Opening shape.geometry.meta_sectors))) }
+    given = rw some refl
+
+    applies : DoesNotApply (state_of n devices o) (Start a (Open Writeback)) → ⊥
+    applies (inl none) = let inside = within n o is_there a h in let is = inside.1 in absurd (cc)
+    applies (inr (inl t)) = idle n o a (λ doing. Unit {0}) i t
+    applies (inr (inr p)) = no_standing shape.geometry n o so calm p
+starts shape devices n o is_there so a job what new j h i calm e f g k s = absurd (cc)
+
+-- ---- steps of who opens
+
+module _ (shape : Shape) (n : ℕ) (devices devices' : Devices Memory) (o new : Opener) (h : o.actor < n) (same : new.actor ≡ o.actor) where
+  -- before its step, with this commit
+  abbrev w : Option RunningCommit → Now
+  w commit = record { devices = contents_of devices; commit = commit; phase = phase_of (Underway o); actors = actors_of n (Underway o) }
+
+  -- the actors once its task is this
+  acts : (plan : Plan) → new.task ≡ plan → actors_of n (Underway new) ≡ slice_set (actors_of n (Underway o)) o.actor (opening_actor plan)
+  acts plan t = rw (same, t) (sym (set_twice (replicate n resting) o.actor (opening_actor o.task) (opening_actor plan)))
+
+  -- what its step leads to
+  leads : (commit : Option RunningCommit) (next : Want) (got : Got) (chosen : Chosen Quiet Global) (change : Job → List Bytes → DeviceStep → List History → List History) →
+      went shape (w commit) o.actor next got chosen change ≡ stepped shape (w commit) o.actor (opening_actor o.task) next got chosen (change (Open Writeback) [])
+  leads commit next got chosen change = ap (λ (x : Option Actor). with_actor (w commit) x (λ y. stepped shape (w commit) o.actor y next got chosen (change (job_of y.task) y.buffer))) (there n o h)
+
+  next_state : (contents : Devices (List History)) (reading : Option (ReadSteps Global)) (commit : Option RunningCommit) (plan : Plan) → contents_of devices' ≡ contents → (reading_of new) ≡ reading → new.opening.commit ≡ commit → new.task ≡ plan →
+      state_of n devices' (Underway new) ≡ record { devices = contents; commit = commit; phase = Opens Writeback reading; actors = slice_set (actors_of n (Underway o)) o.actor (opening_actor plan) }
+  next_state contents reading commit plan d r c t = rw (d, r, c, acts plan t) refl
+
+  pub syncs : (alloc : Global) (device : Dev) (what : What) → want o.task ≡ Device (Sync device) → what ≡ Stepped (Device (Sync device)) Done → new.task ≡ after o.task Done → (reading_of new) ≡ reading_synced alloc device None (reading_of o) → new.opening.commit ≡ None →
+      contents_of devices' ≡ with_device device (contents_of devices) (synced (device_in device (contents_of devices))) → Happens shape (w None) (Step o.actor) what [] (state_of n devices' (Underway new))
+  syncs alloc Metadata what next e t r c d = rw e (record {
+    chosen = Begins (Begun alloc alloc);
+    may = busy n o _ h (sym next, (refl, refl, refl));
+    leads = next_state _ _ _ _ d r c t ∙ sym (leads None (Device (Sync Metadata)) Done (Begins (Begun alloc alloc)) (λ job buffer step. device_done {P = Quiet} {A = Global} job buffer step (Begins (Begun alloc alloc))));
+  })
+  syncs alloc Cache what next e t r c d = rw e (record {
+    chosen = Plain;
+    may = busy n o _ h (sym next, ((refl, refl), refl));
+    leads = next_state _ _ _ _ d r c t ∙ sym (leads None (Device (Sync Cache)) Done Plain (λ job buffer step. device_done {P = Quiet} {A = Global} job buffer step Plain));
+  })
+  syncs alloc Origin what next e t r c d = rw e (record {
+    chosen = Plain;
+    may = busy n o _ h (sym next, ((refl, refl), refl));
+    leads = next_state _ _ _ _ d r c t ∙ sym (leads None (Device (Sync Origin)) Done Plain (λ job buffer step. device_done {P = Quiet} {A = Global} job buffer step Plain));
+  })
+
+  pub fails : (choice : Choice) (step : DeviceStep) (what : What) → step ≢ WriteRoot → device_step_of (want o.task) ≡ Some step → want o.task ≡ Device step → what ≡ Stepped (Device step) Fault → MayFail (device_of step) choice (length (device_in (device_of step) (contents_of devices))) → new.task ≡ after o.task Fault → (reading_of new) ≡ reading_failed (device_of step) (reading_of o) → new.opening.commit ≡ None →
+      FailsOn None step choice (contents_of devices) (contents_of devices') → Happens shape (w None) (FaultStep o.actor choice) what [] (state_of n devices' (Underway new))
+  fails choice (ReadMetadata left) what other kind next e m t r c d = rw e (record {
+    chosen = Plain;
+    may = (refl, refl, busy n o _ h (sym next, m, (refl, refl)));
+    leads = next_state _ _ _ _ d r c t ∙ sym (leads None (Device (ReadMetadata left)) Fault Plain (λ job buffer step. device_failed {P = Quiet} {A = Global} (lands Metadata choice) job buffer step Plain));
+  })
+  fails choice (Sync Metadata) what other kind next e m t r c d = rw e (record {
+    chosen = Plain;
+    may = (refl, refl, busy n o _ h (sym next, m, (refl, tt)));
+    leads = next_state _ _ _ _ d r c t ∙ sym (leads None (Device (Sync Metadata)) Fault Plain (λ job buffer step. device_failed {P = Quiet} {A = Global} (lands Metadata choice) job buffer step Plain));
+  })
+  fails choice (Sync Cache) what other kind next e m t r c d = rw e (record {
+    chosen = Plain;
+    may = (refl, refl, busy n o _ h (sym next, m, refl));
+    leads = next_state _ _ _ _ d r c t ∙ sym (leads None (Device (Sync Cache)) Fault Plain (λ job buffer step. device_failed {P = Quiet} {A = Global} (lands Cache choice) job buffer step Plain));
+  })
+  fails choice (Sync Origin) what other kind next e m t r c d = rw e (record {
+    chosen = Plain;
+    may = (refl, refl, busy n o _ h (sym next, m, refl));
+    leads = next_state _ _ _ _ d r c t ∙ sym (leads None (Device (Sync Origin)) Fault Plain (λ job buffer step. device_failed {P = Quiet} {A = Global} (lands Origin choice) job buffer step Plain));
+  })
+  fails choice WriteRoot what other kind next e m t r c d = absurd (other refl)
+  fails choice step what other kind next e m t r c d = absurd (cc)
+
+  pub reads : (left : ℕ) (was : ReadSteps Global) (got : Got) (what : What) → want o.task ≡ Device (ReadMetadata left) → what ≡ Stepped (Device (ReadMetadata left)) got → (reading_of o) ≡ Some was →
+      DoesRead {P = Quiet} shape.geometry left was devices.metadata.contents None got (Reaches (reading_of new) new.opening.commit) → new.task ≡ after o.task got → contents_of devices' ≡ contents_of devices → Happens shape (w None) (Step o.actor) what [] (state_of n devices' (Underway new))
+  reads left was got what next e present does t d = rw e (record {
+    chosen = Reaches (reading_of new) new.opening.commit;
+    may = busy n o _ h (sym next, (refl, refl, of_reading (reading_of o) present));
+    leads = next_state _ _ _ _ d refl refl t ∙ sym (leads None (Device (ReadMetadata left)) got (Reaches (reading_of new) new.opening.commit) (λ job buffer step. device_done {P = Quiet} {A = Global} job buffer step (Reaches (reading_of new) new.opening.commit)));
+  })
+    where
+      of_reading : (reading : Option (ReadSteps Global)) → reading ≡ Some was → OfReading {P = Quiet} (Opens Writeback reading) (λ mode r. DoesRead {P = Quiet} shape.geometry left r devices.metadata.contents None got (Reaches (reading_of new) new.opening.commit))
+      of_reading reading e = subst (λ x. OfReading {P = Quiet} (Opens Writeback x) (λ mode r. DoesRead {P = Quiet} shape.geometry left r devices.metadata.contents None got (Reaches (reading_of new) new.opening.commit))) (sym e) does
+
+  -- the root is written
+  pub puts : (c : RunningCommit) (what : What) → want o.task ≡ Device WriteRoot → what ≡ Stepped (Device WriteRoot) Done → goes_on (length devices.metadata.contents) c.image c.steps WriteRoot ≡ true →
+      DoesStep c.image c.steps devices.metadata.contents devices'.metadata.contents → new.task ≡ after o.task Done → (reading_of new) ≡ (reading_of o) → new.opening.commit ≡ Some (record c { steps = steps_after c.image c.steps }) →
+      contents_of devices' ≡ record (contents_of devices) { metadata = devices'.metadata.contents } → Happens shape (w (Some c)) (Step o.actor) what [] (state_of n devices' (Underway new))
+  puts c what next e on does t r k d = rw e (record {
+    chosen = Puts devices'.metadata.contents;
+    may = busy n o _ h (sym next, (refl, refl, (on, does)));
+    leads = next_state _ _ _ _ d r k t ∙ sym (leads (Some c) (Device WriteRoot) Done (Puts devices'.metadata.contents) (λ job buffer step. device_done {P = Quiet} {A = Global} job buffer step (Puts devices'.metadata.contents)));
+  })
+
+  -- it is durable
+  pub settles : (c : RunningCommit) (what : What) → want o.task ≡ Device (Sync Metadata) → what ≡ Stepped (Device (Sync Metadata)) Done → goes_on (length devices.metadata.contents) c.image c.steps (Sync Metadata) ≡ true →
+      new.task ≡ after o.task Done → (reading_of new) ≡ (reading_of o) → new.opening.commit ≡ Some (record c { steps = steps_after c.image c.steps }) →
+      contents_of devices' ≡ record (contents_of devices) { metadata = synced devices.metadata.contents } → Happens shape (w (Some c)) (Step o.actor) what [] (state_of n devices' (Underway new))
+  settles c what next e on t r k d = rw e (record {
+    chosen = Plain;
+    may = busy n o _ h (sym next, (refl, refl, (on, refl)));
+    leads = next_state _ _ _ _ d r k t ∙ sym (leads (Some c) (Device (Sync Metadata)) Done Plain (λ job buffer step. device_done {P = Quiet} {A = Global} job buffer step Plain));
+  })
+
+  -- its write fails, having landed or not
+  pub fails_to_put : (choice : Choice) (c : RunningCommit) (what : What) → want o.task ≡ Device WriteRoot → what ≡ Stepped (Device WriteRoot) Fault → goes_on (length devices.metadata.contents) c.image c.steps WriteRoot ≡ true →
+      MayFail Metadata choice (length devices.metadata.contents) →
+      LandedOr (lands Metadata choice (sector_put (coming_step c.image c.steps))) (DoesStep c.image c.steps devices.metadata.contents devices'.metadata.contents) (devices'.metadata.contents ≡ devices.metadata.contents) →
+      new.task ≡ after o.task Fault → (reading_of new) ≡ None → new.opening.commit ≡ None →
+      contents_of devices' ≡ record (contents_of devices) { metadata = devices'.metadata.contents } → Happens shape (w (Some c)) (FaultStep o.actor choice) what [] (state_of n devices' (Underway new))
+  fails_to_put choice c what next e on m landed t r k d = rw e (record {
+    chosen = Puts devices'.metadata.contents;
+    may = (refl, refl, busy n o _ h (sym next, m, (on, landed)));
+    leads = next_state _ _ _ _ d r k t ∙ sym (leads (Some c) (Device WriteRoot) Fault (Puts devices'.metadata.contents) (λ job buffer step. device_failed {P = Quiet} {A = Global} (lands Metadata choice) job buffer step (Puts devices'.metadata.contents)));
+  })
+
+  -- its sync fails
+  pub fails_to_settle : (choice : Choice) (c : RunningCommit) (what : What) → want o.task ≡ Device (Sync Metadata) → what ≡ Stepped (Device (Sync Metadata)) Fault → goes_on (length devices.metadata.contents) c.image c.steps (Sync Metadata) ≡ true →
+      MayFail Metadata choice (length devices.metadata.contents) → new.task ≡ after o.task Fault → (reading_of new) ≡ None → new.opening.commit ≡ None →
+      contents_of devices' ≡ record (contents_of devices) { metadata = synced_where (lands Metadata choice) devices.metadata.contents } → Happens shape (w (Some c)) (FaultStep o.actor choice) what [] (state_of n devices' (Underway new))
+  fails_to_settle choice c what next e on m t r k d = rw e (record {
+    chosen = Plain;
+    may = (refl, refl, busy n o _ h (sym next, m, ((refl, (on, tt)))));
+    leads = next_state _ _ _ _ d r k t ∙ sym (leads (Some c) (Device (Sync Metadata)) Fault Plain (λ job buffer step. device_failed {P = Quiet} {A = Global} (lands Metadata choice) job buffer step Plain));
+  })
+
+-- where this commit runs
+pub at_commit : (n : ℕ) (devices : Devices Memory) (o : Opener) (P : Now → Type 0) (commit : Option RunningCommit) → o.opening.commit ≡ commit → P (record { devices = contents_of devices; commit = commit; phase = phase_of (Underway o); actors = actors_of n (Underway o) }) → P (state_of n devices (Underway o))
+at_commit n devices o P commit is p = subst (λ (c : Option RunningCommit). P (record { devices = contents_of devices; commit = c; phase = phase_of (Underway o); actors = actors_of n (Underway o) })) (sym is) p
+
+-- ---- a crash
+
+pub stops : (shape : Shape) (n : ℕ) (devices devices' : Devices Memory) (o : Phase) → IsThere n o → (choice : Choice) (what : What) → MayStop choice (contents_of devices) → contents_of devices' ≡ all_crashed choice (contents_of devices) → what ≡ Stopped →
+    Happens shape (state_of n devices o) (Stop choice) what [] (state_of n devices' Closed)
+stops shape n devices devices' o is_there choice what m d e = rw e (record {
+  chosen = Plain;
+  may = ((refl, refl), m);
+  leads = rw (d, all_rest n o is_there) refl;
+})
+
+pub on_false : {P : Type 0} (b : Bool) → b ≡ false → OnFalse b P → P
+on_false false e h = h
+on_false true e h = absurd (cc)
+
+pub on_true : {P : Type 0} (b : Bool) → b ≡ true → OnTrue b P → P
+on_true true e h = h
+on_true false e h = absurd (cc)
+
+pub crashes : (device : Dev) (choice : Choice) (d0 d1 d2 : Memory) (b : Bool) → d1 ≡ d0 → Applies device choice d0.contents → (Applies device choice d1.contents → b ≡ true) → OnTrue b (d2 ≡ record d1 { contents = crashed device choice d1.contents }) → d2.contents ≡ crashed device choice d0.contents
+crashes device choice d0 d1 d2 b same applies stops crashed_so =
+    let applied : Applies device choice d1.contents = subst (λ (d : Memory). Applies device choice d.contents) (sym same) applies in
+    ap (λ (d : Memory). d.contents) (on_true b (stops applied) crashed_so) ∙ ap (λ (d : Memory). crashed device choice d.contents) same
+
+-- ---- what kind a step is
+
+-- it is a step on a device
+pub is_device_step : (next : Want) (step : DeviceStep) → device_step_of next ≡ Some step → next ≡ Device step
+is_device_step (Device (Sync device)) step e = let same : Sync device ≡ step = cc in ap (λ s. Device s) same
+is_device_step (Device (ReadMetadata left)) step e = let same : ReadMetadata left ≡ step = cc in ap (λ s. Device s) same
+is_device_step (Device WriteRoot) step e = let same : WriteRoot ≡ step = cc in ap (λ s. Device s) same
+is_device_step next step e = absurd (cc)
+
+pub cannot_fail : (b : Bool) → b ≡ false → b ≡ true → ⊥
+cannot_fail b e f = cc

@@ -1,0 +1,430 @@
+-- What an event does over a target that stands is what wb_runs says.
+use Rattle.std.proofs.Common.{◌≡◌, ◌≤◌, ◌&&◌, inl, inr, ℕ, zero, suc, Bool, true, false, List, [], ◌∷◌, Option, Some, None, refl, sym, ap, subst, ◌∙◌, arith, if◌then◌else◌, slice_get, slice_set, slice_index_or, length, length-set, replicate, is_none}
+use Rattle.std.specs.declared.alloc.Global.{Global}
+use Rattle.wb_types.specs.Limits.{node_count}
+use Rattle.wb_types.specs.declared.refusal.Refusal.{Refusal}
+use Rattle.wb_types.specs.declared.mode.Dev.TheVariants.{Metadata, Cache, Origin}
+use Rattle.wb_types.specs.declared.number.OBlock.{OBlock}
+use Rattle.wb_types.specs.declared.number.CBlock.{CBlock}
+use Rattle.wb_disk.specs.Device.{Content as Bytes, History}
+use Rattle.wb_disk.specs.Crash.{Choice}
+use Rattle.wb_words.specs.Cards.{blank_card}
+use Rattle.wb_words.specs.Effects.{card_after}
+use Rattle.wb_words.specs.SharedWords.{Words, flag}
+use Rattle.wb_words.specs.declared.card.Card.{Card}
+use Rattle.wb_cells.specs.Crews.{CrewState}
+use Rattle.wb_policy.specs.declared.order.Order.{Order}
+use Rattle.wb_policy.specs.declared.quiet.Quiet.{Quiet}
+use Rattle.wb_desk.specs.Commits.{commit_ended}
+use Rattle.wb_desk.specs.Desks.{DeskState}
+use Rattle.wb_tasks.specs.Tables.{TaskJob, OnBlock, Flushing, Opening as OpeningOf, Reading, Writing, Migrating}
+use Rattle.wb_tasks.specs.Plan.{Plan, table, want}
+use Rattle.wb_tasks.specs.Ready.{IsOwnStep}
+use Rattle.wb_tasks.proofs.Readiness.{is_own_step, job_stays}
+use Rattle.wb_tasks.specs.declared.step.Migration.TheVariants.{Promote, Demote, Clean}
+use Rattle.wb_tasks.specs.declared.step.DeviceStep.{DeviceStep}
+use Rattle.wb_tasks.specs.declared.step.DeviceStep.TheVariants.{Read as ReadExtent, Write as WriteExtent, Sync, ReadMetadata, WriteNode, WriteRoot}
+use Rattle.wb_tasks.specs.declared.step.DeskStep.TheVariants.{Map, Unmap, ReleaseOrder, BeginCommit, EndCommit}
+use Rattle.wb_tasks.specs.declared.step.Want.{Want}
+use Rattle.wb_tasks.specs.declared.step.Want.TheVariants.{Cell, Device, Desk, End}
+use Rattle.wb_tasks.specs.declared.step.Got.{Got}
+use Rattle.wb_tasks.specs.declared.step.Got.TheVariants.{Done, Fault, Refused as GotRefused}
+use Rattle.wb_devices.specs.declared.devices.Devices.{Devices}
+use Rattle.wb_devices.specs.declared.running.RunningCommit.{RunningCommit}
+use Rattle.wb_runs.specs.declared.job.Job.{Job}
+use Rattle.wb_runs.specs.declared.job.Job.TheVariants.{Read, Write, Flush, Open, Migrate}
+use Rattle.wb_runs.specs.declared.event.Event.TheVariants.{Start, Step, FaultStep}
+use Rattle.wb_runs.specs.declared.event.What.{What}
+use Rattle.wb_runs.specs.declared.event.What.TheVariants.{Skipped, Refused, Started, Stepped, Stopped}
+use Rattle.wb_runs.specs.States.{Shape, Actor, Stands, Phase, Target as RunTarget}
+use Rattle.wb_runs.specs.Happenings.{Chosen, Plain, Cut, Orders, Begins, Reaches, Puts, Commits, Asks, Opened, OfSome, DoesNotApply, DoesMap, DoesRelease, DoesUnmap, Gives, Falters, MayFailAt, StartGives, order_for, task_job}
+use Rattle.wb_runs.specs.Effects.{after_what, asked_desk, begun_desk, card_then, commit_then, cut_of, desk_then, devices_then, given, job_of, phase_given, task_then, went, words_then}
+use Rattle.wb_runs.specs.Holding.{TaskSuits}
+use Rattle.wb_runs.proofs.Desks.{is_live, is_unmappable}
+use Rattle.wb_machine.specs.declared.target.Target.{Target}
+use Rattle.wb_machine.specs.Life.{Now, Happens, wants_target}
+use Rattle.wb_machine.specs.Members.{Member, free, seat, seated}
+use Rattle.wb_machine.specs.Serving.{Allows, FailsBy, FailsOrRests, GetsJob, IsPassed, Leads, LeavesStarted, NothingFails, Starts, StartsIf, Steps, StepsBy, chosen_at, commit_by, crew_then, desk_given, done_by, failed_by, member_then, noted_read, over, stood, told}
+use Rattle.wb_machine.specs.Standing.{AllRoomy, AllowsImages, IsRoomy}
+use Rattle.wb_machine.proofs.Members.{seat_at, set_both, set_same, set_task, somebody}
+use Rattle.wb_machine.proofs.Openings.{passes}
+use Rattle.wb_machine.proofs.Possible.{has_task, the_task}
+
+-- ---- an actor that is not there, or is at nothing
+
+pub nobody_there : (actors : List Actor) (a : ℕ) (P : Actor → Type 0) → slice_get actors a ≡ None → OfSome (slice_get actors a) P → ⊥
+nobody_there actors a P e h = subst (λ (o : Option Actor). OfSome o P) e h
+
+-- ---- a start over a target
+
+-- a job is in its place over a target, for who is at nothing
+in_place : (devices : Devices (List History)) (t : Target) (actors : List Actor) (a : ℕ) (job : Job) (x : Actor) → wants_target job ≡ true → slice_get actors a ≡ Some x → x.task ≡ None → DoesNotApply (over devices t actors) (Start a job) → ⊥
+in_place devices t actors a job x w at e (inl none) = absurd (let some = at in cc)
+in_place devices t actors a job x w at e (inr (inl h)) = subst (λ (o : Option (Job × Plan)). OfSome o (λ d. Unit {0})) e (subst (λ (o : Option Actor). OfSome o (λ (y : Actor). OfSome y.task (λ d. Unit {0}))) at h)
+in_place devices t actors a (Read extent) x w at e (inr (inr f)) = f tt
+in_place devices t actors a (Write extent content) x w at e (inr (inr f)) = f tt
+in_place devices t actors a Flush x w at e (inr (inr f)) = f tt
+in_place devices t actors a (Open mode) x w at e (inr (inr f)) = absurd (cc)
+in_place devices t actors a (Migrate migration block) x w at e (inr (inr f)) = f tt
+
+-- the desk that an order leaves
+phase_so : (words : Words) (desk : DeskState Quiet) (job : Job) (chosen : Chosen Quiet Global) → Stands (record { words = words; desk = desk_given desk job chosen }) ≡ phase_given {P = Quiet} {A = Global} (Stands (record { words = words; desk = desk })) job chosen
+phase_so words desk (Read extent) chosen = refl
+phase_so words desk (Write extent content) chosen = refl
+phase_so words desk Flush chosen = refl
+phase_so words desk (Open mode) chosen = refl
+phase_so words desk (Migrate migration block) Plain = refl
+phase_so words desk (Migrate migration block) (Cut cut) = refl
+phase_so words desk (Migrate migration block) (Orders cut cache) = refl
+phase_so words desk (Migrate migration block) (Begins now) = refl
+phase_so words desk (Migrate migration block) (Reaches now commit) = refl
+phase_so words desk (Migrate migration block) (Puts new) = refl
+phase_so words desk (Migrate migration block) (Commits commit tree) = refl
+phase_so words desk (Migrate migration block) (Asks new) = refl
+phase_so words desk (Migrate migration block) (Opened policy) = refl
+
+-- a job that is no opening clears nothing
+given_so : (shape : Shape) (devices : Devices (List History)) (t : Target) (actors : List Actor) (a : ℕ) (x : Actor) (job : Job) (chosen : Chosen Quiet Global) → wants_target job ≡ true → slice_get actors a ≡ Some x →
+    over devices (record t { desk = desk_given t.desk job chosen }) (slice_set actors a (given {P = Quiet} {A = Global} shape x job chosen)) ≡ after_what shape (over devices t actors) (Start a job) Started chosen
+given_so shape devices t actors a x (Read extent) chosen w at = rw at refl
+given_so shape devices t actors a x (Write extent content) chosen w at = rw at refl
+given_so shape devices t actors a x Flush chosen w at = rw at refl
+given_so shape devices t actors a x (Open mode) chosen w at = absurd (cc)
+given_so shape devices t actors a x (Migrate migration block) chosen w at = rw at (ap (λ (p : Phase Quiet Global). record { devices = devices; commit = t.commit; phase = p; actors = slice_set actors a (given {P = Quiet} {A = Global} shape x (Migrate migration block) chosen) })
+    (phase_so t.crew.words t.desk (Migrate migration block) chosen))
+
+-- ---- an actor that is there
+
+module _ (shape : Shape) (devices : Devices (List History)) (t : Target) (members : List Member) (a : ℕ) (m new : Member) (here : slice_get members a ≡ Some m) (many : length members ≤ length t.crew.cards) where
+  abbrev actors : List Actor
+  actors = seated members t.crew.cards
+
+  abbrev before : Now
+  before = over devices t actors
+
+  abbrev x : Actor
+  x = seat_at m t.crew.cards a
+
+  at : slice_get actors a ≡ Some x
+  at = somebody members t.crew.cards a m here many
+
+  -- nothing changed
+  stays : new ≡ m → over devices t (seated (slice_set members a new) t.crew.cards) ≡ before
+  stays e = ap (λ xs. over devices t xs) (set_task members t.crew.cards a new ∙ ap (λ (v : Member). slice_set actors a (seat_at v t.crew.cards a)) e ∙ set_same actors a x at)
+
+  works : (doing : Job × Plan) → m.task ≡ Some doing → (P : Job × Plan → Type 0) → P doing → OfSome (slice_get actors a) (λ (y : Actor). OfSome y.task P)
+  works doing e P p = has_task actors a x doing P at e p
+
+  works_at : (doing : Job × Plan) → m.task ≡ Some doing → (P : Job → Plan → Type 0) → P doing.0 doing.1 → OfSome (slice_get actors a) (λ (y : Actor). OfSome y.task (λ d. P d.0 d.1))
+  works_at doing e P p = has_task actors a x doing (λ d. P d.0 d.1) at e p
+
+  idles : m.task ≡ None → (P : Job × Plan → Type 0) → OfSome (slice_get actors a) (λ (y : Actor). OfSome y.task P) → ⊥
+  idles e P h = subst (λ (o : Option (Job × Plan)). OfSome o P) e (subst (λ (o : Option Actor). OfSome o (λ (y : Actor). OfSome y.task P)) at h)
+
+  -- ---- a start
+
+  -- a start that is not skipped
+  job_starts : (job : Job) (what : What) (desk' : DeskState Quiet) → wants_target job ≡ true → m.task ≡ None → GetsJob shape t.desk m job what desk' new →
+      Happens shape before (Start a job) what [] (over devices (record t { desk = desk' }) (seated (slice_set members a new) t.crew.cards))
+  job_starts job what desk' w e g = by_what what g.gives g.leaves
+    where
+      applies : DoesNotApply before (Start a job) → ⊥
+      applies = in_place devices t actors a job x w at e
+
+      by_what : (what : What) → ((words : Words) (card : Card) → StartGives shape (Stands (record { words = words; desk = t.desk })) (Some (seat m card)) job what g.chosen) → LeavesStarted shape t.desk m job what g.chosen desk' new →
+          Happens shape before (Start a job) what [] (over devices (record t { desk = desk' }) (seated (slice_set members a new) t.crew.cards))
+      by_what Started gives leaves = record {
+        chosen = g.chosen;
+        may = (refl, applies, subst (λ (o : Option Actor). StartGives shape before.phase o job Started g.chosen) (sym at) (gives t.crew.words x.card));
+        leads = ap (λ (d : DeskState Quiet). over devices (record t { desk = d }) (seated (slice_set members a new) t.crew.cards)) leaves.0
+            ∙ ap (λ xs. over devices (record t { desk = desk_given t.desk job g.chosen }) xs) (set_task members t.crew.cards a new ∙ ap (λ (v : Member). slice_set actors a (seat_at v t.crew.cards a)) leaves.1)
+            ∙ given_so shape devices t actors a x job g.chosen w at;
+      }
+      by_what (Refused refusal) gives leaves = record {
+        chosen = g.chosen;
+        may = (refl, applies, subst (λ (o : Option Actor). StartGives shape before.phase o job (Refused refusal) g.chosen) (sym at) (gives t.crew.words x.card));
+        leads = ap (λ (d : DeskState Quiet). over devices (record t { desk = d }) (seated (slice_set members a new) t.crew.cards)) leaves.0 ∙ stays leaves.1;
+      }
+      by_what Skipped gives leaves = absurd leaves
+      by_what (Stepped next got) gives leaves = absurd leaves
+      by_what Stopped gives leaves = absurd leaves
+
+  -- one that is
+  passed_so : (job : Job) (what : What) (desk' : DeskState Quiet) → DoesNotApply before (Start a job) → IsPassed t.desk m what desk' new → Happens shape before (Start a job) what [] (over devices (record t { desk = desk' }) (seated (slice_set members a new) t.crew.cards))
+  passed_so job what desk' d p = rw (ap (λ (k : DeskState Quiet). over devices (record t { desk = k }) (seated (slice_set members a new) t.crew.cards)) p.desk_is ∙ stays p.member_is) (passes shape before (Start a job) what d p.what_is)
+
+  pub start_happens : (job : Job) (what : What) (desk' : DeskState Quiet) → wants_target job ≡ true → Starts shape t.desk m job what desk' new →
+      Happens shape before (Start a job) what [] (over devices (record t { desk = desk' }) (seated (slice_set members a new) t.crew.cards))
+  start_happens job what desk' w s = by_task m.task refl s
+    where
+      by_task : (o : Option (Job × Plan)) → m.task ≡ o → StartsIf (is_none o) shape t.desk m job what desk' new →
+          Happens shape before (Start a job) what [] (over devices (record t { desk = desk' }) (seated (slice_set members a new) t.crew.cards))
+      by_task None e s = job_starts job what desk' w e s
+      by_task (Some doing) e s = passed_so job what desk' (inr (inl (works doing e (λ d. Unit {0}) tt))) s
+
+  -- ---- a step
+
+  words_on : (next : Want) → (crew_then t.crew a next).words ≡ words_then t.crew.words next
+  words_on (Cell step) = refl
+  words_on (Device step) = refl
+  words_on (Desk step) = refl
+  words_on (End answer) = refl
+
+  -- what becomes of the commit does not hang on the phase, where that stays
+  commit_on : (next : Want) (got : Got) (chosen : Chosen Quiet Global) → commit_by t.commit next got chosen ≡ commit_then before.phase t.commit next got chosen
+  commit_on (Cell step) got chosen = refl
+  commit_on (Device (ReadExtent device e)) got chosen = refl
+  commit_on (Device (WriteExtent device e)) got chosen = refl
+  commit_on (Device (Sync Metadata)) got chosen = refl
+  commit_on (Device (Sync Cache)) got chosen = refl
+  commit_on (Device (Sync Origin)) got chosen = refl
+  commit_on (Device (ReadMetadata left)) got chosen = refl
+  commit_on (Device (WriteNode number)) got chosen = refl
+  commit_on (Device WriteRoot) got chosen = refl
+  commit_on (Desk (Map block place)) got chosen = refl
+  commit_on (Desk (Unmap block)) got chosen = refl
+  commit_on (Desk (ReleaseOrder block)) got chosen = refl
+  commit_on (Desk (BeginCommit clean most)) got chosen = refl
+  commit_on (Desk EndCommit) got chosen = refl
+  commit_on (End answer) got chosen = refl
+
+  cards_on : (next : Want) (got : Got) → new ≡ member_then devices m next got →
+      seated (slice_set members a new) (crew_then t.crew a next).cards ≡ slice_set actors a (seat (member_then devices m next got) (card_then shape before.phase x.card next))
+  cards_on (Cell step) got e = set_both members t.crew.cards a new (card_after t.crew.words step x.card) ∙ ap (λ (v : Member). slice_set actors a (seat v (card_after t.crew.words step x.card))) e
+  cards_on (Device step) got e = set_task members t.crew.cards a new ∙ ap (λ (v : Member). slice_set actors a (seat v x.card)) e
+  cards_on (Desk step) got e = set_task members t.crew.cards a new ∙ ap (λ (v : Member). slice_set actors a (seat v x.card)) e
+  cards_on (End answer) got e = set_task members t.crew.cards a new ∙ ap (λ (v : Member). slice_set actors a (seat v x.card)) e
+
+  -- where it leads, whatever it made of its device
+  went_on : (doing : Job × Plan) (next : Want) (got : Got) (chosen : Chosen Quiet Global) (change : Job → List Bytes → DeviceStep → List History → List History) (devices' : Devices (List History)) (t' : Target) → m.task ≡ Some doing →
+      Leads (change doing.0 m.buffer) devices t a next got chosen devices' t' → new ≡ member_then devices m next got → over devices' t' (seated (slice_set members a new) t'.crew.cards) ≡ went shape before a next got chosen change
+  went_on doing next got chosen change devices' t' e l is =
+      let job : doing.0 ≡ job_of m.task = ap job_of (sym e) in
+      rw (at, l.devices_are ∙ ap (λ (j : Job). devices_then (change j m.buffer) devices next) job, l.crew_is, l.desk_is, l.commit_is) (λ i. record {
+        devices = devices_then (change (job_of m.task) m.buffer) devices next;
+        commit = commit_on next got chosen i;
+        phase = Stands (record { words = words_on next i; desk = desk_then t.desk next chosen });
+        actors = cards_on next got is i;
+      })
+
+  pub step_happens : (what : What) (read : List Bytes) (devices' : Devices (List History)) (t' : Target) → Steps devices t a m what read devices' t' new →
+      Happens shape before (Step a) what read (over devices' t' (seated (slice_set members a new) t'.crew.cards))
+  step_happens what read devices' t' s = by_task m.task refl s
+    where
+      by_task : (o : Option (Job × Plan)) → m.task ≡ o → StepsBy devices t a m o what read devices' t' new → Happens shape before (Step a) what read (over devices' t' (seated (slice_set members a new) t'.crew.cards))
+      by_task None e s = rw (s.devices_are, s.target_is, s.read_is, stays s.member_is) (passes shape before (Step a) what (λ h. idles e (λ d. Unit {0}) h) s.what_is)
+      by_task (Some doing) e s = rw (s.what_is, s.read_is) (record {
+        chosen = s.performs.chosen;
+        may = works_at doing e (λ job plan. (want doing.1 ≡ want plan) × Gives shape before job (want doing.1) s.got (noted_read doing.0 (want doing.1) s.given) s.performs.chosen) (refl, s.performs.gives shape actors);
+        leads = went_on doing (want doing.1) s.got s.performs.chosen (λ job buffer. done_by job buffer s.performs.chosen) devices' t' e s.performs.leads s.member_is;
+      })
+
+  -- ---- a step that fails
+
+  pub fault_happens : (choice : Choice) (what : What) (devices' : Devices (List History)) (commit' : Option RunningCommit) → t.failed ≡ flag t.crew.words.fail → FailsOrRests choice devices t.commit m what devices' commit' new →
+      Happens shape before (FaultStep a choice) what [] (over devices' (record t { commit = commit' }) (seated (slice_set members a new) t.crew.cards))
+  fault_happens choice what devices' commit' failed f = by_task m.task refl f
+    where
+      then_so : Now
+      then_so = over devices' (record t { commit = commit' }) (seated (slice_set members a new) t.crew.cards)
+
+      nothing : NothingFails choice devices t.commit m what devices' commit' new → DoesNotApply before (FaultStep a choice) → Happens shape before (FaultStep a choice) what [] then_so
+      nothing f d = rw (f.devices_are, f.commit_is, stays f.member_is) (passes shape before (FaultStep a choice) what d f.what_is)
+
+      by_task : (o : Option (Job × Plan)) → m.task ≡ o → FailsBy choice devices t.commit m o what devices' commit' new → Happens shape before (FaultStep a choice) what [] then_so
+      by_task None e f = nothing f (λ h. idles e _ h)
+      by_task (Some doing) e (inl f) = rw f.what_is (record {
+        chosen = chosen_at f.step devices';
+        may = (refl, refl, works_at doing e (λ job plan. (Device f.step ≡ want plan) × MayFailAt devices choice (Device f.step) × Falters before choice (Device f.step) (chosen_at f.step devices')) (sym f.step_is, f.may, f.fails.falters (told t) actors));
+        leads = went_on doing (Device f.step) Fault (chosen_at f.step devices') (λ job buffer. failed_by choice job buffer (chosen_at f.step devices')) devices' (record t { commit = commit' }) e
+            (record { devices_are = f.fails.devices_are; crew_is = refl; desk_is = refl; commit_is = f.fails.commit_is; failed_is = failed }) (f.member_is ∙ ap (λ next. member_then devices m next Fault) f.step_is);
+      })
+      by_task (Some doing) e (inr f) = nothing f.0 (λ h. f.1 (the_task actors a x doing (λ job plan. MayFailAt devices choice (want plan)) at e h))
+
+-- ---- what stays
+
+crew_like : (crew : CrewState) (a : ℕ) (next : Want) → ((crew_then crew a next).blocks ≡ crew.blocks) × (length (crew_then crew a next).cards ≡ length crew.cards)
+crew_like crew a (Cell step) = (refl, length-set crew.cards a (card_after crew.words step (slice_index_or crew.cards a blank_card)))
+crew_like crew a (Device step) = (refl, refl)
+crew_like crew a (Desk step) = (refl, refl)
+crew_like crew a (End answer) = (refl, refl)
+
+begun_sizes : (desk : DeskState Quiet) (chosen : Chosen Quiet Global) → (begun_desk chosen desk).geometry ≡ desk.geometry
+begun_sizes desk (Commits commit tree) = refl
+begun_sizes desk chosen = refl
+
+ended_sizes : (desk : DeskState Quiet) (b : Bool) → (if b then commit_ended desk else desk).geometry ≡ desk.geometry
+ended_sizes desk true = refl
+ended_sizes desk false = refl
+
+-- a desk that was asked to map a block, or to give up an order, keeps its geometry
+map_sizes : (desk : DeskState Quiet) (b : OBlock) (c : CBlock) (got : Got) (chosen : Chosen Quiet Global) → DoesMap b c desk got chosen → (asked_desk chosen desk).geometry ≡ desk.geometry
+map_sizes desk b c Done (Asks new) g = ap (λ (k : DeskState Quiet). k.geometry) g.2
+map_sizes desk b c (GotRefused refusal) Plain g = refl
+map_sizes desk b c got chosen g = absurd g
+
+release_sizes : (desk : DeskState Quiet) (order : Order) (chosen : Chosen Quiet Global) → DoesRelease order desk chosen → (asked_desk chosen desk).geometry ≡ desk.geometry
+release_sizes desk order (Asks new) up = elim (is_live desk order) [
+  | inl live ↦ ap (λ (k : DeskState Quiet). k.geometry) (up.0 live)
+  | inr none ↦ ap (λ (k : DeskState Quiet). k.geometry) (up.1 none)
+]
+release_sizes desk order chosen up = absurd up
+
+unmap_sizes : (desk : DeskState Quiet) (b : OBlock) (chosen : Chosen Quiet Global) → DoesUnmap b desk chosen → (asked_desk chosen desk).geometry ≡ desk.geometry
+unmap_sizes desk b (Asks new) did = elim (is_unmappable desk b) [
+  | inl may ↦ ap (λ (k : DeskState Quiet). k.geometry) (did.0 may).1
+  | inr none ↦ ap (λ (k : DeskState Quiet). k.geometry) (did.1 none)
+]
+unmap_sizes desk b chosen did = absurd did
+
+-- a desk keeps its geometry
+module _ (shape : Shape) (devices : Devices (List History)) (commit : Option RunningCommit) (t : RunTarget Quiet) (actors : List Actor) (got : Got) (read : List Bytes) (chosen : Chosen Quiet Global) where
+  desk_sizes : (job : Job) (next : Want) → Gives shape (stood devices commit t actors) job next got read chosen → (desk_then t.desk next chosen).geometry ≡ t.desk.geometry
+  desk_sizes job (Cell step) g = refl
+  desk_sizes job (Device step) g = refl
+  desk_sizes (Migrate migration block) (Desk (Map b c)) g = map_sizes t.desk b c got chosen g.1
+  desk_sizes (Read extent) (Desk (Map b c)) g = absurd g
+  desk_sizes (Write extent content) (Desk (Map b c)) g = absurd g
+  desk_sizes Flush (Desk (Map b c)) g = absurd g
+  desk_sizes (Open mode) (Desk (Map b c)) g = absurd g
+  desk_sizes (Migrate migration block) (Desk (Unmap b)) g = unmap_sizes t.desk b chosen g.2
+  desk_sizes (Read extent) (Desk (Unmap b)) g = absurd g
+  desk_sizes (Write extent content) (Desk (Unmap b)) g = absurd g
+  desk_sizes Flush (Desk (Unmap b)) g = absurd g
+  desk_sizes (Open mode) (Desk (Unmap b)) g = absurd g
+  desk_sizes (Migrate migration block) (Desk (ReleaseOrder b)) g = release_sizes t.desk (order_for migration block) chosen g.2
+  desk_sizes (Read extent) (Desk (ReleaseOrder b)) g = absurd g
+  desk_sizes (Write extent content) (Desk (ReleaseOrder b)) g = absurd g
+  desk_sizes Flush (Desk (ReleaseOrder b)) g = absurd g
+  desk_sizes (Open mode) (Desk (ReleaseOrder b)) g = absurd g
+  desk_sizes job (Desk (BeginCommit clean most)) g = begun_sizes t.desk chosen
+  desk_sizes job (Desk EndCommit) g = ended_sizes t.desk t.desk.space.committing
+  desk_sizes job (End answer) g = refl
+
+-- what a step leaves of a target
+pub record Keeps (t t' : Target) : Type 0 where
+  pub blocks : t'.crew.blocks ≡ t.crew.blocks
+  pub cards : length t'.crew.cards ≡ length t.crew.cards
+  pub failed : t'.failed ≡ flag t'.crew.words.fail
+  pub sizes : t'.desk.geometry ≡ t.desk.geometry
+
+pub step_keeps : (devices : Devices (List History)) (t : Target) (a : ℕ) (m : Member) (what : What) (read : List Bytes) (devices' : Devices (List History)) (t' : Target) (m' : Member) → t.failed ≡ flag t.crew.words.fail → Steps devices t a m what read devices' t' m' → Keeps t t'
+step_keeps devices t a m what read devices' t' m' f s = by_task m.task s
+  where
+    some_shape : Shape
+    some_shape = record { geometry = t.desk.geometry; threshold = 0; actors = 0 }
+
+    by_task : (o : Option (Job × Plan)) → StepsBy devices t a m o what read devices' t' m' → Keeps t t'
+    by_task None s = rw s.target_is (record { blocks = refl; cards = refl; failed = f; sizes = refl })
+    by_task (Some doing) s =
+        let leads = s.performs.leads in
+        let like = crew_like t.crew a (want doing.1) in
+        record {
+          blocks = ap (λ (c : CrewState). c.blocks) leads.crew_is ∙ like.0;
+          cards = ap (λ (c : CrewState). length c.cards) leads.crew_is ∙ like.1;
+          failed = leads.failed_is;
+          sizes = ap (λ (d : DeskState Quiet). d.geometry) leads.desk_is
+              ∙ desk_sizes some_shape devices t.commit (told t) [] s.got (noted_read doing.0 (want doing.1) s.given) s.performs.chosen doing.0 (want doing.1) (s.performs.gives some_shape []);
+        }
+
+-- a start keeps the desk's geometry
+pub start_sizes : (shape : Shape) (desk : DeskState Quiet) (m : Member) (job : Job) (what : What) (desk' : DeskState Quiet) (m' : Member) → Starts shape desk m job what desk' m' → desk'.geometry ≡ desk.geometry
+start_sizes shape desk m job what desk' m' s = by_test (is_none m.task) s
+  where
+    given_sizes : (job : Job) (chosen : Chosen Quiet Global) → (desk_given desk job chosen).geometry ≡ desk.geometry
+    given_sizes (Migrate migration block) (Orders cut cache) = refl
+    given_sizes (Migrate migration block) Plain = refl
+    given_sizes (Migrate migration block) (Cut cut) = refl
+    given_sizes (Migrate migration block) (Begins now) = refl
+    given_sizes (Migrate migration block) (Reaches now commit) = refl
+    given_sizes (Migrate migration block) (Puts new) = refl
+    given_sizes (Migrate migration block) (Commits commit tree) = refl
+    given_sizes (Migrate migration block) (Asks new) = refl
+    given_sizes (Migrate migration block) (Opened policy) = refl
+    given_sizes (Read extent) chosen = refl
+    given_sizes (Write extent content) chosen = refl
+    given_sizes Flush chosen = refl
+    given_sizes (Open mode) chosen = refl
+
+    by_what : (what : What) (chosen : Chosen Quiet Global) → LeavesStarted shape desk m job what chosen desk' m' → desk'.geometry ≡ desk.geometry
+    by_what Started chosen l = ap (λ (k : DeskState Quiet). k.geometry) l.0 ∙ given_sizes job chosen
+    by_what (Refused refusal) chosen l = ap (λ (k : DeskState Quiet). k.geometry) l.0
+    by_what what chosen l = absurd l
+
+    by_test : (b : Bool) → StartsIf b shape desk m job what desk' m' → desk'.geometry ≡ desk.geometry
+    by_test true g = by_what what g.chosen g.leaves
+    by_test false p = ap (λ (k : DeskState Quiet). k.geometry) p.desk_is
+
+-- ---- flushes allow as many nodes as an image may have
+
+roomy_then : (nodes : ℕ) (doing : Job × Plan) (next : Want) (got : Got) → IsRoomy nodes (Some doing) → IsRoomy nodes (task_then (Some doing) next got)
+roomy_then nodes doing (Cell step) got r = subst (λ (job : TaskJob). AllowsImages nodes job) (sym (job_stays doing.1 got)) r
+roomy_then nodes doing (Device step) got r = subst (λ (job : TaskJob). AllowsImages nodes job) (sym (job_stays doing.1 got)) r
+roomy_then nodes doing (Desk step) got r = subst (λ (job : TaskJob). AllowsImages nodes job) (sym (job_stays doing.1 got)) r
+roomy_then nodes doing (End answer) got r = tt
+
+pub step_roomy : (nodes : ℕ) (devices : Devices (List History)) (t : Target) (a : ℕ) (m : Member) (what : What) (read : List Bytes) (devices' : Devices (List History)) (t' : Target) (m' : Member) → IsRoomy nodes m.task → Steps devices t a m what read devices' t' m' → IsRoomy nodes m'.task
+step_roomy nodes devices t a m what read devices' t' m' r s = by_task m.task refl s
+  where
+    by_task : (o : Option (Job × Plan)) → m.task ≡ o → StepsBy devices t a m o what read devices' t' m' → IsRoomy nodes m'.task
+    by_task None e s = subst (λ (v : Member). IsRoomy nodes v.task) (sym s.member_is) r
+    by_task (Some doing) e s = subst (λ (v : Member). IsRoomy nodes v.task) (sym s.member_is)
+        (subst (λ (k : Option (Job × Plan)). IsRoomy nodes (task_then k (want doing.1) s.got)) (sym e) (roomy_then nodes doing (want doing.1) s.got (subst (λ (k : Option (Job × Plan)). IsRoomy nodes k) e r)))
+
+pub fault_roomy : (nodes : ℕ) (choice : Choice) (devices : Devices (List History)) (commit : Option RunningCommit) (m : Member) (what : What) (devices' : Devices (List History)) (commit' : Option RunningCommit) (m' : Member) → IsRoomy nodes m.task → FailsOrRests choice devices commit m what devices' commit' m' → IsRoomy nodes m'.task
+fault_roomy nodes choice devices commit m what devices' commit' m' r f = by_task m.task refl f
+  where
+    by_task : (o : Option (Job × Plan)) → m.task ≡ o → FailsBy choice devices commit m o what devices' commit' m' → IsRoomy nodes m'.task
+    by_task None e f = subst (λ (v : Member). IsRoomy nodes v.task) (sym f.member_is) r
+    by_task (Some doing) e (inl f) = subst (λ (v : Member). IsRoomy nodes v.task) (sym f.member_is)
+        (subst (λ (k : Option (Job × Plan)). IsRoomy nodes (task_then k (want doing.1) Fault)) (sym e) (roomy_then nodes doing (want doing.1) Fault (subst (λ (k : Option (Job × Plan)). IsRoomy nodes k) e r)))
+    by_task (Some doing) e (inr f) = subst (λ (v : Member). IsRoomy nodes v.task) (sym f.0.member_is) r
+
+pub start_roomy : (shape : Shape) (nodes : ℕ) (desk : DeskState Quiet) (m : Member) (job : Job) (what : What) (desk' : DeskState Quiet) (m' : Member) → nodes ≤ node_count shape.geometry.cache_blocks → IsRoomy nodes m.task → Starts shape desk m job what desk' m' → IsRoomy nodes m'.task
+start_roomy shape nodes desk m job what desk' m' l r s = by_test (is_none m.task) s
+  where
+    by_job : (job : Job) (chosen : Chosen Quiet Global) → IsRoomy nodes (Some (job, table (task_job shape job (cut_of chosen))))
+    by_job (Read extent) chosen = tt
+    by_job (Write extent content) chosen = tt
+    by_job Flush chosen = l
+    by_job (Open mode) chosen = tt
+    by_job (Migrate migration block) chosen = tt
+
+    by_what : (what : What) (chosen : Chosen Quiet Global) → LeavesStarted shape desk m job what chosen desk' m' → IsRoomy nodes m'.task
+    by_what Started chosen l = subst (λ (v : Member). IsRoomy nodes v.task) (sym l.1) (by_job job chosen)
+    by_what (Refused refusal) chosen l = subst (λ (v : Member). IsRoomy nodes v.task) (sym l.1) r
+    by_what what chosen l = absurd l
+
+    by_test : (b : Bool) → StartsIf b shape desk m job what desk' m' → IsRoomy nodes m'.task
+    by_test true g = by_what what g.chosen g.leaves
+    by_test false p = subst (λ (v : Member). IsRoomy nodes v.task) (sym p.member_is) r
+
+pub roomy_set : (nodes : ℕ) (members : List Member) (a : ℕ) (m : Member) → AllRoomy nodes members → IsRoomy nodes m.task → AllRoomy nodes (slice_set members a m)
+roomy_set nodes [] a m all r b x e = absurd (cc)
+roomy_set nodes (y ∷ ys) zero m all r zero x e = let same : m ≡ x = cc in subst (λ (v : Member). IsRoomy nodes v.task) same r
+roomy_set nodes (y ∷ ys) zero m all r (suc b) x e = all (suc b) x e
+roomy_set nodes (y ∷ ys) (suc a) m all r zero x e = all zero x e
+roomy_set nodes (y ∷ ys) (suc a) m all r (suc b) x e = roomy_set nodes ys a m (λ c z h. all (suc c) z h) r b x e
+
+pub roomy_free : (nodes n : ℕ) → AllRoomy nodes (replicate n free)
+roomy_free nodes zero b x e = absurd (cc)
+roomy_free nodes (suc n) zero x e = let same : free ≡ x = cc in subst (λ (v : Member). IsRoomy nodes v.task) same tt
+roomy_free nodes (suc n) (suc b) x e = roomy_free nodes n b x e
+
+enough_by : (nodes : ℕ) (job : TaskJob) (next : Want) → IsOwnStep job next → AllowsImages nodes job → Allows nodes next
+enough_by nodes (Flushing serves most) (Desk (BeginCommit clean n)) own r = subst (λ k. nodes ≤ k) (sym own.1) r
+enough_by nodes (OnBlock (Reading part)) (Desk (BeginCommit clean n)) own r = absurd own
+enough_by nodes (OnBlock (Writing part)) (Desk (BeginCommit clean n)) own r = absurd own
+enough_by nodes (OnBlock (Migrating migration part)) (Desk (BeginCommit clean n)) own r = absurd own
+enough_by nodes (OpeningOf left) (Desk (BeginCommit clean n)) own r = absurd own
+enough_by nodes job (Desk (Map block place)) own r = tt
+enough_by nodes job (Desk (Unmap block)) own r = tt
+enough_by nodes job (Desk (ReleaseOrder block)) own r = tt
+enough_by nodes job (Desk EndCommit) own r = tt
+enough_by nodes job (Cell step) own r = tt
+enough_by nodes job (Device step) own r = tt
+enough_by nodes job (End answer) own r = tt
+
+-- so a commit may have any image where one begins
+pub begins_enough : (nodes blocks : ℕ) (card : Card) (doing : Job × Plan) → TaskSuits blocks card (Some doing) → IsRoomy nodes (Some doing) → Allows nodes (want doing.1)
+begins_enough nodes blocks card doing s r = enough_by nodes doing.1.job (want doing.1) (is_own_step blocks doing.1 card s) r

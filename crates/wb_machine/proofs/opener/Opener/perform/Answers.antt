@@ -1,0 +1,102 @@
+use Rattle.std.proofs.Common.{◌≡◌, ◌≤◌, ◌∙◌, [], None, ap, arith, refl, subst}
+use Rattle.wb_tasks.specs.Plan.{want}
+use Rattle.wb_tasks.specs.declared.step.DeviceStep.TheVariants.{Sync, ReadMetadata, WriteRoot}
+use Rattle.wb_tasks.specs.declared.step.Got.TheVariants.{Done}
+use Rattle.wb_tasks.specs.declared.step.Want.TheVariants.{Device}
+use Rattle.wb_devices.specs.Opened.{DidTell}
+use Rattle.wb_runs.specs.declared.event.Event.TheVariants.{Step}
+use Rattle.wb_runs.specs.declared.event.What.TheVariants.{Stepped}
+use Rattle.wb_machine.specs.declared.machine.TheConstants.{ACTORS}
+use Rattle.wb_machine.specs.declared.phase.Phase.TheVariants.{Underway}
+use Rattle.wb_machine.specs.Life.{Happens, contents_of, shape_of, state_of}
+use Rattle.wb_machine.specs.Making.{reading_by, reading_of}
+use Rattle.wb_machine.specs.Standing.{IsReading}
+use Rattle.wb_machine.proofs.Openings.{at_commit, is_device_step, reads}
+use Rattle.wb_machine.proofs.Wherever.{puts_there, syncs_there}
+use Rattle.wb_machine.proofs.Standing.{does_read, read_stands, reads_at, synced_stands, under_way, written_stands}
+use Rattle.wb_machine.proofs.opener.Opener.perform.Goals as goal
+
+pub returns-in-Sync-clause-stands : goal.returns-in-Sync-clause-stands
+returns-in-Sync-clause-stands c =
+    let self = c.args.self.now in
+    let did = c.sync.ensures in
+    let next : want self.task ≡ Device (Sync c.in-Sync.device) = is_device_step (want self.task) c.args.step c.requires.next ∙ ap (λ s. Device s) c.in-Sync.is in
+    synced_stands c.args.geometry.now ACTORS self c.sync.new.self self.opening.alloc c.in-Sync.device c.requires.stands next did.actor did.task did.geometry did.commit did.reading did.made
+
+pub returns-in-Sync-clause-does : goal.returns-in-Sync-clause-does
+returns-in-Sync-clause-does c =
+    let self = c.args.self.now in
+    let shape = shape_of c.args.geometry.now ACTORS in
+    let next : want self.task ≡ Device (Sync c.in-Sync.device) = is_device_step (want self.task) c.args.step c.requires.next ∙ ap (λ s. Device s) c.in-Sync.is in
+    syncs_there shape ACTORS c.args.devices.now c.sync.new.devices self c.sync.new.self c.requires.there c.sync.ensures.actor c.requires.whole c.requires.stands c.in-Sync.device (Stepped (Device c.args.step) Done) next (ap (λ s. Stepped (Device s) Done) c.in-Sync.is) c.sync.ensures.task c.sync.ensures.reading c.sync.ensures.commit c.sync.ensures.devices
+
+pub read-requires-clause-next : goal.read-requires-clause-next
+read-requires-clause-next c = is_device_step (want c.args.self.now.task) c.args.step c.requires.next ∙ ap (λ s. Device s) c.in-ReadMetadata.is
+
+pub read-requires-clause-none : goal.read-requires-clause-none
+read-requires-clause-none c =
+    let self = c.args.self.now in
+    let next : want self.task ≡ Device (ReadMetadata c.in-ReadMetadata.left) = is_device_step (want self.task) c.args.step c.requires.next ∙ ap (λ s. Device s) c.in-ReadMetadata.is in
+    (reads_at c.args.geometry.now ACTORS self c.in-ReadMetadata.left c.requires.stands next).none
+
+pub read-requires-clause-reads : goal.read-requires-clause-reads
+read-requires-clause-reads c =
+    let self = c.args.self.now in
+    let g = c.args.geometry.now in
+    let left = c.in-ReadMetadata.left in
+    let next : want self.task ≡ Device (ReadMetadata left) = is_device_step (want self.task) c.args.step c.requires.next ∙ ap (λ s. Device s) c.in-ReadMetadata.is in
+    let at = reads_at g ACTORS self left c.requires.stands next in
+    subst (λ m. IsReading g left (reading_by m self.opening.reading) self.opening.commit) at.none at.at
+
+pub returns-in-ReadMetadata-clause-stands : goal.returns-in-ReadMetadata-clause-stands
+returns-in-ReadMetadata-clause-stands c =
+    let self = c.args.self.now in
+    let g = c.args.geometry.now in
+    let left = c.in-ReadMetadata.left in
+    let device = c.args.devices.now.metadata.contents in
+    let new = c.read.new.self in
+    let did = c.read.ensures in
+    let next : want self.task ≡ Device (ReadMetadata left) = is_device_step (want self.task) c.args.step c.requires.next ∙ ap (λ s. Device s) c.in-ReadMetadata.is in
+    let at = reads_at g ACTORS self left c.requires.stands next in
+    let plain = subst (λ m. IsReading g left (reading_by m self.opening.reading) self.opening.commit) at.none at.at in
+    let u = under_way g left self.opening.reading self.opening.commit plain in
+    let two : 2 ≤ g.meta_sectors = omega (arith, c.node_count-two_slots.ensures.two_images_fit) in
+    let told = subst (λ x. DidTell g g.meta_sectors left u.was device x c.read.result (reading_of new) new.opening.commit) u.commit_is (did.did u.was u.is) in
+    read_stands g left u.was device c.read.result (reading_of new) new.opening.commit two c.requires.whole u.not_done u.left_is told ACTORS self new c.requires.stands next did.actor did.task did.geometry refl refl did.made
+
+pub returns-in-ReadMetadata-clause-does : goal.returns-in-ReadMetadata-clause-does
+returns-in-ReadMetadata-clause-does c =
+    let self = c.args.self.now in
+    let g = c.args.geometry.now in
+    let shape = shape_of g ACTORS in
+    let left = c.in-ReadMetadata.left in
+    let device = c.args.devices.now.metadata.contents in
+    let new = c.read.new.self in
+    let did = c.read.ensures in
+    let next : want self.task ≡ Device (ReadMetadata left) = is_device_step (want self.task) c.args.step c.requires.next ∙ ap (λ s. Device s) c.in-ReadMetadata.is in
+    let at = reads_at g ACTORS self left c.requires.stands next in
+    let plain = subst (λ m. IsReading g left (reading_by m self.opening.reading) self.opening.commit) at.none at.at in
+    let u = under_way g left self.opening.reading self.opening.commit plain in
+    let two : 2 ≤ g.meta_sectors = omega (arith, c.node_count-two_slots.ensures.two_images_fit) in
+    let told = subst (λ x. DidTell g g.meta_sectors left u.was device x c.read.result (reading_of new) new.opening.commit) u.commit_is (did.did u.was u.is) in
+    let after = record c.args.devices.now { metadata = c.read.new.metadata } in
+    at_commit ACTORS c.args.devices.now self (λ w. Happens shape w (Step self.actor) (Stepped (Device c.args.step) c.read.result) [] (state_of ACTORS after (Underway new))) None u.commit_is
+    (reads shape ACTORS c.args.devices.now after self new c.requires.there did.actor left u.was c.read.result (Stepped (Device c.args.step) c.read.result) next (ap (λ s. Stepped (Device s) c.read.result) c.in-ReadMetadata.is)
+    (ap (λ m. reading_by m self.opening.reading) at.none ∙ u.is)
+    (does_read g left u.was device c.read.result (reading_of new) new.opening.commit two c.requires.whole u.not_done u.left_is told) did.task (ap (λ m. contents_of (record c.args.devices.now { metadata = m })) did.device))
+
+pub returns-in_ok-write_root-in-WriteRoot-clause-stands : goal.returns-in_ok-write_root-in-WriteRoot-clause-stands
+returns-in_ok-write_root-in-WriteRoot-clause-stands c =
+    let self = c.args.self.now in
+    let next : want self.task ≡ Device WriteRoot = is_device_step (want self.task) c.args.step c.requires.next ∙ ap (λ s. Device s) c.in-WriteRoot.is in
+    let done = c.in_ok-write_root-in-WriteRoot.ensures in
+    written_stands c.args.geometry.now ACTORS self c.write_root.new.self c.requires.stands next done.actor done.task done.geometry done.commit done.reading done.made
+
+pub returns-in_ok-write_root-in-WriteRoot-clause-does : goal.returns-in_ok-write_root-in-WriteRoot-clause-does
+returns-in_ok-write_root-in-WriteRoot-clause-does c =
+    let self = c.args.self.now in
+    let new = c.write_root.new.self in
+    let after = record c.args.devices.now { metadata = c.write_root.new.metadata } in
+    let next : want self.task ≡ Device WriteRoot = is_device_step (want self.task) c.args.step c.requires.next ∙ ap (λ s. Device s) c.in-WriteRoot.is in
+    let done = c.in_ok-write_root-in-WriteRoot.ensures in
+    puts_there (shape_of c.args.geometry.now ACTORS) ACTORS c.args.devices.now after self new c.requires.there done.actor c.requires.whole c.requires.stands (Stepped (Device c.args.step) Done) next (ap (λ s. Stepped (Device s) Done) c.in-WriteRoot.is) done.task done.reading done.commit done.puts refl

@@ -1,0 +1,58 @@
+use Rattle.std.proofs.Common.{◌∙◌, ap, arith, inl, length-set, refl}
+use Rattle.std.proofs.lemmas.Option.{slice_get_past, slice_get_read}
+use Rattle.wb_types.specs.Limits.{node_count}
+use Rattle.wb_desk.specs.Desks.{DeskState}
+use Rattle.wb_policy.specs.declared.quiet.Quiet.{Quiet}
+use Rattle.wb_runs.specs.declared.event.Event.TheVariants.{Start}
+use Rattle.wb_machine.specs.declared.machine.TheConstants.{ACTORS}
+use Rattle.wb_machine.specs.declared.phase.Phase.TheVariants.{Standing}
+use Rattle.wb_machine.specs.Life.{contents_of, shape_of, state_of}
+use Rattle.wb_machine.proofs.Members.{absent, on_err, put_back}
+use Rattle.wb_machine.proofs.Openings.{passes}
+use Rattle.wb_machine.proofs.Served.{roomy_set, start_happens, start_roomy, start_sizes}
+use Rattle.wb_machine.proofs.serving.start_over.Goals as goal
+
+pub returns-then-actor-len-clause-ok : goal.returns-then-actor-len-clause-ok
+returns-then-actor-len-clause-ok c =
+    let members = c.args.members.now in
+    passes (shape_of c.args.geometry.now ACTORS) (state_of ACTORS c.args.devices.now (Standing c.args.target.now members)) (Start c.args.actor c.args.job.now) _
+    (inl (absent members.items c.args.target.now.crew.cards c.args.actor (slice_get_past members.items c.args.actor (omega (arith, members.ok))))) refl
+
+pub returns-clause-ok : goal.returns-clause-ok
+returns-clause-ok c =
+    let members = c.args.members.now in
+    let m = c.index_mut-member.result.now in
+    let many = c.requires.there in
+    let here = slice_get_read members.items c.len.result c.args.actor m (omega (arith, members.ok)) (omega arith) c.index_mut-member.ensures.value in
+    start_happens (shape_of c.args.geometry.now ACTORS) (contents_of c.args.devices.now) c.args.target.now members.items c.args.actor m c.start.new.self here (omega (arith, many.0, many.1))
+    c.args.job.now c.in_ok-what.what c.start.new.desk c.requires.over c.in_ok-what.ensures.ok
+
+pub returns-clause-there : goal.returns-clause-there
+returns-clause-there c = (c.requires.there.0, length-set c.args.members.now.items c.args.actor c.start.new.self ∙ c.requires.there.1)
+
+pub returns-clause-sound : goal.returns-clause-sound
+returns-clause-sound c =
+    let members = c.args.members.now in
+    let target = c.args.target.now in
+    let m = c.index_mut-member.result.now in
+    let g = c.args.geometry.now in
+    let here = slice_get_read members.items c.len.result c.args.actor m (omega (arith, members.ok)) (omega arith) c.index_mut-member.ensures.value in
+    let stands = c.requires.sound.stands in
+    record {
+      whole = c.requires.sound.whole;
+      stands = record {
+        blocks = stands.blocks;
+        failed = stands.failed;
+        sizes = start_sizes (shape_of g ACTORS) target.desk m c.args.job.now c.in_ok-what.what c.start.new.desk c.start.new.self c.in_ok-what.ensures.ok ∙ stands.sizes;
+        roomy = roomy_set (node_count g.cache_blocks) members.items c.args.actor c.start.new.self stands.roomy
+            (start_roomy (shape_of g ACTORS) (node_count g.cache_blocks) target.desk m c.args.job.now c.in_ok-what.what c.start.new.desk c.start.new.self (omega arith) (stands.roomy c.args.actor m here) c.in_ok-what.ensures.ok);
+      };
+    }
+
+pub returns-in_err-what-clause-err : goal.returns-in_err-what-clause-err
+returns-in_err-what-clause-err c =
+    let members = c.args.members.now in
+    let m = c.index_mut-member.result.now in
+    let here = slice_get_read members.items c.len.result c.args.actor m (omega (arith, members.ok)) (omega arith) c.index_mut-member.ensures.value in
+    let err = c.in_err-what.ensures.err in
+    on_err c.from_residual.result (ap (λ (d : DeskState Quiet). record c.args.target.now { desk = d }) err.0, put_back members.items c.args.actor m c.start.new.self here err.1)

@@ -1,0 +1,30 @@
+use Rattle.std.proofs.Common.{◌∙◌, None, arith, refl, sym}
+use Rattle.wb_runs.specs.declared.event.Event.TheVariants.{Start}
+use Rattle.wb_runs.specs.Happenings.{DoesNotApply}
+use Rattle.wb_machine.specs.declared.machine.TheConstants.{ACTORS}
+use Rattle.wb_machine.specs.Life.{shape_of, state_of}
+use Rattle.wb_machine.specs.Standing.{AtMetadata}
+use Rattle.wb_machine.proofs.Openings.{nobody_starts, busy_starts, passes, starts}
+use Rattle.wb_machine.proofs.starting.open.Goals as goal
+use Rattle.wb_machine.proofs.starting.open.Goals.{then-actor-ge-ACTORS-via-then-actor-ge-ACTORS, then-actor-ge-ACTORS-via-else-actor-ge-ACTORS+then-is_busy}
+
+pub returns-then-actor-ge-ACTORS-clause-does : goal.returns-then-actor-ge-ACTORS-clause-does
+returns-then-actor-ge-ACTORS-clause-does c =
+    let shape = shape_of c.args.geometry.now ACTORS in
+    let does_not : DoesNotApply (state_of ACTORS c.args.devices.now c.args.phase.now) (Start c.args.actor c.args.job.now) = elim c.then-actor-ge-ACTORS.branch [
+      | then-actor-ge-ACTORS-via-then-actor-ge-ACTORS w ↦ nobody_starts c.args.devices.now ACTORS c.args.phase.now c.requires.there c.args.actor c.args.job.now (omega (arith, w.if-actor-ge-ACTORS.true))
+      | then-actor-ge-ACTORS-via-else-actor-ge-ACTORS+then-is_busy w ↦ busy_starts c.args.devices.now ACTORS c.args.phase.now c.args.actor c.args.job.now c.requires.there (sym w.is_busy.ensures ∙ w.if-is_busy.true)
+    ] in
+    passes shape (state_of ACTORS c.args.devices.now c.args.phase.now) (Start c.args.actor c.args.job.now) _ does_not refl
+
+pub returns-clause-does : goal.returns-clause-does
+returns-clause-does c =
+    let shape = shape_of c.args.geometry.now ACTORS in
+    rw c.put_opener.ensures (starts shape c.args.devices.now ACTORS c.args.phase.now c.requires.there c.requires.sound.stands c.args.actor c.args.job.now _ (record { actor = c.args.actor; task = c.reading.result; opening = record { geometry = c.args.geometry.now; alloc = c.args.alloc; reading = None; commit = None }; made = None })
+    (sym c.is_opening.ensures ∙ c.if-not-is_opening.false) (omega (arith, c.if-actor-ge-ACTORS.false)) (sym c.is_busy.ensures ∙ c.if-is_busy.false) (sym c.is_sound.ensures ∙ c.if-is_sound.false) refl c.reading.ensures refl refl refl)
+
+pub returns-clause-there : goal.returns-clause-there
+returns-clause-there c = rw c.put_opener.ensures (omega (arith, c.if-actor-ge-ACTORS.false))
+
+pub returns-clause-sound : goal.returns-clause-sound
+returns-clause-sound c = rw c.put_opener.ensures (record { whole = c.requires.sound.whole; stands = record { point = AtMetadata; plan_is = c.reading.ensures; geometry = refl; come = refl; made = refl } })

@@ -1,0 +1,9 @@
+pub mod Keeping
+pub mod Life
+pub mod Log
+pub mod Making
+pub mod Members
+pub mod Serving
+pub mod Showing
+pub mod Standing
+pub mod Works

@@ -1,0 +1,74 @@
+-- What an opening makes of what it has read, before its root is written.
+use Rattle.std.specs.Prelude.{◌≡◌, ◌+◌, ℕ, Bool, List, [], ◌∷◌, Option, Some, None, is_some, replicate, slice_set}
+use Rattle.std.specs.List.{count_by}
+use Rattle.std.specs.declared.alloc.Global.{Global}
+use Rattle.wb_types.specs.declared.geometry.Geometry.{Geometry}
+use Rattle.wb_types.specs.declared.mode.Mode.TheVariants.{Writeback}
+use Rattle.wb_types.specs.declared.number.OBlock.{OBlock}
+use Rattle.wb_types.specs.declared.number.CBlock.{CBlock}
+use Rattle.wb_words.specs.declared.word.Access.TheVariants.{Owned}
+use Rattle.wb_words.specs.declared.step.CellStep.{CellStep}
+use Rattle.wb_words.specs.declared.step.CellStep.TheVariants.{Take, Seal, Release}
+use Rattle.wb_words.specs.SharedWords.{flag, fresh_words, word_at}
+use Rattle.wb_words.specs.Cards.{blank_card}
+use Rattle.wb_cells.specs.Crews.{CrewState, crew_after}
+use Rattle.wb_meta.specs.declared.read_steps.State.{State as Stored}
+use Rattle.wb_meta.specs.declared.read_steps.ReadSteps.{ReadSteps}
+use Rattle.wb_meta.specs.declared.read_steps.ReadSteps.TheVariants.{Done as AllRead}
+use Rattle.wb_desk.specs.Opening.{opened, threshold_of}
+use Rattle.wb_tasks.specs.declared.step.Got.{Got}
+use Rattle.wb_tasks.specs.declared.step.Got.TheVariants.{Done}
+use Rattle.wb_runs.specs.Effects.{card_by, seals_of, words_by}
+use Rattle.wb_machine.specs.declared.making.Made.{Made}
+use Rattle.wb_machine.specs.declared.opener.Opener.{Opener}
+use Rattle.wb_machine.specs.Members.{free}
+
+-- ---- steps of one actor of a crew
+
+-- a crew after steps of one of its actors, one after the other
+abbrev pub crew_by : CrewState → ℕ → List CellStep → CrewState
+crew_by crew actor [] = crew
+crew_by crew actor (step ∷ steps) = crew_by (crew_after crew actor step) actor steps
+
+-- a block is owned, sealed and given back
+abbrev pub block_seals : OBlock → CBlock → Bool → List CellStep
+block_seals block place dirty = Take Owned block 0 ∷ Seal block (Some place) dirty ∷ Release Owned block ∷ []
+
+-- nobody has a block
+abbrev pub AllFree : CrewState → Type 0
+AllFree crew = (block : OBlock) → word_at crew.words.cells block ≡ 0
+
+-- ---- what is made
+
+-- what was read
+abbrev pub read_of : Made → Stored Global
+read_of made = record { root = made.root; tree = made.target.desk.tree; used = made.used }
+
+-- how far the reading of an opening has come: as what was made shows it, once it was
+abbrev pub reading_by : Option Made → Option (ReadSteps Global) → Option (ReadSteps Global)
+reading_by None reading = reading
+reading_by (Some made) reading = Some (AllRead (read_of made))
+
+abbrev pub reading_of : Opener → Option (ReadSteps Global)
+reading_of o = reading_by o.made o.opening.reading
+
+-- The target of what was read, by a root of the next generation, for so many actors of whom this one has sealed its blocks. Nobody
+-- is at anything.
+pub record IsMade (g : Geometry) (actors actor : ℕ) (made : Made) : Type 0 where
+  pub desk_is : made.target.desk ≡ opened g (made.root.generation + 1) made.target.desk.tree made.used.items Writeback made.target.desk.policy (threshold_of None) (count_by is_some made.target.desk.tree.entries)
+  pub words_are : made.target.crew.words ≡ words_by (fresh_words g.origin_blocks) (seals_of (read_of made))
+  pub cards_are : made.target.crew.cards ≡ slice_set (replicate actors blank_card) actor (card_by (fresh_words g.origin_blocks) blank_card (seals_of (read_of made)))
+  pub blocks_are : made.target.crew.blocks ≡ g.origin_blocks
+  pub failed_is : made.target.failed ≡ flag made.target.crew.words.fail
+  pub commit_is : made.target.commit ≡ None
+  pub members_are : made.members.items ≡ replicate actors free
+
+-- it was made
+abbrev pub HasMade : Geometry → ℕ → ℕ → Option Made → Type 0
+HasMade g actors actor None = ⊥
+HasMade g actors actor (Some made) = IsMade g actors actor made
+
+-- it was made where a reading is done, and not where there is more to read, or it is refused
+abbrev pub MadeBy : Geometry → ℕ → Got → ℕ → Option Made → Type 0
+MadeBy g actors Done actor made = HasMade g actors actor made
+MadeBy g actors got actor made = made ≡ None

@@ -1,0 +1,399 @@
+-- What a start or a step of an actor does over a target that stands.
+use Rattle.std.specs.Prelude.{◌≡◌, ◌≤◌, ◌+◌, ◌⊎◌, ◌&&◌, ℕ, Bool, true, false, if◌then◌else◌, length, List, [], ◌∷◌, Option, Some, None, Contains, is_none, is_some, slice_get}
+use Rattle.std.specs.declared.alloc.Global.{Global}
+use Rattle.wb_types.specs.Extents.{pieces}
+use Rattle.wb_types.specs.declared.extent.Extent.{Extent}
+use Rattle.wb_types.specs.declared.geometry.Geometry.{Geometry}
+use Rattle.wb_types.specs.declared.mode.Dev.TheVariants.{Metadata}
+use Rattle.wb_types.specs.declared.refusal.Refusal.{Refusal}
+use Rattle.wb_disk.specs.Device.{Content as Bytes, History}
+use Rattle.wb_disk.specs.Memory.{Memory}
+use Rattle.wb_disk.specs.Crash.{Choice}
+use Rattle.wb_disk.specs.Failing.{lands}
+use Rattle.wb_words.specs.SharedWords.{Words, flag}
+use Rattle.wb_words.specs.declared.step.CellStep.{CellStep}
+use Rattle.wb_words.specs.declared.step.CellStep.TheVariants.{SetFailed, SetSuspended}
+use Rattle.wb_cells.specs.Crews.{CrewState, crew_after}
+use Rattle.wb_policy.specs.declared.quiet.Quiet.{Quiet}
+use Rattle.wb_tree.specs.declared.image.Image.{Image}
+use Rattle.wb_meta.specs.declared.commit_steps.CommitSteps.{CommitSteps}
+use Rattle.wb_meta.specs.declared.commit_steps.CommitSteps.TheVariants.{NodesWritten, NodesSynced}
+use Rattle.wb_tasks.specs.Plan.{Plan, Fits, IsStep, table, want, device_of}
+use Rattle.wb_tasks.specs.Ready.{HoldsBlocks}
+use Rattle.wb_tasks.specs.declared.step.DeviceStep.{DeviceStep}
+use Rattle.wb_tasks.specs.declared.step.DeviceStep.TheVariants.{Read as ReadExtent, Write as WriteExtent, Sync, ReadMetadata, WriteNode, WriteRoot}
+use Rattle.wb_tasks.specs.declared.step.DeskStep.{DeskStep}
+use Rattle.wb_tasks.specs.declared.step.DeskStep.TheVariants.{Map, Unmap, ReleaseOrder, BeginCommit, EndCommit}
+use Rattle.wb_tasks.specs.declared.step.Answer.TheVariants.{Done as Finished}
+use Rattle.wb_tasks.specs.declared.step.Want.{Want}
+use Rattle.wb_tasks.specs.declared.step.Want.TheVariants.{Cell, Device, Desk, End}
+use Rattle.wb_tasks.specs.declared.step.Got.{Got}
+use Rattle.wb_tasks.specs.declared.step.Got.TheVariants.{Done, Fault}
+use Rattle.wb_desk.specs.Calls.{reserved}
+use Rattle.wb_desk.specs.Desks.{DeskState, MayReserve}
+use Rattle.wb_policy.specs.declared.order.Order.{Order}
+use Rattle.wb_policy.specs.declared.order.Order.TheVariants.{Replace as ReplaceOrder}
+use Rattle.wb_tasks.specs.Tables.{whole_block}
+use Rattle.wb_types.specs.declared.number.CBlock.{CBlock}
+use Rattle.wb_types.specs.declared.number.OBlock.{OBlock}
+use Rattle.wb_words.specs.declared.card.Card.{Card}
+use Rattle.wb_devices.specs.declared.devices.Devices.{Devices}
+use Rattle.wb_devices.specs.declared.running.RunningCommit.{RunningCommit}
+use Rattle.wb_devices.specs.Moving.{device_in}
+use Rattle.wb_runs.specs.declared.job.Job.{Job}
+use Rattle.wb_runs.specs.declared.job.Job.TheVariants.{Read, Write, Flush, Open, Migrate, Replace}
+use Rattle.wb_runs.specs.declared.event.What.{What}
+use Rattle.wb_runs.specs.declared.event.What.TheVariants.{Skipped, Refused, Started, Stepped}
+use Rattle.wb_stage.specs.Stages.{is_all_done}
+use Rattle.wb_runs.specs.States.{Shape, Actor, Stands, Gone, Target as RunTarget, block_size}
+use Rattle.wb_runs.specs.Happenings.{Chosen, Plain, Orders, Puts, DoesPut, FailsPut, Gives, IsNextOf, MayFailAt, Falters, KeepsMigration, KeepsReplacement, StartGives, begun_as, extent_of, order_for, task_job}
+use Rattle.wb_runs.specs.Holding.{AllSuited}
+use Rattle.wb_runs.specs.Effects.{buffer_then, commit_then, contents_at, cut_of, desk_then, device_done, device_failed, devices_then, job_of, awaiting_then, orders_given, orders_then, task_then}
+use Rattle.wb_machine.specs.declared.phase.Phase.{Phase}
+use Rattle.wb_machine.specs.declared.phase.Phase.TheVariants.{Standing}
+use Rattle.wb_machine.specs.declared.target.Target.{Target}
+use Rattle.wb_machine.specs.Life.{Now, contents_of}
+use Rattle.wb_machine.specs.Members.{Member, seat, seated}
+
+-- ---- starts
+
+-- one step moves one sector, in rising order
+abbrev pub cut_for : Shape → Job → List Extent
+cut_for shape (Migrate migration block) = pieces 1 (whole_block (block_size shape) block)
+cut_for shape (Replace old new) = pieces 1 (whole_block (block_size shape) old)
+cut_for shape job = pieces 1 (extent_of job)
+
+-- a job runs under an order
+abbrev pub is_ordered : Job → Bool
+is_ordered (Migrate migration block) = true
+is_ordered (Replace old new) = true
+is_ordered job = false
+
+-- the order under which a job runs that takes this cache block, if it is a migration or a replacement
+abbrev pub order_by : Job → CBlock → Option Order
+order_by (Migrate migration block) cache = Some (order_for migration block)
+order_by (Replace old new) cache = Some (ReplaceOrder old new cache)
+order_by job cache = None
+
+-- a job may start under one of these orders
+abbrev pub KeepsFor : DeskState Quiet → List Order → Job → Type 0
+KeepsFor desk kept (Migrate migration block) = KeepsMigration desk kept migration block
+KeepsFor desk kept (Replace old new) = KeepsReplacement desk kept old new
+KeepsFor desk kept job = ⊥
+
+-- the desk once an order was given with a job
+abbrev pub desk_given : DeskState Quiet → Job → Chosen Quiet Global → DeskState Quiet
+desk_given desk (Migrate migration block) (Orders cut cache) = reserved desk cache (order_for migration block) false
+desk_given desk (Replace old new) (Orders cut cache) = reserved desk cache (ReplaceOrder old new cache) false
+desk_given desk job chosen = desk
+
+-- what is at this job from now on
+abbrev pub member_given : Shape → Member → Job → Chosen Quiet Global → Member
+member_given shape m job chosen = record { task = Some (begun_as job, table (task_job shape m.awaiting job (cut_of chosen))); orders = orders_given m.orders job chosen; awaiting = m.awaiting; buffer = m.buffer }
+
+-- What a start that is not skipped leaves of the desk and of who starts: an order may be given.
+abbrev pub LeavesStarted : Shape → DeskState Quiet → Member → Job → What → Chosen Quiet Global → DeskState Quiet → Member → Type 0
+LeavesStarted shape desk m job Started chosen desk' m' = (desk' ≡ desk_given desk job chosen) × (m' ≡ member_given shape m job chosen)
+LeavesStarted shape desk m job (Refused refusal) chosen desk' m' = (desk' ≡ desk) × (m' ≡ m)
+LeavesStarted shape desk m job what chosen desk' m' = ⊥
+
+-- what a start comes to, by what was free at it, of an actor that is at nothing, over a target with this desk
+pub record GetsJob (shape : Shape) (desk : DeskState Quiet) (m : Member) (job : Job) (what : What) (desk' : DeskState Quiet) (m' : Member) : Type 0 where
+  pub chosen : Chosen Quiet Global
+  pub gives : (words : Words) (card : Card) → StartGives shape (Stands (record { words = words; desk = desk })) (Some (seat m card)) job what chosen
+  pub leaves : LeavesStarted shape desk m job what chosen desk' m'
+
+-- it is skipped
+pub record IsPassed (desk : DeskState Quiet) (m : Member) (what : What) (desk' : DeskState Quiet) (m' : Member) : Type 0 where
+  pub what_is : what ≡ Skipped
+  pub desk_is : desk' ≡ desk
+  pub member_is : m' ≡ m
+
+abbrev pub StartsIf : Bool → Shape → DeskState Quiet → Member → Job → What → DeskState Quiet → Member → Type 0
+StartsIf true shape desk m job what desk' m' = GetsJob shape desk m job what desk' m'
+StartsIf false shape desk m job what desk' m' = IsPassed desk m what desk' m'
+
+-- a start by who is at nothing, and any other
+abbrev pub Starts : Shape → DeskState Quiet → Member → Job → What → DeskState Quiet → Member → Type 0
+Starts shape desk m job what desk' m' = StartsIf (is_none m.task) shape desk m job what desk' m'
+
+-- An order is given, and taken as the newest; or it may not be given, whatever cache block it took.
+abbrev pub GetsOrder : DeskState Quiet → Member → Order → Bool → DeskState Quiet → Member → Type 0
+GetsOrder desk m order true desk' m' = (cache : CBlock) × MayReserve desk cache order × (desk' ≡ reserved desk cache order false) × (m' ≡ record m { orders = order ∷ m.orders })
+GetsOrder desk m order false desk' m' = ((cache : CBlock) → ¬ MayReserve desk cache order) × (desk' ≡ desk) × (m' ≡ m)
+
+-- A job may start under an order that who starts it has, or is given now; or none may be given.
+abbrev pub TakesOrder : DeskState Quiet → Member → Job → Bool → DeskState Quiet → Member → Type 0
+TakesOrder desk m job true desk' m' = (KeepsFor desk m.orders job × (desk' ≡ desk) × (m' ≡ m))
+    ⊎ ((cache : CBlock) × ((order : Order) × (order_by job cache ≡ Some order) × MayReserve desk cache order × (desk' ≡ reserved desk cache order false) × (m' ≡ record m { orders = order ∷ m.orders })))
+TakesOrder desk m job false desk' m' = (¬ KeepsFor desk m.orders job) × ((cache : CBlock) (order : Order) → order_by job cache ≡ Some order → ¬ MayReserve desk cache order) × (desk' ≡ desk) × (m' ≡ m)
+
+-- the orders of which a step of a job may give one up
+abbrev pub held_for : Job → (orders awaiting : List Order) → List Order
+held_for Flush orders awaiting = awaiting
+held_for job orders awaiting = orders
+
+-- an actor at this job has these to give up
+abbrev pub HasToGiveUp : Job → Actor → List Order → Type 0
+HasToGiveUp job x held = held_for job x.orders x.awaiting ≡ held
+
+-- ---- steps
+
+abbrev pub Reads : Job → Type 0
+Reads (Read extent) = Unit {0}
+Reads (Migrate migration block) = Unit {0}
+Reads job = ⊥
+
+abbrev pub Writes : Job → Type 0
+Writes (Write extent content) = Unit {0}
+Writes (Migrate migration block) = Unit {0}
+Writes job = ⊥
+
+abbrev pub Migrates : Job → Type 0
+Migrates (Migrate migration block) = Unit {0}
+Migrates job = ⊥
+
+-- a migration or a flush may give up an order
+abbrev pub GivesUp : Job → Type 0
+GivesUp (Migrate migration block) = Unit {0}
+GivesUp Flush = Unit {0}
+GivesUp job = ⊥
+
+-- a read of no sector may be of any place, but for a migration's
+abbrev pub ReadsInside : Job → Extent → ℕ → Type 0
+ReadsInside (Migrate migration block) e sectors = e.first + e.count ≤ sectors
+ReadsInside job e sectors = 1 ≤ e.count → e.first + e.count ≤ sectors
+
+-- a step reads what a migration writes next
+abbrev pub is_copied : Job → Want → Bool
+is_copied (Migrate migration block) (Device (ReadExtent device e)) = true
+is_copied job next = false
+
+-- what is noted of what a step has read: nothing where it is what a migration writes next
+abbrev pub noted_read : Job → Want → List Bytes → List Bytes
+noted_read job next read = if is_copied job next then [] else read
+
+abbrev pub Opens : Job → Type 0
+Opens (Open mode) = Unit {0}
+Opens job = ⊥
+
+-- the step comes next of the commit that runs
+abbrev pub ComesNext : Option RunningCommit → DeviceStep → List History → Type 0
+ComesNext commit step device = IsNextOf commit step device (λ running. Unit {0})
+
+-- a node or the root is written
+abbrev pub IsPut : DeviceStep → Type 0
+IsPut (WriteNode number) = Unit {0}
+IsPut WriteRoot = Unit {0}
+IsPut step = ⊥
+
+-- It was written, or, where that has failed, may have been: the metadata were these, and are those.
+abbrev pub WasPut : Option RunningCommit → DeviceStep → List History → List History → Type 0
+WasPut commit step old new = DoesPut {P = Quiet} {A = Global} commit step old (Puts new)
+
+abbrev pub MayBePut : Option RunningCommit → Choice → DeviceStep → List History → List History → Type 0
+MayBePut commit choice step old new = FailsPut {P = Quiet} {A = Global} commit choice step old (Puts new)
+
+-- the next step of a commit writes: a node, where there is one more, or the root
+abbrev pub PutsSector : Image → CommitSteps → Type 0
+PutsSector image (NodesWritten count) = is_some (slice_get image.nodes.items count) ≡ true
+PutsSector image NodesSynced = Unit {0}
+PutsSector image steps = ⊥
+
+-- A step of a job on a device can be done: a read reads, a write writes and a migration does both, sectors that are there, of a device
+-- on which blocks stand; what is written or synced of the metadata comes next of the commit that runs.
+abbrev pub IsDoable : Devices (List History) → Option RunningCommit → Job → DeviceStep → Type 0
+IsDoable devices commit job (ReadExtent device e) = Reads job × HoldsBlocks device × ReadsInside job e (length (device_in device devices))
+IsDoable devices commit job (WriteExtent device e) = Writes job × HoldsBlocks device × (e.first + e.count ≤ length (device_in device devices))
+IsDoable devices commit job (Sync Metadata) = ComesNext commit (Sync Metadata) devices.metadata
+IsDoable devices commit job (Sync device) = Unit {0}
+IsDoable devices commit job (WriteNode number) = ComesNext commit (WriteNode number) devices.metadata
+IsDoable devices commit job WriteRoot = ComesNext commit WriteRoot devices.metadata
+IsDoable devices commit job (ReadMetadata left) = ⊥
+
+-- the desk can be asked for it: a commit begins that is not clean, or ends once all of it was done; a migration's block is mapped or
+-- unmapped, or its order given up
+abbrev pub IsAskable : Option RunningCommit → Job → DeskStep → Type 0
+IsAskable commit job (BeginCommit clean most) = clean ≡ false
+IsAskable commit job EndCommit = is_all_done commit ≡ true
+IsAskable commit job (Map block place) = Migrates job
+IsAskable commit job (Unmap block) = Migrates job
+IsAskable commit job (ReleaseOrder block) = GivesUp job
+
+-- A step of a job can be done. No opening is answered done over a target.
+abbrev pub IsPossible : Devices (List History) → Option RunningCommit → Job → Want → Type 0
+IsPossible devices commit job (Device step) = IsDoable devices commit job step
+IsPossible devices commit job (Desk step) = IsAskable commit job step
+IsPossible devices commit job (End Finished) = ¬ Opens job
+IsPossible devices commit job next = Unit {0}
+
+-- a commit that begins may have an image of so many nodes
+abbrev pub Allows : ℕ → Want → Type 0
+Allows nodes (Desk (BeginCommit clean most)) = nodes ≤ most
+Allows nodes next = Unit {0}
+
+-- what stands over these devices, with this commit, and these actors
+abbrev pub stood : Devices (List History) → Option RunningCommit → RunTarget Quiet → List Actor → Now
+stood devices commit t actors = record { devices = devices; commit = commit; phase = Stands t; actors = actors }
+
+-- the words and the desk of a target
+abbrev pub told : Target → RunTarget Quiet
+told target = record { words = target.crew.words; desk = target.desk }
+
+abbrev pub over : Devices (List History) → Target → List Actor → Now
+over devices target actors = stood devices target.commit (told target) actors
+
+-- a step that sets a bit of the fail word
+abbrev pub sets_bit : CellStep → Bool
+sets_bit SetFailed = true
+sets_bit SetSuspended = true
+sets_bit step = false
+
+-- the crew after a step of one of its actors
+abbrev pub crew_then : CrewState → ℕ → Want → CrewState
+crew_then crew a (Cell step) = crew_after crew a step
+crew_then crew a next = crew
+
+-- what a step of a job makes of its device, and what one does that failed as the choice says
+abbrev pub done_by : Job → List Bytes → Chosen Quiet Global → (DeviceStep → List History → List History)
+done_by job buffer chosen = λ step. device_done job buffer step chosen
+
+abbrev pub failed_by : Choice → Job → List Bytes → Chosen Quiet Global → (DeviceStep → List History → List History)
+failed_by choice job buffer chosen = λ step. device_failed (lands (device_of step) choice) job buffer step chosen
+
+-- what a migration has read is what the sectors held
+abbrev pub IsCopy : Devices (List History) → Job → Want → List Bytes → Type 0
+IsCopy devices (Migrate migration block) (Device (ReadExtent device e)) read = read ≡ contents_at (device_in device devices) e
+IsCopy devices job next read = Unit {0}
+
+-- The commit after a step that leaves the phase.
+abbrev pub commit_by : Option RunningCommit → Want → Got → Chosen Quiet Global → Option RunningCommit
+commit_by commit next got chosen = commit_then Gone commit next got chosen
+
+-- ---- single steps
+
+-- what was free at a step on a device: what the metadata are once a node or root was written
+abbrev pub chosen_at : DeviceStep → Devices (List History) → Chosen Quiet Global
+chosen_at (WriteNode number) devices = Puts devices.metadata
+chosen_at WriteRoot devices = Puts devices.metadata
+chosen_at step devices = Plain
+
+-- A step of a job on a device, which read this, from the devices and the commit before to those after.
+pub record DoesOn (devices : Devices (List History)) (commit : Option RunningCommit) (job : Job) (buffer : List Bytes) (step : DeviceStep) (read : List Bytes) (devices' : Devices (List History)) (commit' : Option RunningCommit) : Type 0 where
+  pub gives : (shape : Shape) (t : RunTarget Quiet) (actors : List Actor) (x : Actor) → Gives shape (stood devices commit t actors) x job (Device step) Done (noted_read job (Device step) read) (chosen_at step devices')
+  pub copies : IsCopy devices job (Device step) read
+  pub devices_are : devices' ≡ devices_then (done_by job buffer (chosen_at step devices')) devices (Device step)
+  pub commit_is : commit' ≡ commit_by commit (Device step) Done (chosen_at step devices')
+
+-- One that fails as the choice says.
+pub record FailsAt (choice : Choice) (devices : Devices (List History)) (commit : Option RunningCommit) (job : Job) (buffer : List Bytes) (step : DeviceStep) (devices' : Devices (List History)) (commit' : Option RunningCommit) : Type 0 where
+  pub falters : (t : RunTarget Quiet) (actors : List Actor) → Falters (stood devices commit t actors) choice (Device step) (chosen_at step devices')
+  pub devices_are : devices' ≡ devices_then (failed_by choice job buffer (chosen_at step devices')) devices (Device step)
+  pub commit_is : commit' ≡ commit_by commit (Device step) Fault (chosen_at step devices')
+
+-- What the desk gives that is asked for a job, which may give up one of these orders, and what that makes of it and of the commit.
+pub record WasAsked (desk : DeskState Quiet) (commit : Option RunningCommit) (job : Job) (held : List Order) (step : DeskStep) (got : Got) (desk' : DeskState Quiet) (commit' : Option RunningCommit) : Type 0 where
+  pub chosen : Chosen Quiet Global
+  pub gives : (shape : Shape) (devices : Devices (List History)) (words : Words) (actors : List Actor) (x : Actor) → HasToGiveUp job x held → Gives shape (stood devices commit (record { words = words; desk = desk }) actors) x job (Desk step) got [] chosen
+  pub desk_is : desk' ≡ desk_then desk (Desk step) chosen
+  pub commit_is : commit' ≡ commit_by commit (Desk step) got chosen
+
+-- ---- a step of an actor
+
+-- The devices and the target after a step of the actor a with this result, by what was free at it.
+pub record Leads (change : DeviceStep → List History → List History) (devices : Devices (List History)) (old : Target) (a : ℕ) (next : Want) (got : Got) (chosen : Chosen Quiet Global) (devices' : Devices (List History)) (new : Target) : Type 0 where
+  pub devices_are : devices' ≡ devices_then change devices next
+  pub crew_is : new.crew ≡ crew_then old.crew a next
+  pub desk_is : new.desk ≡ desk_then old.desk next chosen
+  pub commit_is : new.commit ≡ commit_by old.commit next got chosen
+  pub failed_is : new.failed ≡ flag new.crew.words.fail
+
+-- One step of the actor a on a job, which may give up one of these orders, from the devices and the target before to those after.
+pub record Performs (devices : Devices (List History)) (old : Target) (a : ℕ) (job : Job) (held : List Order) (buffer : List Bytes) (next : Want) (got : Got) (read : List Bytes) (devices' : Devices (List History)) (new : Target) : Type 0 where
+  pub chosen : Chosen Quiet Global
+  pub gives : (shape : Shape) (actors : List Actor) (x : Actor) → HasToGiveUp job x held → Gives shape (over devices old actors) x job next got (noted_read job next read) chosen
+  pub copies : IsCopy devices job next read
+  pub leads : Leads (done_by job buffer chosen) devices old a next got chosen devices' new
+
+-- ---- a member's step
+
+-- what a member is after a step on its job with this result
+abbrev pub member_then : Devices (List History) → Member → Want → Got → Member
+member_then devices m next got = record {
+  task = task_then m.task next got;
+  orders = orders_then m.orders m.awaiting (job_of m.task) next got;
+  awaiting = awaiting_then m.orders m.awaiting (job_of m.task) next got;
+  buffer = buffer_then devices m.buffer next got (job_of m.task);
+}
+
+-- this may be the result of the next step of a task, if there is one
+abbrev pub Comes : Option (Job × Plan) → Want → Got → Type 0
+Comes None next got = Unit {0}
+Comes (Some doing) next got = (next ≡ want doing.1) × (IsStep next → Fits next got)
+
+-- nothing happened
+pub record Rests (devices : Devices (List History)) (old : Target) (m : Member) (what : What) (read : List Bytes) (devices' : Devices (List History)) (new : Target) (m' : Member) : Type 0 where
+  pub what_is : what ≡ Skipped
+  pub read_is : read ≡ []
+  pub devices_are : devices' ≡ devices
+  pub target_is : new ≡ old
+  pub member_is : m' ≡ m
+
+-- one step of the actor a, on its task
+pub record StepsOn (devices : Devices (List History)) (old : Target) (a : ℕ) (m : Member) (job : Job) (plan : Plan) (what : What) (read : List Bytes) (devices' : Devices (List History)) (new : Target) (m' : Member) : Type 0 where
+  pub got : Got
+  pub given : List Bytes
+  pub what_is : what ≡ Stepped (want plan) got
+  pub read_is : read ≡ noted_read job (want plan) given
+  pub performs : Performs devices old a job (held_for job m.orders m.awaiting) m.buffer (want plan) got given devices' new
+  pub member_is : m' ≡ member_then devices m (want plan) got
+
+abbrev pub StepsBy : Devices (List History) → Target → ℕ → Member → Option (Job × Plan) → What → List Bytes → Devices (List History) → Target → Member → Type 0
+StepsBy devices old a m None what read devices' new m' = Rests devices old m what read devices' new m'
+StepsBy devices old a m (Some doing) what read devices' new m' = StepsOn devices old a m doing.0 doing.1 what read devices' new m'
+
+abbrev pub Steps : Devices (List History) → Target → ℕ → Member → What → List Bytes → Devices (List History) → Target → Member → Type 0
+Steps devices old a m what read devices' new m' = StepsBy devices old a m m.task what read devices' new m'
+
+-- one that fails, on a device
+pub record StepFails (choice : Choice) (devices : Devices (List History)) (commit : Option RunningCommit) (m : Member) (job : Job) (plan : Plan) (what : What) (devices' : Devices (List History)) (commit' : Option RunningCommit) (m' : Member) : Type 0 where
+  pub step : DeviceStep
+  pub step_is : want plan ≡ Device step
+  pub what_is : what ≡ Stepped (Device step) Fault
+  pub may : MayFailAt devices choice (Device step)
+  pub fails : FailsAt choice devices commit job m.buffer step devices' commit'
+  pub member_is : m' ≡ member_then devices m (want plan) Fault
+
+-- or none does
+pub record NothingFails (choice : Choice) (devices : Devices (List History)) (commit : Option RunningCommit) (m : Member) (what : What) (devices' : Devices (List History)) (commit' : Option RunningCommit) (m' : Member) : Type 0 where
+  pub what_is : what ≡ Skipped
+  pub devices_are : devices' ≡ devices
+  pub commit_is : commit' ≡ commit
+  pub member_is : m' ≡ m
+
+abbrev pub FailsBy : Choice → Devices (List History) → Option RunningCommit → Member → Option (Job × Plan) → What → Devices (List History) → Option RunningCommit → Member → Type 0
+FailsBy choice devices commit m None what devices' commit' m' = NothingFails choice devices commit m what devices' commit' m'
+FailsBy choice devices commit m (Some doing) what devices' commit' m' = StepFails choice devices commit m doing.0 doing.1 what devices' commit' m'
+    ⊎ (NothingFails choice devices commit m what devices' commit' m' × (¬ MayFailAt devices choice (want doing.1)))
+
+abbrev pub FailsOrRests : Choice → Devices (List History) → Option RunningCommit → Member → What → Devices (List History) → Option RunningCommit → Member → Type 0
+FailsOrRests choice devices commit m what devices' commit' m' = FailsBy choice devices commit m m.task what devices' commit' m'
+
+-- ---- what a step needs
+
+-- the next step of what an actor is at can be done
+abbrev pub CanStep : Devices (List History) → Option RunningCommit → Option (Job × Plan) → Type 0
+CanStep devices commit None = Unit {0}
+CanStep devices commit (Some doing) = IsPossible devices commit doing.0 (want doing.1)
+
+abbrev pub AllCan : Devices (List History) → Option RunningCommit → List Actor → Type 0
+AllCan devices commit actors = (a : ℕ) (x : Actor) → slice_get actors a ≡ Some x → CanStep devices commit x.task
+
+-- Over a target everybody has what the task needs, and can do its next step.
+pub record AreServed (g : Geometry) (devices : Devices (List History)) (commit : Option RunningCommit) (actors : List Actor) : Type 0 where
+  pub suited : AllSuited g.origin_blocks actors
+  pub can : AllCan devices commit actors
+
+abbrev pub IsServed : Geometry → Devices Memory → Phase → Type 0
+IsServed g devices (Standing target members) = AreServed g (contents_of devices) target.commit (seated members.items target.crew.cards)
+IsServed g devices phase = Unit {0}

@@ -1,0 +1,135 @@
+-- Where an opening of the machine stands in its table, and how far its reading has come there.
+use Rattle.std.specs.Prelude.{◌≡◌, ◌≤◌, ◌+◌, ℕ, List, [], ◌∷◌, Option, Some, None, length, slice_get}
+use Rattle.std.specs.declared.alloc.Global.{Global}
+use Rattle.wb_types.specs.Limits.{node_count}
+use Rattle.wb_types.specs.declared.geometry.Geometry.{Geometry}
+use Rattle.wb_types.specs.declared.mode.Dev.TheVariants.{Metadata, Cache, Origin}
+use Rattle.wb_types.specs.declared.refusal.Refusal.{Refusal}
+use Rattle.wb_disk.specs.Memory.{Memory}
+use Rattle.wb_meta.specs.Openings.{IsOpening}
+use Rattle.wb_meta.specs.Reads.{AreStepsOn, FitsDevice, IsDone, sectors_read}
+use Rattle.wb_meta.specs.declared.commit_steps.CommitSteps.{CommitSteps}
+use Rattle.wb_meta.specs.declared.commit_steps.CommitSteps.TheVariants.{NodesSynced, RootWritten, Done as Committed}
+use Rattle.wb_meta.specs.declared.read_steps.ReadSteps.{ReadSteps}
+use Rattle.wb_meta.specs.declared.read_steps.ReadSteps.TheVariants.{Done as AllRead}
+use Rattle.wb_meta.specs.declared.read_steps.State.{State}
+use Rattle.wb_tasks.specs.Tables.{TaskJob, Flushing, Opening as OpeningJob}
+use Rattle.wb_tasks.specs.Plan.{Plan, first_steps}
+use Rattle.wb_tasks.specs.declared.step.Answer.{Answer}
+use Rattle.wb_tasks.specs.declared.step.Answer.TheVariants.{Done as Finished, Refused as Refuses}
+use Rattle.wb_tasks.specs.declared.step.DeviceStep.TheVariants.{Sync, ReadMetadata, WriteRoot}
+use Rattle.wb_tasks.specs.declared.step.Want.{Want}
+use Rattle.wb_tasks.specs.declared.step.Want.TheVariants.{Device}
+use Rattle.wb_devices.specs.declared.devices.Devices.{Devices}
+use Rattle.wb_devices.specs.declared.running.RunningCommit.{RunningCommit}
+use Rattle.wb_words.specs.SharedWords.{flag}
+use Rattle.wb_runs.specs.declared.job.Job.{Job}
+use Rattle.wb_machine.specs.Members.{Member}
+use Rattle.wb_machine.specs.declared.making.Made.{Made}
+use Rattle.wb_machine.specs.declared.opener.Opener.{Opener}
+use Rattle.wb_machine.specs.declared.phase.Phase.{Phase}
+use Rattle.wb_machine.specs.declared.phase.Phase.TheVariants.{Closed, Underway, Standing}
+use Rattle.wb_machine.specs.declared.target.Target.{Target}
+use Rattle.wb_machine.specs.Making.{HasMade, reading_of}
+
+-- what comes next: a sync, a sector that is read with so many that may follow, the root, its sync, or the answer
+pub data Point : Type 0 where
+  AtMetadata : Point
+  AtCache : Point
+  AtOrigin : Point
+  AtRead : ℕ → Point
+  AtRoot : Point
+  AtRootSync : Point
+  AtEnd : Point
+  AtRefusal : Refusal → Point
+
+-- the steps from there, where so many sectors may follow the first
+abbrev pub steps_from : ℕ → Point → List Want
+steps_from most AtMetadata = first_steps (OpeningJob most)
+steps_from most AtCache = Device (Sync Cache) ∷ Device (Sync Origin) ∷ Device (ReadMetadata most) ∷ Device WriteRoot ∷ Device (Sync Metadata) ∷ []
+steps_from most AtOrigin = Device (Sync Origin) ∷ Device (ReadMetadata most) ∷ Device WriteRoot ∷ Device (Sync Metadata) ∷ []
+steps_from most (AtRead left) = Device (ReadMetadata left) ∷ Device WriteRoot ∷ Device (Sync Metadata) ∷ []
+steps_from most AtRoot = Device WriteRoot ∷ Device (Sync Metadata) ∷ []
+steps_from most AtRootSync = Device (Sync Metadata) ∷ []
+steps_from most AtEnd = []
+steps_from most (AtRefusal refusal) = []
+
+abbrev pub answer_from : Point → Answer
+answer_from (AtRefusal refusal) = Refuses refusal
+answer_from point = Finished
+
+abbrev pub plan_from : ℕ → Point → Plan
+plan_from most point = record { job = OpeningJob most; steps = steps_from most point; answer = answer_from point }
+
+-- No commit runs, not all was read, and as many sectors may follow as were not read.
+abbrev pub IsReading : Geometry → ℕ → Option (ReadSteps Global) → Option RunningCommit → Type 0
+IsReading g left None commit = ⊥
+IsReading g left (Some was) commit = (commit ≡ None) × (¬ IsDone was) × AreStepsOn g.meta_sectors was × (left + sectors_read was ≡ g.meta_sectors)
+
+-- All was read of a tree of this geometry, and the commit of the root that comes next over it, not clean, has come so far.
+pub record HasReadAll (g : Geometry) (steps : CommitSteps) (reading : Option (ReadSteps Global)) (commit : Option RunningCommit) : Type 0 where
+  pub state : State Global
+  pub reading_is : reading ≡ Some (AllRead state)
+  pub fits : FitsDevice g.meta_sectors state.root state.tree state.used.items
+  pub geometry : state.root.geometry ≡ g
+  pub next : RunningCommit
+  pub commit_is : commit ≡ Some next
+  pub opens : IsOpening next.image state.root
+  pub steps_are : next.steps ≡ steps
+
+-- how far the reading has come there, and the commit of the root
+abbrev pub HasComeTo : Geometry → Point → Option (ReadSteps Global) → Option RunningCommit → Type 0
+HasComeTo g AtMetadata reading commit = commit ≡ None
+HasComeTo g AtCache reading commit = IsReading g g.meta_sectors reading commit
+HasComeTo g AtOrigin reading commit = IsReading g g.meta_sectors reading commit
+HasComeTo g (AtRead left) reading commit = IsReading g left reading commit
+HasComeTo g AtRoot reading commit = HasReadAll g NodesSynced reading commit
+HasComeTo g AtRootSync reading commit = HasReadAll g RootWritten reading commit
+HasComeTo g AtEnd reading commit = HasReadAll g Committed reading commit
+HasComeTo g (AtRefusal refusal) reading commit = Unit {0}
+
+-- What the answer wants was made once all was read, and not before.
+abbrev pub HasMadeThere : Geometry → ℕ → Point → ℕ → Option Made → Type 0
+HasMadeThere g actors AtRoot actor made = HasMade g actors actor made
+HasMadeThere g actors AtRootSync actor made = HasMade g actors actor made
+HasMadeThere g actors AtEnd actor made = HasMade g actors actor made
+HasMadeThere g actors (AtRefusal refusal) actor made = Unit {0}
+HasMadeThere g actors point actor made = made ≡ None
+
+-- An opening over metadata of this geometry, for so many actors, stands at some point.
+pub record StandsAt (g : Geometry) (actors : ℕ) (o : Opener) : Type 0 where
+  pub point : Point
+  pub plan_is : o.task ≡ plan_from g.meta_sectors point
+  pub geometry : o.opening.geometry ≡ g
+  pub come : HasComeTo g point (reading_of o) o.opening.commit
+  pub made : HasMadeThere g actors point o.actor o.made
+
+-- a flush allows as many nodes as an image may have
+abbrev pub AllowsImages : ℕ → TaskJob → Type 0
+AllowsImages nodes (Flushing serves most) = nodes ≤ most
+AllowsImages nodes job = Unit {0}
+
+abbrev pub IsRoomy : ℕ → Option (Job × Plan) → Type 0
+IsRoomy nodes None = Unit {0}
+IsRoomy nodes (Some doing) = AllowsImages nodes doing.1.job
+
+abbrev pub AllRoomy : ℕ → List Member → Type 0
+AllRoomy nodes members = (a : ℕ) (m : Member) → slice_get members a ≡ Some m → IsRoomy nodes m.task
+
+-- A target has as many words as the origin has blocks, knows whether it has failed, and its desk is of this geometry; whoever
+-- flushes over it allows as many nodes as an image may have.
+pub record IsWhole (g : Geometry) (target : Target) (members : List Member) : Type 0 where
+  pub blocks : target.crew.blocks ≡ g.origin_blocks
+  pub failed : target.failed ≡ flag target.crew.words.fail
+  pub sizes : target.desk.geometry ≡ g
+  pub roomy : AllRoomy (node_count g.cache_blocks) members
+
+abbrev pub StandsSo : Geometry → ℕ → Phase → Type 0
+StandsSo g actors Closed = Unit {0}
+StandsSo g actors (Underway opener) = StandsAt g actors opener
+StandsSo g actors (Standing target members) = IsWhole g target members.items
+
+-- The metadata device is of this geometry, and what is there is sound.
+pub record IsSound (g : Geometry) (actors : ℕ) (devices : Devices Memory) (phase : Phase) : Type 0 where
+  pub whole : length devices.metadata.contents ≡ g.meta_sectors
+  pub stands : StandsSo g actors phase

@@ -1,0 +1,41 @@
+//! A cache over three devices in memory that runs by events, one atomic step at a time: what happens in it is what the
+//! definitions of wb_runs allow.
+//!
+//! Over a target that was opened reads, writes, flushes, promotions, demotions and write-backs run.
+#![tactic(auto)]
+
+mod asking;
+mod committing;
+mod keeping;
+mod known_crew;
+mod machine;
+mod making;
+mod member;
+mod moving;
+mod opener;
+mod outcome;
+mod performing;
+mod phase;
+mod requests;
+mod room;
+mod rooting;
+mod sealing;
+mod serving;
+mod starting;
+mod stepping;
+mod stopping;
+mod syncing;
+mod target;
+mod trace;
+mod viewing;
+mod work;
+
+pub use known_crew::KnownCrew;
+pub use machine::{ACTORS, Machine};
+pub use making::Made;
+pub use member::Member;
+pub use opener::Opener;
+pub use phase::Phase;
+pub use target::Target;
+pub use trace::Trace;
+pub use work::Work;

@@ -1,0 +1,282 @@
+//! What an actor is at over a target that stands, and its steps.
+
+ghost use Rattle.std.specs.Prelude.{◌≡◌, ◌<◌, length, true, is_some, IfOk, IfErr, OnErr};
+ghost use Rattle.wb_types.specs.Limits.{node_count};
+ghost use Rattle.wb_types.specs.declared.refusal.Refusal.TheVariants.{Memory};
+ghost use Rattle.wb_words.specs.SharedWords.{flag};
+ghost use Rattle.wb_cells.specs.Crews.{card_of};
+ghost use Rattle.wb_runs.specs.Holding.{TaskSuits};
+ghost use Rattle.wb_machine.specs.declared.machine.TheConstants.{ACTORS};
+ghost use Rattle.wb_machine.specs.Life.{contents_of, shape_of, wants_target};
+ghost use Rattle.wb_machine.specs.Members.{free};
+ghost use Rattle.wb_runs.specs.Effects.{task_then};
+ghost use Rattle.wb_machine.specs.Keeping.{IsLeft};
+ghost use Rattle.wb_machine.specs.Serving.{CanStep, Comes, FailsOrRests, GetsOrder, Starts, Steps, TakesOrder, held_for, is_copied, is_ordered};
+ghost use Rattle.wb_machine.specs.Standing.{IsRoomy};
+
+use crate::keeping::{awaiting_after, keep, keeps_migration, keeps_replacement, orders_after};
+use crate::moving::fail_step;
+use crate::outcome::Outcome;
+use crate::requests::{begun_as, is_ordered, order_for, refusal_of, task_of};
+use crate::target::Target;
+use crate::work::Work;
+use std::alloc::Global;
+use std::marker::Model;
+use wb_desk::Desk;
+use wb_devices::{Devices, RunningCommit};
+use wb_disk::{CrashChoice, MemDisk};
+use wb_policy::{Order, Quiet};
+use wb_runs::{Job, What};
+use wb_tasks::{DeviceStep, Got, Task, Want};
+use wb_types::{Content, Geometry, Refusal};
+
+/// What an actor is at: its job and what is left of its task, if it has one; the orders that it has, the newest first, and those of
+/// replacements whose block has left, which wait for a flush of it; and what its migration has read last, which it writes next. What it
+/// knows of the shared words is on its card in the crew.
+#[derive(Drop)]
+pub struct Member {
+    task: Option<(Job, Work)>,
+    orders: Vec<Order>,
+    awaiting: Vec<Order>,
+    buffer: Vec<Content>,
+}
+
+impl Model for Member {
+    ghost use Rattle.wb_machine.specs.Members.{Member as MemberValue};
+
+    ghost Value = { MemberValue };
+
+    ghost view = { λ m. record { task = m.task; orders = m.orders.items; awaiting = m.awaiting.items; buffer = m.buffer.items } };
+}
+
+impl Member {
+    /// With nothing to do.
+    pub(crate) fn resting(alloc: Global) -> Member
+        ensures { result ≡ free }
+    {
+        Member {
+            task: None,
+            orders: Vec::new(alloc),
+            awaiting: Vec::new(alloc),
+            buffer: Vec::new(alloc),
+        }
+    }
+
+    /// Whether it is at something.
+    pub(crate) fn is_busy(&self) -> bool
+        ensures { result ≡ is_some self.now.task }
+    {
+        self.task.is_some()
+    }
+
+    /// Gets a job, if it has none and the job may be started. Each of its steps on a device takes one sector. A migration or replacement
+    /// starts under an order that it has, or under one that the desk gives; it is refused as busy where it gives none. A flush serves
+    /// the replacements that wait for it. `Memory` where there is none for the order, or for the list of what is served; then nothing
+    /// has changed.
+    pub(crate) fn start(
+        &mut self,
+        alloc: Global,
+        geometry: &Geometry,
+        desk: &mut Desk<Quiet>,
+        job: &Job,
+    ) -> Result<What, Refusal>
+        requires { wants_target job.now ≡ true }
+        ensures ok { IfOk result (λ what. Starts (shape_of geometry.now ACTORS) desk.old self.old job.now what desk.new self.new) }
+        ensures err { OnErr result ((desk.new ≡ desk.old) × (self.new ≡ self.old)) }
+        ensures refusal { IfErr result (λ refusal. refusal ≡ Memory) }
+    {
+        if self.task.is_some() {
+            return Ok(What::Skipped);
+        }
+        if let Some(refusal) = refusal_of(geometry, job) {
+            return Ok(What::Refused(refusal));
+        }
+        let task = task_of(alloc, geometry, self.awaiting.as_slice(), job)?;
+        if is_ordered(job) {
+            let has_order = self.take_order(desk, job)?;
+            if !has_order {
+                return Ok(What::Refused(Refusal::Busy));
+            }
+        }
+        self.task = Some((begun_as(job), task));
+        Ok(What::Started)
+    }
+
+    /// Whether it has an order under which the job may start, given now where it had none. `Memory` where there is no room for it; then
+    /// nothing has changed.
+    fn take_order(&mut self, desk: &mut Desk<Quiet>, job: &Job) -> Result<bool, Refusal>
+        requires ordered { is_ordered job.now ≡ true }
+        ensures ok { IfOk result (λ has. TakesOrder desk.old self.old job.now has desk.new self.new) }
+        ensures err { OnErr result ((desk.new ≡ desk.old) × (self.new ≡ self.old)) }
+        ensures refusal { IfErr result (λ refusal. refusal ≡ Memory) }
+    {
+        match job {
+            Job::Migrate(migration, block) => {
+                if keeps_migration(desk, self.orders.as_slice(), *migration, *block) {
+                    return Ok(true);
+                }
+                self.get_order(desk, order_for(*migration, *block))
+            }
+            Job::Replace(old, new) => {
+                if keeps_replacement(desk, self.orders.as_slice(), *old, *new) {
+                    return Ok(true);
+                }
+                let Some(cache) = desk.place(*old) else {
+                    return Ok(false);
+                };
+                self.get_order(desk, Order::Replace(*old, *new, cache))
+            }
+            _ => unreachable!(),
+        }
+    }
+
+    /// Whether it is given this order. `Memory` where there is no room for it; then nothing has changed.
+    fn get_order(&mut self, desk: &mut Desk<Quiet>, order: Order) -> Result<bool, Refusal>
+        ensures ok { IfOk result (λ has. GetsOrder desk.old self.old order has desk.new self.new) }
+        ensures err { OnErr result ((desk.new ≡ desk.old) × (self.new ≡ self.old)) }
+        ensures refusal { IfErr result (λ refusal. refusal ≡ Memory) }
+    {
+        keep(&mut self.orders, order)?;
+        if desk.reserve(order).is_err() {
+            self.orders.remove(0);
+            return Ok(false);
+        }
+        Ok(true)
+    }
+
+    /// The next step of its task, as the actor of this number. `Memory` where what is read, or what a write adds, wants more than
+    /// there is; then no content has changed.
+    pub(crate) fn step(
+        &mut self,
+        number: usize,
+        alloc: Global,
+        target: &mut Target,
+        devices: &mut Devices<MemDisk>,
+    ) -> Result<Outcome, Refusal>
+        requires there { number < length target.old.crew.cards }
+        requires failed { target.old.failed ≡ flag target.old.crew.words.fail }
+        requires suits { TaskSuits target.old.crew.blocks (card_of target.old.crew number) self.old.task }
+        requires can { CanStep (contents_of devices.old) target.old.commit self.old.task }
+        requires roomy { IsRoomy (node_count target.old.desk.geometry.cache_blocks) self.old.task }
+        ensures ok { IfOk result (λ done. Steps (contents_of devices.old) target.old number self.old done.what done.read.items (contents_of devices.new) target.new self.new) }
+        ensures size { length devices.new.metadata.contents ≡ length devices.old.metadata.contents }
+        ensures err { OnErr result ((contents_of devices.new ≡ contents_of devices.old) × (target.new ≡ target.old) × (self.new ≡ self.old)) }
+        ensures refusal { IfErr result (λ refusal. refusal ≡ Memory) }
+    {
+        let Some((job, task)) = &self.task else {
+            return Ok(Outcome::skipped(alloc));
+        };
+        let want = task.want();
+        let copies = is_copied(job, want);
+        let orders = self.orders.as_slice();
+        let awaiting = self.awaiting.as_slice();
+        let orders_then = orders_after(alloc, orders, awaiting, job, want)?;
+        let awaiting_then = awaiting_after(alloc, orders, awaiting, job, want)?;
+        let held = held_for(job, orders, awaiting);
+        let buffer = self.buffer.as_slice();
+        let (got, read) = target.perform(number, alloc, devices, job, held, buffer, want)?;
+        self.go_on(want, got);
+        if got == Got::Done {
+            self.change_orders(orders_then, awaiting_then);
+        }
+        let what = What::Stepped(want, got);
+        if copies {
+            self.take_read(read);
+            return Ok(Outcome::told(alloc, what));
+        }
+        Ok(Outcome { what, read })
+    }
+
+    /// Its task goes on after a step with this result, or has ended.
+    fn go_on(&mut self, want: Want, got: Got)
+        requires { Comes self.old.task want got }
+        ensures task { self.new.task ≡ task_then self.old.task want got }
+        ensures orders { self.new.orders ≡ self.old.orders }
+        ensures awaiting { self.new.awaiting ≡ self.old.awaiting }
+        ensures buffer { self.new.buffer ≡ self.old.buffer }
+    {
+        let Some((_, task)) = &mut self.task else {
+            return;
+        };
+        if let Want::End(_) = want {
+            self.task = None;
+        } else {
+            task.next(got);
+        }
+    }
+
+    /// It has these orders from now on, and these wait for a flush, where they are given.
+    fn change_orders(&mut self, orders: Option<Vec<Order>>, awaiting: Option<Vec<Order>>)
+        ensures task { self.new.task ≡ self.old.task }
+        ensures orders { IsLeft self.old.orders orders self.new.orders }
+        ensures awaiting { IsLeft self.old.awaiting awaiting self.new.awaiting }
+        ensures buffer { self.new.buffer ≡ self.old.buffer }
+    {
+        if let Some(left) = orders {
+            self.orders = left;
+        }
+        if let Some(left) = awaiting {
+            self.awaiting = left;
+        }
+    }
+
+    /// What it writes next.
+    fn take_read(&mut self, read: Vec<Content>)
+        ensures task { self.new.task ≡ self.old.task }
+        ensures orders { self.new.orders ≡ self.old.orders }
+        ensures awaiting { self.new.awaiting ≡ self.old.awaiting }
+        ensures buffer { self.new.buffer ≡ read.items }
+    {
+        self.buffer = read;
+    }
+
+    /// The next step of its task, a step on a device, which fails as the choice says. `Memory` where what lands wants more than
+    /// there is; then no content has changed.
+    pub(crate) fn falter(
+        &mut self,
+        devices: &mut Devices<MemDisk>,
+        commit: &mut Option<RunningCommit>,
+        choice: &CrashChoice,
+    ) -> Result<What, Refusal>
+        requires { CanStep (contents_of devices.old) commit.old self.old.task }
+        ensures ok { IfOk result (λ what. FailsOrRests choice.now (contents_of devices.old) commit.old self.old what (contents_of devices.new) commit.new self.new) }
+        ensures size { length devices.new.metadata.contents ≡ length devices.old.metadata.contents }
+        ensures err { OnErr result ((contents_of devices.new ≡ contents_of devices.old) × (commit.new ≡ commit.old) × (self.new ≡ self.old)) }
+        ensures refusal { IfErr result (λ refusal. refusal ≡ Memory) }
+    {
+        let Some((job, task)) = &mut self.task else {
+            return Ok(What::Skipped);
+        };
+        let want = task.want();
+        let Want::Device(step) = want else {
+            return Ok(What::Skipped);
+        };
+        let buffer = self.buffer.as_slice();
+        let fails = fail_step(devices, commit, job, buffer, step, choice)?;
+        if !fails {
+            return Ok(What::Skipped);
+        }
+        task.next(Got::Fault);
+        Ok(What::Stepped(want, Got::Fault))
+    }
+}
+
+/// Whether a step reads what a migration writes next.
+fn is_copied(job: &Job, want: Want) -> bool
+    ensures { result ≡ is_copied job.now want }
+{
+    matches!(
+        (job, want),
+        (Job::Migrate(_, _), Want::Device(DeviceStep::Read(_, _)))
+    )
+}
+
+/// The orders of which a step of a job may give one up.
+fn held_for<'a>(job: &Job, orders: &'a [Order], awaiting: &'a [Order]) -> &'a [Order]
+    ensures { result.now ≡ held_for job.now orders.now awaiting.now }
+{
+    match job {
+        Job::Flush => awaiting,
+        _ => orders,
+    }
+}

@@ -1,0 +1,307 @@
+//! An opening at work, and its steps on devices.
+
+ghost use Rattle.std.specs.Prelude.{◌≡◌, ◌≤◌, ◌<◌, ◌↔◌, ℕ, [], None, Some, IfOk, OnOk, OnErr, IfErr, IsTrue, length, map, slice_get};
+ghost use Rattle.std.specs.declared.alloc.Global.{Global as GlobalValue};
+ghost use Rattle.std.specs.Bool.{OnTrue, OnFalse};
+ghost use Rattle.wb_types.specs.declared.mode.Dev.TheVariants.{Metadata};
+ghost use Rattle.wb_types.specs.declared.refusal.Refusal.TheVariants.{Memory};
+ghost use Rattle.wb_disk.specs.Device.{newest, synced};
+ghost use Rattle.wb_disk.specs.Failing.{MayFail};
+ghost use Rattle.wb_tasks.specs.Plan.{Fits, want, after, device_of};
+ghost use Rattle.wb_tasks.specs.declared.step.Got.TheVariants.{Done, Fault};
+ghost use Rattle.wb_tasks.specs.declared.step.DeviceStep.TheVariants.{Sync, ReadMetadata, WriteRoot};
+ghost use Rattle.wb_meta.specs.Reads.{coming_sector};
+ghost use Rattle.wb_meta.specs.declared.commit_steps.CommitSteps.TheVariants.{NodesSynced};
+ghost use Rattle.wb_meta.specs.declared.read_steps.ReadSteps.{ReadSteps as Steps};
+ghost use Rattle.wb_tasks.specs.declared.step.Want.TheVariants.{Device};
+ghost use Rattle.wb_devices.specs.Moving.{device_in};
+ghost use Rattle.wb_devices.specs.Opened.{DidTell};
+ghost use Rattle.wb_runs.specs.States.{with_device};
+ghost use Rattle.wb_runs.specs.declared.event.Event.TheVariants.{Step};
+ghost use Rattle.wb_runs.specs.declared.event.What.TheVariants.{Stepped};
+ghost use Rattle.wb_machine.specs.declared.machine.TheConstants.{ACTORS};
+ghost use Rattle.wb_machine.specs.declared.phase.Phase.TheVariants.{Underway};
+ghost use Rattle.wb_machine.specs.Life.{FailsOn, Happens, PutsCommitted, commit_failed, commit_synced, commit_written, contents_of, device_step_of, made_synced, reading_synced, reading_failed, shape_of, state_of};
+ghost use Rattle.wb_machine.specs.Making.{HasMade, MadeBy, reading_of};
+ghost use Rattle.wb_machine.specs.Standing.{HasReadAll, IsReading, StandsAt};
+
+use crate::machine::ACTORS;
+use crate::making::{Made, make};
+use crate::rooting::{fail_root, put_committed};
+use wb_devices::{Devices, Opening, RunningCommit};
+use wb_disk::{CrashChoice, Disk, MemDisk};
+use wb_flow::OpenTask;
+use wb_meta::{CommitSteps, ReadSteps};
+use wb_tasks::{DeviceStep, Got, Task};
+use wb_types::{Content, Dev, Geometry, Refusal, SECTOR_BYTES};
+
+/// Who opens, what is left of the opening, and what was read: the reading begins once the metadata were synced, and is over where
+/// the metadata device has failed, as is the commit of the root. Once all was read, what the answer wants has been made of it.
+#[derive(Drop)]
+pub struct Opener {
+    pub actor: usize,
+    pub task: OpenTask,
+    pub opening: Opening,
+    pub made: Option<Made>,
+}
+
+impl Opener {
+    /// Its next step, on a device, is done. `Memory` where there is none for the root that it writes: nothing has changed.
+    pub(crate) fn perform(
+        &mut self,
+        geometry: &Geometry,
+        devices: &mut Devices<MemDisk>,
+        step: DeviceStep,
+    ) -> Result<Got, Refusal>
+        requires next { device_step_of (want self.old.task) ≡ Some step }
+        requires whole { length devices.old.metadata.contents ≡ geometry.now.meta_sectors }
+        requires there { self.old.actor < ACTORS }
+        requires stands { StandsAt geometry.now ACTORS self.old }
+        ensures actor { self.new.actor ≡ self.old.actor }
+        ensures whole { length devices.new.metadata.contents ≡ geometry.now.meta_sectors }
+        ensures stands { StandsAt geometry.now ACTORS self.new }
+        ensures does { IfOk result (λ got. Happens (shape_of geometry.now ACTORS) (state_of ACTORS devices.old (Underway self.old)) (Step self.old.actor) (Stepped (Device step) got) [] (state_of ACTORS devices.new (Underway self.new))) }
+        ensures err { OnErr result ((devices.new ≡ devices.old) × (self.new ≡ self.old)) }
+        ensures refusal { IfErr result (λ refusal. refusal ≡ Memory) }
+    {
+        let _two_slots = geometry.node_count();
+        match step {
+            DeviceStep::Sync(device) => {
+                self.sync(devices, device);
+                Ok(Got::Done)
+            }
+            DeviceStep::ReadMetadata(left) => Ok(self.read(geometry, &mut devices.metadata, left)),
+            DeviceStep::WriteRoot => {
+                self.write_root(&mut devices.metadata)?;
+                Ok(Got::Done)
+            }
+            _ => unreachable!(),
+        }
+    }
+
+    /// Syncs a device, as the next step.
+    fn sync(&mut self, devices: &mut Devices<MemDisk>, device: Dev)
+        requires { want self.old.task ≡ Device (Sync device) }
+        ensures actor { self.new.actor ≡ self.old.actor }
+        ensures task { self.new.task ≡ after self.old.task Done }
+        ensures geometry { self.new.opening.geometry ≡ self.old.opening.geometry }
+        ensures commit { self.new.opening.commit ≡ commit_synced device self.old.opening.commit }
+        ensures reading { reading_of self.new ≡ reading_synced self.old.opening.alloc device self.old.opening.commit (reading_of self.old) }
+        ensures made { self.new.made ≡ made_synced device self.old.opening.commit self.old.made }
+        ensures devices { contents_of devices.new ≡ with_device device (contents_of devices.old) (synced (device_in device (contents_of devices.old))) }
+    {
+        match device {
+            Dev::Metadata => {
+                let _ = devices.metadata.sync();
+                self.has_durable_metadata();
+            }
+            Dev::Cache => {
+                let _ = devices.cache.sync();
+            }
+            Dev::Origin => {
+                let _ = devices.origin.sync();
+            }
+        }
+        self.task.next(Got::Done);
+    }
+
+    /// The metadata are durable: the root that was written, or, before that, what is to be read.
+    fn has_durable_metadata(&mut self)
+        ensures actor { self.new.actor ≡ self.old.actor }
+        ensures task { self.new.task ≡ self.old.task }
+        ensures geometry { self.new.opening.geometry ≡ self.old.opening.geometry }
+        ensures commit { self.new.opening.commit ≡ commit_synced Metadata self.old.opening.commit }
+        ensures reading { reading_of self.new ≡ reading_synced self.old.opening.alloc Metadata self.old.opening.commit (reading_of self.old) }
+        ensures made { self.new.made ≡ made_synced Metadata self.old.opening.commit self.old.made }
+    {
+        if let Some(running) = &mut self.opening.commit {
+            running.steps = CommitSteps::Done;
+            return;
+        }
+        self.made = None;
+        self.opening.reading = Some(ReadSteps::Begun {
+            alloc: self.opening.alloc,
+            global: self.opening.alloc,
+        });
+    }
+
+    /// Writes the root, as the next step. `Memory` where there is none for it: nothing has changed.
+    fn write_root(&mut self, metadata: &mut MemDisk) -> Result<(), Refusal>
+        requires next { want self.old.task ≡ Device WriteRoot }
+        requires slots { 2 ≤ length metadata.old.contents }
+        ensures size { length metadata.new.contents ≡ length metadata.old.contents }
+        ensures actor { self.new.actor ≡ self.old.actor }
+        ensures task { OnOk result (self.new.task ≡ after self.old.task Done) }
+        ensures geometry { self.new.opening.geometry ≡ self.old.opening.geometry }
+        ensures reading { reading_of self.new ≡ reading_of self.old }
+        ensures made { self.new.made ≡ self.old.made }
+        ensures commit { OnOk result (self.new.opening.commit ≡ commit_written self.old.opening.commit) }
+        ensures puts { OnOk result (PutsCommitted self.old.opening.commit metadata.old.contents metadata.new.contents) }
+        ensures err { OnErr result ((metadata.new ≡ metadata.old) × (self.new ≡ self.old)) }
+        ensures refusal { IfErr result (λ refusal. refusal ≡ Memory) }
+    {
+        put_committed(metadata, &mut self.opening.commit)?;
+        self.task.next(Got::Done);
+        Ok(())
+    }
+
+    /// Reads the metadata sector that comes next, as the next step, where at most so many may follow.
+    fn read(&mut self, geometry: &Geometry, metadata: &mut MemDisk, left: u32) -> Got
+        requires there { self.old.actor < ACTORS }
+        requires next { want self.old.task ≡ Device (ReadMetadata left) }
+        requires none { self.old.made ≡ None }
+        requires geometry { self.old.opening.geometry ≡ geometry.now }
+        requires size { length metadata.old.contents ≡ geometry.now.meta_sectors }
+        requires reads { IsReading geometry.now left self.old.opening.reading self.old.opening.commit }
+        ensures device { metadata.new ≡ metadata.old }
+        ensures actor { self.new.actor ≡ self.old.actor }
+        ensures task { self.new.task ≡ after self.old.task result }
+        ensures geometry { self.new.opening.geometry ≡ self.old.opening.geometry }
+        ensures did { (was : Steps GlobalValue) → self.old.opening.reading ≡ Some was → DidTell geometry.now geometry.now.meta_sectors left was metadata.old.contents self.old.opening.commit result (reading_of self.new) self.new.opening.commit }
+        ensures made { MadeBy geometry.now ACTORS result self.old.actor self.new.made }
+    {
+        let got = self.tell(geometry, metadata, left);
+        self.task.next(got);
+        got
+    }
+
+    /// Tells the opening what stands in the metadata sector that comes next. Where all was read, what the answer wants is made; the
+    /// opening is refused where there is no memory for it.
+    fn tell(&mut self, geometry: &Geometry, metadata: &mut MemDisk, left: u32) -> Got
+        requires there { self.old.actor < ACTORS }
+        requires none { self.old.made ≡ None }
+        requires geometry { self.old.opening.geometry ≡ geometry.now }
+        requires size { length metadata.old.contents ≡ geometry.now.meta_sectors }
+        requires reads { IsReading geometry.now left self.old.opening.reading self.old.opening.commit }
+        ensures device { metadata.new ≡ metadata.old }
+        ensures actor { self.new.actor ≡ self.old.actor }
+        ensures task { self.new.task ≡ self.old.task }
+        ensures kind { Fits (Device (ReadMetadata left)) result }
+        ensures geometry { self.new.opening.geometry ≡ self.old.opening.geometry }
+        ensures did { (was : Steps GlobalValue) → self.old.opening.reading ≡ Some was → DidTell geometry.now geometry.now.meta_sectors left was metadata.old.contents self.old.opening.commit result (reading_of self.new) self.new.opening.commit }
+        ensures made { MadeBy geometry.now ACTORS result self.old.actor self.new.made }
+    {
+        let _two_slots = geometry.node_count();
+        let sectors = metadata.sectors();
+        let content = content_of(metadata, coming_of(&self.opening));
+        match self.opening.tell(sectors, content, left) {
+            Got::Done => match self.prepare() {
+                Ok(()) => Got::Done,
+                Err(refusal) => Got::Refused(refusal),
+            },
+            got => got,
+        }
+    }
+
+    /// Makes what the answer wants, once all was read. `Memory` where there is none for it: then the reading is over.
+    fn prepare(&mut self) -> Result<(), Refusal>
+        requires there { self.old.actor < ACTORS }
+        requires none { self.old.made ≡ None }
+        requires all { HasReadAll self.old.opening.geometry NodesSynced self.old.opening.reading self.old.opening.commit }
+        ensures actor { self.new.actor ≡ self.old.actor }
+        ensures task { self.new.task ≡ self.old.task }
+        ensures geometry { self.new.opening.geometry ≡ self.old.opening.geometry }
+        ensures reading { OnOk result (reading_of self.new ≡ self.old.opening.reading) }
+        ensures commit { OnOk result (self.new.opening.commit ≡ self.old.opening.commit) }
+        ensures made { OnOk result (HasMade self.old.opening.geometry ACTORS self.old.actor self.new.made) }
+        ensures over { OnErr result ((reading_of self.new ≡ None) × (self.new.opening.commit ≡ None) × (self.new.made ≡ None)) }
+        ensures refused { IfErr result (λ refusal. refusal ≡ Memory) }
+    {
+        let Some(ReadSteps::Done(state)) = self.opening.reading.take() else {
+            return Ok(());
+        };
+        let Some(commit) = &self.opening.commit else {
+            return Ok(());
+        };
+        let next = commit.image.root;
+        match make(self.opening.alloc, self.actor, state, next) {
+            Ok(made) => {
+                self.made = Some(made);
+                Ok(())
+            }
+            Err(refusal) => {
+                self.opening.commit = None;
+                Err(refusal)
+            }
+        }
+    }
+
+    /// Its next step, on a device, has failed.
+    pub(crate) fn fail(&mut self, step: DeviceStep)
+        requires { device_step_of (want self.old.task) ≡ Some step }
+        ensures actor { self.new.actor ≡ self.old.actor }
+        ensures task { self.new.task ≡ after self.old.task Fault }
+        ensures geometry { self.new.opening.geometry ≡ self.old.opening.geometry }
+        ensures commit { self.new.opening.commit ≡ commit_failed (device_of step) self.old.opening.commit }
+        ensures reading { reading_of self.new ≡ reading_failed (device_of step) (reading_of self.old) }
+    {
+        match step {
+            DeviceStep::Sync(Dev::Cache) | DeviceStep::Sync(Dev::Origin) => {}
+            _ => self.close(),
+        }
+        self.task.next(Got::Fault);
+    }
+
+    /// The reading is over, and what was made of it is gone.
+    fn close(&mut self)
+        ensures actor { self.new.actor ≡ self.old.actor }
+        ensures task { self.new.task ≡ self.old.task }
+        ensures geometry { self.new.opening.geometry ≡ self.old.opening.geometry }
+        ensures commit { self.new.opening.commit ≡ None }
+        ensures reading { reading_of self.new ≡ None }
+    {
+        self.opening.reading = None;
+        self.opening.commit = None;
+        self.made = None;
+    }
+}
+
+/// The sector that an opening reads next.
+fn coming_of(opening: &Opening) -> Option<u64>
+    ensures { (was : Steps GlobalValue) → opening.now.reading ≡ Some was → result ≡ coming_sector was }
+{
+    match &opening.reading {
+        Some(steps) => steps.coming(),
+        None => None,
+    }
+}
+
+/// What stands newest in a sector, if one is named that the device has.
+pub(crate) fn content_of(disk: &mut MemDisk, coming: Option<u64>) -> Option<Content>
+    ensures kept { disk.new ≡ disk.old }
+    ensures shown { (place : ℕ) → coming ≡ Some place → slice_get (map newest disk.old.contents) place ≡ result }
+{
+    let at = coming?;
+    if at >= disk.sectors() {
+        return None;
+    }
+    let mut content = [0; SECTOR_BYTES];
+    let _ = disk.read(at, &mut content);
+    Some(content)
+}
+
+/// A step of an opening on a device that fails: a sync, or the write of this commit's root, which lands where the choice says so, or
+/// one that reads metadata. False, and nothing changes, where it cannot fail so. `Memory` where a root is to land and there is none
+/// for it: nothing has changed.
+pub(crate) fn fail_step(
+    devices: &mut Devices<MemDisk>,
+    commit: &Option<RunningCommit>,
+    step: DeviceStep,
+    choice: &CrashChoice,
+) -> Result<bool, Refusal>
+    requires next { device_step_of (Device step) ≡ Some step }
+    requires slots { 2 ≤ length devices.old.metadata.contents }
+    ensures may { IfOk result (λ may. IsTrue may ↔ MayFail (device_of step) choice.now (length (device_in (device_of step) (contents_of devices.old)))) }
+    ensures failed { IfOk result (λ may. OnTrue may (FailsOn commit.now step choice.now (contents_of devices.old) (contents_of devices.new))) }
+    ensures kept { IfOk result (λ may. OnFalse may (devices.new ≡ devices.old)) }
+    ensures err { OnErr result (devices.new ≡ devices.old) }
+    ensures refusal { IfErr result (λ refusal. refusal ≡ Memory) }
+{
+    match step {
+        DeviceStep::Sync(Dev::Metadata) => { Ok(devices.metadata.fail_sync(Dev::Metadata, choice)) }
+        DeviceStep::Sync(Dev::Cache) => Ok(devices.cache.fail_sync(Dev::Cache, choice)),
+        DeviceStep::Sync(Dev::Origin) => Ok(devices.origin.fail_sync(Dev::Origin, choice)),
+        DeviceStep::WriteRoot => fail_root(&mut devices.metadata, commit, choice),
+        _ => Ok(choice.may_fail(Dev::Metadata, devices.metadata.sectors())),
+    }
+}

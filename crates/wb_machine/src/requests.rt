@@ -1,0 +1,139 @@
+//! Whether a job over a target may be started, and the tasks of reads, writes, flushes and migrations.
+
+ghost use Rattle.std.specs.Prelude.{◌≡◌, ◌/◌, None, true, IfOk, IfErr};
+ghost use Rattle.wb_types.specs.declared.refusal.Refusal.TheVariants.{Memory};
+ghost use Rattle.wb_types.specs.Extents.{pieces};
+ghost use Rattle.wb_tasks.specs.Plan.{table};
+ghost use Rattle.wb_tasks.specs.Tables.{OnBlock, Migrating, Reading, Writing, whole_block};
+ghost use Rattle.wb_runs.specs.Happenings.{begun_as, block_range, extent_refusal, job_refusal, migrated_range, order_for, task_job};
+ghost use Rattle.wb_machine.specs.declared.machine.TheConstants.{ACTORS};
+ghost use Rattle.wb_machine.specs.Life.{shape_of, wants_target};
+ghost use Rattle.wb_machine.specs.Serving.{cut_for, is_ordered};
+
+use crate::keeping::blocks_left;
+use crate::work::Work;
+use std::alloc::Global;
+use wb_flow::FlushTask;
+use wb_policy::Order;
+use wb_runs::Job;
+use wb_tasks::{Migration, MigrationTask, ReadTask, RequestTask, WriteTask};
+use wb_types::{Extent, Geometry, OBlock, Refusal};
+
+/// Why a job is not started.
+pub(crate) fn refusal_of(geometry: &Geometry, job: &Job) -> Option<Refusal>
+    ensures { result ≡ job_refusal (shape_of geometry.now ACTORS) job.now }
+{
+    match job {
+        Job::Read(extent) => extent_refusal(geometry, *extent),
+        Job::Write(extent, _) => extent_refusal(geometry, *extent),
+        Job::Flush => None,
+        Job::Open(_) => None,
+        Job::Migrate(_, _) => None,
+        Job::Replace(_, _) => None,
+    }
+}
+
+/// Why a read or write of these sectors is not started: `Range` where there is none, or one outside the origin, `Crosses` where they
+/// lie in more than one block.
+fn extent_refusal(geometry: &Geometry, extent: Extent) -> Option<Refusal>
+    ensures { result ≡ extent_refusal (shape_of geometry.now ACTORS) extent }
+{
+    let first = extent.first;
+    let Some(end) = first.checked_add(extent.count) else {
+        return Some(Refusal::Range);
+    };
+    if extent.count == 0 || end > geometry.origin_sectors() {
+        return Some(Refusal::Range);
+    }
+    let block = u64::from(geometry.block);
+    if first / block == (end - 1) / block {
+        None
+    } else {
+        Some(Refusal::Crosses)
+    }
+}
+
+/// Whether a job runs under an order.
+pub(crate) fn is_ordered(job: &Job) -> bool
+    ensures { result ≡ is_ordered job.now }
+{
+    matches!(job, Job::Migrate(_, _) | Job::Replace(_, _))
+}
+
+/// What an actor is at once this job was started: a replacement begins with the demotion of the block that leaves.
+pub(crate) fn begun_as(job: &Job) -> Job
+    ensures { result ≡ begun_as job.now }
+{
+    match job {
+        Job::Replace(old, _) => Job::Migrate(Migration::Demote, *old),
+        _ => *job,
+    }
+}
+
+/// The order of a migration.
+pub(crate) fn order_for(migration: Migration, block: OBlock) -> Order
+    ensures { result ≡ order_for migration block }
+{
+    match migration {
+        Migration::Promote(cache) => Order::Promote(block, cache),
+        Migration::Demote => Order::Demote(block),
+        Migration::Clean => Order::Clean(block),
+    }
+}
+
+/// The task of a job that may be started, by an actor of whom these orders wait for a flush: of a read's, write's or migration's steps on
+/// a device each takes one sector, and a flush serves those orders and allows as many nodes as an image may have. `Memory` where there
+/// is none for the list of what it serves.
+pub(crate) fn task_of(
+    alloc: Global,
+    geometry: &Geometry,
+    awaiting: &[Order],
+    job: &Job,
+) -> Result<Work, Refusal>
+    requires over { wants_target job.now ≡ true }
+    requires may_start { job_refusal (shape_of geometry.now ACTORS) job.now ≡ None }
+    ensures task { IfOk result (λ task. task ≡ table (task_job (shape_of geometry.now ACTORS) awaiting.now job.now (cut_for (shape_of geometry.now ACTORS) job.now))) }
+    ensures refusal { IfErr result (λ refusal. refusal ≡ Memory) }
+{
+    match job {
+        Job::Read(extent) => Ok(Work::requests(RequestTask::reads(read_of(geometry, *extent)))),
+        Job::Write(extent, _) => {
+            Ok(Work::requests(RequestTask::writes(write_of(geometry, *extent))))
+        }
+        Job::Flush => {
+            let serves = blocks_left(alloc, awaiting)?;
+            Ok(Work::flushes(FlushTask::new(serves, geometry.node_count())))
+        }
+        Job::Migrate(migration, block) => Ok(migrates(geometry, *migration, *block)),
+        Job::Replace(old, _) => Ok(migrates(geometry, Migration::Demote, *old)),
+        Job::Open(_) => unreachable!(),
+    }
+}
+
+fn migrates(geometry: &Geometry, migration: Migration, block: OBlock) -> Work
+    ensures { result ≡ table (OnBlock (Migrating migration (migrated_range (shape_of geometry.now ACTORS) block (pieces 1 (whole_block geometry.now.block block))))) }
+{
+    Work::migrates(MigrationTask::new(migration, geometry.block, block, 1))
+}
+
+fn read_of(geometry: &Geometry, extent: Extent) -> ReadTask
+    requires { extent_refusal (shape_of geometry.now ACTORS) extent ≡ None }
+    ensures { result ≡ table (OnBlock (Reading (block_range (shape_of geometry.now ACTORS) extent (pieces 1 extent)))) }
+{
+    ReadTask::new(geometry.block, block_of(geometry, extent), extent, 1)
+}
+
+fn write_of(geometry: &Geometry, extent: Extent) -> WriteTask
+    requires { extent_refusal (shape_of geometry.now ACTORS) extent ≡ None }
+    ensures { result ≡ table (OnBlock (Writing (block_range (shape_of geometry.now ACTORS) extent (pieces 1 extent)))) }
+{
+    WriteTask::new(geometry.block, block_of(geometry, extent), extent, 1)
+}
+
+/// The block in which these sectors lie.
+fn block_of(geometry: &Geometry, extent: Extent) -> OBlock
+    requires { extent_refusal (shape_of geometry.now ACTORS) extent ≡ None }
+    ensures { result.0 ≡ extent.first / geometry.now.block }
+{
+    OBlock((extent.first / u64::from(geometry.block)) as u32)
+}

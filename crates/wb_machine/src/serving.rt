@@ -1,0 +1,204 @@
+//! Starts and steps, over a target that stands and where none does.
+
+ghost use Rattle.std.specs.Prelude.{◌≡◌, [], IfOk, IfErr, OnErr, true};
+ghost use Rattle.wb_types.specs.declared.refusal.Refusal.TheVariants.{Memory};
+ghost use Rattle.wb_runs.specs.declared.event.Event.TheVariants.{Start, Step, FaultStep};
+ghost use Rattle.wb_machine.specs.declared.machine.TheConstants.{ACTORS};
+ghost use Rattle.wb_machine.specs.declared.phase.Phase.TheVariants.{Standing};
+ghost use Rattle.wb_machine.specs.Life.{Happens, IsThere, contents_of, shape_of, state_of, wants_target};
+ghost use Rattle.wb_machine.specs.Serving.{IsServed};
+ghost use Rattle.wb_machine.specs.Standing.{IsSound};
+
+use crate::member::Member;
+use crate::outcome::Outcome;
+use crate::phase::Phase;
+use crate::starting::open;
+use crate::stepping::{fail_opening, step_opening};
+use crate::target::Target;
+use std::alloc::Global;
+use wb_devices::Devices;
+use wb_disk::{CrashChoice, MemDisk};
+use wb_runs::{Job, What};
+use wb_types::{Geometry, Refusal};
+
+/// An actor gets a job, if it has none and the job may be started. `Memory` where there is no room for an order; then nothing has
+/// changed.
+pub(crate) fn start(
+    geometry: &Geometry,
+    alloc: Global,
+    devices: &Devices<MemDisk>,
+    phase: &mut Phase,
+    actor: usize,
+    job: &Job,
+) -> Result<What, Refusal>
+    requires there { IsThere ACTORS phase.old }
+    requires sound { IsSound geometry.now ACTORS devices.now phase.old }
+    ensures there { IsThere ACTORS phase.new }
+    ensures sound { IsSound geometry.now ACTORS devices.now phase.new }
+    ensures ok { IfOk result (λ what. Happens (shape_of geometry.now ACTORS) (state_of ACTORS devices.now phase.old) (Start actor job.now) what [] (state_of ACTORS devices.now phase.new)) }
+    ensures err { OnErr result (state_of ACTORS devices.now phase.new ≡ state_of ACTORS devices.now phase.old) }
+    ensures refusal { IfErr result (λ refusal. refusal ≡ Memory) }
+{
+    if wants_target(job) {
+        return start_there(geometry, alloc, devices, phase, actor, job);
+    }
+    Ok(open(geometry, alloc, devices, phase, actor, job))
+}
+
+/// The same of a job that wants a target: where none stands it is skipped.
+fn start_there(
+    geometry: &Geometry,
+    alloc: Global,
+    devices: &Devices<MemDisk>,
+    phase: &mut Phase,
+    actor: usize,
+    job: &Job,
+) -> Result<What, Refusal>
+    requires there { IsThere ACTORS phase.old }
+    requires sound { IsSound geometry.now ACTORS devices.now phase.old }
+    requires over { wants_target job.now ≡ true }
+    ensures there { IsThere ACTORS phase.new }
+    ensures sound { IsSound geometry.now ACTORS devices.now phase.new }
+    ensures ok { IfOk result (λ what. Happens (shape_of geometry.now ACTORS) (state_of ACTORS devices.now phase.old) (Start actor job.now) what [] (state_of ACTORS devices.now phase.new)) }
+    ensures err { OnErr result (state_of ACTORS devices.now phase.new ≡ state_of ACTORS devices.now phase.old) }
+    ensures refusal { IfErr result (λ refusal. refusal ≡ Memory) }
+{
+    let Phase::Standing(target, members) = phase else {
+        return Ok(What::Skipped);
+    };
+    start_over(geometry, alloc, devices, target, members, actor, job)
+}
+
+/// The same over a target that stands.
+fn start_over(
+    geometry: &Geometry,
+    alloc: Global,
+    devices: &Devices<MemDisk>,
+    target: &mut Target,
+    members: &mut Vec<Member>,
+    actor: usize,
+    job: &Job,
+) -> Result<What, Refusal>
+    requires there { IsThere ACTORS (Standing target.old members.old) }
+    requires sound { IsSound geometry.now ACTORS devices.now (Standing target.old members.old) }
+    requires over { wants_target job.now ≡ true }
+    ensures there { IsThere ACTORS (Standing target.new members.new) }
+    ensures sound { IsSound geometry.now ACTORS devices.now (Standing target.new members.new) }
+    ensures ok { IfOk result (λ what. Happens (shape_of geometry.now ACTORS) (state_of ACTORS devices.now (Standing target.old members.old)) (Start actor job.now) what [] (state_of ACTORS devices.now (Standing target.new members.new))) }
+    ensures err { OnErr result ((target.new ≡ target.old) × (members.new.items ≡ members.old.items)) }
+    ensures refusal { IfErr result (λ refusal. refusal ≡ Memory) }
+{
+    let _ = devices;
+    if actor >= members.len() {
+        return Ok(What::Skipped);
+    }
+    let member = &mut members[actor];
+    let what = member.start(alloc, geometry, &mut target.desk, job)?;
+    Ok(what)
+}
+
+/// Whether the job is one of a target that stands.
+fn wants_target(job: &Job) -> bool
+    ensures { result ≡ wants_target job.now }
+{
+    !matches!(job, Job::Open(_))
+}
+
+/// The next step of an actor's task, if it has one.
+pub(crate) fn step(
+    geometry: &Geometry,
+    alloc: Global,
+    devices: &mut Devices<MemDisk>,
+    phase: &mut Phase,
+    actor: usize,
+) -> Result<Outcome, Refusal>
+    requires there { IsThere ACTORS phase.old }
+    requires sound { IsSound geometry.now ACTORS devices.old phase.old }
+    requires served { IsServed geometry.now devices.old phase.old }
+    ensures there { IsThere ACTORS phase.new }
+    ensures sound { IsSound geometry.now ACTORS devices.new phase.new }
+    ensures ok { IfOk result (λ done. Happens (shape_of geometry.now ACTORS) (state_of ACTORS devices.old phase.old) (Step actor) done.what done.read.items (state_of ACTORS devices.new phase.new)) }
+    ensures err { OnErr result (state_of ACTORS devices.new phase.new ≡ state_of ACTORS devices.old phase.old) }
+    ensures refusal { IfErr result (λ refusal. refusal ≡ Memory) }
+{
+    if let Phase::Standing(target, members) = phase {
+        return step_over(geometry, alloc, devices, target, members, actor);
+    }
+    let what = step_opening(geometry, devices, phase, actor)?;
+    Ok(Outcome::told(alloc, what))
+}
+
+/// The same over a target that stands.
+fn step_over(
+    geometry: &Geometry,
+    alloc: Global,
+    devices: &mut Devices<MemDisk>,
+    target: &mut Target,
+    members: &mut Vec<Member>,
+    actor: usize,
+) -> Result<Outcome, Refusal>
+    requires there { IsThere ACTORS (Standing target.old members.old) }
+    requires sound { IsSound geometry.now ACTORS devices.old (Standing target.old members.old) }
+    requires served { IsServed geometry.now devices.old (Standing target.old members.old) }
+    ensures there { IsThere ACTORS (Standing target.new members.new) }
+    ensures sound { IsSound geometry.now ACTORS devices.new (Standing target.new members.new) }
+    ensures ok { IfOk result (λ done. Happens (shape_of geometry.now ACTORS) (state_of ACTORS devices.old (Standing target.old members.old)) (Step actor) done.what done.read.items (state_of ACTORS devices.new (Standing target.new members.new))) }
+    ensures err { OnErr result ((contents_of devices.new ≡ contents_of devices.old) × (target.new ≡ target.old) × (members.new.items ≡ members.old.items)) }
+    ensures refusal { IfErr result (λ refusal. refusal ≡ Memory) }
+{
+    if actor >= members.len() {
+        return Ok(Outcome::skipped(alloc));
+    }
+    let member = &mut members[actor];
+    let done = member.step(actor, alloc, target, devices)?;
+    Ok(done)
+}
+
+/// The next step of an actor's task, which is on a device, fails as the choice says.
+pub(crate) fn falter(
+    geometry: &Geometry,
+    devices: &mut Devices<MemDisk>,
+    phase: &mut Phase,
+    actor: usize,
+    choice: &CrashChoice,
+) -> Result<What, Refusal>
+    requires there { IsThere ACTORS phase.old }
+    requires sound { IsSound geometry.now ACTORS devices.old phase.old }
+    requires served { IsServed geometry.now devices.old phase.old }
+    ensures there { IsThere ACTORS phase.new }
+    ensures sound { IsSound geometry.now ACTORS devices.new phase.new }
+    ensures ok { IfOk result (λ what. Happens (shape_of geometry.now ACTORS) (state_of ACTORS devices.old phase.old) (FaultStep actor choice.now) what [] (state_of ACTORS devices.new phase.new)) }
+    ensures err { OnErr result (state_of ACTORS devices.new phase.new ≡ state_of ACTORS devices.old phase.old) }
+    ensures refusal { IfErr result (λ refusal. refusal ≡ Memory) }
+{
+    if let Phase::Standing(target, members) = phase {
+        return fail_over(geometry, devices, target, members, actor, choice);
+    }
+    fail_opening(geometry, devices, phase, actor, choice)
+}
+
+/// The same over a target that stands.
+fn fail_over(
+    geometry: &Geometry,
+    devices: &mut Devices<MemDisk>,
+    target: &mut Target,
+    members: &mut Vec<Member>,
+    actor: usize,
+    choice: &CrashChoice,
+) -> Result<What, Refusal>
+    requires there { IsThere ACTORS (Standing target.old members.old) }
+    requires sound { IsSound geometry.now ACTORS devices.old (Standing target.old members.old) }
+    requires served { IsServed geometry.now devices.old (Standing target.old members.old) }
+    ensures there { IsThere ACTORS (Standing target.new members.new) }
+    ensures sound { IsSound geometry.now ACTORS devices.new (Standing target.new members.new) }
+    ensures ok { IfOk result (λ what. Happens (shape_of geometry.now ACTORS) (state_of ACTORS devices.old (Standing target.old members.old)) (FaultStep actor choice.now) what [] (state_of ACTORS devices.new (Standing target.new members.new))) }
+    ensures err { OnErr result ((contents_of devices.new ≡ contents_of devices.old) × (target.new ≡ target.old) × (members.new.items ≡ members.old.items)) }
+    ensures refusal { IfErr result (λ refusal. refusal ≡ Memory) }
+{
+    if actor >= members.len() {
+        return Ok(What::Skipped);
+    }
+    let member = &mut members[actor];
+    let what = member.falter(devices, &mut target.commit, choice)?;
+    Ok(what)
+}

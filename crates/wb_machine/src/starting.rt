@@ -1,0 +1,103 @@
+//! Starts of openings.
+
+ghost use Rattle.std.specs.Prelude.{◌≡◌, ◌<◌, [], false, length};
+ghost use Rattle.wb_runs.specs.declared.event.Event.TheVariants.{Start};
+ghost use Rattle.wb_machine.specs.declared.machine.TheConstants.{ACTORS};
+ghost use Rattle.wb_machine.specs.declared.phase.Phase.TheVariants.{Underway};
+ghost use Rattle.wb_machine.specs.Life.{Happens, IsThere, is_busy, is_opening, is_sound, shape_of, state_of, wants_target};
+ghost use Rattle.wb_machine.specs.Members.{works_there};
+ghost use Rattle.wb_machine.specs.Standing.{IsSound};
+
+use crate::machine::ACTORS;
+use crate::member::Member;
+use crate::opener::Opener;
+use crate::phase::Phase;
+use std::alloc::Global;
+use wb_devices::{Devices, Opening};
+use wb_disk::MemDisk;
+use wb_flow::OpenTask;
+use wb_runs::{Job, What};
+use wb_types::{Geometry, Mode};
+
+/// An actor gets an opening, if it has no task. It starts in write-back mode, and what another actor was opening is given up; over
+/// a target that stands it starts once that has failed, and ends it and what everybody was at.
+pub(crate) fn open(
+    geometry: &Geometry,
+    alloc: Global,
+    devices: &Devices<MemDisk>,
+    phase: &mut Phase,
+    actor: usize,
+    job: &Job,
+) -> What
+    requires there { IsThere ACTORS phase.old }
+    requires sound { IsSound geometry.now ACTORS devices.now phase.old }
+    requires opening { wants_target job.now ≡ false }
+    ensures there { IsThere ACTORS phase.new }
+    ensures sound { IsSound geometry.now ACTORS devices.now phase.new }
+    ensures does { Happens (shape_of geometry.now ACTORS) (state_of ACTORS devices.now phase.old) (Start actor job.now) result [] (state_of ACTORS devices.now phase.new) }
+{
+    if actor >= ACTORS || is_busy(phase, actor) {
+        return What::Skipped;
+    }
+    if !is_opening(job) || is_sound(phase) {
+        return What::Skipped;
+    }
+    let opener = Opener {
+        actor,
+        task: OpenTask::reading(geometry.meta_sectors),
+        opening: Opening {
+            geometry: *geometry,
+            alloc,
+            reading: None,
+            commit: None,
+        },
+        made: None,
+    };
+    put_opener(phase, opener);
+    What::Started
+}
+
+/// An opening at work in place of what stands.
+fn put_opener(phase: &mut Phase, opener: Opener)
+    ensures { phase.new ≡ Underway opener }
+{
+    *phase = Phase::Underway(opener);
+}
+
+/// Whether the job is an opening in write-back mode.
+fn is_opening(job: &Job) -> bool
+    ensures { result ≡ is_opening job.now }
+{
+    matches!(job, Job::Open(Mode::Writeback))
+}
+
+/// Whether this actor has a task.
+fn is_busy(phase: &Phase, actor: usize) -> bool
+    requires there { IsThere ACTORS phase.now }
+    requires inside { actor < ACTORS }
+    ensures { result ≡ is_busy actor phase.now }
+{
+    match phase {
+        Phase::Closed => false,
+        Phase::Underway(opener) => opener.actor == actor,
+        Phase::Standing(_, members) => works(members, actor),
+    }
+}
+
+/// Whether this member is at something.
+fn works(members: &Vec<Member>, actor: usize) -> bool
+    requires { actor < length members.now.items }
+    ensures { result ≡ works_there members.now.items actor }
+{
+    members[actor].is_busy()
+}
+
+/// Whether one stands that has not failed.
+fn is_sound(phase: &Phase) -> bool
+    ensures { result ≡ is_sound phase.now }
+{
+    match phase {
+        Phase::Standing(target, _) => !target.failed,
+        Phase::Closed | Phase::Underway(_) => false,
+    }
+}

@@ -1,0 +1,83 @@
+//! What is left of what an actor was told to do.
+
+ghost use Rattle.std.specs.Prelude.{◌≡◌};
+ghost use Rattle.wb_tasks.specs.Plan.{Plan, want, after, MayCome};
+
+use std::marker::Model;
+use wb_flow::FlushTask;
+use wb_tasks::{Got, MigrationTask, RequestTask, Task, Want};
+
+#[derive(Drop)]
+enum Kind {
+    Requests(RequestTask),
+    Flushes(FlushTask),
+    Migrates(MigrationTask),
+}
+
+/// What is left of a read, a write, a flush or a migration.
+#[derive(Drop)]
+pub struct Work {
+    kind: Kind,
+}
+
+impl Model for Work {
+    ghost use Rattle.wb_tasks.specs.Plan.{Plan};
+
+    ghost Value = { Plan };
+
+    ghost use Rattle.wb_machine.specs.Works.{plan_of};
+
+    ghost view = { λ w. plan_of w.kind };
+}
+
+impl Work {
+    /// A read or a write.
+    pub(crate) fn requests(task: RequestTask) -> Work
+        ensures { result ≡ task }
+    {
+        Work {
+            kind: Kind::Requests(task),
+        }
+    }
+
+    /// A flush.
+    pub(crate) fn flushes(task: FlushTask) -> Work
+        ensures { result ≡ task }
+    {
+        Work {
+            kind: Kind::Flushes(task),
+        }
+    }
+
+    /// A migration.
+    pub(crate) fn migrates(task: MigrationTask) -> Work
+        ensures { result ≡ task }
+    {
+        Work {
+            kind: Kind::Migrates(task),
+        }
+    }
+
+    /// The next step, or the answer.
+    pub fn want(&self) -> Want
+        ensures { result ≡ want self.now }
+    {
+        match &self.kind {
+            Kind::Requests(task) => task.want(),
+            Kind::Flushes(task) => task.want(),
+            Kind::Migrates(task) => task.want(),
+        }
+    }
+}
+
+impl Task for Work {
+    ghost plan = { λ w. w };
+
+    fn next(&mut self, got: Got) -> Want {
+        match &mut self.kind {
+            Kind::Requests(task) => task.next(got),
+            Kind::Flushes(task) => task.next(got),
+            Kind::Migrates(task) => task.next(got),
+        }
+    }
+}
