@@ -58,7 +58,7 @@ unseen_released Reserved = refl
 unseen_released (Quarantined claimed early) = refl
 
 -- what becomes of each block, a free one staying so, becomes of one of the list
-state_map : (f : Block → Block) → f Free ≡ Free → (blocks : List Block) (c : ℕ) → state (map f blocks) c ≡ f (state blocks c)
+pub state_map : (f : Block → Block) → f Free ≡ Free → (blocks : List Block) (c : ℕ) → state (map f blocks) c ≡ f (state blocks c)
 state_map f e [] zero = sym e
 state_map f e [] (suc c) = sym e
 state_map f e (b ∷ blocks) zero = refl
@@ -80,7 +80,7 @@ one_still blocks blocks' slots slots' there at is same_blocks same_slots agrees 
   | inr n ↦ agrees c ∙ sym (λ i. block_there (same_blocks c n i) (same_slots c n i))
 ]
 
-other_block : (blocks : List Block) (at : ℕ) (now : Block) (c : ℕ) → c ≢ at → state (slice_set blocks at now) c ≡ state blocks c
+pub other_block : (blocks : List Block) (at : ℕ) (now : Block) (c : ℕ) → c ≢ at → state (slice_set blocks at now) c ≡ state blocks c
 other_block blocks at now c n = get_or-set_other blocks at c now Free n
 
 pub other_slot : (slots : List (Option Order)) (at : ℕ) (now : Option Order) (c : ℕ) → c ≢ at → slot_at (slice_set slots at now) c ≡ slot_at slots c

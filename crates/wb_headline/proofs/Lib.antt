@@ -29,6 +29,7 @@ mod Migrations
 mod Seen
 mod Plans
 mod Alike
+mod Come
 mod Seeing
 mod Carried
 mod Placed

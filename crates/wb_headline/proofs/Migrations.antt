@@ -90,20 +90,6 @@ same_device Cache devices h = refl
 same_device Origin devices h = refl
 same_device Metadata devices h = absurd h
 
--- ---- orders by cache block
-
-orders_set : (slots : List (Option LiveOrder)) (c : ℕ) (o : Option LiveOrder) → orders_of (slice_set slots c o) ≡ slice_set (orders_of slots) c (order_of o)
-orders_set [] zero o = refl
-orders_set [] (suc c) o = refl
-orders_set (s ∷ slots) zero o = refl
-orders_set (s ∷ slots) (suc c) o = ap (λ (os : List (Option Order)). order_of s ∷ os) (orders_set slots c o)
-
-vacant_there : (slots : List (Option LiveOrder)) (c : ℕ) → slice_get slots c ≡ Some None → slice_get (orders_of slots) c ≡ Some None
-vacant_there [] c e = absurd (cc)
-vacant_there (None ∷ slots) zero e = refl
-vacant_there (Some o ∷ slots) zero e = absurd (cc)
-vacant_there (s ∷ slots) (suc c) e = vacant_there slots c e
-
 module _ (P A : Type 0) (shape : Shape) (t : Target P) (commit : Option RunningCommit) (devices : Devices (List History)) (actors : List Actor) (n : Notes) (b : Whole P A shape (at_target P A shape t commit devices actors) n) (a : ℕ) (x : Actor) (migration : Migration) (block : OBlock) (plan : Plan) (doing : Doing) (ex : slice_get actors a ≡ Some x) (xt : x.task ≡ Some (Migrate migration block, plan))
     (noted : slice_get n.doings a ≡ Some (Some doing)) (job_is : doing.job ≡ Migrate migration block) where
   f : Followed P A shape b.goes.images (standing P A shape b.goes.images t commit devices actors n) n

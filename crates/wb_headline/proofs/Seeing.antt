@@ -1,7 +1,8 @@
 -- Where a desk has a block, and what its live orders say of that: a seal that tells it tells where an order has the block, and what is
 -- written there is beside other orders.
-use Rattle.std.proofs.Common.{◌≡◌, ◌∙◌, ◌<◌, ◌/◌, inl, inr, ℕ, zero, suc, List, [], ◌∷◌, Option, Some, None, refl, sym, ap, subst, arith, IsSome, length, slice_get, slice_index_or}
+use Rattle.std.proofs.Common.{◌≡◌, ◌∙◌, ◌<◌, ◌/◌, inl, inr, ℕ, zero, suc, List, [], ◌∷◌, Option, Some, None, refl, sym, ap, subst, arith, IsSome, length, slice_get, slice_set, slice_index_or}
 use Rattle.std.proofs.lemmas.Option.{get_or_from_slice_get}
+use Rattle.wb_types.proofs.Lists.{set_cases}
 use Rattle.wb_types.specs.declared.entry.Entry.{Entry}
 use Rattle.wb_types.specs.declared.extent.Extent.{Extent}
 use Rattle.wb_types.specs.declared.mode.Dev.{Dev}
@@ -52,6 +53,26 @@ slot_within [] zero l e = absurd (cc)
 slot_within [] (suc c) l e = absurd (cc)
 slot_within (s ∷ slots) zero l e = omega arith
 slot_within (s ∷ slots) (suc c) l e = let i = slot_within slots c l e in omega (arith, i)
+
+pub orders_set : (slots : List (Option LiveOrder)) (c : ℕ) (o : Option LiveOrder) → orders_of (slice_set slots c o) ≡ slice_set (orders_of slots) c (order_of o)
+orders_set [] zero o = refl
+orders_set [] (suc c) o = refl
+orders_set (s ∷ slots) zero o = refl
+orders_set (s ∷ slots) (suc c) o = ap (λ (os : List (Option Order)). order_of s ∷ os) (orders_set slots c o)
+
+pub vacant_there : (slots : List (Option LiveOrder)) (c : ℕ) → slice_get slots c ≡ Some None → slice_get (orders_of slots) c ≡ Some None
+vacant_there [] c e = absurd (cc)
+vacant_there (None ∷ slots) zero e = refl
+vacant_there (Some o ∷ slots) zero e = absurd (cc)
+vacant_there (s ∷ slots) (suc c) e = vacant_there slots c e
+
+pub orders_many : (slots : List (Option LiveOrder)) → length (orders_of slots) ≡ length slots
+orders_many [] = refl
+orders_many (s ∷ slots) = ap suc (orders_many slots)
+
+-- no order lives where it is over
+pub over_there : (orders : List (Option Order)) (c : ℕ) (o : Order) → slice_get (slice_set orders c None) c ≡ Some (Some o) → ⊥
+over_there orders c o e = elim (set_cases orders c c None (Some o) e) [ inl i ↦ absurd (let bad = i.1 in cc) | inr n ↦ n.0 refl ]
 
 -- ---- blocks
 
