@@ -21,8 +21,8 @@ use Rattle.wb_runs.proofs.Metadata.{unknowing}
 use Rattle.wb_headline.specs.Seen.{Replacing, Leaving, Waiting, Following, replacement_seen, order_seen, slots_seen}
 use Rattle.wb_headline.specs.Desks.{slot_at, live_orders, HasCome, OrderHasCome, AllHaveCome}
 use Rattle.wb_headline.proofs.Desking.{other_block, state_map}
-use Rattle.wb_headline.proofs.Seen.{slot_get}
-use Rattle.wb_headline.proofs.Seeing.{orders_set, over_there, slot_there}
+use Rattle.wb_headline.proofs.Seen.{slot_get, slot_here}
+use Rattle.wb_headline.proofs.Seeing.{named, orders_set, over_there, slot_there}
 
 -- ---- a commit begins or ends
 
@@ -114,3 +114,21 @@ module _ (P : Type 0) (desk : DeskState P) (stages : ℕ → Replacing) (come : 
             let here = slot_there desk.orders.slots c live s in
             let names = subst (λ (o : Option LiveOrder). NamesWhatIs (holdings desk) (state desk.space.blocks c) c o) s n in
             get_or_from_slice_get (slots_seen stages (live_orders desk)) c (order_seen stages live.order) None (slot_get stages (live_orders desk) c (Some live.order) here) ∙ seen_none live.order names (come c live.order here)
+
+    -- what is seen to live on a cache block names what is
+    pub named_seen : (c : ℕ) (q : Order) → slice_get (slots_seen stages (live_orders desk)) c ≡ Some (Some q) → Names (holdings desk) (state desk.space.blocks c) c q
+    named_seen c q e = let i = slot_here stages (live_orders desk) c q e in by i.0 i.2 (named P desk kept c i.0 i.1) (come c i.0 i.1)
+      where
+        to : (o : Order) → o ≡ q → Names (holdings desk) (state desk.space.blocks c) c o → Names (holdings desk) (state desk.space.blocks c) c q
+        to o is n = subst (λ (p : Order). Names (holdings desk) (state desk.space.blocks c) c p) is n
+
+        of_stage : (old new : OBlock) (k : CBlock) (r : Replacing) → stages k.0 ≡ r → replacement_seen r old new k ≡ Some q → Names (holdings desk) (state desk.space.blocks c) c (Replace old new k) → HasCome r (state desk.space.blocks c) → Names (holdings desk) (state desk.space.blocks c) c q
+        of_stage old new k Leaving s f n h = to (Demote old) (let is : Demote old ≡ q = cc in is) (elim n.2 [ inl m ↦ m | inr g ↦ absurd (subst (λ (b : Block). IsClaimed b) h g.1) ])
+        of_stage old new k Waiting s f n h = absurd (cc)
+        of_stage old new k Following s f n h = to (Promote new k) (let is : Promote new k ≡ q = cc in is) (n.0, h, n.1)
+
+        by : (o : Order) → order_seen stages o ≡ Some q → Names (holdings desk) (state desk.space.blocks c) c o → OrderHasCome (stages c) (state desk.space.blocks c) o → Names (holdings desk) (state desk.space.blocks c) c q
+        by (Promote b k) f n h = to (Promote b k) (let is : Promote b k ≡ q = cc in is) n
+        by (Demote b) f n h = to (Demote b) (let is : Demote b ≡ q = cc in is) n
+        by (Clean b) f n h = to (Clean b) (let is : Clean b ≡ q = cc in is) n
+        by (Replace old new k) f n h = of_stage old new k (stages k.0) refl f n (subst (λ (i : ℕ). HasCome (stages i) (state desk.space.blocks c)) n.0 h)

@@ -30,6 +30,7 @@ mod Seen
 mod Plans
 mod Alike
 mod Come
+mod Staging
 mod Seeing
 mod Carried
 mod Placed
