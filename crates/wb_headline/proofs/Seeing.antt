@@ -1,6 +1,7 @@
 -- Where a desk has a block, and what its live orders say of that: a seal that tells it tells where an order has the block, and what is
 -- written there is beside other orders.
 use Rattle.std.proofs.Common.{◌≡◌, ◌∙◌, ◌<◌, ◌/◌, inl, inr, ℕ, zero, suc, List, [], ◌∷◌, Option, Some, None, refl, sym, ap, subst, arith, IsSome, length, slice_get, slice_set, slice_index_or}
+use Rattle.std.proofs.lemmas.List.{length-map}
 use Rattle.std.proofs.lemmas.Option.{get_or_from_slice_get}
 use Rattle.wb_types.proofs.Lists.{set_cases}
 use Rattle.wb_types.specs.declared.entry.Entry.{Entry}
@@ -32,6 +33,7 @@ use Rattle.wb_simulation.specs.Laws.{IsFrom, IsBesideOrders}
 use Rattle.wb_simulation.specs.Migrating.{SealTells}
 use Rattle.wb_simulation.proofs.Opened.{found_at}
 use Rattle.wb_headline.specs.Desks.{order_of, orders_of, live_orders}
+use Rattle.wb_headline.specs.Seen.{Replacing, slot_seen, slots_seen}
 use Rattle.wb_headline.proofs.Desking.{StandsAlone, alone_there, none_from}
 
 -- ---- orders by cache block
@@ -69,6 +71,9 @@ vacant_there (s ∷ slots) (suc c) e = vacant_there slots c e
 pub orders_many : (slots : List (Option LiveOrder)) → length (orders_of slots) ≡ length slots
 orders_many [] = refl
 orders_many (s ∷ slots) = ap suc (orders_many slots)
+
+pub slots_many : (stages : ℕ → Replacing) (slots : List (Option LiveOrder)) → length (slots_seen stages (orders_of slots)) ≡ length slots
+slots_many stages slots = length-map (orders_of slots) (λ (s : Option Order). slot_seen stages s) ∙ orders_many slots
 
 -- no order lives where it is over
 pub over_there : (orders : List (Option Order)) (c : ℕ) (o : Order) → slice_get (slice_set orders c None) c ≡ Some (Some o) → ⊥

@@ -1,5 +1,5 @@
 -- What is seen of orders, of actors and of their lists: by membership, and where one of them or one stage changes.
-use Rattle.std.proofs.Common.{◌≡◌, ◌≢◌, ◌∙◌, ◌<◌, ◌++◌, ◌&&◌, ◌||◌, ◌⊎◌, inl, inr, ℕ, zero, suc, Bool, true, false, if◌then◌else◌, List, [], ◌∷◌, Option, Some, None, refl, sym, ap, subst, arith, length, map, slice_get, slice_set, Contains}
+use Rattle.std.proofs.Common.{◌≡◌, ◌≢◌, ◌∙◌, ◌<◌, ◌++◌, ◌&&◌, ◌||◌, ◌⊎◌, inl, inr, ℕ, zero, suc, Bool, true, false, if◌then◌else◌, List, [], ◌∷◌, Option, Some, None, refl, sym, ap, subst, arith, length, map, replicate, slice_get, slice_set, Contains}
 use Rattle.std.proofs.lemmas.List.{length-map}
 use Rattle.wb_types.proofs.Lists.{Contains-first, Contains-behind, map_there}
 use Rattle.wb_types.specs.declared.number.CBlock.{CBlock}
@@ -148,7 +148,7 @@ replacing_replace b (p ∷ orders) o h = by_test (is_of b p && is_replacement p)
     by_test false e h rest = rest h
     by_test true e h rest = first_or p o (replacing b orders) (is_replacement o ≡ true) h (λ same. ap is_replacement same ∙ (and_both (is_of b p) (is_replacement p) e).1) rest
 
-true_not : {A : Type 0} (t : Bool) → t ≡ true → t ≡ false → A
+pub true_not : {A : Type 0} (t : Bool) → t ≡ true → t ≡ false → A
 true_not true e f = absurd (cc)
 true_not false e f = absurd (cc)
 
@@ -221,6 +221,10 @@ slots_turned stages stages' [] (suc c) s f = refl
 slots_turned stages stages' (z ∷ zs) zero s f = ap (λ (vs : List (Option Order)). slot_seen stages' s ∷ vs) (slots_same stages stages' zs (λ i o e. f (suc i) o (λ q. absurd (omega (arith, q))) e))
 slots_turned stages stages' (z ∷ zs) (suc c) s f = ap (λ (v : Option Order). v ∷ slots_seen stages' (slice_set zs c s)) (slot_same stages stages' z (λ o e. f 0 o (λ q. absurd (omega (arith, q))) (ap (λ (v : Option Order). Some v) e)))
     ∙ ap (λ (vs : List (Option Order)). slot_seen stages z ∷ vs) (slots_turned stages stages' zs c s (λ i o n e. f (suc i) o (λ q. n (omega (arith, q))) e))
+
+pub vacant_seen : (stages : ℕ → Replacing) (k : ℕ) → slots_seen stages (replicate k None) ≡ replicate k None
+vacant_seen stages zero = refl
+vacant_seen stages (suc k) = ap (λ (os : List (Option Order)). None ∷ os) (vacant_seen stages k)
 
 pub slot_get : (stages : ℕ → Replacing) (slots : List (Option Order)) (c : ℕ) (s : Option Order) → slice_get slots c ≡ Some s → slice_get (slots_seen stages slots) c ≡ Some (slot_seen stages s)
 slot_get stages [] c s e = absurd (cc)

@@ -30,13 +30,16 @@ use Rattle.wb_simulation.specs.Telling.{Telling, Quietly, Reads, Writes, Answers
 use Rattle.wb_simulation.specs.Worlds.{Agrees, Turn, Stays, FollowsBy, Follows}
 use Rattle.wb_simulation.proofs.Opening.{images_followed}
 use Rattle.wb_headline.specs.Desks.{AllHaveCome, DeskAgrees, live_orders}
-use Rattle.wb_headline.specs.Seen.{Replacing, order_seen, slots_seen, actor_seen, actors_seen}
+use Rattle.wb_headline.specs.Seen.{Replacing, order_seen, slots_seen, task_seen, actor_seen, actors_seen}
 use Rattle.wb_headline.proofs.Allowed.{there}
 use Rattle.wb_headline.proofs.Events.{Reached, gone_on, records_reach}
 use Rattle.wb_headline.proofs.Unclean.{NeverClean, IsPlainRecord, ArePlainRecords, records_on, steps_plain}
 use Rattle.wb_headline.proofs.Desking.{desk_stays}
 use Rattle.wb_headline.proofs.Following.{NoneIsSeen, many, size, most, Sized, TargetFollows, Followed, Goes}
-use Rattle.wb_headline.proofs.Seen.{set_seen}
+use Rattle.wb_headline.proofs.Seen.{get_seen, set_seen}
+use Rattle.wb_simulation.proofs.Followed.{doing_of}
+use Rattle.wb_types.specs.declared.number.OBlock.{OBlock}
+use Rattle.wb_runs.specs.declared.job.Job.TheVariants.{Replace}
 
 -- ---- what is told starts no suspend
 
@@ -129,6 +132,10 @@ module _ (P A : Type 0) (shape : Shape) (images : Images) (t : Target P) (commit
 
     pub noted_within : a < length n.doings
     noted_within = a_less
+
+    -- nobody is at a replacement
+    pub never_replaces : (old new : OBlock) (plan : Plan) → x.task ≡ Some (Replace old new, plan) → ⊥
+    never_replaces old new plan xt = doing_of (size P A shape) (most P A shape) t.words (actor_seen f.phase.stages x) beside.0 (Replace old new) plan (f.phase.agrees.each a (actor_seen f.phase.stages x) beside.0 (get_seen f.phase.stages actors a x ex) beside.1) (ap task_seen xt)
 
     -- the state that it leads to, of which this is seen
     pub leads_on : (turn : Turn) (telling : Telling) (t' : Target P) (commit' : Option RunningCommit) (devices' : Devices (List History)) (actors' : List Actor) (n' : Notes) (images' : Images) (stages' : ℕ → Replacing) (orders' : List (Option Order)) (seen' : List Actor)
