@@ -17,6 +17,7 @@ use Rattle.wb_runs.specs.declared.event.Event.TheVariants.{Start, Step, FaultSte
 use Rattle.wb_runs.specs.declared.event.What.{What}
 use Rattle.wb_runs.specs.declared.event.What.TheVariants.{Skipped, Refused, Started, Stepped, Stopped}
 use Rattle.wb_runs.specs.States.{Shape}
+use Rattle.wb_runs.specs.Happenings.{begun_as}
 use Rattle.wb_runs.specs.Clerk.{Notes, Doing, begun, put, nobody, starting, failing, device_note, finished_note, noted_step, noted_what, begins}
 use Rattle.wb_link.proofs.Lists.{replicated}
 
@@ -91,7 +92,7 @@ module _ (sectors : ℕ) where
   starting_asked n (Replace old new) all = all
 
   pub what_asked : (shape : Shape) (shown : List Bytes) (n : Notes) (event : Event) (what : What) (read : List Bytes) → length n.finished ≡ sectors → AllAsked sectors n.doings → AllAsked sectors (noted_what shape shown n event what read).doings
-  what_asked shape shown n (Start a job) Started read l all = same_asked (starting n job).doings a (begun n job) (begun n job) (starting_asked n job all) l
+  what_asked shape shown n (Start a job) Started read l all = same_asked (starting n job).doings a (begun n (begun_as job)) (begun n (begun_as job)) (starting_asked n job all) l
   what_asked shape shown n (Step a) (Stepped next got) read l all = step_asked shape shown n a (slice_get n.doings a) next got read refl all
   what_asked shape shown n (FaultStep a choice) (Stepped next got) read l all = step_asked shape shown n a (slice_get n.doings a) next got read refl all
   what_asked shape shown n (Stop choice) Stopped read l all = nobody_asked n.doings

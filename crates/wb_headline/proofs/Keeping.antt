@@ -508,7 +508,7 @@ module _ (P A : Type 0) (shape : Shape) (images : Images) (t : Target P) (commit
         let mine = law.1.1.mine in
         let held = held_there P t.desk actors are k.owned f.phase.stages a x ex q block of c live mine in
         let found = only_of bl x.orders held.order held.has (ap (λ (o : OBlock). is_of o held.order) law.0 ∙ seen_of f.phase.stages block held.order q held.seen of)
-            (λ p h t. only_held P t.desk actors are k.owned f.phase.stages a x ex q block of c live mine held p (Contains-append_left x.orders x.awaiting p h) (ap (λ (o : OBlock). is_of o p) (sym law.0) ∙ t)) in
+            (λ p h i. only_held P t.desk actors are k.owned f.phase.stages a x ex q block of c live mine held p (Contains-append_left x.orders x.awaiting p h) (ap (λ (o : OBlock). is_of o p) (sym law.0) ∙ i)) in
         let is : new ≡ released t.desk (record { 0 = c }) = (subst (λ (o : Option Order). IsGivenUp o t.desk new) found d).0 held.live ∙ ap (λ (i : ℕ). released t.desk (record { 0 = i })) held.at in
         desk_plain job plan xt (ReleaseOrder bl) Done new e (ready job plan xt (Desk (ReleaseOrder bl)) e) (λ i. ap (λ (q : DeskState P). place_of q.tree.entries i) is)
         (over P t.desk actors are k.owned f.phase.stages a x ex q block of c live mine held (k.parted a x ex) bl law.0 new (ap (λ (q : DeskState P). q.orders.slots) is) (y job plan xt (Desk (ReleaseOrder bl)) Done)
@@ -516,7 +516,7 @@ module _ (P A : Type 0) (shape : Shape) (images : Images) (t : Target P) (commit
 
     -- the desk has no memory for its entry
     pub map_refused_keeps : (bl : OBlock) (c : CBlock) (refusal : Refusal) → Desk (Map bl c) ≡ want plan → KeepingAt t (slice_set actors a (y job plan xt (Desk (Map bl c)) (GotRefused refusal)))
-    map_refused_keeps bl c refusal e = plainly t (y job plan xt (Desk (Map bl c)) (GotRefused refusal)) refl (λ i. refl) (not_sealing job plan xt (Desk (Map bl c)) e (λ o p d q. absurd (cc))) (owned_same P t.desk actors a x (y job plan xt (Desk (Map bl c)) (GotRefused refusal)) ex k.owned t.desk refl refl)
+    map_refused_keeps bl c refusal e = plainly t (y job plan xt (Desk (Map bl c)) (GotRefused refusal)) refl (λ i. refl) (not_sealing job plan xt (Desk (Map bl c)) e (λ o p d q. absurd (cc))) (owned_same P t.desk actors a x (y job plan xt (Desk (Map bl c)) (GotRefused refusal)) ex k.owned t.desk refl refl) (y_parted job plan xt (Desk (Map bl c)) (GotRefused refusal))
         (mine job plan xt t.desk.tree.entries (Desk (Map bl c)) (GotRefused refusal) (Some (job, after plan (GotRefused refusal))) refl left)
       where
         left : RightWhere (place_of t.desk.tree.entries) x.card (after plan (GotRefused refusal)).steps
@@ -558,7 +558,7 @@ module _ (P A : Type 0) (shape : Shape) (images : Images) (t : Target P) (commit
             new (ap (λ (v : DeskState P). v.orders.slots) is))
           where
             other : (order : Order) → IsLive t.desk order → Contains x.awaiting order → is_of bl order ≡ true → (o : Order) → Contains x.orders o → (v : Bool) → is_of bl o ≡ v → is_of bl o ≡ false
-            other order l w t o i false f = f
-            other order l w t o i true f = absurd (
-                let same : o ≡ order = one_of_block P t.desk actors known.is.orders k.owned o order (k.owned.live a x o ex (Contains-append_left x.orders x.awaiting o i)) l bl f t in
+            other order l w v o i false f = f
+            other order l w v o i true f = absurd (
+                let same : o ≡ order = one_of_block P t.desk actors known.is.orders k.owned o order (k.owned.live a x o ex (Contains-append_left x.orders x.awaiting o i)) l bl f v in
                 k.parted a x ex o i (subst (λ (p : Order). Contains x.awaiting p) (sym same) w))

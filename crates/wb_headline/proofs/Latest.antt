@@ -19,6 +19,7 @@ use Rattle.wb_runs.specs.declared.event.Event.TheVariants.{Start, Step, FaultSte
 use Rattle.wb_runs.specs.declared.event.What.{What}
 use Rattle.wb_runs.specs.declared.event.What.TheVariants.{Skipped, Refused, Started, Stepped, Stopped}
 use Rattle.wb_runs.specs.States.{Shape}
+use Rattle.wb_runs.specs.Happenings.{begun_as}
 use Rattle.wb_runs.specs.Clerk.{Notes, Doing, Reading, begun, put, nobody, starting, failing, device_note, finished_note, noted_step, noted_what, readings_from, sector_for}
 use Rattle.wb_runs.specs.Headline.{IsLatest}
 use Rattle.wb_runs.specs.Latest.{IsGiven, GivesLatest, ReadsRightly}
@@ -129,7 +130,7 @@ IsFault (FaultStep a choice) (Stepped next got) = got ≡ Fault
 IsFault event what = Unit {0}
 
 pub what_latest : (shape : Shape) (shown : List Bytes) (n : Notes) (event : Event) (what : What) (read : List Bytes) → ReadsRightly shape n event what read → IsFault event what → AllLatest n.doings → AllLatest (noted_what shape shown n event what read).doings
-what_latest shape shown n (Start a job) Started read r fails all = put_latest (starting n job).doings a (begun n job) (starting_latest n job all) (λ i d l. absurd (omega (arith, l)))
+what_latest shape shown n (Start a job) Started read r fails all = put_latest (starting n job).doings a (begun n (begun_as job)) (starting_latest n job all) (λ i d l. absurd (omega (arith, l)))
 what_latest shape shown n (Step a) (Stepped next got) read r fails all = step_latest shape shown n a (slice_get n.doings a) next got read refl all (λ doing step noted is. by step doing got noted is)
   where
     by : (step : DeviceStep) (doing : Doing) (got' : Got) → slice_get n.doings a ≡ Some (Some doing) → next ≡ Device step → GivenIf shape n doing.job step got read

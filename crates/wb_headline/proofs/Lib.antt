@@ -26,6 +26,7 @@ mod Promise
 mod Carrying
 mod Owned
 mod Migrations
+mod Migrating
 mod Seen
 mod Plans
 mod Alike

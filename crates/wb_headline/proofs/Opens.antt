@@ -1,5 +1,5 @@
 -- Whatever step an opening takes, done or failing, it is followed.
-use Rattle.std.proofs.Common.{◌≡◌, ◌≢◌, ◌∙◌, ◌⊎◌, inl, inr, ℕ, Bool, true, false, List, [], ◌∷◌, Option, Some, None, refl, sym, ap, subst, length, slice_get, slice_set}
+use Rattle.std.proofs.Common.{◌≡◌, ◌≢◌, ◌∙◌, ◌⊎◌, inl, inr, ℕ, Bool, true, false, List, [], ◌∷◌, Option, Some, None, refl, sym, ap, subst, length, slice_get, slice_set, arith, Contains}
 use Rattle.wb_types.specs.declared.mode.Mode.{Mode}
 use Rattle.wb_types.specs.declared.mode.Mode.TheVariants.{Writeback}
 use Rattle.wb_types.specs.declared.mode.Dev.TheVariants.{Metadata, Cache, Origin}
@@ -32,9 +32,12 @@ use Rattle.wb_runs.proofs.Underway.{sync_does, sync_fails, put_fails}
 use Rattle.wb_runs.proofs.Metadata.{MetadataKept}
 use Rattle.wb_runs.proofs.Linking.{AtPhase}
 use Rattle.wb_link.specs.Openings.{Phase as PhaseThere, Opens as OpensThere, Stage, Settling, Caching, Basing, Looking, Rooting, Renewing, Answering}
-use Rattle.wb_headline.proofs.Following.{opening_at, HasReadAt, AtStage, IsOver, Followed, Goes}
+use Rattle.wb_headline.proofs.Following.{NoneIsSeen, opening_at, HasReadAt, AtStage, IsOver, Followed, Goes}
 use Rattle.wb_headline.proofs.Opening.{settle_done, settle_fails, cache_done, cache_fails, origin_done, origin_fails, looks, look_fails, root_done, root_fails, renew_done, renew_fails}
-use Rattle.wb_headline.proofs.Opened.{refused_goes, opened_goes, shows}
+use Rattle.wb_headline.proofs.Keeping.{NoOrders}
+use Rattle.wb_headline.proofs.Kept.{none_goes}
+use Rattle.wb_headline.proofs.Opened.{at_first, refused_goes, opened_goes, shows}
+use Rattle.wb_policy.specs.declared.order.Order.{Order}
 
 module _ (P A : Type 0) (shape : Shape) (images : Images) (devices : Devices (List History)) (commit : Option RunningCommit) (mode : Mode) (reading : Option (ReadSteps A)) (actors : List Actor) (n : Notes) where
   abbrev w : State P A
