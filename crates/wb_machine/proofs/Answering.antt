@@ -63,7 +63,7 @@ module _ (g : Geometry) (n : ℕ) (devices : Devices Memory) (o : Opener) (made 
 
   -- with nothing to do, and this card
   abbrev rested : Actor
-  rested = record { task = None; card = card; orders = []; buffer = [] }
+  rested = record { task = None; card = card; orders = []; awaiting = []; buffer = [] }
 
   actors : IsMade g n o.actor made → seated made.members.items made.target.crew.cards ≡ slice_set (actors_of n (Underway o)) o.actor rested
   actors is = ap (λ (ms : List Member). seated ms made.target.crew.cards) is.members_are ∙ ap (λ (cs : List Card). seated (replicate n free) cs) is.cards_are

@@ -38,15 +38,16 @@ use Rattle.wb_devices.specs.declared.devices.Devices.{Devices}
 use Rattle.wb_devices.specs.declared.running.RunningCommit.{RunningCommit}
 use Rattle.wb_devices.specs.Committing.{is_coming}
 use Rattle.wb_devices.specs.Moving.{device_in}
-use Rattle.wb_stage.specs.Asking.{DidMap, DidUnmap, HasBegun, IsGivenUp, ended}
+use Rattle.wb_stage.specs.Asking.{DidMap, DidUnmap, HasBegun, ended, DidRelease}
 use Rattle.wb_stage.specs.Stages.{is_all_done}
 use Rattle.wb_runs.specs.declared.job.Job.{Job}
-use Rattle.wb_runs.specs.declared.job.Job.TheVariants.{Read, Write, Flush, Open, Migrate}
+use Rattle.wb_runs.specs.declared.job.Job.TheVariants.{Read, Write, Flush, Open, Migrate, Replace}
 use Rattle.wb_runs.specs.States.{Shape, Actor, Stands, Target as RunTarget, with_device}
 use Rattle.wb_runs.specs.Happenings.{Plain, Commits, Asks, AreWhole, DoesSync, FailsSync, Gives}
 use Rattle.wb_runs.specs.Effects.{contents_for, led}
 use Rattle.wb_machine.specs.declared.target.Target.{Target}
-use Rattle.wb_machine.specs.Serving.{ComesNext, DoesOn, FailsAt, IsDoable, IsPossible, IsPut, MayBePut, Performs, PutsSector, WasAsked, WasPut, IsCopy, Migrates, chosen_at, commit_by, noted_read, order_of, over, stood, told}
+use Rattle.wb_machine.specs.Serving.{ComesNext, DoesOn, FailsAt, IsDoable, IsPossible, IsPut, MayBePut, Performs, PutsSector, WasAsked, WasPut, IsCopy, Migrates, chosen_at, commit_by, noted_read, over, stood, told, GivesUp, HasToGiveUp}
+use Rattle.wb_policy.specs.declared.order.Order.{Order}
 
 -- ---- devices
 
@@ -93,13 +94,14 @@ module _ (devices : Devices (List History)) (commit : Option RunningCommit) (dev
   module _ (buffer : List Bytes) where
     pub did_read : (job : Job) (device : Dev) (e : Extent) (read : List Bytes) → IsDoable devices commit job (ReadExtent device e) → length read ≡ e.count → GivesEach (device_in device devices) e.first read → devices' ≡ devices → commit' ≡ commit →
         DoesOn devices commit job buffer (ReadExtent device e) read devices' commit'
-    did_read (Read extent) device e read can many each d c = record { gives = λ shape t actors. (can.1, refl, refl, many, each); copies = tt; devices_are = d ∙ sym (same_device device devices); commit_is = c }
+    did_read (Read extent) device e read can many each d c = record { gives = λ shape t actors x. (can.1, refl, refl, many, each); copies = tt; devices_are = d ∙ sym (same_device device devices); commit_is = c }
     did_read (Migrate migration block) device e read can many each d c = record {
-      gives = λ shape t actors. (can.1, (refl, refl), refl, can.2);
+      gives = λ shape t actors x. (can.1, (refl, refl), refl, can.2);
       copies = given_copy (device_in device devices) e.first e.count read many each;
       devices_are = d ∙ sym (same_device device devices);
       commit_is = c;
     }
+    did_read (Replace old new) device e read can many each d c = absurd can.0
     did_read (Write extent content) device e read can many each d c = absurd can.0
     did_read Flush device e read can many each d c = absurd can.0
     did_read (Open mode) device e read can many each d c = absurd can.0
@@ -108,17 +110,18 @@ module _ (devices : Devices (List History)) (commit : Option RunningCommit) (dev
         devices' ≡ with_device device devices (written_where (lands device choice) (device_in device devices) e.first (contents_for job buffer e.count)) → commit' ≡ commit → DoesOn devices commit job buffer (WriteExtent device e) read devices' commit'
     did_write (Read extent) device e choice read can b n r d c = absurd can.0
     did_write (Write extent content) device e choice read can b n r d c = record {
-      gives = λ shape t actors. (can.1, (r, refl), refl, can.2);
+      gives = λ shape t actors x. (can.1, (r, refl), refl, can.2);
       copies = tt;
       devices_are = d ∙ ap (λ new. with_device device devices new) (lands_all device choice b n (device_in device devices) e.first (contents_for (Write extent content) buffer e.count));
       commit_is = c;
     }
     did_write (Migrate migration block) device e choice read can b n r d c = record {
-      gives = λ shape t actors. (can.1, (r, refl), refl, can.2);
+      gives = λ shape t actors x. (can.1, (r, refl), refl, can.2);
       copies = tt;
       devices_are = d ∙ ap (λ new. with_device device devices new) (lands_all device choice b n (device_in device devices) e.first buffer);
       commit_is = c;
     }
+    did_write (Replace old new) device e choice read can b n r d c = absurd can.0
     did_write Flush device e choice read can b n r d c = absurd can.0
     did_write (Open mode) device e choice read can b n r d c = absurd can.0
 
@@ -129,34 +132,39 @@ module _ (devices : Devices (List History)) (commit : Option RunningCommit) (dev
   module _ (buffer : List Bytes) where
     pub did_sync : (job : Job) (device : Dev) (read : List Bytes) → IsDoable devices commit job (Sync device) → read ≡ [] → devices' ≡ with_device device devices (synced (device_in device devices)) → commit' ≡ commit_by commit (Device (Sync device)) Done Plain →
         DoesOn devices commit job buffer (Sync device) read devices' commit'
-    did_sync (Read extent) Metadata read can r d c = record { gives = λ shape t actors. (r, refl, syncs_so commit can t); copies = tt; devices_are = d; commit_is = c }
-    did_sync (Write extent content) Metadata read can r d c = record { gives = λ shape t actors. (r, refl, syncs_so commit can t); copies = tt; devices_are = d; commit_is = c }
-    did_sync Flush Metadata read can r d c = record { gives = λ shape t actors. (r, refl, syncs_so commit can t); copies = tt; devices_are = d; commit_is = c }
-    did_sync (Open mode) Metadata read can r d c = record { gives = λ shape t actors. (r, refl, syncs_so commit can t); copies = tt; devices_are = d; commit_is = c }
-    did_sync (Migrate migration block) Metadata read can r d c = record { gives = λ shape t actors. (r, refl, syncs_so commit can t); copies = tt; devices_are = d; commit_is = c }
-    did_sync (Read extent) Cache read can r d c = record { gives = λ shape t actors. ((r, refl), refl); copies = tt; devices_are = d; commit_is = c }
-    did_sync (Write extent content) Cache read can r d c = record { gives = λ shape t actors. ((r, refl), refl); copies = tt; devices_are = d; commit_is = c }
-    did_sync Flush Cache read can r d c = record { gives = λ shape t actors. ((r, refl), refl); copies = tt; devices_are = d; commit_is = c }
-    did_sync (Open mode) Cache read can r d c = record { gives = λ shape t actors. ((r, refl), refl); copies = tt; devices_are = d; commit_is = c }
-    did_sync (Migrate migration block) Cache read can r d c = record { gives = λ shape t actors. ((r, refl), refl); copies = tt; devices_are = d; commit_is = c }
-    did_sync (Read extent) Origin read can r d c = record { gives = λ shape t actors. ((r, refl), refl); copies = tt; devices_are = d; commit_is = c }
-    did_sync (Write extent content) Origin read can r d c = record { gives = λ shape t actors. ((r, refl), refl); copies = tt; devices_are = d; commit_is = c }
-    did_sync Flush Origin read can r d c = record { gives = λ shape t actors. ((r, refl), refl); copies = tt; devices_are = d; commit_is = c }
-    did_sync (Open mode) Origin read can r d c = record { gives = λ shape t actors. ((r, refl), refl); copies = tt; devices_are = d; commit_is = c }
-    did_sync (Migrate migration block) Origin read can r d c = record { gives = λ shape t actors. ((r, refl), refl); copies = tt; devices_are = d; commit_is = c }
+    did_sync (Read extent) Metadata read can r d c = record { gives = λ shape t actors x. (r, refl, syncs_so commit can t); copies = tt; devices_are = d; commit_is = c }
+    did_sync (Write extent content) Metadata read can r d c = record { gives = λ shape t actors x. (r, refl, syncs_so commit can t); copies = tt; devices_are = d; commit_is = c }
+    did_sync Flush Metadata read can r d c = record { gives = λ shape t actors x. (r, refl, syncs_so commit can t); copies = tt; devices_are = d; commit_is = c }
+    did_sync (Open mode) Metadata read can r d c = record { gives = λ shape t actors x. (r, refl, syncs_so commit can t); copies = tt; devices_are = d; commit_is = c }
+    did_sync (Migrate migration block) Metadata read can r d c = record { gives = λ shape t actors x. (r, refl, syncs_so commit can t); copies = tt; devices_are = d; commit_is = c }
+    did_sync (Replace old new) Metadata read can r d c = record { gives = λ shape t actors x. (r, refl, syncs_so commit can t); copies = tt; devices_are = d; commit_is = c }
+    did_sync (Read extent) Cache read can r d c = record { gives = λ shape t actors x. ((r, refl), refl); copies = tt; devices_are = d; commit_is = c }
+    did_sync (Write extent content) Cache read can r d c = record { gives = λ shape t actors x. ((r, refl), refl); copies = tt; devices_are = d; commit_is = c }
+    did_sync Flush Cache read can r d c = record { gives = λ shape t actors x. ((r, refl), refl); copies = tt; devices_are = d; commit_is = c }
+    did_sync (Open mode) Cache read can r d c = record { gives = λ shape t actors x. ((r, refl), refl); copies = tt; devices_are = d; commit_is = c }
+    did_sync (Migrate migration block) Cache read can r d c = record { gives = λ shape t actors x. ((r, refl), refl); copies = tt; devices_are = d; commit_is = c }
+    did_sync (Replace old new) Cache read can r d c = record { gives = λ shape t actors x. ((r, refl), refl); copies = tt; devices_are = d; commit_is = c }
+    did_sync (Read extent) Origin read can r d c = record { gives = λ shape t actors x. ((r, refl), refl); copies = tt; devices_are = d; commit_is = c }
+    did_sync (Write extent content) Origin read can r d c = record { gives = λ shape t actors x. ((r, refl), refl); copies = tt; devices_are = d; commit_is = c }
+    did_sync Flush Origin read can r d c = record { gives = λ shape t actors x. ((r, refl), refl); copies = tt; devices_are = d; commit_is = c }
+    did_sync (Open mode) Origin read can r d c = record { gives = λ shape t actors x. ((r, refl), refl); copies = tt; devices_are = d; commit_is = c }
+    did_sync (Migrate migration block) Origin read can r d c = record { gives = λ shape t actors x. ((r, refl), refl); copies = tt; devices_are = d; commit_is = c }
+    did_sync (Replace old new) Origin read can r d c = record { gives = λ shape t actors x. ((r, refl), refl); copies = tt; devices_are = d; commit_is = c }
 
     pub did_put : (job : Job) (step : DeviceStep) (read : List Bytes) → IsPut step → read ≡ [] → WasPut commit step devices.metadata devices'.metadata → devices' ≡ record devices { metadata = devices'.metadata } → commit' ≡ led commit Done →
         DoesOn devices commit job buffer step read devices' commit'
-    did_put (Read extent) (WriteNode number) read put r p d c = record { gives = λ shape t actors. (r, refl, p); copies = tt; devices_are = d; commit_is = c }
-    did_put (Write extent content) (WriteNode number) read put r p d c = record { gives = λ shape t actors. (r, refl, p); copies = tt; devices_are = d; commit_is = c }
-    did_put Flush (WriteNode number) read put r p d c = record { gives = λ shape t actors. (r, refl, p); copies = tt; devices_are = d; commit_is = c }
-    did_put (Open mode) (WriteNode number) read put r p d c = record { gives = λ shape t actors. (r, refl, p); copies = tt; devices_are = d; commit_is = c }
-    did_put (Migrate migration block) (WriteNode number) read put r p d c = record { gives = λ shape t actors. (r, refl, p); copies = tt; devices_are = d; commit_is = c }
-    did_put (Read extent) WriteRoot read put r p d c = record { gives = λ shape t actors. (r, refl, p); copies = tt; devices_are = d; commit_is = c }
-    did_put (Write extent content) WriteRoot read put r p d c = record { gives = λ shape t actors. (r, refl, p); copies = tt; devices_are = d; commit_is = c }
-    did_put Flush WriteRoot read put r p d c = record { gives = λ shape t actors. (r, refl, p); copies = tt; devices_are = d; commit_is = c }
-    did_put (Open mode) WriteRoot read put r p d c = record { gives = λ shape t actors. (r, refl, p); copies = tt; devices_are = d; commit_is = c }
-    did_put (Migrate migration block) WriteRoot read put r p d c = record { gives = λ shape t actors. (r, refl, p); copies = tt; devices_are = d; commit_is = c }
+    did_put (Read extent) (WriteNode number) read put r p d c = record { gives = λ shape t actors x. (r, refl, p); copies = tt; devices_are = d; commit_is = c }
+    did_put (Write extent content) (WriteNode number) read put r p d c = record { gives = λ shape t actors x. (r, refl, p); copies = tt; devices_are = d; commit_is = c }
+    did_put Flush (WriteNode number) read put r p d c = record { gives = λ shape t actors x. (r, refl, p); copies = tt; devices_are = d; commit_is = c }
+    did_put (Open mode) (WriteNode number) read put r p d c = record { gives = λ shape t actors x. (r, refl, p); copies = tt; devices_are = d; commit_is = c }
+    did_put (Migrate migration block) (WriteNode number) read put r p d c = record { gives = λ shape t actors x. (r, refl, p); copies = tt; devices_are = d; commit_is = c }
+    did_put (Replace old new) (WriteNode number) read put r p d c = record { gives = λ shape t actors x. (r, refl, p); copies = tt; devices_are = d; commit_is = c }
+    did_put (Read extent) WriteRoot read put r p d c = record { gives = λ shape t actors x. (r, refl, p); copies = tt; devices_are = d; commit_is = c }
+    did_put (Write extent content) WriteRoot read put r p d c = record { gives = λ shape t actors x. (r, refl, p); copies = tt; devices_are = d; commit_is = c }
+    did_put Flush WriteRoot read put r p d c = record { gives = λ shape t actors x. (r, refl, p); copies = tt; devices_are = d; commit_is = c }
+    did_put (Open mode) WriteRoot read put r p d c = record { gives = λ shape t actors x. (r, refl, p); copies = tt; devices_are = d; commit_is = c }
+    did_put (Migrate migration block) WriteRoot read put r p d c = record { gives = λ shape t actors x. (r, refl, p); copies = tt; devices_are = d; commit_is = c }
+    did_put (Replace old new) WriteRoot read put r p d c = record { gives = λ shape t actors x. (r, refl, p); copies = tt; devices_are = d; commit_is = c }
     did_put job step read put r p d c = absurd put
 
   -- ---- that fail
@@ -210,71 +218,75 @@ puts_sector image steps step b p e = absurd p
 -- ---- the desk
 
 module _ (desk : DeskState Quiet) (commit : Option RunningCommit) (desk' : DeskState Quiet) (commit' : Option RunningCommit) where
-  pub did_begin : (job : Job) (clean : Bool) (most nodes : ℕ) (running : RunningCommit) → clean ≡ false → nodes ≤ most → nodes ≡ length running.image.nodes.items → running.steps ≡ NodesWritten 0 → HasBegun desk running.image desk' → AreWhole running.image → commit' ≡ Some running →
-      WasAsked desk commit job (BeginCommit clean most) (Began nodes) desk' commit'
-  did_begin job clean most nodes running n few many steps begun whole c =
+  pub did_begin : (held : List Order) (job : Job) (clean : Bool) (most nodes : ℕ) (running : RunningCommit) → clean ≡ false → nodes ≤ most → nodes ≡ length running.image.nodes.items → running.steps ≡ NodesWritten 0 → HasBegun desk running.image desk' → AreWhole running.image → commit' ≡ Some running →
+      WasAsked desk commit job held (BeginCommit clean most) (Began nodes) desk' commit'
+  did_begin held job clean most nodes running n few many steps begun whole c =
       let same : HasBegun desk running.image (commit_begun desk desk'.tree) = subst (λ (d : DeskState Quiet). HasBegun desk running.image d) begun.state begun in
-      record { chosen = Commits running desk'.tree; gives = λ shape devices words actors. by_job same shape devices words actors job; desk_is = begun.state; commit_is = c }
+      record { chosen = Commits running desk'.tree; gives = λ shape devices words actors x own. by_job same shape devices words actors x job; desk_is = begun.state; commit_is = c }
     where
-      by_job : HasBegun desk running.image (commit_begun desk desk'.tree) → (shape : Shape) (devices : Devices (List History)) (words : Words) (actors : List Actor) (job : Job) → Gives shape (stood devices commit (record { words = words; desk = desk }) actors) job (Desk (BeginCommit clean most)) (Began nodes) [] (Commits running desk'.tree)
-      by_job h shape devices words actors (Read extent) = (refl, n, (few, many, steps, h, whole))
-      by_job h shape devices words actors (Write extent content) = (refl, n, (few, many, steps, h, whole))
-      by_job h shape devices words actors Flush = (refl, n, (few, many, steps, h, whole))
-      by_job h shape devices words actors (Open mode) = (refl, n, (few, many, steps, h, whole))
-      by_job h shape devices words actors (Migrate migration block) = (refl, n, (few, many, steps, h, whole))
+      by_job : HasBegun desk running.image (commit_begun desk desk'.tree) → (shape : Shape) (devices : Devices (List History)) (words : Words) (actors : List Actor) (x : Actor) (job : Job) → Gives shape (stood devices commit (record { words = words; desk = desk }) actors) x job (Desk (BeginCommit clean most)) (Began nodes) [] (Commits running desk'.tree)
+      by_job h shape devices words actors x (Read extent) = (refl, n, (few, many, steps, h, whole))
+      by_job h shape devices words actors x (Write extent content) = (refl, n, (few, many, steps, h, whole))
+      by_job h shape devices words actors x Flush = (refl, n, (few, many, steps, h, whole))
+      by_job h shape devices words actors x (Open mode) = (refl, n, (few, many, steps, h, whole))
+      by_job h shape devices words actors x (Migrate migration block) = (refl, n, (few, many, steps, h, whole))
+      by_job h shape devices words actors x (Replace old new) = (refl, n, (few, many, steps, h, whole))
 
-  pub did_refuse : (job : Job) (clean : Bool) (most : ℕ) (refusal : Refusal) → clean ≡ false → IsBeginRefused desk refusal → desk' ≡ desk → commit' ≡ commit → WasAsked desk commit job (BeginCommit clean most) (GotRefused refusal) desk' commit'
-  did_refuse job clean most refusal n refused d c = record { chosen = Plain; gives = λ shape devices words actors. by_job shape devices words actors job; desk_is = d; commit_is = c }
+  pub did_refuse : (held : List Order) (job : Job) (clean : Bool) (most : ℕ) (refusal : Refusal) → clean ≡ false → IsBeginRefused desk refusal → desk' ≡ desk → commit' ≡ commit → WasAsked desk commit job held (BeginCommit clean most) (GotRefused refusal) desk' commit'
+  did_refuse held job clean most refusal n refused d c = record { chosen = Plain; gives = λ shape devices words actors x own. by_job shape devices words actors x job; desk_is = d; commit_is = c }
     where
-      by_job : (shape : Shape) (devices : Devices (List History)) (words : Words) (actors : List Actor) (job : Job) → Gives shape (stood devices commit (record { words = words; desk = desk }) actors) job (Desk (BeginCommit clean most)) (GotRefused refusal) [] Plain
-      by_job shape devices words actors (Read extent) = (refl, n, refused)
-      by_job shape devices words actors (Write extent content) = (refl, n, refused)
-      by_job shape devices words actors Flush = (refl, n, refused)
-      by_job shape devices words actors (Open mode) = (refl, n, refused)
-      by_job shape devices words actors (Migrate migration block) = (refl, n, refused)
+      by_job : (shape : Shape) (devices : Devices (List History)) (words : Words) (actors : List Actor) (x : Actor) (job : Job) → Gives shape (stood devices commit (record { words = words; desk = desk }) actors) x job (Desk (BeginCommit clean most)) (GotRefused refusal) [] Plain
+      by_job shape devices words actors x (Read extent) = (refl, n, refused)
+      by_job shape devices words actors x (Write extent content) = (refl, n, refused)
+      by_job shape devices words actors x Flush = (refl, n, refused)
+      by_job shape devices words actors x (Open mode) = (refl, n, refused)
+      by_job shape devices words actors x (Migrate migration block) = (refl, n, refused)
+      by_job shape devices words actors x (Replace old new) = (refl, n, refused)
 
-  pub did_end : (job : Job) → is_all_done commit ≡ true → desk' ≡ ended desk → commit' ≡ None → WasAsked desk commit job EndCommit Done desk' commit'
-  did_end job done d c = record { chosen = Plain; gives = λ shape devices words actors. by_job shape devices words actors job; desk_is = d; commit_is = c }
+  pub did_end : (held : List Order) (job : Job) → is_all_done commit ≡ true → desk' ≡ ended desk → commit' ≡ None → WasAsked desk commit job held EndCommit Done desk' commit'
+  did_end held job done d c = record { chosen = Plain; gives = λ shape devices words actors x own. by_job shape devices words actors x job; desk_is = d; commit_is = c }
     where
-      by_job : (shape : Shape) (devices : Devices (List History)) (words : Words) (actors : List Actor) (job : Job) → Gives shape (stood devices commit (record { words = words; desk = desk }) actors) job (Desk EndCommit) Done [] Plain
-      by_job shape devices words actors (Read extent) = ((refl, refl), refl, done)
-      by_job shape devices words actors (Write extent content) = ((refl, refl), refl, done)
-      by_job shape devices words actors Flush = ((refl, refl), refl, done)
-      by_job shape devices words actors (Open mode) = ((refl, refl), refl, done)
-      by_job shape devices words actors (Migrate migration block) = ((refl, refl), refl, done)
+      by_job : (shape : Shape) (devices : Devices (List History)) (words : Words) (actors : List Actor) (x : Actor) (job : Job) → Gives shape (stood devices commit (record { words = words; desk = desk }) actors) x job (Desk EndCommit) Done [] Plain
+      by_job shape devices words actors x (Read extent) = ((refl, refl), refl, done)
+      by_job shape devices words actors x (Write extent content) = ((refl, refl), refl, done)
+      by_job shape devices words actors x Flush = ((refl, refl), refl, done)
+      by_job shape devices words actors x (Open mode) = ((refl, refl), refl, done)
+      by_job shape devices words actors x (Migrate migration block) = ((refl, refl), refl, done)
+      by_job shape devices words actors x (Replace old new) = ((refl, refl), refl, done)
 
   -- a migration's block is mapped, or there is no memory for that
-  pub did_map : (with_entry : Quiet → ℕ → ℕ → Quiet) (job : Job) (b : OBlock) (c : CBlock) (got : Got) → Migrates job → Fits (Desk (Map b c)) got → DidMap with_entry b c got desk desk' → commit' ≡ commit → WasAsked desk commit job (Map b c) got desk' commit'
-  did_map with_entry (Migrate migration block) b c Done m f did k = record {
+  pub did_map : (held : List Order) (with_entry : Quiet → ℕ → ℕ → Quiet) (job : Job) (b : OBlock) (c : CBlock) (got : Got) → Migrates job → Fits (Desk (Map b c)) got → DidMap with_entry b c got desk desk' → commit' ≡ commit → WasAsked desk commit job held (Map b c) got desk' commit'
+  did_map held with_entry (Migrate migration block) b c Done m f did k = record {
     chosen = Asks desk';
-    gives = λ shape devices words actors. (refl, (did.0, did.1.0, did.1.1 ∙ ap (λ (p : Quiet). mapped desk c desk'.tree p) (sym (ap (λ (d : DeskState Quiet). d.policy) did.1.1))));
+    gives = λ shape devices words actors x own. (refl, (did.0, did.1.0, did.1.1 ∙ ap (λ (p : Quiet). mapped desk c desk'.tree p) (sym (ap (λ (d : DeskState Quiet). d.policy) did.1.1))));
     desk_is = refl;
     commit_is = k;
   }
-  did_map with_entry (Migrate migration block) b c (GotRefused Memory) m f did k = record { chosen = Plain; gives = λ shape devices words actors. (refl, refl); desk_is = did; commit_is = k }
-  did_map with_entry (Migrate migration block) b c (GotRefused refusal) m f did k = absurd f
-  did_map with_entry (Migrate migration block) b c got m f did k = absurd did
-  did_map with_entry job b c got m f did k = absurd m
+  did_map held with_entry (Migrate migration block) b c (GotRefused Memory) m f did k = record { chosen = Plain; gives = λ shape devices words actors x own. (refl, refl); desk_is = did; commit_is = k }
+  did_map held with_entry (Migrate migration block) b c (GotRefused refusal) m f did k = absurd f
+  did_map held with_entry (Migrate migration block) b c got m f did k = absurd did
+  did_map held with_entry job b c got m f did k = absurd m
 
   -- or it is unmapped, where the desk has it and its order lets it go
-  pub did_unmap : (without_entry : Quiet → ℕ → Quiet) (job : Job) (b : OBlock) → Migrates job → DidUnmap without_entry b desk desk' → commit' ≡ commit → WasAsked desk commit job (Unmap b) Done desk' commit'
-  did_unmap without_entry (Migrate migration block) b m did k = record { chosen = Asks desk'; gives = λ shape devices words actors. (refl, refl, (λ may. left may (did.0 may), did.1)); desk_is = refl; commit_is = k }
+  pub did_unmap : (held : List Order) (without_entry : Quiet → ℕ → Quiet) (job : Job) (b : OBlock) → Migrates job → DidUnmap without_entry b desk desk' → commit' ≡ commit → WasAsked desk commit job held (Unmap b) Done desk' commit'
+  did_unmap held without_entry (Migrate migration block) b m did k = record { chosen = Asks desk'; gives = λ shape devices words actors x own. (refl, refl, (λ may. left may (did.0 may), did.1)); desk_is = refl; commit_is = k }
     where
       left : (may : MayUnmap desk b) → HasLeft without_entry desk b may.cache desk' → HasLeft (λ policy block. desk'.policy) desk b may.cache desk'
       left may l = (l.0, l.1 ∙ ap (λ (p : Quiet). unmapped desk may.cache desk'.tree p) (sym (ap (λ (d : DeskState Quiet). d.policy) l.1)))
-  did_unmap without_entry job b m did k = absurd m
+  did_unmap held without_entry job b m did k = absurd m
 
-  -- or its order is given up
-  pub did_release : (job : Job) (b : OBlock) → Migrates job → IsGivenUp (order_of job) desk desk' → commit' ≡ commit → WasAsked desk commit job (ReleaseOrder b) Done desk' commit'
-  did_release (Migrate migration block) b m up k = record { chosen = Asks desk'; gives = λ shape devices words actors. (refl, refl, up); desk_is = refl; commit_is = k }
-  did_release job b m up k = absurd m
+  -- or an order of those that the job may give up is
+  pub did_release : (held : List Order) (job : Job) (b : OBlock) → GivesUp job → DidRelease held b desk desk' → commit' ≡ commit → WasAsked desk commit job held (ReleaseOrder b) Done desk' commit'
+  did_release held (Migrate migration block) b m up k = record { chosen = Asks desk'; gives = λ shape devices words actors x own. (refl, refl, subst (λ (os : List Order). DidRelease os b desk desk') (sym own) up); desk_is = refl; commit_is = k }
+  did_release held Flush b m up k = record { chosen = Asks desk'; gives = λ shape devices words actors x own. (refl, refl, subst (λ (os : List Order). DidRelease os b desk desk') (sym own) up); desk_is = refl; commit_is = k }
+  did_release held job b m up k = absurd m
 
 -- ---- an actor
 
-module _ (devices : Devices (List History)) (old : Target) (a : ℕ) (buffer : List Bytes) (devices' : Devices (List History)) (new : Target) where
+module _ (devices : Devices (List History)) (old : Target) (a : ℕ) (held : List Order) (buffer : List Bytes) (devices' : Devices (List History)) (new : Target) where
   pub performs_word : (job : Job) (step : CellStep) (got : Got) (read : List Bytes) → got ≡ got_of (result_of old.crew.words step) → read ≡ [] → devices' ≡ devices → new.crew ≡ crew_after old.crew a step → new.desk ≡ old.desk → new.commit ≡ old.commit → new.failed ≡ flag new.crew.words.fail →
-      Performs devices old a job buffer (Cell step) got read devices' new
-  performs_word job step got read g r d w k c f = record { chosen = Plain; gives = λ shape actors. by_job shape actors job; copies = no_copy job; leads = record { devices_are = d; crew_is = w; desk_is = k; commit_is = c; failed_is = f } }
+      Performs devices old a job held buffer (Cell step) got read devices' new
+  performs_word job step got read g r d w k c f = record { chosen = Plain; gives = λ shape actors x own. by_job shape actors x job; copies = no_copy job; leads = record { devices_are = d; crew_is = w; desk_is = k; commit_is = c; failed_is = f } }
     where
       no_copy : (job : Job) → IsCopy devices job (Cell step) read
       no_copy (Read extent) = tt
@@ -282,16 +294,18 @@ module _ (devices : Devices (List History)) (old : Target) (a : ℕ) (buffer : L
       no_copy Flush = tt
       no_copy (Open mode) = tt
       no_copy (Migrate migration block) = tt
+      no_copy (Replace old new) = tt
 
-      by_job : (shape : Shape) (actors : List Actor) (job : Job) → Gives shape (over devices old actors) job (Cell step) got (noted_read job (Cell step) read) Plain
-      by_job shape actors (Read extent) = ((r, refl), g)
-      by_job shape actors (Write extent content) = ((r, refl), g)
-      by_job shape actors Flush = ((r, refl), g)
-      by_job shape actors (Open mode) = ((r, refl), g)
-      by_job shape actors (Migrate migration block) = ((r, refl), g)
+      by_job : (shape : Shape) (actors : List Actor) (x : Actor) (job : Job) → Gives shape (over devices old actors) x job (Cell step) got (noted_read job (Cell step) read) Plain
+      by_job shape actors x (Read extent) = ((r, refl), g)
+      by_job shape actors x (Write extent content) = ((r, refl), g)
+      by_job shape actors x Flush = ((r, refl), g)
+      by_job shape actors x (Open mode) = ((r, refl), g)
+      by_job shape actors x (Migrate migration block) = ((r, refl), g)
+      by_job shape actors x (Replace old new) = ((r, refl), g)
 
-  pub performs_end : (job : Job) (answer : Answer) (read : List Bytes) → IsPossible devices old.commit job (End answer) → read ≡ [] → devices' ≡ devices → new ≡ old → old.failed ≡ flag old.crew.words.fail → Performs devices old a job buffer (End answer) Done read devices' new
-  performs_end job answer read can r d n f = rw n (record { chosen = Plain; gives = λ shape actors. by_job shape actors job answer can; copies = no_copy job; leads = record { devices_are = d; crew_is = refl; desk_is = refl; commit_is = refl; failed_is = f } })
+  pub performs_end : (job : Job) (answer : Answer) (read : List Bytes) → IsPossible devices old.commit job (End answer) → read ≡ [] → devices' ≡ devices → new ≡ old → old.failed ≡ flag old.crew.words.fail → Performs devices old a job held buffer (End answer) Done read devices' new
+  performs_end job answer read can r d n f = rw n (record { chosen = Plain; gives = λ shape actors x own. by_job shape actors x job answer can; copies = no_copy job; leads = record { devices_are = d; crew_is = refl; desk_is = refl; commit_is = refl; failed_is = f } })
     where
       no_copy : (job : Job) → IsCopy devices job (End answer) read
       no_copy (Read extent) = tt
@@ -299,28 +313,30 @@ module _ (devices : Devices (List History)) (old : Target) (a : ℕ) (buffer : L
       no_copy Flush = tt
       no_copy (Open mode) = tt
       no_copy (Migrate migration block) = tt
+      no_copy (Replace old new) = tt
 
-      by_job : (shape : Shape) (actors : List Actor) (job : Job) (answer : Answer) → IsPossible devices old.commit job (End answer) → Gives shape (over devices old actors) job (End answer) Done (noted_read job (End answer) read) Plain
-      by_job shape actors (Read extent) answer can = ((r, refl), refl)
-      by_job shape actors (Write extent content) answer can = ((r, refl), refl)
-      by_job shape actors Flush answer can = ((r, refl), refl)
-      by_job shape actors (Migrate migration block) answer can = ((r, refl), refl)
-      by_job shape actors (Open mode) Finished can = absurd (can tt)
-      by_job shape actors (Open mode) (Refuses refusal) can = ((r, refl), refl)
+      by_job : (shape : Shape) (actors : List Actor) (x : Actor) (job : Job) (answer : Answer) → IsPossible devices old.commit job (End answer) → Gives shape (over devices old actors) x job (End answer) Done (noted_read job (End answer) read) Plain
+      by_job shape actors x (Read extent) answer can = ((r, refl), refl)
+      by_job shape actors x (Write extent content) answer can = ((r, refl), refl)
+      by_job shape actors x Flush answer can = ((r, refl), refl)
+      by_job shape actors x (Migrate migration block) answer can = ((r, refl), refl)
+      by_job shape actors x (Replace old new) answer can = ((r, refl), refl)
+      by_job shape actors x (Open mode) Finished can = absurd (can tt)
+      by_job shape actors x (Open mode) (Refuses refusal) can = ((r, refl), refl)
 
-  pub performs_device : (job : Job) (step : DeviceStep) (read : List Bytes) (commit' : Option RunningCommit) → DoesOn devices old.commit job buffer step read devices' commit' → new ≡ record old { commit = commit' } → old.failed ≡ flag old.crew.words.fail → Performs devices old a job buffer (Device step) Done read devices' new
+  pub performs_device : (job : Job) (step : DeviceStep) (read : List Bytes) (commit' : Option RunningCommit) → DoesOn devices old.commit job buffer step read devices' commit' → new ≡ record old { commit = commit' } → old.failed ≡ flag old.crew.words.fail → Performs devices old a job held buffer (Device step) Done read devices' new
   performs_device job step read commit' does n f = rw n (record {
     chosen = chosen_at step devices';
-    gives = λ shape actors. does.gives shape (told old) actors;
+    gives = λ shape actors x own. does.gives shape (told old) actors x;
     copies = does.copies;
     leads = record { devices_are = does.devices_are; crew_is = refl; desk_is = refl; commit_is = does.commit_is; failed_is = f };
   })
 
-  pub performs_desk : (job : Job) (step : DeskStep) (got : Got) (read : List Bytes) (desk' : DeskState Quiet) (commit' : Option RunningCommit) → WasAsked old.desk old.commit job step got desk' commit' → read ≡ [] → devices' ≡ devices →
-      new.crew ≡ old.crew → new.failed ≡ old.failed → new.desk ≡ desk' → new.commit ≡ commit' → old.failed ≡ flag old.crew.words.fail → Performs devices old a job buffer (Desk step) got read devices' new
+  pub performs_desk : (job : Job) (step : DeskStep) (got : Got) (read : List Bytes) (desk' : DeskState Quiet) (commit' : Option RunningCommit) → WasAsked old.desk old.commit job held step got desk' commit' → read ≡ [] → devices' ≡ devices →
+      new.crew ≡ old.crew → new.failed ≡ old.failed → new.desk ≡ desk' → new.commit ≡ commit' → old.failed ≡ flag old.crew.words.fail → Performs devices old a job held buffer (Desk step) got read devices' new
   performs_desk job step got read desk' commit' asked r d w b k c f = rw r (record {
     chosen = asked.chosen;
-    gives = λ shape actors. subst (λ (none : List Bytes). Gives shape (over devices old actors) job (Desk step) got none asked.chosen) (nothing job) (asked.gives shape devices old.crew.words actors);
+    gives = λ shape actors x own. subst (λ (none : List Bytes). Gives shape (over devices old actors) x job (Desk step) got none asked.chosen) (nothing job) (asked.gives shape devices old.crew.words actors x own);
     copies = no_copy job;
     leads = record { devices_are = d; crew_is = w; desk_is = k ∙ asked.desk_is; commit_is = c ∙ asked.commit_is; failed_is = b ∙ f ∙ sym (ap (λ (x : CrewState). flag x.words.fail) w) };
   })
@@ -331,6 +347,7 @@ module _ (devices : Devices (List History)) (old : Target) (a : ℕ) (buffer : L
       nothing Flush = refl
       nothing (Open mode) = refl
       nothing (Migrate migration block) = refl
+      nothing (Replace old new) = refl
 
       no_copy : (job : Job) → IsCopy devices job (Desk step) []
       no_copy (Read extent) = tt
@@ -338,3 +355,4 @@ module _ (devices : Devices (List History)) (old : Target) (a : ℕ) (buffer : L
       no_copy Flush = tt
       no_copy (Open mode) = tt
       no_copy (Migrate migration block) = tt
+      no_copy (Replace old new) = tt

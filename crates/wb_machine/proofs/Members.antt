@@ -60,9 +60,9 @@ set_task (n ∷ ms) (d ∷ cs) zero m = refl
 set_task (n ∷ ms) (d ∷ cs) (suc a) m = ap (λ xs. seat n d ∷ xs) (set_task ms cs a m)
 
 -- where nobody is at anything, one with this card rests beside others that have none
-pub all_free : (n a : ℕ) (card : Card) → seated (replicate n free) (slice_set (replicate n blank_card) a card) ≡ slice_set (replicate n resting) a (record { task = None; card = card; orders = []; buffer = [] })
+pub all_free : (n a : ℕ) (card : Card) → seated (replicate n free) (slice_set (replicate n blank_card) a card) ≡ slice_set (replicate n resting) a (record { task = None; card = card; orders = []; awaiting = []; buffer = [] })
 all_free zero a card = refl
-all_free (suc n) zero card = ap (λ xs. record { task = None; card = card; orders = []; buffer = [] } ∷ xs) (none_set n)
+all_free (suc n) zero card = ap (λ xs. record { task = None; card = card; orders = []; awaiting = []; buffer = [] } ∷ xs) (none_set n)
   where
     none_set : (k : ℕ) → seated (replicate k free) (replicate k blank_card) ≡ replicate k resting
     none_set zero = refl

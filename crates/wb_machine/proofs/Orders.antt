@@ -1,5 +1,5 @@
 -- What a start of who is at nothing comes to over a target, by the order that it has or takes.
-use Rattle.std.proofs.Common.{◌≡◌, ◌∙◌, ◌&&◌, inl, inr, Bool, true, false, List, [], ◌∷◌, Option, Some, None, refl, sym, ap, subst, is_some, is_none, not, if◌then◌else◌, filter}
+use Rattle.std.proofs.Common.{◌≡◌, ◌∙◌, ◌&&◌, inl, inr, Bool, true, false, List, [], ◌∷◌, Option, Some, None, refl, sym, ap, subst, is_some, is_none, not, if◌then◌else◌, filter, ℕ}
 use Rattle.std.proofs.Common.{arith}
 use Rattle.std.specs.declared.alloc.Global.{Global}
 use Rattle.wb_types.proofs.Cutting.{pieces_cut}
@@ -7,22 +7,30 @@ use Rattle.wb_types.specs.declared.refusal.Refusal.{Refusal}
 use Rattle.wb_types.specs.declared.refusal.Refusal.TheVariants.{Busy}
 use Rattle.wb_policy.specs.declared.order.Order.{Order}
 use Rattle.wb_policy.specs.declared.quiet.Quiet.{Quiet}
-use Rattle.wb_desk.specs.Desks.{DeskState}
+use Rattle.wb_desk.specs.Desks.{DeskState, MayReserve, holdings}
 use Rattle.wb_tasks.specs.Plan.{Plan, table}
 use Rattle.wb_tasks.specs.Tables.{whole_block}
-use Rattle.wb_tasks.specs.declared.step.Migration.TheVariants.{Promote, Demote, Clean}
+use Rattle.wb_tasks.specs.declared.step.Migration.TheVariants.{Demote}
 use Rattle.wb_runs.specs.declared.job.Job.{Job}
-use Rattle.wb_runs.specs.declared.job.Job.TheVariants.{Read, Write, Flush, Open, Migrate}
+use Rattle.wb_runs.specs.declared.job.Job.TheVariants.{Read, Write, Flush, Open, Migrate, Replace}
 use Rattle.wb_runs.specs.declared.event.What.{What}
 use Rattle.wb_runs.specs.declared.event.What.TheVariants.{Skipped, Refused, Started}
 use Rattle.wb_runs.specs.States.{Shape, block_size}
 use Rattle.wb_types.specs.declared.number.OBlock.{OBlock}
 use Rattle.wb_stage.specs.Asking.{is_of}
-use Rattle.wb_runs.specs.Effects.{dropped}
-use Rattle.wb_runs.specs.Happenings.{Plain, Cut, Orders, job_refusal, order_for, task_job}
+use Rattle.wb_runs.specs.Effects.{dropped, replacing}
+use Rattle.wb_runs.specs.Happenings.{Plain, Cut, Orders, job_refusal, order_for, task_job, KeepsMigration, KeepsReplacement, begun_as}
 use Rattle.wb_machine.specs.Life.{wants_target}
 use Rattle.wb_machine.specs.Members.{Member}
-use Rattle.wb_machine.specs.Serving.{GetsJob, IsPassed, Starts, StartsIf, TakesOrder, cut_for, order_of}
+use Rattle.wb_machine.specs.Serving.{GetsJob, IsPassed, Starts, StartsIf, TakesOrder, cut_for, GetsOrder, KeepsFor, is_ordered, order_by}
+use Rattle.wb_policy.specs.declared.order.Order.TheVariants.{Replace as ReplaceOrder}
+use Rattle.wb_policy.specs.Law.{IsMappedAt, IsUnmapped}
+use Rattle.wb_desk.specs.Calls.{reserved}
+use Rattle.wb_desk.specs.Entries.{is_replacement}
+use Rattle.wb_desk.proofs.Index.{mapped_once}
+use Rattle.wb_types.specs.declared.number.CBlock.{CBlock}
+use Rattle.wb_tasks.specs.declared.step.Migration.{Migration}
+use Rattle.wb_tree.specs.Mapping.{IsMapping}
 
 pub none_of : {X : Type 0} (o : Option X) → is_some o ≡ false → o ≡ None
 none_of None e = refl
@@ -52,52 +60,111 @@ refused_request shape desk m (Write extent content) refusal e = record { chosen 
 refused_request shape desk m Flush refusal e = absurd (cc)
 refused_request shape desk m (Open mode) refusal e = absurd (cc)
 refused_request shape desk m (Migrate migration block) refusal e = absurd (cc)
+refused_request shape desk m (Replace old new) refusal e = absurd (cc)
 
--- a migration whose order may not be given is refused as busy
-pub refused_busy : (shape : Shape) (desk : DeskState Quiet) (m : Member) (job : Job) (order : Order) (desk' : DeskState Quiet) (m' : Member) → order_of job ≡ Some order → TakesOrder desk m order false desk' m' → GetsJob shape desk m job (Refused Busy) desk' m'
-refused_busy shape desk m (Migrate migration block) order desk' m' e t =
-    let same : order_for migration block ≡ order = cc in
-    let u = subst (λ (o : Order). TakesOrder desk m o false desk' m') (sym same) t in
-    record { chosen = Plain; gives = λ words card. (u.0, u.1); leaves = (u.2, u.3) }
-refused_busy shape desk m (Read extent) order desk' m' e t = absurd (cc)
-refused_busy shape desk m (Write extent content) order desk' m' e t = absurd (cc)
-refused_busy shape desk m Flush order desk' m' e t = absurd (cc)
-refused_busy shape desk m (Open mode) order desk' m' e t = absurd (cc)
+-- a job whose order may not be given is refused as busy
+pub refused_busy : (shape : Shape) (desk : DeskState Quiet) (m : Member) (job : Job) (desk' : DeskState Quiet) (m' : Member) → is_ordered job ≡ true → TakesOrder desk m job false desk' m' → GetsJob shape desk m job (Refused Busy) desk' m'
+refused_busy shape desk m (Migrate migration block) desk' m' e t = record { chosen = Plain; gives = λ words card. (t.0, λ may. t.1 may.0 (order_for migration block) refl may.1); leaves = (t.2, t.3) }
+refused_busy shape desk m (Replace old new) desk' m' e t = record { chosen = Plain; gives = λ words card. (t.0, λ may. t.1 may.0 (ReplaceOrder old new may.0) refl may.1); leaves = (t.2, t.3) }
+refused_busy shape desk m (Read extent) desk' m' e t = absurd (cc)
+refused_busy shape desk m (Write extent content) desk' m' e t = absurd (cc)
+refused_busy shape desk m Flush desk' m' e t = absurd (cc)
+refused_busy shape desk m (Open mode) desk' m' e t = absurd (cc)
 
 -- who has this task then
 abbrev pub tasked : Member → Job → Plan → Member
-tasked m job plan = record { task = Some (job, plan); orders = m.orders; buffer = m.buffer }
+tasked m job plan = record { task = Some (job, plan); orders = m.orders; awaiting = m.awaiting; buffer = m.buffer }
+
+-- the task of a job that starts, by who has these orders
+abbrev pub begins : Shape → Member → Job → Plan
+begins shape m job = table (task_job shape m.awaiting job (cut_for shape job))
 
 -- a job that needs no order starts
-pub started_request : (shape : Shape) (desk : DeskState Quiet) (m : Member) (job : Job) (plan : Plan) → wants_target job ≡ true → order_of job ≡ None → job_refusal shape job ≡ None → plan ≡ table (task_job shape job (cut_for shape job)) → GetsJob shape desk m job Started desk (tasked m job plan)
+pub started_request : (shape : Shape) (desk : DeskState Quiet) (m : Member) (job : Job) (plan : Plan) → wants_target job ≡ true → is_ordered job ≡ false → job_refusal shape job ≡ None → plan ≡ begins shape m job → GetsJob shape desk m job Started desk (tasked m (begun_as job) plan)
 started_request shape desk m (Read extent) plan w o r p = record { chosen = Cut (cut_for shape (Read extent)); gives = λ words card. (r, pieces_cut 1 extent (omega arith)); leaves = (refl, ap (λ (x : Plan). tasked m (Read extent) x) p) }
 started_request shape desk m (Write extent content) plan w o r p = record { chosen = Cut (cut_for shape (Write extent content)); gives = λ words card. (r, pieces_cut 1 extent (omega arith)); leaves = (refl, ap (λ (x : Plan). tasked m (Write extent content) x) p) }
 started_request shape desk m Flush plan w o r p = record { chosen = Plain; gives = λ words card. tt; leaves = (refl, ap (λ (x : Plan). tasked m Flush x) p) }
 started_request shape desk m (Open mode) plan w o r p = absurd (cc)
 started_request shape desk m (Migrate migration block) plan w o r p = absurd (cc)
+started_request shape desk m (Replace old new) plan w o r p = absurd (cc)
 
--- a migration starts under the order that was had or taken
-pub started_migration : (shape : Shape) (desk : DeskState Quiet) (m : Member) (job : Job) (order : Order) (desk' : DeskState Quiet) (m' : Member) (plan : Plan) → order_of job ≡ Some order → TakesOrder desk m order true desk' m' → plan ≡ table (task_job shape job (cut_for shape job)) →
-    GetsJob shape desk m job Started desk' (tasked m' job plan)
-started_migration shape desk m (Migrate migration block) order desk' m' plan e t p = elim (subst (λ (o : Order). TakesOrder desk m o true desk' m') (sym same) t) [
+-- who is at its task then, with what it had or was given
+tasked_so : (m m' : Member) (job : Job) (plan begun : Plan) → plan ≡ begun → m' ≡ m → tasked m' job plan ≡ tasked m job begun
+tasked_so m m' job plan begun p e = ap (λ (x : Plan). tasked m' job x) p ∙ ap (λ (x : Member). tasked x job begun) e
+
+-- a migration or a replacement starts under the order that was had or taken
+pub started_ordered : (shape : Shape) (desk : DeskState Quiet) (m : Member) (job : Job) (desk' : DeskState Quiet) (m' : Member) (plan : Plan) → is_ordered job ≡ true → TakesOrder desk m job true desk' m' → plan ≡ begins shape m job →
+    GetsJob shape desk m job Started desk' (tasked m' (begun_as job) plan)
+started_ordered shape desk m (Migrate migration block) desk' m' plan e t p = elim t [
   | inl has ↦ record {
     chosen = Cut (cut_for shape (Migrate migration block));
     gives = λ words card. (pieces_cut 1 (whole_block (block_size shape) block) (omega arith), has.0);
-    leaves = (has.1, ap (λ (x : Plan). tasked m' (Migrate migration block) x) p ∙ ap (λ (x : Member). tasked x (Migrate migration block) (table (task_job shape (Migrate migration block) (cut_for shape (Migrate migration block))))) has.2);
+    leaves = (has.1, tasked_so m m' (Migrate migration block) plan (begins shape m (Migrate migration block)) p has.2);
   }
-  | inr given ↦ record {
-    chosen = Orders (cut_for shape (Migrate migration block)) given.0;
-    gives = λ words card. (pieces_cut 1 (whole_block (block_size shape) block) (omega arith), given.1);
-    leaves = (given.2, ap (λ (x : Plan). tasked m' (Migrate migration block) x) p ∙ ap (λ (x : Member). tasked x (Migrate migration block) (table (task_job shape (Migrate migration block) (cut_for shape (Migrate migration block))))) given.3);
-  }
+  | inr given ↦
+      let order : Order = given.1.0 in
+      let same : order_for migration block ≡ order = let both = given.1.1 in cc in
+      let r = subst (λ (o : Order). MayReserve desk given.0 o × (desk' ≡ reserved desk given.0 o false) × (m' ≡ record m { orders = o ∷ m.orders })) (sym same) (given.1.2, given.1.3, given.1.4) in
+      record {
+        chosen = Orders (cut_for shape (Migrate migration block)) given.0;
+        gives = λ words card. (pieces_cut 1 (whole_block (block_size shape) block) (omega arith), r.0);
+        leaves = (r.1, tasked_so (record m { orders = order_for migration block ∷ m.orders }) m' (Migrate migration block) plan (begins shape m (Migrate migration block)) p r.2);
+      }
 ]
-  where
-    same : order_for migration block ≡ order
-    same = cc
-started_migration shape desk m (Read extent) order desk' m' plan e t p = absurd (cc)
-started_migration shape desk m (Write extent content) order desk' m' plan e t p = absurd (cc)
-started_migration shape desk m Flush order desk' m' plan e t p = absurd (cc)
-started_migration shape desk m (Open mode) order desk' m' plan e t p = absurd (cc)
+started_ordered shape desk m (Replace old new) desk' m' plan e t p = elim t [
+  | inl has ↦ record {
+    chosen = Cut (cut_for shape (Replace old new));
+    gives = λ words card. (pieces_cut 1 (whole_block (block_size shape) old) (omega arith), has.0);
+    leaves = (has.1, tasked_so m m' (Migrate Demote old) plan (begins shape m (Replace old new)) p has.2);
+  }
+  | inr given ↦
+      let order : Order = given.1.0 in
+      let same : ReplaceOrder old new given.0 ≡ order = let both = given.1.1 in cc in
+      let r = subst (λ (o : Order). MayReserve desk given.0 o × (desk' ≡ reserved desk given.0 o false) × (m' ≡ record m { orders = o ∷ m.orders })) (sym same) (given.1.2, given.1.3, given.1.4) in
+      record {
+        chosen = Orders (cut_for shape (Replace old new)) given.0;
+        gives = λ words card. (pieces_cut 1 (whole_block (block_size shape) old) (omega arith), r.0);
+        leaves = (r.1, tasked_so (record m { orders = ReplaceOrder old new given.0 ∷ m.orders }) m' (Migrate Demote old) plan (begins shape m (Replace old new)) p r.2);
+      }
+]
+started_ordered shape desk m (Read extent) desk' m' plan e t p = absurd (cc)
+started_ordered shape desk m (Write extent content) desk' m' plan e t p = absurd (cc)
+started_ordered shape desk m Flush desk' m' plan e t p = absurd (cc)
+started_ordered shape desk m (Open mode) desk' m' plan e t p = absurd (cc)
+
+-- ---- who takes an order
+
+-- under one that it has
+pub takes_kept : (desk : DeskState Quiet) (m : Member) (job : Job) → KeepsFor desk m.orders job → TakesOrder desk m job true desk m
+takes_kept desk m job k = inl (k, refl, refl)
+
+-- under one that is given, or not
+pub takes_migration : (desk : DeskState Quiet) (m : Member) (migration : Migration) (block : OBlock) (b : Bool) (desk' : DeskState Quiet) (m' : Member) → ¬ KeepsMigration desk m.orders migration block → GetsOrder desk m (order_for migration block) b desk' m' → TakesOrder desk m (Migrate migration block) b desk' m'
+takes_migration desk m migration block true desk' m' n g = inr (g.0, (order_for migration block, refl, g.1, g.2, g.3))
+takes_migration desk m migration block false desk' m' n g = (n, (λ cache order e may. let same : order_for migration block ≡ order = cc in g.0 cache (subst (λ (o : Order). MayReserve desk cache o) (sym same) may)), g.1, g.2)
+
+-- a replacement takes the cache block where its block is
+takes_where : (desk : DeskState Quiet) (old new : OBlock) (cache : CBlock) (order : Order) → order_by (Replace old new) cache ≡ Some order → MayReserve desk cache order → IsMappedAt (holdings desk) old.0 cache.0
+takes_where desk old new cache order e may = let same : ReplaceOrder old new cache ≡ order = cc in (subst (λ (o : Order). MayReserve desk cache o) (sym same) may).lawful.1
+
+pub takes_replacement : (desk : DeskState Quiet) (m : Member) (old new : OBlock) (cache : CBlock) (b : Bool) (desk' : DeskState Quiet) (m' : Member) → IsMapping desk.geometry.cache_blocks desk.geometry.origin_blocks desk.tree.entries → IsMappedAt (holdings desk) old.0 cache.0 → ¬ KeepsReplacement desk m.orders old new →
+    GetsOrder desk m (ReplaceOrder old new cache) b desk' m' → TakesOrder desk m (Replace old new) b desk' m'
+takes_replacement desk m old new cache true desk' m' kept at n g =
+    let same : g.0 ≡ cache = g.1.lawful.0 in
+    inr (g.0, (ReplaceOrder old new cache, ap (λ (c : CBlock). Some (ReplaceOrder old new c)) same, g.1, g.2, g.3))
+takes_replacement desk m old new cache false desk' m' kept at n g = (
+  n,
+  (λ there order e may.
+      let here = mapped_once desk.geometry.cache_blocks desk.geometry.origin_blocks desk.tree.entries old.0 there.0 cache.0 kept (takes_where desk old new there order e may) at in
+      let same : ReplaceOrder old new cache ≡ order = ap (λ (k : ℕ). ReplaceOrder old new (record { 0 = k })) (sym here) ∙ (let both = e in cc) in
+      g.0 there (subst (λ (o : Order). MayReserve desk there o) (sym same) may)),
+  g.1,
+  g.2,
+)
+
+-- one whose block is nowhere is given none
+pub takes_none : (desk : DeskState Quiet) (m : Member) (old new : OBlock) → IsUnmapped (holdings desk) old.0 → ¬ KeepsReplacement desk m.orders old new → TakesOrder desk m (Replace old new) false desk m
+takes_none desk m old new none n = (n, (λ cache order e may. none cache.0 (takes_where desk old new cache order e may)), refl, refl)
 
 -- orders that were dropped are those that were sorted out
 pub dropped_is : (block : OBlock) (orders : List Order) → dropped block orders ≡ filter (λ (o : Order). not (is_of block o)) orders
@@ -107,3 +174,12 @@ dropped_is block (o ∷ os) = by_test (is_of block o) (dropped_is block os)
     by_test : (t : Bool) → dropped block os ≡ filter (λ (o : Order). not (is_of block o)) os → (if t then dropped block os else o ∷ dropped block os) ≡ (if not t then o ∷ filter (λ (o : Order). not (is_of block o)) os else filter (λ (o : Order). not (is_of block o)) os)
     by_test true e = e
     by_test false e = ap (λ xs. o ∷ xs) e
+
+-- the replacements of a block are those that were sorted out
+pub replacing_is : (block : OBlock) (orders : List Order) → replacing block orders ≡ filter (λ (o : Order). is_of block o && is_replacement o) orders
+replacing_is block [] = refl
+replacing_is block (o ∷ os) = by_test (is_of block o && is_replacement o) (replacing_is block os)
+  where
+    by_test : (t : Bool) → replacing block os ≡ filter (λ (o : Order). is_of block o && is_replacement o) os → (if t then o ∷ replacing block os else replacing block os) ≡ (if t then o ∷ filter (λ (o : Order). is_of block o && is_replacement o) os else filter (λ (o : Order). is_of block o && is_replacement o) os)
+    by_test true e = ap (λ xs. o ∷ xs) e
+    by_test false e = e

@@ -21,7 +21,7 @@ use Rattle.wb_devices.specs.declared.devices.Devices.{Devices}
 use Rattle.wb_devices.specs.declared.running.RunningCommit.{RunningCommit}
 use Rattle.wb_devices.specs.Moving.{device_in}
 use Rattle.wb_runs.specs.declared.job.Job.{Job}
-use Rattle.wb_runs.specs.declared.job.Job.TheVariants.{Read, Write, Flush, Open, Migrate}
+use Rattle.wb_runs.specs.declared.job.Job.TheVariants.{Read, Write, Flush, Open, Migrate, Replace}
 use Rattle.wb_runs.specs.States.{Shape, Actor, Stands, Target as RunTarget}
 use Rattle.wb_runs.specs.Happenings.{Chosen, Puts, Opened, OfSome, DoesOpen, DoesPut, DoesSync, Gives}
 use Rattle.wb_runs.specs.Holding.{AreUsedRightly}
@@ -62,9 +62,9 @@ puts_next None step device (Puts new) d = d
 puts_next (Some commit) step device (Puts new) d = (d.0, tt)
 puts_next commit step device chosen d = absurd d
 
-module _ (shape : Shape) (devices : Devices (List History)) (commit : Option RunningCommit) (t : RunTarget Quiet) (actors : List Actor) (got : Got) (read : List Bytes) (chosen : Chosen Quiet Global) where
+module _ (shape : Shape) (devices : Devices (List History)) (commit : Option RunningCommit) (t : RunTarget Quiet) (actors : List Actor) (actor : Actor) (got : Got) (read : List Bytes) (chosen : Chosen Quiet Global) where
   abbrev G : Job → Want → Type 0
-  G job next = Gives shape (stood devices commit t actors) job next got read chosen
+  G job next = Gives shape (stood devices commit t actors) actor job next got read chosen
 
   reads : (job : Job) (device : Dev) (e : Extent) → G job (Device (ReadExtent device e)) → IsDoable devices commit job (ReadExtent device e)
   reads (Read extent) device e g = (tt, g.0, λ l. extent_inside (device_in device devices) read e g.3 g.4 l)
@@ -72,6 +72,7 @@ module _ (shape : Shape) (devices : Devices (List History)) (commit : Option Run
   reads Flush device e g = absurd g
   reads (Open mode) device e g = absurd g
   reads (Migrate migration block) device e g = (tt, g.0, g.3)
+  reads (Replace old new) device e g = absurd g
 
   writes : (job : Job) (device : Dev) (e : Extent) → G job (Device (WriteExtent device e)) → IsDoable devices commit job (WriteExtent device e)
   writes (Read extent) device e g = absurd g
@@ -79,6 +80,7 @@ module _ (shape : Shape) (devices : Devices (List History)) (commit : Option Run
   writes Flush device e g = absurd g
   writes (Open mode) device e g = absurd g
   writes (Migrate migration block) device e g = (tt, g.0, g.3)
+  writes (Replace old new) device e g = absurd g
 
   syncs : (job : Job) → G job (Device (Sync Metadata)) → ComesNext commit (Sync Metadata) devices.metadata
   syncs (Read extent) g = syncs_next t commit devices.metadata chosen g.2
@@ -86,6 +88,7 @@ module _ (shape : Shape) (devices : Devices (List History)) (commit : Option Run
   syncs Flush g = syncs_next t commit devices.metadata chosen g.2
   syncs (Open mode) g = syncs_next t commit devices.metadata chosen g.2
   syncs (Migrate migration block) g = syncs_next t commit devices.metadata chosen g.2
+  syncs (Replace old new) g = syncs_next t commit devices.metadata chosen g.2
 
   writes_node : (job : Job) (number : ℕ) → G job (Device (WriteNode number)) → ComesNext commit (WriteNode number) devices.metadata
   writes_node (Read extent) number g = puts_next commit (WriteNode number) devices.metadata chosen g.2
@@ -93,6 +96,7 @@ module _ (shape : Shape) (devices : Devices (List History)) (commit : Option Run
   writes_node Flush number g = puts_next commit (WriteNode number) devices.metadata chosen g.2
   writes_node (Open mode) number g = puts_next commit (WriteNode number) devices.metadata chosen g.2
   writes_node (Migrate migration block) number g = puts_next commit (WriteNode number) devices.metadata chosen g.2
+  writes_node (Replace old new) number g = puts_next commit (WriteNode number) devices.metadata chosen g.2
 
   writes_root : (job : Job) → G job (Device WriteRoot) → ComesNext commit WriteRoot devices.metadata
   writes_root (Read extent) g = puts_next commit WriteRoot devices.metadata chosen g.2
@@ -100,6 +104,7 @@ module _ (shape : Shape) (devices : Devices (List History)) (commit : Option Run
   writes_root Flush g = puts_next commit WriteRoot devices.metadata chosen g.2
   writes_root (Open mode) g = puts_next commit WriteRoot devices.metadata chosen g.2
   writes_root (Migrate migration block) g = puts_next commit WriteRoot devices.metadata chosen g.2
+  writes_root (Replace old new) g = puts_next commit WriteRoot devices.metadata chosen g.2
 
   reads_metadata : (job : Job) (left : ℕ) → G job (Device (ReadMetadata left)) → ⊥
   reads_metadata (Read extent) left g = g.2
@@ -107,6 +112,7 @@ module _ (shape : Shape) (devices : Devices (List History)) (commit : Option Run
   reads_metadata Flush left g = g.2
   reads_metadata (Open mode) left g = g.2
   reads_metadata (Migrate migration block) left g = g.2
+  reads_metadata (Replace old new) left g = g.2
 
   asks : (job : Job) (step : DeskStep) → G job (Desk step) → IsAskable commit job step
   asks (Read extent) (BeginCommit clean most) g = g.1
@@ -114,24 +120,29 @@ module _ (shape : Shape) (devices : Devices (List History)) (commit : Option Run
   asks Flush (BeginCommit clean most) g = g.1
   asks (Open mode) (BeginCommit clean most) g = g.1
   asks (Migrate migration block) (BeginCommit clean most) g = g.1
+  asks (Replace old new) (BeginCommit clean most) g = g.1
   asks (Read extent) EndCommit g = g.2
   asks (Write extent content) EndCommit g = g.2
   asks Flush EndCommit g = g.2
   asks (Open mode) EndCommit g = g.2
   asks (Migrate migration block) EndCommit g = g.2
+  asks (Replace old new) EndCommit g = g.2
   asks (Migrate migration block) (Map b c) g = tt
   asks (Migrate migration block) (ReleaseOrder b) g = tt
   asks (Migrate migration block) (Unmap b) g = tt
+  asks Flush (ReleaseOrder b) g = tt
   asks (Read extent) step g = absurd g
   asks (Write extent content) step g = absurd g
   asks Flush step g = absurd g
   asks (Open mode) step g = absurd g
+  asks (Replace old new) step g = absurd g
 
   ends : (job : Job) → G job (End Finished) → ¬ Opens job
   ends (Read extent) g = λ o. o
   ends (Write extent content) g = λ o. o
   ends Flush g = λ o. o
   ends (Migrate migration block) g = λ o. o
+  ends (Replace old new) g = λ o. o
   ends (Open mode) g = λ o. opens_nobody t commit chosen (third g)
 
   pub possible : (job : Job) (next : Want) → G job next → IsPossible devices commit job next
@@ -148,23 +159,23 @@ module _ (shape : Shape) (devices : Devices (List History)) (commit : Option Run
   possible job (End Finished) g = ends job g
   possible job (End (Refuses refusal)) g = tt
 
--- what holds of who is at work holds of the task there
-pub the_task : (actors : List Actor) (a : ℕ) (x : Actor) (doing : Job × Plan) (P : Job → Plan → Type 0) → slice_get actors a ≡ Some x → x.task ≡ Some doing
-    → OfSome (slice_get actors a) (λ (y : Actor). OfSome y.task (λ d. P d.0 d.1)) → P doing.0 doing.1
-the_task actors a x doing P at e h = subst (λ (o : Option (Job × Plan)). OfSome o (λ d. P d.0 d.1)) e (subst (λ (o : Option Actor). OfSome o (λ (y : Actor). OfSome y.task (λ d. P d.0 d.1))) at h)
+-- what holds of who is at work holds of the actor and the task there
+pub the_task : (actors : List Actor) (a : ℕ) (x : Actor) (doing : Job × Plan) (P : Actor → Job → Plan → Type 0) → slice_get actors a ≡ Some x → x.task ≡ Some doing
+    → OfSome (slice_get actors a) (λ (y : Actor). OfSome y.task (λ d. P y d.0 d.1)) → P x doing.0 doing.1
+the_task actors a x doing P at e h = subst (λ (o : Option (Job × Plan)). OfSome o (λ d. P x d.0 d.1)) e (subst (λ (o : Option Actor). OfSome o (λ (y : Actor). OfSome y.task (λ d. P y d.0 d.1))) at h)
 
-pub has_task : (actors : List Actor) (a : ℕ) (x : Actor) (doing : Job × Plan) (P : Job × Plan → Type 0) → slice_get actors a ≡ Some x → x.task ≡ Some doing
-    → P doing → OfSome (slice_get actors a) (λ (y : Actor). OfSome y.task P)
-has_task actors a x doing P at e p = subst (λ (o : Option Actor). OfSome o (λ (y : Actor). OfSome y.task P)) (sym at) (subst (λ (o : Option (Job × Plan)). OfSome o P) (sym e) p)
+pub has_task : (actors : List Actor) (a : ℕ) (x : Actor) (doing : Job × Plan) (P : Actor → Job × Plan → Type 0) → slice_get actors a ≡ Some x → x.task ≡ Some doing
+    → P x doing → OfSome (slice_get actors a) (λ (y : Actor). OfSome y.task (P y))
+has_task actors a x doing P at e p = subst (λ (o : Option Actor). OfSome o (λ (y : Actor). OfSome y.task (P y))) (sym at) (subst (λ (o : Option (Job × Plan)). OfSome o (P x)) (sym e) p)
 
 module _ (shape : Shape) (devices : Devices (List History)) (commit : Option RunningCommit) (t : RunTarget Quiet) (actors : List Actor) (free_so : IsFree shape (stood devices commit t actors)) where
   can_step : (a : ℕ) (x : Actor) → slice_get actors a ≡ Some x → (task : Option (Job × Plan)) → x.task ≡ task → CanStep devices commit task
   can_step a x at None e = tt
   can_step a x at (Some doing) e =
-      let something = free_so.steps a (has_task actors a x doing (λ d. Unit {0}) at e tt) in
-      let does = the_task actors a x doing (λ job plan. (something.next ≡ want plan) × Gives shape (stood devices commit t actors) job something.next something.got something.read something.chosen) at e something.may in
-      possible shape devices commit t actors something.got something.read something.chosen doing.0 (want doing.1)
-      (subst (λ (next : Want). Gives shape (stood devices commit t actors) doing.0 next something.got something.read something.chosen) does.0 does.1)
+      let something = free_so.steps a (has_task actors a x doing (λ y d. Unit {0}) at e tt) in
+      let does = the_task actors a x doing (λ y job plan. (something.next ≡ want plan) × Gives shape (stood devices commit t actors) y job something.next something.got something.read something.chosen) at e something.may in
+      possible shape devices commit t actors x something.got something.read something.chosen doing.0 (want doing.1)
+      (subst (λ (next : Want). Gives shape (stood devices commit t actors) x doing.0 next something.got something.read something.chosen) does.0 does.1)
 
   pub all_can : AllCan devices commit actors
   all_can = λ a x at. can_step a x at x.task refl

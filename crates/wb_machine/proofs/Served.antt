@@ -32,12 +32,12 @@ use Rattle.wb_tasks.specs.declared.step.Got.TheVariants.{Done, Fault, Refused as
 use Rattle.wb_devices.specs.declared.devices.Devices.{Devices}
 use Rattle.wb_devices.specs.declared.running.RunningCommit.{RunningCommit}
 use Rattle.wb_runs.specs.declared.job.Job.{Job}
-use Rattle.wb_runs.specs.declared.job.Job.TheVariants.{Read, Write, Flush, Open, Migrate}
+use Rattle.wb_runs.specs.declared.job.Job.TheVariants.{Read, Write, Flush, Open, Migrate, Replace}
 use Rattle.wb_runs.specs.declared.event.Event.TheVariants.{Start, Step, FaultStep}
 use Rattle.wb_runs.specs.declared.event.What.{What}
 use Rattle.wb_runs.specs.declared.event.What.TheVariants.{Skipped, Refused, Started, Stepped, Stopped}
 use Rattle.wb_runs.specs.States.{Shape, Actor, Stands, Phase, Target as RunTarget}
-use Rattle.wb_runs.specs.Happenings.{Chosen, Plain, Cut, Orders, Begins, Reaches, Puts, Commits, Asks, Opened, OfSome, DoesNotApply, DoesMap, DoesRelease, DoesUnmap, Gives, Falters, MayFailAt, StartGives, order_for, task_job}
+use Rattle.wb_runs.specs.Happenings.{Chosen, Plain, Cut, Orders, Begins, Reaches, Puts, Commits, Asks, Opened, OfSome, DoesNotApply, DoesMap, DoesRelease, DoesUnmap, Gives, Falters, MayFailAt, StartGives, order_for, task_job, begun_as}
 use Rattle.wb_runs.specs.Effects.{after_what, asked_desk, begun_desk, card_then, commit_then, cut_of, desk_then, devices_then, given, job_of, phase_given, task_then, went, words_then}
 use Rattle.wb_runs.specs.Holding.{TaskSuits}
 use Rattle.wb_runs.proofs.Desks.{is_live, is_unmappable}
@@ -49,6 +49,7 @@ use Rattle.wb_machine.specs.Standing.{AllRoomy, AllowsImages, IsRoomy}
 use Rattle.wb_machine.proofs.Members.{seat_at, set_both, set_same, set_task, somebody}
 use Rattle.wb_machine.proofs.Openings.{passes}
 use Rattle.wb_machine.proofs.Possible.{has_task, the_task}
+use Rattle.wb_stage.specs.Asking.{IsGivenUp, order_of}
 
 -- ---- an actor that is not there, or is at nothing
 
@@ -66,6 +67,7 @@ in_place devices t actors a (Write extent content) x w at e (inr (inr f)) = f tt
 in_place devices t actors a Flush x w at e (inr (inr f)) = f tt
 in_place devices t actors a (Open mode) x w at e (inr (inr f)) = absurd (cc)
 in_place devices t actors a (Migrate migration block) x w at e (inr (inr f)) = f tt
+in_place devices t actors a (Replace old new) x w at e (inr (inr f)) = f tt
 
 -- the desk that an order leaves
 phase_so : (words : Words) (desk : DeskState Quiet) (job : Job) (chosen : Chosen Quiet Global) → Stands (record { words = words; desk = desk_given desk job chosen }) ≡ phase_given {P = Quiet} {A = Global} (Stands (record { words = words; desk = desk })) job chosen
@@ -82,6 +84,15 @@ phase_so words desk (Migrate migration block) (Puts new) = refl
 phase_so words desk (Migrate migration block) (Commits commit tree) = refl
 phase_so words desk (Migrate migration block) (Asks new) = refl
 phase_so words desk (Migrate migration block) (Opened policy) = refl
+phase_so words desk (Replace old new) Plain = refl
+phase_so words desk (Replace old new) (Cut cut) = refl
+phase_so words desk (Replace old new) (Orders cut cache) = refl
+phase_so words desk (Replace old new) (Begins now) = refl
+phase_so words desk (Replace old new) (Reaches now commit) = refl
+phase_so words desk (Replace old new) (Puts metadata) = refl
+phase_so words desk (Replace old new) (Commits commit tree) = refl
+phase_so words desk (Replace old new) (Asks asked) = refl
+phase_so words desk (Replace old new) (Opened policy) = refl
 
 -- a job that is no opening clears nothing
 given_so : (shape : Shape) (devices : Devices (List History)) (t : Target) (actors : List Actor) (a : ℕ) (x : Actor) (job : Job) (chosen : Chosen Quiet Global) → wants_target job ≡ true → slice_get actors a ≡ Some x →
@@ -92,6 +103,8 @@ given_so shape devices t actors a x Flush chosen w at = rw at refl
 given_so shape devices t actors a x (Open mode) chosen w at = absurd (cc)
 given_so shape devices t actors a x (Migrate migration block) chosen w at = rw at (ap (λ (p : Phase Quiet Global). record { devices = devices; commit = t.commit; phase = p; actors = slice_set actors a (given {P = Quiet} {A = Global} shape x (Migrate migration block) chosen) })
     (phase_so t.crew.words t.desk (Migrate migration block) chosen))
+given_so shape devices t actors a x (Replace old new) chosen w at = rw at (ap (λ (p : Phase Quiet Global). record { devices = devices; commit = t.commit; phase = p; actors = slice_set actors a (given {P = Quiet} {A = Global} shape x (Replace old new) chosen) })
+    (phase_so t.crew.words t.desk (Replace old new) chosen))
 
 -- ---- an actor that is there
 
@@ -112,11 +125,11 @@ module _ (shape : Shape) (devices : Devices (List History)) (t : Target) (member
   stays : new ≡ m → over devices t (seated (slice_set members a new) t.crew.cards) ≡ before
   stays e = ap (λ xs. over devices t xs) (set_task members t.crew.cards a new ∙ ap (λ (v : Member). slice_set actors a (seat_at v t.crew.cards a)) e ∙ set_same actors a x at)
 
-  works : (doing : Job × Plan) → m.task ≡ Some doing → (P : Job × Plan → Type 0) → P doing → OfSome (slice_get actors a) (λ (y : Actor). OfSome y.task P)
+  works : (doing : Job × Plan) → m.task ≡ Some doing → (P : Actor → Job × Plan → Type 0) → P x doing → OfSome (slice_get actors a) (λ (y : Actor). OfSome y.task (P y))
   works doing e P p = has_task actors a x doing P at e p
 
-  works_at : (doing : Job × Plan) → m.task ≡ Some doing → (P : Job → Plan → Type 0) → P doing.0 doing.1 → OfSome (slice_get actors a) (λ (y : Actor). OfSome y.task (λ d. P d.0 d.1))
-  works_at doing e P p = has_task actors a x doing (λ d. P d.0 d.1) at e p
+  works_at : (doing : Job × Plan) → m.task ≡ Some doing → (P : Actor → Job → Plan → Type 0) → P x doing.0 doing.1 → OfSome (slice_get actors a) (λ (y : Actor). OfSome y.task (λ d. P y d.0 d.1))
+  works_at doing e P p = has_task actors a x doing (λ y d. P y d.0 d.1) at e p
 
   idles : m.task ≡ None → (P : Job × Plan → Type 0) → OfSome (slice_get actors a) (λ (y : Actor). OfSome y.task P) → ⊥
   idles e P h = subst (λ (o : Option (Job × Plan)). OfSome o P) e (subst (λ (o : Option Actor). OfSome o (λ (y : Actor). OfSome y.task P)) at h)
@@ -160,7 +173,7 @@ module _ (shape : Shape) (devices : Devices (List History)) (t : Target) (member
       by_task : (o : Option (Job × Plan)) → m.task ≡ o → StartsIf (is_none o) shape t.desk m job what desk' new →
           Happens shape before (Start a job) what [] (over devices (record t { desk = desk' }) (seated (slice_set members a new) t.crew.cards))
       by_task None e s = job_starts job what desk' w e s
-      by_task (Some doing) e s = passed_so job what desk' (inr (inl (works doing e (λ d. Unit {0}) tt))) s
+      by_task (Some doing) e s = passed_so job what desk' (inr (inl (works doing e (λ y d. Unit {0}) tt))) s
 
   -- ---- a step
 
@@ -215,7 +228,7 @@ module _ (shape : Shape) (devices : Devices (List History)) (t : Target) (member
       by_task None e s = rw (s.devices_are, s.target_is, s.read_is, stays s.member_is) (passes shape before (Step a) what (λ h. idles e (λ d. Unit {0}) h) s.what_is)
       by_task (Some doing) e s = rw (s.what_is, s.read_is) (record {
         chosen = s.performs.chosen;
-        may = works_at doing e (λ job plan. (want doing.1 ≡ want plan) × Gives shape before job (want doing.1) s.got (noted_read doing.0 (want doing.1) s.given) s.performs.chosen) (refl, s.performs.gives shape actors);
+        may = works_at doing e (λ y job plan. (want doing.1 ≡ want plan) × Gives shape before y job (want doing.1) s.got (noted_read doing.0 (want doing.1) s.given) s.performs.chosen) (refl, s.performs.gives shape actors x refl);
         leads = went_on doing (want doing.1) s.got s.performs.chosen (λ job buffer. done_by job buffer s.performs.chosen) devices' t' e s.performs.leads s.member_is;
       })
 
@@ -235,11 +248,11 @@ module _ (shape : Shape) (devices : Devices (List History)) (t : Target) (member
       by_task None e f = nothing f (λ h. idles e _ h)
       by_task (Some doing) e (inl f) = rw f.what_is (record {
         chosen = chosen_at f.step devices';
-        may = (refl, refl, works_at doing e (λ job plan. (Device f.step ≡ want plan) × MayFailAt devices choice (Device f.step) × Falters before choice (Device f.step) (chosen_at f.step devices')) (sym f.step_is, f.may, f.fails.falters (told t) actors));
+        may = (refl, refl, works_at doing e (λ y job plan. (Device f.step ≡ want plan) × MayFailAt devices choice (Device f.step) × Falters before choice (Device f.step) (chosen_at f.step devices')) (sym f.step_is, f.may, f.fails.falters (told t) actors));
         leads = went_on doing (Device f.step) Fault (chosen_at f.step devices') (λ job buffer. failed_by choice job buffer (chosen_at f.step devices')) devices' (record t { commit = commit' }) e
             (record { devices_are = f.fails.devices_are; crew_is = refl; desk_is = refl; commit_is = f.fails.commit_is; failed_is = failed }) (f.member_is ∙ ap (λ next. member_then devices m next Fault) f.step_is);
       })
-      by_task (Some doing) e (inr f) = nothing f.0 (λ h. f.1 (the_task actors a x doing (λ job plan. MayFailAt devices choice (want plan)) at e h))
+      by_task (Some doing) e (inr f) = nothing f.0 (λ h. f.1 (the_task actors a x doing (λ y job plan. MayFailAt devices choice (want plan)) at e h))
 
 -- ---- what stays
 
@@ -263,12 +276,16 @@ map_sizes desk b c Done (Asks new) g = ap (λ (k : DeskState Quiet). k.geometry)
 map_sizes desk b c (GotRefused refusal) Plain g = refl
 map_sizes desk b c got chosen g = absurd g
 
-release_sizes : (desk : DeskState Quiet) (order : Order) (chosen : Chosen Quiet Global) → DoesRelease order desk chosen → (asked_desk chosen desk).geometry ≡ desk.geometry
-release_sizes desk order (Asks new) up = elim (is_live desk order) [
+given_up_sizes : (desk new : DeskState Quiet) (order : Option Order) → IsGivenUp order desk new → new.geometry ≡ desk.geometry
+given_up_sizes desk new None up = ap (λ (k : DeskState Quiet). k.geometry) up
+given_up_sizes desk new (Some order) up = elim (is_live desk order) [
   | inl live ↦ ap (λ (k : DeskState Quiet). k.geometry) (up.0 live)
   | inr none ↦ ap (λ (k : DeskState Quiet). k.geometry) (up.1 none)
 ]
-release_sizes desk order chosen up = absurd up
+
+release_sizes : (desk : DeskState Quiet) (orders : List Order) (b : OBlock) (chosen : Chosen Quiet Global) → DoesRelease orders b desk chosen → (asked_desk chosen desk).geometry ≡ desk.geometry
+release_sizes desk orders b (Asks new) up = given_up_sizes desk new (order_of b orders) up
+release_sizes desk orders b chosen up = absurd up
 
 unmap_sizes : (desk : DeskState Quiet) (b : OBlock) (chosen : Chosen Quiet Global) → DoesUnmap b desk chosen → (asked_desk chosen desk).geometry ≡ desk.geometry
 unmap_sizes desk b (Asks new) did = elim (is_unmappable desk b) [
@@ -278,8 +295,8 @@ unmap_sizes desk b (Asks new) did = elim (is_unmappable desk b) [
 unmap_sizes desk b chosen did = absurd did
 
 -- a desk keeps its geometry
-module _ (shape : Shape) (devices : Devices (List History)) (commit : Option RunningCommit) (t : RunTarget Quiet) (actors : List Actor) (got : Got) (read : List Bytes) (chosen : Chosen Quiet Global) where
-  desk_sizes : (job : Job) (next : Want) → Gives shape (stood devices commit t actors) job next got read chosen → (desk_then t.desk next chosen).geometry ≡ t.desk.geometry
+module _ (shape : Shape) (devices : Devices (List History)) (commit : Option RunningCommit) (t : RunTarget Quiet) (actors : List Actor) (actor : Actor) (got : Got) (read : List Bytes) (chosen : Chosen Quiet Global) where
+  desk_sizes : (job : Job) (next : Want) → Gives shape (stood devices commit t actors) actor job next got read chosen → (desk_then t.desk next chosen).geometry ≡ t.desk.geometry
   desk_sizes job (Cell step) g = refl
   desk_sizes job (Device step) g = refl
   desk_sizes (Migrate migration block) (Desk (Map b c)) g = map_sizes t.desk b c got chosen g.1
@@ -287,16 +304,19 @@ module _ (shape : Shape) (devices : Devices (List History)) (commit : Option Run
   desk_sizes (Write extent content) (Desk (Map b c)) g = absurd g
   desk_sizes Flush (Desk (Map b c)) g = absurd g
   desk_sizes (Open mode) (Desk (Map b c)) g = absurd g
+  desk_sizes (Replace old new) (Desk (Map b c)) g = absurd g
   desk_sizes (Migrate migration block) (Desk (Unmap b)) g = unmap_sizes t.desk b chosen g.2
   desk_sizes (Read extent) (Desk (Unmap b)) g = absurd g
   desk_sizes (Write extent content) (Desk (Unmap b)) g = absurd g
   desk_sizes Flush (Desk (Unmap b)) g = absurd g
   desk_sizes (Open mode) (Desk (Unmap b)) g = absurd g
-  desk_sizes (Migrate migration block) (Desk (ReleaseOrder b)) g = release_sizes t.desk (order_for migration block) chosen g.2
+  desk_sizes (Replace old new) (Desk (Unmap b)) g = absurd g
+  desk_sizes (Migrate migration block) (Desk (ReleaseOrder b)) g = release_sizes t.desk actor.orders b chosen g.2
   desk_sizes (Read extent) (Desk (ReleaseOrder b)) g = absurd g
   desk_sizes (Write extent content) (Desk (ReleaseOrder b)) g = absurd g
-  desk_sizes Flush (Desk (ReleaseOrder b)) g = absurd g
+  desk_sizes Flush (Desk (ReleaseOrder b)) g = release_sizes t.desk actor.awaiting b chosen g.2
   desk_sizes (Open mode) (Desk (ReleaseOrder b)) g = absurd g
+  desk_sizes (Replace old new) (Desk (ReleaseOrder b)) g = absurd g
   desk_sizes job (Desk (BeginCommit clean most)) g = begun_sizes t.desk chosen
   desk_sizes job (Desk EndCommit) g = ended_sizes t.desk t.desk.space.committing
   desk_sizes job (End answer) g = refl
@@ -324,7 +344,7 @@ step_keeps devices t a m what read devices' t' m' f s = by_task m.task s
           cards = ap (λ (c : CrewState). length c.cards) leads.crew_is ∙ like.1;
           failed = leads.failed_is;
           sizes = ap (λ (d : DeskState Quiet). d.geometry) leads.desk_is
-              ∙ desk_sizes some_shape devices t.commit (told t) [] s.got (noted_read doing.0 (want doing.1) s.given) s.performs.chosen doing.0 (want doing.1) (s.performs.gives some_shape []);
+              ∙ desk_sizes some_shape devices t.commit (told t) [] (seat m blank_card) s.got (noted_read doing.0 (want doing.1) s.given) s.performs.chosen doing.0 (want doing.1) (s.performs.gives some_shape [] (seat m blank_card) refl);
         }
 
 -- a start keeps the desk's geometry
@@ -341,6 +361,15 @@ start_sizes shape desk m job what desk' m' s = by_test (is_none m.task) s
     given_sizes (Migrate migration block) (Commits commit tree) = refl
     given_sizes (Migrate migration block) (Asks new) = refl
     given_sizes (Migrate migration block) (Opened policy) = refl
+    given_sizes (Replace old new) (Orders cut cache) = refl
+    given_sizes (Replace old new) Plain = refl
+    given_sizes (Replace old new) (Cut cut) = refl
+    given_sizes (Replace old new) (Begins now) = refl
+    given_sizes (Replace old new) (Reaches now commit) = refl
+    given_sizes (Replace old new) (Puts metadata) = refl
+    given_sizes (Replace old new) (Commits commit tree) = refl
+    given_sizes (Replace old new) (Asks asked) = refl
+    given_sizes (Replace old new) (Opened policy) = refl
     given_sizes (Read extent) chosen = refl
     given_sizes (Write extent content) chosen = refl
     given_sizes Flush chosen = refl
@@ -383,12 +412,13 @@ fault_roomy nodes choice devices commit m what devices' commit' m' r f = by_task
 pub start_roomy : (shape : Shape) (nodes : ℕ) (desk : DeskState Quiet) (m : Member) (job : Job) (what : What) (desk' : DeskState Quiet) (m' : Member) → nodes ≤ node_count shape.geometry.cache_blocks → IsRoomy nodes m.task → Starts shape desk m job what desk' m' → IsRoomy nodes m'.task
 start_roomy shape nodes desk m job what desk' m' l r s = by_test (is_none m.task) s
   where
-    by_job : (job : Job) (chosen : Chosen Quiet Global) → IsRoomy nodes (Some (job, table (task_job shape job (cut_of chosen))))
+    by_job : (job : Job) (chosen : Chosen Quiet Global) → IsRoomy nodes (Some (begun_as job, table (task_job shape m.awaiting job (cut_of chosen))))
     by_job (Read extent) chosen = tt
     by_job (Write extent content) chosen = tt
     by_job Flush chosen = l
     by_job (Open mode) chosen = tt
     by_job (Migrate migration block) chosen = tt
+    by_job (Replace old new) chosen = tt
 
     by_what : (what : What) (chosen : Chosen Quiet Global) → LeavesStarted shape desk m job what chosen desk' m' → IsRoomy nodes m'.task
     by_what Started chosen l = subst (λ (v : Member). IsRoomy nodes v.task) (sym l.1) (by_job job chosen)

@@ -21,7 +21,7 @@ use Rattle.wb_tasks.specs.declared.step.Got.{Got}
 use Rattle.wb_devices.specs.declared.devices.Devices.{Devices}
 use Rattle.wb_devices.specs.Moving.{device_in}
 use Rattle.wb_runs.specs.declared.job.Job.{Job}
-use Rattle.wb_runs.specs.declared.job.Job.TheVariants.{Read, Write, Flush, Migrate, Open}
+use Rattle.wb_runs.specs.declared.job.Job.TheVariants.{Read, Write, Flush, Migrate, Open, Replace}
 use Rattle.wb_runs.specs.declared.event.Event.{Event}
 use Rattle.wb_runs.specs.declared.event.Event.TheVariants.{Start, Step, FaultStep, Stop}
 use Rattle.wb_runs.specs.declared.event.What.{What}
@@ -73,18 +73,19 @@ by_device change step devices Metadata e k = on_metadata change step devices e
 by_device change step devices Cache e k = on_device change step devices Cache (λ q. absurd (cc)) e k
 by_device change step devices Origin e k = on_device change step devices Origin (λ q. absurd (cc)) e k
 
-module _ (shape : Shape) (w : Now) (got : Got) (read : List Bytes) (chosen : Chosen Quiet Global) (buffer : List Bytes) where
+module _ (shape : Shape) (w : Now) (actor : Actor) (got : Got) (read : List Bytes) (chosen : Chosen Quiet Global) (buffer : List Bytes) where
   abbrev done : Job → DeviceStep → List History → List History
   done job = λ step. device_done job buffer step chosen
 
-  read_plain : (job : Job) (device : Dev) (e : Rattle.wb_types.specs.declared.extent.Extent.Extent) → Gives shape w job (Device (ReadExtent device e)) got read chosen → chosen ≡ Plain
+  read_plain : (job : Job) (device : Dev) (e : Rattle.wb_types.specs.declared.extent.Extent.Extent) → Gives shape w actor job (Device (ReadExtent device e)) got read chosen → chosen ≡ Plain
   read_plain (Read extent) device e g = g.1
   read_plain (Write extent content) device e g = absurd g
   read_plain Flush device e g = absurd g
   read_plain (Open mode) device e g = absurd g
   read_plain (Migrate migration block) device e g = g.1.1
+  read_plain (Replace old new) device e g = absurd g
 
-  pub done_size : (job : Job) (next : Want) → Gives shape w job next got read chosen → AsLarge w.devices (devices_then (done job) w.devices next)
+  pub done_size : (job : Job) (next : Want) → Gives shape w actor job next got read chosen → AsLarge w.devices (devices_then (done job) w.devices next)
   done_size job (Cell step) g = same_size w.devices
   done_size job (Desk step) g = same_size w.devices
   done_size job (End answer) g = same_size w.devices

@@ -5,8 +5,9 @@ ghost use Rattle.std.specs.Bool.{OnTrue, OnFalse};
 ghost use Rattle.wb_types.specs.declared.number.OBlock.{OBlock as Block};
 ghost use Rattle.wb_types.specs.declared.refusal.Refusal.TheVariants.{Memory};
 ghost use Rattle.wb_policy.specs.declared.order.Order.TheVariants.{Replace};
-ghost use Rattle.wb_space.specs.declared.block.Block.TheVariants.{Mapped, Reserved};
+ghost use Rattle.wb_space.specs.declared.block.Block.TheVariants.{Reserved};
 ghost use Rattle.wb_orders.specs.Named.{first_of};
+ghost use Rattle.wb_desk.specs.Desks.{DeskInvariant};
 ghost use Rattle.wb_desk.specs.Entries.{is_replacement};
 ghost use Rattle.wb_stage.specs.Asking.{is_of};
 ghost use Rattle.wb_tasks.specs.declared.step.Got.TheVariants.{Done};
@@ -16,7 +17,7 @@ ghost use Rattle.wb_machine.specs.Keeping.{IsLeft};
 
 use std::alloc::Global;
 use wb_desk::Desk;
-use wb_policy::{Order, Quiet};
+use wb_policy::{Order, Policy, Quiet};
 use wb_runs::Job;
 use wb_space::Holding;
 use wb_tasks::{Answer, DeskStep, Migration, Want};
@@ -102,10 +103,11 @@ pub(crate) fn keeps_replacement(
     ensures has { OnTrue result (KeepsReplacement desk.now orders.now old new) }
     ensures other { OnFalse result (¬ KeepsReplacement desk.now orders.now old new) }
 {
+    see_desk(desk);
     let Some(cache) = desk.place(old) else {
         return false;
     };
-    keeps(orders, Order::Replace(old, new, cache)) && is_mapped(desk, cache)
+    keeps(orders, Order::Replace(old, new, cache))
 }
 
 /// Whether a cache block is reserved for an order.
@@ -113,15 +115,15 @@ fn is_reserved(desk: &Desk<Quiet>, cache: CBlock) -> bool
     ensures has { OnTrue result (slice_get desk.now.space.blocks cache.0 ≡ Some Reserved) }
     ensures other { OnFalse result (¬ (slice_get desk.now.space.blocks cache.0 ≡ Some Reserved)) }
 {
+    see_desk(desk);
     cache.0 < desk.geometry().cache_blocks && desk.holding(cache) == Holding::Reserved
 }
 
-/// Whether a cache block has an entry.
-fn is_mapped(desk: &Desk<Quiet>, cache: CBlock) -> bool
-    ensures has { OnTrue result (slice_get desk.now.space.blocks cache.0 ≡ Some Mapped) }
-    ensures other { OnFalse result (¬ (slice_get desk.now.space.blocks cache.0 ≡ Some Mapped)) }
+/// What holds of every desk. It does nothing.
+pub(crate) fn see_desk<P: Policy>(desk: &Desk<P>)
+    ensures { DeskInvariant P.knows desk.now }
 {
-    cache.0 < desk.geometry().cache_blocks && desk.holding(cache) == Holding::Mapped
+    let _ = desk.counts();
 }
 
 /// One more. `Memory` where there is no room for it, and then nothing changed.

@@ -27,7 +27,7 @@ use Rattle.wb_runs.proofs.Formatted.{HasNoTree}
 use denote.RawPtr.{null_ptr}
 
 -- a tree with no entry that knows no node
-empty_sound : (n : ℕ) → IsSound (empty_mapping n)
+pub empty_sound : (n : ℕ) → IsSound (empty_mapping n)
 empty_sound n = record {
   known_level = λ level index place h. absurd (cc);
   known_exist = λ level index place h. absurd (cc);

@@ -4,12 +4,13 @@ use Rattle.std.proofs.lemmas.List.{length-map}
 use Rattle.wb_types.specs.Limits.{node_count}
 use Rattle.wb_types.specs.declared.geometry.Geometry.{Geometry}
 use Rattle.wb_types.specs.declared.mode.Dev.TheVariants.{Metadata, Cache, Origin}
-use Rattle.wb_disk.specs.Device.{History, synced}
+use Rattle.wb_disk.specs.Device.{Content as Bytes, History, synced}
 use Rattle.wb_words.specs.declared.card.Card.{Card}
 use Rattle.wb_words.specs.declared.step.CellStep.TheVariants.{Look}
 use Rattle.wb_words.specs.declared.word.Word.TheVariants.{Fail}
 use Rattle.wb_meta.specs.Steps.{slot_of}
 use Rattle.wb_meta.specs.declared.commit_steps.CommitSteps.TheVariants.{NodesWritten, NodesSynced, RootWritten}
+use Rattle.wb_policy.specs.declared.order.Order.{Order}
 use Rattle.wb_desk.specs.Commits.{MayBegin}
 use Rattle.wb_tasks.specs.Plan.{want}
 use Rattle.wb_tasks.specs.declared.step.Answer.TheVariants.{Done as Finished}
@@ -42,31 +43,39 @@ happened global event what chosen = record {
   chosen = chosen;
 }
 
-module _ (P A : Type 0) (global : Global) (shape : Shape) (t : Target P) (calm : t.words.fail ≡ 0) (devices : Devices (List History)) (card : Card) (rest : List Actor) (known : BareDesk P shape.geometry t.desk devices.metadata) (q : Quiet shape.geometry known.images t.desk devices.metadata) (may : MayBegin t.desk) where
+-- the steps of a flush over these metadata, by the tree that the desk has
+module _ (P A : Type 0) (global : Global) (shape : Shape) (t : Target P) (m : List History) where
+  abbrev commit_of : RunningCommit
+  commit_of = bare_commit global shape.geometry (t.desk.generation + 1)
+
+  abbrev step : Want → Got → Chosen P A → Happening P A
+  step next got chosen = happened global (Step 0) (Stepped next got) chosen
+
+  abbrev pub flush_steps : List (Happening P A)
+  flush_steps =
+      happened global (Start 0 Flush) Started Plain
+      ∷ step (Cell (Look Fail)) (Word 0) Plain
+      ∷ step (Desk (BeginCommit false (node_count shape.geometry.cache_blocks))) (Began 0) (Commits commit_of t.desk.tree)
+      ∷ step (Device (Sync Cache)) Done Plain
+      ∷ step (Device (Sync Origin)) Done Plain
+      ∷ step (Device (Sync Metadata)) Done Plain
+      ∷ step (Device WriteRoot) Done (Puts (rooted commit_of (synced m)))
+      ∷ step (Device (Sync Metadata)) Done Plain
+      ∷ step (Desk EndCommit) Done Plain
+      ∷ []
+
+module _ (P A : Type 0) (global : Global) (shape : Shape) (t : Target P) (calm : t.words.fail ≡ 0) (devices : Devices (List History)) (orders awaiting : List Order) (buffer : List Bytes) (card : Card) (rest : List Actor) (known : BareDesk P shape.geometry t.desk devices.metadata) (q : Quiet shape.geometry known.images t.desk devices.metadata) (may : MayBegin t.desk) where
   abbrev commit : RunningCommit
   commit = bare_commit global shape.geometry (t.desk.generation + 1)
-
-  abbrev does : Want → Got → Chosen P A → Happening P A
-  does next got chosen = happened global (Step 0) (Stepped next got) chosen
 
   abbrev m : List History
   m = devices.metadata
 
   abbrev pub flushing : List (Happening P A)
-  flushing =
-      happened global (Start 0 Flush) Started Plain
-      ∷ does (Cell (Look Fail)) (Word 0) Plain
-      ∷ does (Desk (BeginCommit false (node_count shape.geometry.cache_blocks))) (Began 0) (Commits commit t.desk.tree)
-      ∷ does (Device (Sync Cache)) Done Plain
-      ∷ does (Device (Sync Origin)) Done Plain
-      ∷ does (Device (Sync Metadata)) Done Plain
-      ∷ does (Device WriteRoot) Done (Puts (rooted commit (synced m)))
-      ∷ does (Device (Sync Metadata)) Done Plain
-      ∷ does (Desk EndCommit) Done Plain
-      ∷ []
+  flushing = flush_steps P A global shape t m
 
   abbrev pub before : State P A
-  before = record { devices = devices; commit = None; phase = Stands t; actors = record { task = None; card = card; orders = []; awaiting = []; buffer = [] } ∷ rest }
+  before = record { devices = devices; commit = None; phase = Stands t; actors = record { task = None; card = card; orders = orders; awaiting = awaiting; buffer = buffer } ∷ rest }
 
   fits : Fits commit m
   fits = q.stores.size ∙ ap (λ (x : Geometry). x.meta_sectors) q.same

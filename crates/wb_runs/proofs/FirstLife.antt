@@ -335,13 +335,13 @@ module _ (P A : Type 0) (global : Global) (cache_blocks meta_sectors : ℕ) (wit
     target = record { words = numbered; desk = desk }
 
     abbrev pub flushes : List (Happening P A)
-    flushes = flushing P A global shape target refl idle_state.devices card rest known quiet may
+    flushes = flushing P A global shape target refl idle_state.devices [] [] [] card rest known quiet may
 
     pub flushes_run : IsRun shape idle_state flushes
-    flushes_run = flush_run P A global shape target refl idle_state.devices card rest known quiet may
+    flushes_run = flush_run P A global shape target refl idle_state.devices [] [] [] card rest known quiet may
 
     pub flushes_answer : AboutToAnswer Flush (after_all shape idle_state flushes)
-    flushes_answer = flush_done P A global shape target refl idle_state.devices card rest known quiet may
+    flushes_answer = flush_done P A global shape target refl idle_state.devices [] [] [] card rest known quiet may
 
     pub flushes_then : (slice_get (noted shape idle_state idle_notes flushes).finished 0 ≡ Some 1) × (slice_get (noted shape idle_state idle_notes flushes).floors 0 ≡ Some 0)
     flushes_then = (refl, refl)

@@ -167,13 +167,13 @@ module _ (P A : Type 0) (policy : P) (alloc : A) (global : Global) (shape : Shap
   may = record { idle = refl; next = omega (arith, none_then.more) }
 
   abbrev flush_too : List (Happening P A)
-  flush_too = flushing P A global shape target calm opened.devices (card_over {A = A} shape blank_card (Some (AllRead (stored A global shape.geometry durable none_then same_size)))) (all_resting rest) known quiet may
+  flush_too = flushing P A global shape target calm opened.devices [] [] [] (card_over {A = A} shape blank_card (Some (AllRead (stored A global shape.geometry durable none_then same_size)))) (all_resting rest) known quiet may
 
   flushes_run : IsRun shape opened flush_too
-  flushes_run = flush_run P A global shape target calm opened.devices (card_over {A = A} shape blank_card (Some (AllRead (stored A global shape.geometry durable none_then same_size)))) (all_resting rest) known quiet may
+  flushes_run = flush_run P A global shape target calm opened.devices [] [] [] (card_over {A = A} shape blank_card (Some (AllRead (stored A global shape.geometry durable none_then same_size)))) (all_resting rest) known quiet may
 
   flushes_done : AtWork (after_all shape opened flush_too) 0 (λ job s. (job ≡ Flush) × (want s ≡ End Finished))
-  flushes_done = flush_done P A global shape target calm opened.devices (card_over {A = A} shape blank_card (Some (AllRead (stored A global shape.geometry durable none_then same_size)))) (all_resting rest) known quiet may
+  flushes_done = flush_done P A global shape target calm opened.devices [] [] [] (card_over {A = A} shape blank_card (Some (AllRead (stored A global shape.geometry durable none_then same_size)))) (all_resting rest) known quiet may
 
 -- ---- two runs, one after the other
 

@@ -82,7 +82,7 @@ free_first : (es : List (Option Entry)) (n : ℕ) → es ≡ replicate n None �
 free_first es zero e l = absurd (omega (arith, l))
 free_first es (suc n) e l = ap (λ (xs : List (Option Entry)). slice_get (map Rattle.wb_space.specs.Blocks.opened_block (map is_some xs)) 0) e
 
-none_mapped : (es : List (Option Entry)) (n : ℕ) → es ≡ replicate n None → (b at : ℕ) → slice_get (Rattle.wb_policy.specs.Law.origins es) at ≢ Some (Some b)
+pub none_mapped : (es : List (Option Entry)) (n : ℕ) → es ≡ replicate n None → (b at : ℕ) → slice_get (Rattle.wb_policy.specs.Law.origins es) at ≢ Some (Some b)
 none_mapped es n e b at m = by_count n at (subst (λ (xs : List (Option Entry)). slice_get (Rattle.wb_policy.specs.Law.origins xs) at ≡ Some (Some b)) e m)
   where
     by_count : (n at : ℕ) → slice_get (Rattle.wb_policy.specs.Law.origins (let xs : List (Option Entry) = replicate n None in xs)) at ≡ Some (Some b) → ⊥

@@ -69,7 +69,7 @@ length-landed : (landed : Bool) (device : List History) (at : ℕ) (c : Bytes) �
 length-landed true device at c = length-grown (slice_get device at) device at c
 length-landed false device at c = refl
 
-length-written_where : (lands : ℕ → Bool) (device : List History) (at : ℕ) (cs : List Bytes) → length (written_where lands device at cs) ≡ length device
+pub length-written_where : (lands : ℕ → Bool) (device : List History) (at : ℕ) (cs : List Bytes) → length (written_where lands device at cs) ≡ length device
 length-written_where lands device at [] = refl
 length-written_where lands device at (c ∷ cs) = length-written_where lands (if lands at then written device at c else device) (suc at) cs ∙ length-landed (lands at) device at c
 

@@ -36,6 +36,8 @@ mod FirstLife
 mod Surviving
 mod FirstPromotion
 mod FirstDemotion
+mod FirstReplacement
+mod FirstFollowing
 mod Bounds
 pub mod InsideRuns
 mod Points

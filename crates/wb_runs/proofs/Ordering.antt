@@ -1,5 +1,5 @@
 -- The orders that actors have are of blocks that are there.
-use Rattle.std.proofs.Common.{◌≡◌, ◌<◌, ℕ, Bool, true, false, if◌then◌else◌, List, [], ◌∷◌, Some, None, sym, ap, subst, arith, slice_get, Contains, ◌⊎◌, ◌++◌, ◌&&◌, inl, inr}
+use Rattle.std.proofs.Common.{◌≡◌, ◌<◌, ℕ, Bool, true, false, if◌then◌else◌, List, [], ◌∷◌, Some, None, sym, ap, subst, arith, slice_get, Contains, ◌++◌, ◌&&◌, inl, inr}
 use Rattle.std.proofs.lemmas.Option.{slice_get_within}
 use Rattle.wb_types.specs.declared.geometry.Geometry.{Geometry}
 use Rattle.wb_types.specs.declared.number.OBlock.{OBlock}

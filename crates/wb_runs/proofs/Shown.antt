@@ -16,7 +16,7 @@ pub no_seals : (clean : Bool) (c k : ℕ) → sealing_steps clean c (replicate k
 no_seals clean c zero = refl
 no_seals clean c (suc k) = no_seals clean (suc c) k
 
-nowhere : (block c k : ℕ) → cached_from block c (replicate k None) ≡ None
+pub nowhere : (block c k : ℕ) → cached_from block c (replicate k None) ≡ None
 nowhere block c zero = refl
 nowhere block c (suc k) = nowhere block (suc c) k
 

@@ -1,20 +1,25 @@
 -- That the promises are not empty: runs that pass through what they speak of.
-use Rattle.std.specs.Prelude.{false, ◌≡◌, ◌≤◌, ◌∷◌, ℕ, suc, List, [], Some, None, length, slice_get}
+use Rattle.std.specs.Prelude.{true, false, ◌≡◌, ◌≤◌, ◌∷◌, ℕ, suc, List, [], Some, None, length, slice_get}
 use Rattle.wb_types.specs.Limits.{IsWithinLimits}
 use Rattle.wb_types.specs.declared.extent.Extent.{Extent}
 use Rattle.wb_types.specs.declared.geometry.Geometry.{Geometry}
 use Rattle.wb_types.specs.declared.mode.Dev.TheVariants.{Origin}
+use Rattle.wb_types.specs.declared.refusal.Refusal.TheVariants.{Memory}
 use Rattle.wb_types.specs.declared.number.OBlock.{OBlock}
 use Rattle.wb_types.specs.declared.number.CBlock.{CBlock}
-use Rattle.wb_space.specs.declared.block.Block.TheVariants.{Quarantined}
+use Rattle.wb_policy.specs.declared.order.Order.{Order}
+use Rattle.wb_policy.specs.declared.order.Order.TheVariants.{Replace as ReplaceOrder}
+use Rattle.wb_space.specs.declared.block.Block.{Block}
+use Rattle.wb_space.specs.declared.block.Block.TheVariants.{Reserved, Quarantined}
 use Rattle.wb_orders.specs.Orders.{order_at}
+use Rattle.wb_desk.specs.Desks.{IsLive}
 use Rattle.wb_tasks.specs.declared.step.Migration.TheVariants.{Promote, Demote}
-use Rattle.wb_disk.specs.Device.{Content as Bytes, History}
+use Rattle.wb_disk.specs.Device.{Content as Bytes, History, Gives}
 use Rattle.wb_meta.specs.Formats.{IsFormatted}
 use Rattle.wb_meta.specs.Reads.{sectors_read}
 use Rattle.wb_meta.specs.declared.read_steps.ReadSteps.{ReadSteps}
 use Rattle.wb_tasks.specs.Plan.{want}
-use Rattle.wb_tasks.specs.declared.step.Answer.TheVariants.{Done as Finished}
+use Rattle.wb_tasks.specs.declared.step.Answer.TheVariants.{Done as Finished, Refused as IsRefused}
 use Rattle.wb_tasks.specs.declared.step.Want.TheVariants.{End}
 use Rattle.wb_runs.specs.declared.job.Job.{Job}
 use Rattle.wb_runs.specs.declared.job.Job.TheVariants.{Read, Write, Flush, Migrate}
@@ -122,3 +127,66 @@ abbrev pub CanDemote : (P A : Type 0) → Type 0
 CanDemote P A = (policy : P) (reading : ReadSteps A) → sectors_read reading ≡ 0 → (cache_blocks meta_sectors : ℕ) (within : IsWithinLimits 64 cache_blocks 1 meta_sectors) (threshold others : ℕ) (metadata : List History) → 64 ≤ threshold
     → IsFormatted (one_block cache_blocks meta_sectors within) metadata → length metadata ≡ meta_sectors
     → Demotes P A (record { geometry = one_block cache_blocks meta_sectors within; threshold = threshold; actors = suc others }) metadata
+
+-- an origin of two blocks of 64 sectors
+abbrev pub two_blocks : (cache_blocks meta_sectors : ℕ) → IsWithinLimits 64 cache_blocks 2 meta_sectors → Geometry
+two_blocks cache_blocks meta_sectors within = record { block = 64; cache_blocks = cache_blocks; origin_blocks = 2; meta_sectors = meta_sectors; within = within }
+
+abbrev pub second_block : OBlock
+second_block = record { 0 = 1 }
+
+-- the order by which the first block leaves the first cache block, and the second follows
+abbrev pub replacement : Order
+replacement = ReplaceOrder first_block second_block first_cache_block
+
+-- the first actor has these orders, and these wait for its flush
+abbrev pub FirstHas : {P A : Type 0} → (orders awaiting : List Order) → State P A → Type 0
+FirstHas orders awaiting w = OfSome (slice_get w.actors 0) (λ x. (x.orders ≡ orders) × (x.awaiting ≡ awaiting))
+
+-- the first cache block is in this state
+abbrev pub FirstCacheBlockIs : {P A : Type 0} → Block → State P A → Type 0
+FirstCacheBlockIs block w = OfTarget w.phase (λ target. slice_get target.desk.space.blocks 0 ≡ Some block)
+
+-- A run over such a geometry that passes through a promotion of the first block into the first cache block; a write to it there; the first
+-- half of its replacement, after which its cache block is claimed, and the order lives on and waits for a flush; a flush, which ends the
+-- quarantine; its answer, which gives the order back, and under that order the start of a promotion of the second block; and the rest of
+-- that: the second block stands in the first cache block then, the first nowhere, no order lives there, and the origin has what was written.
+pub record Replaces (P A : Type 0) (shape : Shape) (metadata : List History) (content : Bytes) : Type 0 where
+  pub promoting : List (Happening P A)
+  pub writing : List (Happening P A)
+  pub leaving : List (Happening P A)
+  pub flushing : List (Happening P A)
+  pub starting : List (Happening P A)
+  pub following : List (Happening P A)
+  pub passes : PassesThrough shape (start shape metadata) (formatted shape) (
+      (promoting, λ w n. AboutToAnswer (Migrate (Promote first_cache_block) first_block) w)
+      ∷ (writing, λ w n. AboutToAnswer (Write first_sector content) w × Gives w.devices.cache 0 content)
+      ∷ (leaving, λ w n. AboutToAnswer (Migrate Demote first_block) w × FirstHas [] (replacement ∷ []) w × FirstCacheBlockIs (Quarantined true false) w × OfTarget w.phase (λ target. IsLive target.desk replacement))
+      ∷ (flushing, λ w n. AboutToAnswer Flush w × FirstHas [] (replacement ∷ []) w × FirstCacheBlockIs Reserved w)
+      ∷ (starting, λ w n. AtWork w 0 (λ job s. job ≡ Migrate (Promote first_cache_block) second_block) × FirstHas (replacement ∷ []) [] w)
+      ∷ (
+        following,
+        λ w n. AboutToAnswer (Migrate (Promote first_cache_block) second_block) w × Gives w.devices.origin 0 content
+            × OfTarget w.phase (λ target. (place_of target.desk.tree.entries 1 ≡ Some 0) × (place_of target.desk.tree.entries 0 ≡ None) × (order_at target.desk.orders.slots 0 ≡ None)),
+      )
+      ∷ [])
+
+-- There is one where orders may ask for two blocks at once.
+abbrev pub CanReplace : (P A : Type 0) → Type 0
+CanReplace P A = (policy : P) (reading : ReadSteps A) → sectors_read reading ≡ 0 → (cache_blocks meta_sectors : ℕ) (within : IsWithinLimits 64 cache_blocks 2 meta_sectors) (threshold others : ℕ) (metadata : List History) (content : Bytes) → 128 ≤ threshold
+    → IsFormatted (two_blocks cache_blocks meta_sectors within) metadata → length metadata ≡ meta_sectors
+    → Replaces P A (record { geometry = two_blocks cache_blocks meta_sectors within; threshold = threshold; actors = suc others }) metadata content
+
+-- A run that comes as far, but whose flush is refused for want of memory: the order is given up, and its cache block claimed no longer.
+pub record GivesUp (P A : Type 0) (shape : Shape) (metadata : List History) : Type 0 where
+  pub leaving : List (Happening P A)
+  pub refusing : List (Happening P A)
+  pub passes : PassesThrough shape (start shape metadata) (formatted shape) (
+      (leaving, λ w n. FirstHas [] (replacement ∷ []) w × FirstCacheBlockIs (Quarantined true false) w)
+      ∷ (refusing, λ w n. AtWork w 0 (λ job s. (job ≡ Flush) × (want s ≡ End (IsRefused Memory))) × FirstHas [] [] w × FirstCacheBlockIs (Quarantined false false) w × OfTarget w.phase (λ target. order_at target.desk.orders.slots 0 ≡ None))
+      ∷ [])
+
+abbrev pub CanGiveUp : (P A : Type 0) → Type 0
+CanGiveUp P A = (policy : P) (reading : ReadSteps A) → sectors_read reading ≡ 0 → (cache_blocks meta_sectors : ℕ) (within : IsWithinLimits 64 cache_blocks 2 meta_sectors) (threshold others : ℕ) (metadata : List History) → 128 ≤ threshold
+    → IsFormatted (two_blocks cache_blocks meta_sectors within) metadata → length metadata ≡ meta_sectors
+    → GivesUp P A (record { geometry = two_blocks cache_blocks meta_sectors within; threshold = threshold; actors = suc others }) metadata

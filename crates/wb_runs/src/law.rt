@@ -1,7 +1,7 @@
 //! The theorems over all runs.
 
 ghost use Rattle.wb_runs.specs.Headline.{AnswersCoverTheirSectors, EventsSkipRightly, MetadataAreRead, OpeningsRefuseByCause};
-ghost use Rattle.wb_runs.specs.Possible.{CanDemote, CanFlush, CanOpen, CanPromote, CanSurvive};
+ghost use Rattle.wb_runs.specs.Possible.{CanDemote, CanFlush, CanGiveUp, CanOpen, CanPromote, CanReplace, CanSurvive};
 ghost use Rattle.wb_runs.specs.Progress.{NeverStuck};
 ghost use Rattle.wb_runs.specs.Inside.{StepsStayInside};
 ghost use Rattle.wb_runs.specs.Holding.{WordsAreUsedRightly};
@@ -67,6 +67,17 @@ pub fn a_block_can_be_promoted<P, A>()
 /// its order is over, and its cache block is in quarantine.
 pub fn a_block_can_be_demoted<P, A>()
     ensures { CanDemote P A }
+{}
+
+/// And over an origin of two blocks one in which the first block, which was promoted and written to, is replaced by the second: its content goes
+/// home, a flush of the same actor ends the quarantine of its cache block, and under the same order the second block is promoted there.
+pub fn a_block_can_be_replaced<P, A>()
+    ensures { CanReplace P A }
+{}
+
+/// And one in which that flush is refused for want of memory, and gives the order up.
+pub fn a_replacement_can_be_given_up<P, A>()
+    ensures { CanGiveUp P A }
 {}
 
 /// After every run the cache and the origin have their sizes, and whoever has a task wants next a step on sectors that are there, or a
