@@ -114,14 +114,14 @@ module _ (shape : Shape) (w : Now) (actor : Actor) (got : Got) (read : List Byte
 -- ---- an event
 
 -- whoever is at work there goes on so
-went_size : (shape : Shape) (w : Now) (next : Want) (got : Got) (chosen : Chosen Quiet Global) (a : ℕ) (change : Job → List Bytes → DeviceStep → List History → List History) (o : Option Actor) (P : Job → Plan → Type 0) → OfSome o (λ (x : Actor). OfSome x.task (λ doing. P doing.0 doing.1))
-    → ((job : Job) (plan : Plan) (buffer : List Bytes) → P job plan → AsLarge w.devices (devices_then (change job buffer) w.devices next)) → AsLarge w.devices (with_actor w o (λ x. stepped shape w a x next got chosen (change (job_of x.task) x.buffer))).devices
+went_size : (shape : Shape) (w : Now) (next : Want) (got : Got) (chosen : Chosen Quiet Global) (a : ℕ) (change : Job → List Bytes → DeviceStep → List History → List History) (o : Option Actor) (P : Actor → Job → Plan → Type 0) → OfSome o (λ (x : Actor). OfSome x.task (λ doing. P x doing.0 doing.1))
+    → ((x : Actor) (job : Job) (plan : Plan) → P x job plan → AsLarge w.devices (devices_then (change job x.buffer) w.devices next)) → AsLarge w.devices (with_actor w o (λ x. stepped shape w a x next got chosen (change (job_of x.task) x.buffer))).devices
 went_size shape w next got chosen a change None P h k = absurd h
 went_size shape w next got chosen a change (Some x) P h k = by_task x.task refl h
   where
-    by_task : (t : Option (Job × Plan)) → x.task ≡ t → OfSome t (λ doing. P doing.0 doing.1) → AsLarge w.devices (devices_then (change (job_of x.task) x.buffer) w.devices next)
+    by_task : (t : Option (Job × Plan)) → x.task ≡ t → OfSome t (λ doing. P x doing.0 doing.1) → AsLarge w.devices (devices_then (change (job_of x.task) x.buffer) w.devices next)
     by_task None e h = absurd h
-    by_task (Some doing) e h = rw e (k doing.0 doing.1 x.buffer h)
+    by_task (Some doing) e h = rw e (k x doing.0 doing.1 h)
 
 actor_size : (w : Now) (o : Option Actor) (change : Actor → Now) (devices : Devices (List History)) → AsLarge devices w.devices → ((x : Actor) → AsLarge devices (change x).devices) → AsLarge devices (with_actor w o change).devices
 actor_size w None change devices s k = s
@@ -136,8 +136,8 @@ crashed_size choice devices = record { cache = length-crashed Cache choice 0 dev
 
 pub event_size : (shape : Shape) (w : Now) (event : Event) (what : What) (read : List Bytes) (chosen : Chosen Quiet Global) → MayBe shape w event what read chosen → AsLarge w.devices (after_what shape w event what chosen).devices
 event_size shape w (Start a job) Started read chosen m = actor_size (cleared w job) (slice_get (cleared w job).actors a) (λ x. record (cleared w job) { phase = phase_given (cleared w job).phase job chosen; actors = slice_set (cleared w job).actors a (given shape x job chosen) }) w.devices (cleared_size w job) (λ x. cleared_size w job)
-event_size shape w (Step a) (Stepped next got) read chosen m = went_size shape w next got chosen a (λ job buffer step. device_done job buffer step chosen) (slice_get w.actors a) _ m (λ job plan buffer g. done_size shape w got read chosen buffer job next g.1)
-event_size shape w (FaultStep a choice) (Stepped next got) read chosen m = went_size shape w next got chosen a (λ job buffer step. device_failed (lands (device_of step) choice) job buffer step chosen) (slice_get w.actors a) _ m.2 (λ job plan buffer g. failed_size shape w got read chosen buffer choice job next g.2)
+event_size shape w (Step a) (Stepped next got) read chosen m = went_size shape w next got chosen a (λ job buffer step. device_done job buffer step chosen) (slice_get w.actors a) _ m (λ x job plan g. done_size shape w x got read chosen x.buffer job next g.1)
+event_size shape w (FaultStep a choice) (Stepped next got) read chosen m = went_size shape w next got chosen a (λ job buffer step. device_failed (lands (device_of step) choice) job buffer step chosen) (slice_get w.actors a) _ m.2 (λ x job plan g. failed_size shape w x got read chosen x.buffer choice job next g.2)
 event_size shape w (Stop choice) Stopped read chosen m = crashed_size choice w.devices
 event_size shape w event what read chosen m = same_size w.devices
 
