@@ -543,7 +543,7 @@ module _ (P A : Type 0) (shape : Shape) (images : Images) (t : Target P) (commit
           let hidden : order_seen f.phase.stages l.live.order ≡ None = ap (order_seen f.phase.stages) l.same ∙ f.phase.unseen a x ex order mine.0 in
           let slot : slice_get slots l.cache.0 ≡ Some None = slot_get f.phase.stages (live_orders t.desk) l.cache.0 (Some l.live.order) here ∙ ap (λ (q : Option Order). Some q) hidden in
           let same : slots_seen f.phase.stages (live_orders (released t.desk l.cache)) ≡ slots = ap (λ (os : List (Option Order)). slots_seen f.phase.stages os) (orders_set t.desk.orders.slots l.cache.0 None)
-              ∙ slots_turned f.phase.stages f.phase.stages (live_orders t.desk) l.cache.0 None (λ i o m g. refl) ∙ set_as_is slots l.cache.0 None slot in
+          ∙ slots_turned f.phase.stages f.phase.stages (live_orders t.desk) l.cache.0 None (λ i o m g. refl) ∙ set_as_is slots l.cache.0 None slot in
           let inside = slot_within t.desk.orders.slots l.cache.0 l.live l.there in
           let many_slots = known.is.kept.slots in
           let many_blocks = known.is.kept.blocks in

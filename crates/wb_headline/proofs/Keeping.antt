@@ -508,7 +508,7 @@ module _ (P A : Type 0) (shape : Shape) (images : Images) (t : Target P) (commit
         let mine = law.1.1.mine in
         let held = held_there P t.desk actors are k.owned f.phase.stages a x ex q block of c live mine in
         let found = only_of bl x.orders held.order held.has (ap (λ (o : OBlock). is_of o held.order) law.0 ∙ seen_of f.phase.stages block held.order q held.seen of)
-            (λ p h i. only_held P t.desk actors are k.owned f.phase.stages a x ex q block of c live mine held p (Contains-append_left x.orders x.awaiting p h) (ap (λ (o : OBlock). is_of o p) (sym law.0) ∙ i)) in
+        (λ p h i. only_held P t.desk actors are k.owned f.phase.stages a x ex q block of c live mine held p (Contains-append_left x.orders x.awaiting p h) (ap (λ (o : OBlock). is_of o p) (sym law.0) ∙ i)) in
         let is : new ≡ released t.desk (record { 0 = c }) = (subst (λ (o : Option Order). IsGivenUp o t.desk new) found d).0 held.live ∙ ap (λ (i : ℕ). released t.desk (record { 0 = i })) held.at in
         desk_plain job plan xt (ReleaseOrder bl) Done new e (ready job plan xt (Desk (ReleaseOrder bl)) e) (λ i. ap (λ (q : DeskState P). place_of q.tree.entries i) is)
         (over P t.desk actors are k.owned f.phase.stages a x ex q block of c live mine held (k.parted a x ex) bl law.0 new (ap (λ (q : DeskState P). q.orders.slots) is) (y job plan xt (Desk (ReleaseOrder bl)) Done)

@@ -259,11 +259,11 @@ module _ (P A : Type 0) (shape : Shape) (t : Target P) (commit : Option RunningC
       (subst (λ (k : DeskState P). AtDesk shape.geometry b.goes.images k commit devices.metadata) gone.1 (unmapped_stands P shape.geometry b.goes.images t.desk commit devices.metadata bl new b.goes.known did))
       (agrees_then (DemoteOrder block) bl (for_block Demote block bl law.1) c live mine desk' stages' (replacing bl x.orders ++ x.awaiting) (after_all f.site.world g.records) same_slots
       (λ o h. let d = dropped_is bl x.orders o h in
-          let l = owned.live a x o ex (Contains-append_left x.orders x.awaiting o d.0) in
-          live_elsewhere P t.desk kept f.phase.stages c Waiting o l (λ e. true_not (is_of bl o) (ap (is_of bl) (here o l e) ∙ seen_of f.phase.stages bl t_held.order (DemoteOrder block) t_held.seen (for_block Demote block bl law.1)) d.1))
+      let l = owned.live a x o ex (Contains-append_left x.orders x.awaiting o d.0) in
+      live_elsewhere P t.desk kept f.phase.stages c Waiting o l (λ e. true_not (is_of bl o) (ap (is_of bl) (here o l e) ∙ seen_of f.phase.stages bl t_held.order (DemoteOrder block) t_held.seen (for_block Demote block bl law.1)) d.1))
       (λ d z m e. orders_same f.phase.stages stages' z.orders (λ o h. let k = Contains-append_left z.orders z.awaiting o h in
-          let l = owned.live d z o e k in
-          live_elsewhere P t.desk kept f.phase.stages c Waiting o l (λ i. m (owned.one d a z x o e ex k (subst (λ (p : Order). Contains (held_of x) p) (sym (here o l i)) (Contains-append_left x.orders x.awaiting t_held.order t_held.has))))))
+      let l = owned.live d z o e k in
+      live_elsewhere P t.desk kept f.phase.stages c Waiting o l (λ i. m (owned.one d a z x o e ex k (subst (λ (p : Order). Contains (held_of x) p) (sym (here o l i)) (Contains-append_left x.orders x.awaiting t_held.order t_held.has))))))
       g.agrees)
       (subst (λ (os : List (Option Order)). DeskAgrees desk' os s') (sym same_slots)
       (desk_unmaps P t.desk slots s s' f.phase.desk block.0 (record { 0 = c }) alone.0 new.tree new.policy room alone.1 gone.0 g.desk.0 g.desk.1))
