@@ -1,5 +1,5 @@
 -- The abstract world agrees whatever the order in which an actor has its orders.
-use Rattle.std.proofs.Common.{◌≡◌, ◌≢◌, ◌∙◌, ◌+◌, ◌*◌, ◌⊎◌, inl, inr, ℕ, Bool, List, Option, Some, None, refl, sym, ap, subst, length, slice_get, slice_set, Contains}
+use Rattle.std.proofs.Common.{◌≡◌, ◌≢◌, ◌∙◌, ◌+◌, ◌*◌, ◌⊎◌, inl, inr, ℕ, Bool, List, Option, Some, None, sym, ap, subst, length, slice_get, slice_set, Contains}
 use Rattle.std.proofs.lemmas.List.{length-set}
 use Rattle.wb_types.proofs.Lists.{set_cases}
 use Rattle.wb_disk.specs.Device.{History}

@@ -4,7 +4,6 @@ use Rattle.std.proofs.lemmas.List.{length-set}
 use Rattle.std.proofs.lemmas.List.Elements.{Contains-append_right}
 use Rattle.std.proofs.lemmas.Option.{get_or_from_slice_get}
 use Rattle.wb_types.specs.declared.number.OBlock.{OBlock}
-use Rattle.wb_types.specs.declared.number.CBlock.{CBlock}
 use Rattle.wb_types.specs.declared.geometry.Geometry.{Geometry}
 use Rattle.wb_types.specs.declared.number.Place.{Place}
 use Rattle.wb_types.specs.declared.mode.Dev.{Dev}
@@ -48,13 +47,13 @@ use Rattle.wb_tasks.specs.declared.step.Got.TheVariants.{Done, Fault, Began, Ref
 use Rattle.wb_devices.specs.declared.devices.Devices.{Devices}
 use Rattle.wb_devices.specs.declared.running.RunningCommit.{RunningCommit}
 use Rattle.wb_devices.specs.Moving.{device_in}
-use Rattle.wb_devices.specs.Committing.{is_coming, goes_on, is_committed}
+use Rattle.wb_devices.specs.Committing.{is_coming, is_committed}
 use Rattle.wb_stage.specs.Asking.{DidRelease, HasBegun, IsGivenUp, ended}
 use Rattle.wb_roots.specs.Roots.{MayBeReadAs, Commit}
 use Rattle.wb_roots.proofs.Leading.{after_failure, after_failed_node}
 use Rattle.wb_runs.specs.declared.job.Job.{Job}
 use Rattle.wb_runs.specs.declared.job.Job.TheVariants.{Flush}
-use Rattle.wb_runs.specs.States.{Shape, State, Actor, Target, Phase, Stands, with_device}
+use Rattle.wb_runs.specs.States.{Shape, State, Actor, Target, Stands, with_device}
 use Rattle.wb_runs.specs.Effects.{actor_then, awaiting_then, dropped, orders_then}
 use Rattle.wb_runs.specs.Holding.{cards_of}
 use Rattle.wb_runs.specs.Clerk.{Notes, Doing, noted_step, device_note, failing, put, finished_note, greater_of}
@@ -62,7 +61,7 @@ use Rattle.wb_runs.proofs.Desks.{given_up_stands}
 use Rattle.wb_runs.proofs.Owning.{Owned, dropped_is}
 use Rattle.wb_runs.proofs.Images.{Images, later_of, one_image}
 use Rattle.wb_runs.proofs.Underway.{Underway, Readable, images_of, is_written, led_on}
-use Rattle.wb_runs.proofs.Metadata.{MetadataKept, AtDesk, Leading, Quiet, Broken, begins_over, ends_over, kept_readable}
+use Rattle.wb_runs.proofs.Metadata.{MetadataKept, AtDesk, Leading, Quiet, begins_over, ends_over, kept_readable}
 use Rattle.wb_link.specs.Tables.{Script, Flushing as FlushingFor}
 use Rattle.wb_refines.specs.Going.{records}
 use Rattle.wb_link.specs.World.{World, Shared, after_all}
@@ -72,9 +71,9 @@ use Rattle.wb_simulation.proofs.Followed.{doing_of}
 use Rattle.wb_simulation.specs.Noting.{NotesAgree}
 use Rattle.wb_simulation.specs.Noted.{told}
 use Rattle.wb_simulation.specs.Sites.{ImagesAgree, IsRunning, locations}
-use Rattle.wb_simulation.specs.Telling.{Telling, AreUnnoted, Quietly, Answers}
-use Rattle.wb_simulation.specs.Worlds.{Agrees, Turn, Stays, Begins, Puts, Ends, TurnedTo, FollowsBy, Follows}
-use Rattle.wb_simulation.specs.Laws.{went, after_step, turn_of}
+use Rattle.wb_simulation.specs.Telling.{AreUnnoted, Quietly, Answers}
+use Rattle.wb_simulation.specs.Worlds.{Agrees, Turn, Stays, Begins, Puts, Ends, FollowsBy, Follows}
+use Rattle.wb_simulation.specs.Laws.{went, after_step}
 use Rattle.wb_simulation.proofs.Flushes.{flush_steps_followed}
 use Rattle.wb_simulation.proofs.Noted.{notes_followed}
 use Rattle.wb_simulation.proofs.Opening.{images_followed}

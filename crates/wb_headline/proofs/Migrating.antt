@@ -1,6 +1,6 @@
 -- Each start of a promotion, a demotion or a write-back is followed, and that of a replacement: as a demotion there, and as a promotion once
 -- its block has left.
-use Rattle.std.proofs.Common.{◌≡◌, ◌≢◌, ◌∙◌, ◌<◌, ◌≤◌, ◌+◌, ◌^◌, inl, inr, ℕ, zero, suc, Bool, true, false, List, [], ◌∷◌, Option, Some, None, refl, sym, ap, subst, arith, get_or, length, slice_get, slice_set, get_or-set_same, Contains}
+use Rattle.std.proofs.Common.{◌≡◌, ◌≢◌, ◌∙◌, ◌<◌, ◌^◌, inl, inr, ℕ, true, false, List, ◌∷◌, Option, Some, None, refl, sym, ap, subst, arith, get_or, length, slice_get, slice_set, Contains}
 use Rattle.std.proofs.lemmas.Bool.{cases_eq}
 use Rattle.std.proofs.lemmas.List.{length-set}
 use Rattle.std.proofs.lemmas.List.Elements.{Contains-append_left, Contains-append_right}
@@ -10,7 +10,7 @@ use Rattle.wb_types.specs.declared.extent.Extent.{Extent}
 use Rattle.wb_types.specs.declared.number.OBlock.{OBlock}
 use Rattle.wb_types.specs.declared.number.CBlock.{CBlock}
 use Rattle.wb_types.specs.Extents.{IsCutInto}
-use Rattle.wb_disk.specs.Device.{Content as Bytes, History}
+use Rattle.wb_disk.specs.Device.{History}
 use Rattle.wb_contents.specs.Volume.{changed}
 use Rattle.wb_contents.proofs.Positions.{changed_same, changed_other}
 use Rattle.wb_words.specs.declared.card.Hold.TheVariants.{Nothing}
@@ -19,15 +19,15 @@ use Rattle.wb_policy.specs.declared.order.Order.{Order}
 use Rattle.wb_policy.specs.declared.order.Order.TheVariants.{Promote as PromoteOrder, Replace as ReplaceOrder, Demote as DemoteOrder, Clean as CleanOrder}
 use Rattle.wb_space.specs.declared.block.Block.{Block}
 use Rattle.wb_space.specs.declared.block.Block.TheVariants.{Free, Mapped, Reserved}
-use Rattle.wb_space.specs.Blocks.{state, IsClaimed}
+use Rattle.wb_space.specs.Blocks.{state}
 use Rattle.wb_orders.specs.declared.live_order.LiveOrder.{LiveOrder}
 use Rattle.wb_orders.specs.Named.{first_of, second_of, IsNamed}
 use Rattle.wb_orders.specs.Orders.{AreOrders, order_at}
-use Rattle.wb_desk.specs.Desks.{DeskState, DeskInvariant, IsLive, MayReserve, Names, holdings, sectors_asked}
+use Rattle.wb_desk.specs.Desks.{DeskInvariant, IsLive, MayReserve, Names, holdings, sectors_asked}
 use Rattle.wb_desk.specs.Calls.{reserved, blocks_reserved}
 use Rattle.wb_desk.proofs.Leaving.{mapped_state}
 use Rattle.wb_tasks.specs.Tables.{whole_block}
-use Rattle.wb_tasks.specs.Plan.{Plan, table}
+use Rattle.wb_tasks.specs.Plan.{Plan}
 use Rattle.wb_tasks.specs.declared.step.Migration.{Migration}
 use Rattle.wb_tasks.specs.declared.step.Migration.TheVariants.{Promote, Demote, Clean}
 use Rattle.wb_devices.specs.declared.devices.Devices.{Devices}
@@ -35,15 +35,15 @@ use Rattle.wb_devices.specs.declared.running.RunningCommit.{RunningCommit}
 use Rattle.wb_runs.specs.declared.job.Job.{Job}
 use Rattle.wb_runs.specs.declared.job.Job.TheVariants.{Migrate, Replace}
 use Rattle.wb_runs.specs.declared.event.What.TheVariants.{Started}
-use Rattle.wb_runs.specs.States.{Shape, State, Actor, Target, Stands}
-use Rattle.wb_runs.specs.Happenings.{Chosen, Plain, Cut, Orders, StartGives, begun_as, order_for}
+use Rattle.wb_runs.specs.States.{Shape, Actor, Target, Stands}
+use Rattle.wb_runs.specs.Happenings.{Chosen, Cut, Orders, StartGives, begun_as, order_for}
 use Rattle.wb_runs.specs.Effects.{phase_given, given}
 use Rattle.wb_runs.specs.Holding.{TaskSuits}
-use Rattle.wb_runs.specs.Clerk.{Notes, Doing, put, begun}
+use Rattle.wb_runs.specs.Clerk.{Notes, put, begun}
 use Rattle.wb_runs.proofs.Desks.{reserved_stands}
 use Rattle.wb_runs.proofs.Images.{later_of}
 use Rattle.wb_runs.proofs.Lists.{first_or, set_there}
-use Rattle.wb_runs.proofs.Metadata.{AtDesk, unknowing, kept_readable}
+use Rattle.wb_runs.proofs.Metadata.{unknowing, kept_readable}
 use Rattle.wb_runs.proofs.Ordering.{held_of}
 use Rattle.wb_link.specs.World.{World, Shared, after_all, Apart, Free as FreeThere, Mapped as MappedThere, Reserved as ReservedThere}
 use Rattle.wb_simulation.specs.Actors.{IsAside, IsBusyAt}
@@ -56,7 +56,7 @@ use Rattle.wb_simulation.specs.Worlds.{Agrees, Turn, TurnedTo, DeskTurnedTo, Sta
 use Rattle.wb_simulation.proofs.Migrations.{migrations_followed}
 use Rattle.wb_simulation.proofs.Noted.{notes_followed}
 use Rattle.wb_simulation.proofs.Opening.{images_followed}
-use Rattle.wb_headline.specs.Desks.{order_of, orders_of, live_orders, block_there, reserved_there, slot_at, DeskAgrees, HasCome, OrderHasCome, AllHaveCome}
+use Rattle.wb_headline.specs.Desks.{live_orders, block_there, reserved_there, slot_at, DeskAgrees, HasCome, OrderHasCome, AllHaveCome}
 use Rattle.wb_headline.specs.Seen.{Replacing, Leaving, Waiting, Following, replacement_seen, order_seen, slots_seen, orders_seen, task_seen, actor_seen, actors_seen}
 use Rattle.wb_headline.proofs.Alike.{agrees_alike}
 use Rattle.wb_headline.proofs.Allowed.{there}
@@ -66,7 +66,7 @@ use Rattle.wb_headline.proofs.Desking.{desk_follows, desk_orders, desk_reserves,
 use Rattle.wb_headline.proofs.Following.{size, most, Sized, Followed, Goes}
 use Rattle.wb_headline.proofs.Migrations.{any_step, any_fault}
 use Rattle.wb_headline.proofs.Owned.{are_owned, one_of_cache}
-use Rattle.wb_headline.proofs.Seeing.{live_here, named, orders_many, orders_set, slot_there, slot_within, slots_many, stands_there, unmapped_there, vacant_there}
+use Rattle.wb_headline.proofs.Seeing.{live_here, named, orders_set, slot_there, slot_within, slots_many, stands_there, unmapped_there, vacant_there}
 use Rattle.wb_headline.proofs.Seen.{actors_turned, get_seen, in_seen, orders_same, seen_in, seen_named, set_as_is, slot_get, slot_here, slots_turned}
 use Rattle.wb_headline.proofs.Staging.{elsewhere, live_elsewhere}
 use Rattle.wb_headline.proofs.Targets.{standing, leads_on, stays_on, unseen_turned}
