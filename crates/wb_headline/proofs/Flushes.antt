@@ -477,9 +477,6 @@ module _ (P A : Type 0) (shape : Shape) (images : Images) (t : Target P) (commit
       b = beside P A shape images t commit devices actors n known f a x ex
 
       -- the orders that it has served were not seen, and are not now
-      served : Actor
-      served = record x { task = None; orders = x.awaiting ++ x.orders; awaiting = [] }
-
       served_so : record x_seen { task = None } ≡ actor_seen f.phase.stages (record x { task = None; orders = x.awaiting ++ x.orders; awaiting = [] })
       served_so = λ i. record x_seen { task = None; orders = sym (unseen_before f.phase.stages x.awaiting x.orders (λ o h. f.phase.unseen a x ex o h)) i }
 
@@ -520,9 +517,6 @@ module _ (P A : Type 0) (shape : Shape) (images : Images) (t : Target P) (commit
       subst (λ (v : Actor). Goes P A shape (record { devices = devices; commit = commit; phase = Stands (record { words = t.words; desk = new }); actors = slice_set actors a v }) n) (sym (actor_is P A shape (Stands t) devices x Flush plan (Desk (ReleaseOrder block)) Done xt))
       (by_order (Rattle.wb_stage.specs.Asking.order_of block x.awaiting) refl did)
     where
-      y : Actor
-      y = record x { task = Some (Flush, after plan Done); awaiting = dropped block x.awaiting }
-
       y_seen : actor_seen f.phase.stages (record x { task = Some (Flush, after plan Done); awaiting = dropped block x.awaiting }) ≡ x_seen
       y_seen = λ i. record x_seen { task = (ap (λ (p : Plan). Some (Flush, p)) (flush_releases plan serving.0 (most P A shape) block serving.1 next) ∙ sym task_there) i }
 

@@ -532,9 +532,6 @@ module _ (P A : Type 0) (shape : Shape) (images : Images) (t : Target P) (commit
     pub flush_release_keeps : (bl : OBlock) (new : DeskState P) → Desk (ReleaseOrder bl) ≡ want plan → DidRelease x.awaiting bl t.desk new → KeepingAt (record { words = t.words; desk = new }) (slice_set actors a (y Flush plan xt (Desk (ReleaseOrder bl)) Done))
     flush_release_keeps bl new e d = by (order_found bl x.awaiting) refl d
       where
-        here : Actor
-        here = y Flush plan xt (Desk (ReleaseOrder bl)) Done
-
         holds : x.card.hold ≡ Nothing
         holds = ready Flush plan xt (Desk (ReleaseOrder bl)) e
 

@@ -275,12 +275,6 @@ module _ (P A : Type 0) (shape : Shape) (t : Target P) (commit : Option RunningC
   -- ---- a promotion under a replacement, whose block has left
 
   module _ (old block : OBlock) (cache : CBlock) (has : Contains x.orders (ReplaceOrder old block cache)) (at : state t.desk.space.blocks cache.0 ≡ Reserved) (waits : g.phase.stages cache.0 ≡ Waiting) (cut : List Extent) (cuts : IsCutInto (whole_block (size P A shape) block) cut) where
-    abbrev o : Order
-    o = ReplaceOrder old block cache
-
-    abbrev promoted : Order
-    promoted = PromoteOrder block cache
-
     live : IsLive t.desk (ReplaceOrder old block cache)
     live = b.keeping.owned.live a x (ReplaceOrder old block cache) ex (Contains-append_left x.orders x.awaiting (ReplaceOrder old block cache) has)
 

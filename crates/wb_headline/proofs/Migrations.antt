@@ -10,6 +10,7 @@ use Rattle.wb_types.specs.declared.number.CBlock.{CBlock}
 use Rattle.wb_disk.specs.Device.{Content as Bytes, History}
 use Rattle.wb_disk.specs.Crash.{Choice}
 use Rattle.wb_disk.specs.Failing.{lands}
+use Rattle.wb_contents.specs.Volume.{changed}
 use Rattle.wb_words.specs.SharedWords.{word_at, place_in}
 use Rattle.wb_words.specs.declared.word.Access.TheVariants.{Owned as Own}
 use Rattle.wb_words.specs.declared.word.Word.TheVariants.{Cell as LockWord, Seal as SealWord, Number, Count as CountWord, Fail}
@@ -142,7 +143,7 @@ module _ (P A : Type 0) (shape : Shape) (t : Target P) (commit : Option RunningC
   sees (Look Fail) e = tt
   sees (Look (LockWord o)) e = tt
   sees (Look (CountWord kind)) e = tt
-  sees (Take access o seen) e = tt
+  sees (Take access o word) e = tt
   sees (Release access o) e = tt
   sees (Seal o place dirty) e = tt
   sees (Finish o) e = tt
@@ -171,6 +172,22 @@ module _ (P A : Type 0) (shape : Shape) (t : Target P) (commit : Option RunningC
 
     only : (p : Order) → Contains x.orders p → is_of bl p ≡ true → p ≡ held.order
     only p h e = only_held P t.desk actors are b.keeping.owned f.phase.stages a x ex q bl of c there has held p (Contains-append_left x.orders x.awaiting p h) e
+
+    here_is : (o : Order) (l : IsLive t.desk o) → l.cache.0 ≡ c → o ≡ held.order
+    here_is o l e = one_of_cache P t.desk actors are b.keeping.owned o held.order l held.live (e ∙ sym held.at)
+
+    -- what this actor and the others keep is seen as before, whatever comes of the replacement on that cache block
+    mine_on : (r : Replacing) (o : Order) → Contains (dropped bl x.orders) o → order_seen (changed f.phase.stages c r) o ≡ order_seen f.phase.stages o
+    mine_on r o h =
+        let d = dropped_is bl x.orders o h in
+        let l = b.keeping.owned.live a x o ex (Contains-append_left x.orders x.awaiting o d.0) in
+        live_elsewhere P t.desk kept f.phase.stages c r o l (λ e. true_not (is_of bl o) (ap (is_of bl) (here_is o l e) ∙ seen_of f.phase.stages bl held.order q held.seen of) d.1)
+
+    others_on : (r : Replacing) (d : ℕ) (z : Actor) → d ≢ a → slice_get actors d ≡ Some z → orders_seen (changed f.phase.stages c r) z.orders ≡ orders_seen f.phase.stages z.orders
+    others_on r d z m e = orders_same f.phase.stages (changed f.phase.stages c r) z.orders (λ o h. (
+        let k = Contains-append_left z.orders z.awaiting o h in
+        let l = b.keeping.owned.live d z o e k in
+        live_elsewhere P t.desk kept f.phase.stages c r o l (λ i. m (b.keeping.owned.one d a z x o e ex k (subst (λ (p : Order). Contains (held_of x) p) (sym (here_is o l i)) (Contains-append_left x.orders x.awaiting held.order held.has))))))
 
     -- what is seen of orders and actors then agrees, where at other cache blocks it is the same
     agrees_then : (desk' : DeskState P) (stages' : ℕ → Replacing) (awaiting : List Order) (s' : World) → slots_seen stages' (live_orders desk') ≡ slice_set slots c None → ((o : Order) → Contains (dropped bl x.orders) o → order_seen stages' o ≡ order_seen f.phase.stages o) →
@@ -238,7 +255,6 @@ module _ (P A : Type 0) (shape : Shape) (t : Target P) (commit : Option RunningC
       let room = slice_get_within t.desk.space.blocks c Mapped (mapped_state unknowing t.desk block.0 c kept at) in
       let readable = kept_readable shape.geometry b.goes.images devices.metadata P A (Stands t) commit b.goes.known in
       let same_slots = slots_then P t.desk kept f.phase.stages f.phase.come actors are owned a x ex parted block c live mine t_held in
-      let here : (o : Order) (l : IsLive t.desk o) → l.cache.0 ≡ c → o ≡ t_held.order = λ o l e. one_of_cache P t.desk actors are owned o t_held.order l t_held.live (e ∙ sym t_held.at) in
       subst (λ (k : DeskState P). To (Desk (Unmap bl)) Done read (Asks k)) (sym gone.1)
       (subst (λ (v : Actor). Goes P A shape (record { devices = devices; commit = commit; phase = Stands (record { words = t.words; desk = desk' }); actors = slice_set actors a v }) n) (sym (actor_is P A shape (Stands t) devices x job plan (Desk (Unmap bl)) Done xt))
       (leads_on P A shape b.goes.images t commit devices actors n b.goes.known f a x ex (Unmaps block.0 c) (Carries (length seen)) (record { words = t.words; desk = desk' }) commit devices (slice_set actors a y) n b.goes.images stages' (slice_set slots c None) (slice_set seen a (then_there bl)) g tt
@@ -246,12 +262,7 @@ module _ (P A : Type 0) (shape : Shape) (t : Target P) (commit : Option RunningC
       (sized_plain P A shape b.goes.images t commit devices actors n b.goes.known f a x ex y)
       (subst (λ (k : DeskState P). AtDesk shape.geometry b.goes.images k commit devices.metadata) gone.1 (unmapped_stands P shape.geometry b.goes.images t.desk commit devices.metadata bl new b.goes.known did))
       (agrees_then (DemoteOrder block) bl (for_block Demote block bl law.1) c live mine desk' stages' (replacing bl x.orders ++ x.awaiting) (after_all f.site.world g.records) same_slots
-      (λ o h. let d = dropped_is bl x.orders o h in
-      let l = owned.live a x o ex (Contains-append_left x.orders x.awaiting o d.0) in
-      live_elsewhere P t.desk kept f.phase.stages c Waiting o l (λ e. true_not (is_of bl o) (ap (is_of bl) (here o l e) ∙ seen_of f.phase.stages bl t_held.order (DemoteOrder block) t_held.seen (for_block Demote block bl law.1)) d.1))
-      (λ d z m e. orders_same f.phase.stages stages' z.orders (λ o h. let k = Contains-append_left z.orders z.awaiting o h in
-      let l = owned.live d z o e k in
-      live_elsewhere P t.desk kept f.phase.stages c Waiting o l (λ i. m (owned.one d a z x o e ex k (subst (λ (p : Order). Contains (held_of x) p) (sym (here o l i)) (Contains-append_left x.orders x.awaiting t_held.order t_held.has))))))
+      (mine_on (DemoteOrder block) bl (for_block Demote block bl law.1) c live mine Waiting) (others_on (DemoteOrder block) bl (for_block Demote block bl law.1) c live mine Waiting)
       g.agrees)
       (subst (λ (os : List (Option Order)). DeskAgrees desk' os s') (sym same_slots)
       (desk_unmaps P t.desk slots s s' f.phase.desk block.0 (record { 0 = c }) alone.0 new.tree new.policy room alone.1 gone.0 g.desk.0 g.desk.1))
