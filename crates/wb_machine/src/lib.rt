@@ -1,7 +1,7 @@
 //! A cache over three devices in memory that runs by events, one atomic step at a time: what happens in it is what the
 //! definitions of wb_runs allow.
 //!
-//! Over a target that was opened reads, writes, flushes, promotions, demotions and write-backs run.
+//! Over a target that was opened reads, writes, flushes, promotions, demotions, write-backs and replacements run.
 #![tactic(auto)]
 
 mod asking;

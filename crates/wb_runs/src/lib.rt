@@ -1,4 +1,4 @@
-//! Every interleaving of reads, writes, flushes, promotions, demotions, write-backs and openings on three devices, one atomic step at a
+//! Every interleaving of reads, writes, flushes, promotions, demotions, write-backs, replacements and openings on three devices, one atomic step at a
 //! time, with failing steps and crashes: definitions and laws, no code but the records of what happened.
 #![tactic(auto)]
 

@@ -5,6 +5,7 @@ mod flushes;
 mod line;
 mod openings;
 mod promotions;
+mod replacements;
 mod requests;
 mod runs;
 mod stretches;
@@ -15,6 +16,7 @@ use self::flushes::FLUSHES;
 use self::line::{Act, FIRST_SECTOR, Line, OPENING, READING, Row, Task, WRITING};
 use self::openings::{CRASHES, FAILURES, OPENINGS, ROOTS};
 use self::promotions::{PROMOTIONS, promoted};
+use self::replacements::{REPLACEMENTS, replaced};
 use self::requests::{FAILED_REQUESTS, REQUESTS, WRITE_AND_READ, WRITTEN_AND_GIVEN};
 use self::runs::ran;
 use self::views::VIEWS;
@@ -77,6 +79,7 @@ fn event_of(alloc: Global, act: Act) -> Result<Event, Refusal> {
         Act::Clean(actor, block) => {
             Ok(Event::Start(actor, Job::Migrate(Migration::Clean, block)))
         }
+        Act::Replace(actor, old, new) => Ok(Event::Start(actor, Job::Replace(old, new))),
         Act::Step(actor) => Ok(Event::Step(actor)),
         Act::Fault(actor, base) => Ok(Event::FaultStep(actor, unnamed(alloc, base))),
         Act::FaultOf(actor, device, sector, position) => Ok(Event::FaultStep(
@@ -319,6 +322,18 @@ fn demotions_go_as_their_rows_say(rt: HostRuntime) -> Result<(), Fail> {
 #[test]
 fn a_demotion_is_run_to_its_end(rt: HostRuntime) -> Result<(), Fail> {
     assert!(rt; demoted(rt.alloc())?);
+    Ok(())
+}
+
+#[test]
+fn replacements_go_as_their_rows_say(rt: HostRuntime) -> Result<(), Fail> {
+    compare(rt.alloc(), &REPLACEMENTS)
+}
+
+/// A list of events in which a block takes the place of another is run to its end.
+#[test]
+fn a_replacement_is_run_to_its_end(rt: HostRuntime) -> Result<(), Fail> {
+    assert!(rt; replaced(rt.alloc())?);
     Ok(())
 }
 

@@ -22,6 +22,8 @@ pub enum Act {
     Demote(usize, OBlock),
     /// A block is written back.
     Clean(usize, OBlock),
+    /// The first block makes way for the second one.
+    Replace(usize, OBlock, OBlock),
     Step(usize),
     /// The actor's next step fails; what it syncs has landed, or not.
     Fault(usize, Base),
