@@ -1,5 +1,5 @@
 -- The abstract world agrees whatever the order in which an actor has its orders.
-use Rattle.std.proofs.Common.{◌≡◌, ◌≢◌, ◌∙◌, ◌+◌, ◌*◌, ◌⊎◌, inl, inr, ℕ, Bool, List, Option, Some, None, refl, sym, ap, subst, length, slice_get, slice_set, Contains}
+use Rattle.std.proofs.Common.{◌≡◌, ◌≢◌, ◌∙◌, ◌+◌, ◌*◌, ◌⊎◌, inl, inr, ℕ, Bool, List, Option, Some, None, sym, ap, subst, length, slice_get, slice_set, Contains}
 use Rattle.std.proofs.lemmas.List.{length-set}
 use Rattle.wb_types.proofs.Lists.{set_cases}
 use Rattle.wb_disk.specs.Device.{History}
@@ -37,8 +37,26 @@ module _ (os ps : List Order) (to : (o : Order) → Contains os o → Contains p
 
     carried_on : (size : ℕ) (devices : Devices (List History)) (c : CBlock) (order : Option Order) (y : AbstractActor) → IsCarried size devices c order was y → IsCarried size devices c order now y
     carried_on size devices c order y k = record {
-      migration = k.migration; block = k.block; plan = k.plan; task = k.task; part = k.part; job = k.job; block_is = k.block_is; is_part = k.is_part; small = k.small; fills = k.fills; of_block = k.of_block;
-      paired = k.paired; unfinished = k.unfinished; answers = k.answers; kept = k.kept; live = has_live c.0 order k.kept k.live; has = k.has; at = k.at; copies = k.copies; buffer = k.buffer;
+      migration = k.migration;
+      block = k.block;
+      plan = k.plan;
+      task = k.task;
+      part = k.part;
+      job = k.job;
+      block_is = k.block_is;
+      is_part = k.is_part;
+      small = k.small;
+      fills = k.fills;
+      of_block = k.of_block;
+      paired = k.paired;
+      unfinished = k.unfinished;
+      answers = k.answers;
+      kept = k.kept;
+      live = has_live c.0 order k.kept k.live;
+      has = k.has;
+      at = k.at;
+      copies = k.copies;
+      buffer = k.buffer;
     }
 
     kept_on : (words : Words) (y : AbstractActor) → HasKept words was y → HasKept words now y

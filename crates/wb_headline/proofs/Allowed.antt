@@ -3,10 +3,9 @@ use Rattle.std.proofs.Common.{◌≡◌, ◌∙◌, ◌<◌, ◌≤◌, ◌+◌,
 use Rattle.std.proofs.Math.Nat.{div-add-mod', mod-lt, mul-le-mul_right}
 use Rattle.std.proofs.lemmas.Bool.{lt-ltb}
 use Rattle.std.proofs.lemmas.List.{length-map}
-use Rattle.std.proofs.lemmas.Nat.{div_below}
 use Rattle.wb_types.specs.declared.entry.Entry.{Entry}
 use Rattle.wb_types.specs.Extents.{rising}
-use Rattle.wb_types.proofs.Lists.{element_beside, map_there}
+use Rattle.wb_types.proofs.Lists.{map_there}
 use Rattle.wb_disk.specs.Device.{Content, History, entries}
 use Rattle.wb_disk.specs.Crashes.{MayLeave}
 use Rattle.wb_contents.specs.Devices.{by_block}

@@ -1,43 +1,30 @@
 -- An opening that is answered is followed: refused, nothing is left of it; done, its target stands for the abstract one's, and what it shows is allowed.
-use Rattle.std.proofs.Common.{◌≡◌, ◌≢◌, ◌∙◌, ◌<◌, ◌≤◌, ◌+◌, ◌*◌, ◌/◌, ◌%◌, ◌^◌, ◌⊎◌, inl, inr, ℕ, zero, suc, Bool, true, false, if◌then◌else◌, cond, nat_lt, List, [], ◌∷◌, Option, Some, None, refl, sym, ap, subst, arith, length, map, replicate, is_some, slice_get, slice_set, slice_index_or, unwrap_or, Contains, mul_comm}
+use Rattle.std.proofs.Common.{◌≡◌, ◌∙◌, ◌<◌, ◌≤◌, ◌+◌, ◌*◌, ◌/◌, ◌%◌, ◌⊎◌, inl, inr, ℕ, zero, suc, Bool, true, false, cond, nat_lt, List, [], ◌∷◌, Option, Some, None, refl, sym, ap, subst, arith, length, map, replicate, is_some, slice_get, slice_index_or, unwrap_or, mul_comm}
 use Rattle.std.proofs.Math.Nat.{mul-le-mul_right}
 use Rattle.std.proofs.lemmas.Bool.{ltb-true, ltb-false}
-use Rattle.std.proofs.lemmas.List.{length-map, length-replicate, length-set}
 use Rattle.std.proofs.lemmas.Nat.{div-mul-add, mod-mul-add}
 use Rattle.std.proofs.lemmas.Option.{slice_get_past}
 use Rattle.wb_types.specs.declared.entry.Entry.{Entry}
-use Rattle.wb_types.specs.declared.geometry.Geometry.{Geometry}
-use Rattle.wb_types.specs.declared.mode.Mode.{Mode}
 use Rattle.wb_types.specs.declared.mode.Mode.TheVariants.{Writeback}
-use Rattle.wb_disk.specs.Device.{Content as Bytes, History, newest, only, entries}
-use Rattle.wb_disk.proofs.Leaving.{read-left}
+use Rattle.wb_disk.specs.Device.{Content as Bytes, History, newest, only}
 use Rattle.wb_contents.specs.Devices.{by_block}
 use Rattle.wb_contents.specs.Volume.{at_location}
 use Rattle.wb_contents.specs.Conditions.{IsUnnamed}
-use Rattle.wb_contents.specs.Promises.{IsEntryFrom}
 use Rattle.wb_contents.proofs.Devices.{is_there}
 use Rattle.wb_tree.specs.Mapping.{IsMapping}
 use Rattle.wb_space.specs.Blocks.{state, opened_block}
 use Rattle.wb_space.specs.declared.block.Block.{Block}
 use Rattle.wb_space.specs.declared.block.Block.TheVariants.{Free, Mapped}
-use Rattle.wb_meta.specs.Representing.{Stored}
-use Rattle.wb_meta.specs.declared.read_steps.ReadSteps.{ReadSteps}
-use Rattle.wb_meta.specs.declared.read_steps.ReadSteps.TheVariants.{Done as AllRead}
-use Rattle.wb_meta.specs.declared.read_steps.State.{State as StoredThere}
-use Rattle.wb_orders.specs.declared.live_order.LiveOrder.{LiveOrder}
 use Rattle.wb_policy.specs.declared.order.Order.{Order}
 use Rattle.wb_devices.specs.declared.devices.Devices.{Devices}
-use Rattle.wb_devices.specs.declared.running.RunningCommit.{RunningCommit}
-use Rattle.wb_devices.specs.Committing.{is_committed}
-use Rattle.wb_runs.specs.States.{Shape, Actor, sector_count, cache_sector_count, block_size}
-use Rattle.wb_runs.specs.Clerk.{Notes}
-use Rattle.wb_runs.specs.Headline.{place_of, content_of, shown_by, ShowsAllowed}
-use Rattle.wb_link.specs.World.{World, Shared, Block as AbstractBlock, Free as FreeThere, Mapped as MappedThere, resting as idle}
+use Rattle.wb_runs.specs.States.{Shape, sector_count, cache_sector_count, block_size}
+use Rattle.wb_runs.specs.Headline.{place_of, content_of, shown_by}
+use Rattle.wb_link.specs.World.{Free as FreeThere, Mapped as MappedThere}
 use Rattle.wb_link.specs.Openings.{Site, Phase as PhaseThere, Stands as StandsThere, Opens as OpensThere, Learnt, Answering, Shown, Advances, Event, MayHappen, after_event, advance, opened_on, emptied}
 use Rattle.wb_simulation.specs.Opened.{located}
 use Rattle.wb_simulation.specs.Worlds.{zeros}
 use Rattle.wb_simulation.proofs.Opened.{found_at}
-use Rattle.wb_headline.specs.Desks.{block_there, order_of, orders_of}
+use Rattle.wb_headline.specs.Desks.{block_there, orders_of}
 use Rattle.wb_headline.proofs.Allowed.{there}
 
 -- no order lives at a desk that was just opened

@@ -1,5 +1,5 @@
 -- Where no target stands after it, an event of the abstract world leads to a site that agrees.
-use Rattle.std.proofs.Common.{◌≡◌, ◌≢◌, ◌∙◌, ◌⊎◌, ℕ, Bool, true, false, if◌then◌else◌, List, Option, Some, None, refl, sym, ap, subst, length, slice_get}
+use Rattle.std.proofs.Common.{◌≡◌, ◌≢◌, ◌∙◌, ◌⊎◌, ℕ, Bool, true, false, if◌then◌else◌, List, Option, Some, None, sym, ap, subst, length, slice_get}
 use Rattle.wb_types.specs.declared.mode.Mode.{Mode}
 use Rattle.wb_types.specs.declared.mode.Mode.TheVariants.{Writeback}
 use Rattle.wb_disk.specs.Device.{History}
@@ -12,17 +12,16 @@ use Rattle.wb_runs.specs.declared.job.Job.{Job}
 use Rattle.wb_runs.specs.States.{Shape, State, Actor, Phase, Stands, Gone, Opens}
 use Rattle.wb_runs.specs.Clerk.{Notes}
 use Rattle.wb_runs.proofs.Images.{Images, later_of, IsFitToo}
-use Rattle.wb_runs.proofs.Underway.{Readable}
 use Rattle.wb_runs.proofs.Metadata.{MetadataKept, kept_readable}
 use Rattle.wb_link.specs.World.{World, Actor as AbstractActor}
 use Rattle.wb_link.specs.Clerk.{Notes as AbstractNotes}
-use Rattle.wb_link.specs.Openings.{Site, Phase as PhaseThere, Stands as StandsThere, Gone as GoneThere, after_event}
+use Rattle.wb_link.specs.Openings.{Site, Phase as PhaseThere, Stands as StandsThere, after_event}
 use Rattle.wb_simulation.specs.Noting.{NotesAgree}
 use Rattle.wb_simulation.specs.Sites.{DevicesAgree, LeadsTo}
 use Rattle.wb_headline.proofs.Events.{Reached, event_reaches}
 use Rattle.wb_headline.proofs.Unclean.{NeverClean, event_on}
 use Rattle.wb_headline.proofs.Quiet.{quietens, rests_there, emptied_many, notes_at_rest}
-use Rattle.wb_headline.proofs.Following.{AtStage, IsOver, many, size, Sized, DevicesFollow, GoneFollows, OpeningFollows, PhaseFollows, Followed, Goes}
+use Rattle.wb_headline.proofs.Following.{AtStage, IsOver, many, size, Sized, DevicesFollow, PhaseFollows, Followed, Goes}
 
 -- the notes have the same of every sector, and as many actors
 pub record SameSectors (n n' : Notes) : Type 0 where

@@ -1,11 +1,10 @@
 -- What was finished when somebody began is noted of each sector.
 use Rattle.std.proofs.Common.{◌≡◌, ◌∙◌, inl, inr, ℕ, zero, suc, List, [], ◌∷◌, Option, Some, None, refl, sym, ap, subst, length, map, replicate, slice_get, slice_set}
 use Rattle.wb_types.proofs.Lists.{set_cases}
-use Rattle.wb_types.specs.declared.mode.Mode.{Mode}
 use Rattle.wb_disk.specs.Device.{Content as Bytes}
 use Rattle.wb_tasks.specs.declared.step.Answer.TheVariants.{Done as Finished, Refused as Refuses}
 use Rattle.wb_tasks.specs.declared.step.DeviceStep.{DeviceStep}
-use Rattle.wb_tasks.specs.declared.step.DeviceStep.TheVariants.{Read as ReadExtent, Write as WriteExtent, Sync, ReadMetadata, WriteNode, WriteRoot}
+use Rattle.wb_tasks.specs.declared.step.DeviceStep.TheVariants.{Read as ReadExtent, Write as WriteExtent}
 use Rattle.wb_tasks.specs.declared.step.Want.{Want}
 use Rattle.wb_tasks.specs.declared.step.Want.TheVariants.{Cell, Device, Desk, End}
 use Rattle.wb_tasks.specs.declared.step.Got.{Got}
@@ -18,7 +17,7 @@ use Rattle.wb_runs.specs.declared.event.What.{What}
 use Rattle.wb_runs.specs.declared.event.What.TheVariants.{Skipped, Refused, Started, Stepped, Stopped}
 use Rattle.wb_runs.specs.States.{Shape}
 use Rattle.wb_runs.specs.Happenings.{begun_as}
-use Rattle.wb_runs.specs.Clerk.{Notes, Doing, begun, put, nobody, starting, failing, device_note, finished_note, noted_step, noted_what, begins}
+use Rattle.wb_runs.specs.Clerk.{Notes, Doing, begun, put, nobody, starting, failing, device_note, finished_note, noted_step, noted_what}
 use Rattle.wb_link.proofs.Lists.{replicated}
 
 -- of so many sectors

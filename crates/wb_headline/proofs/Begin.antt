@@ -1,33 +1,29 @@
 -- A run begins as the abstract world does once it has crashed: no target stands, and every sector is as formatting leaves it.
-use Rattle.std.proofs.Common.{◌≡◌, ◌≢◌, ◌∙◌, ◌<◌, ◌+◌, ◌*◌, ℕ, zero, suc, Bool, true, false, cond, nat_lt, unwrap_or, List, [], ◌∷◌, Option, Some, None, refl, sym, ap, subst, arith, length, replicate, slice_get}
+use Rattle.std.proofs.Common.{◌≡◌, ◌∙◌, ◌+◌, ◌*◌, ℕ, zero, suc, Bool, true, false, cond, nat_lt, unwrap_or, List, [], Option, Some, None, refl, sym, ap, subst, length, replicate, slice_get}
 use Rattle.std.proofs.lemmas.List.{length-replicate}
 use Rattle.wb_types.proofs.Lists.{Contains-first}
-use Rattle.wb_types.specs.declared.entry.Entry.{Entry}
 use Rattle.wb_disk.specs.Device.{History, only}
-use Rattle.wb_contents.specs.Devices.{by_block}
 use Rattle.wb_meta.specs.Formats.{IsFormatted}
-use Rattle.wb_runs.specs.States.{Shape, State, Actor, Phase, Gone, start, resting, block_size, sector_count, cache_sector_count}
-use Rattle.wb_runs.specs.Clerk.{Notes, Doing, formatted}
-use Rattle.wb_runs.specs.Headline.{cached_from, place_of}
+use Rattle.wb_runs.specs.States.{Shape, Actor, start, resting, block_size, sector_count, cache_sector_count}
+use Rattle.wb_runs.specs.Clerk.{Doing, formatted}
+use Rattle.wb_runs.specs.Headline.{cached_from}
 use Rattle.wb_runs.proofs.Lists.{replicated}
 use Rattle.wb_runs.proofs.Images.{Images}
 use Rattle.wb_runs.proofs.Formatted.{formatted_none, none_images, none_readable}
 use Rattle.wb_runs.proofs.Using.{used_start}
 use Rattle.wb_runs.proofs.LinkedRuns.{links_start}
-use Rattle.wb_runs.proofs.InsideRuns.{Inside, PlanInside}
+use Rattle.wb_runs.proofs.InsideRuns.{PlanInside}
 use Rattle.wb_link.specs.Tables.{Script}
-use Rattle.wb_link.specs.World.{World, Shared, Actor as AbstractActor, begins, resting as idle}
+use Rattle.wb_link.specs.World.{Actor as AbstractActor, resting as idle}
 use Rattle.wb_link.specs.Clerk.{opened}
-use Rattle.wb_link.specs.Openings.{Site, Stands as StandsThere, Gone as GoneThere, Stopping, Stopped, site, after_event, emptied}
+use Rattle.wb_link.specs.Openings.{Site, Stopping, Stopped, site, after_event}
 use Rattle.wb_link.proofs.Lists.{replicated as replicated_there}
-use Rattle.wb_simulation.specs.Noting.{NotesAgree, counts_by_block, IsNotedSo}
-use Rattle.wb_simulation.specs.Sites.{DevicesAgree, locations}
+use Rattle.wb_simulation.specs.Noting.{counts_by_block, IsNotedSo}
 use Rattle.wb_simulation.specs.Worlds.{zeros}
 use Rattle.wb_simulation.proofs.Possible.{empty_device}
-use Rattle.wb_headline.proofs.Asked.{AllAsked}
-use Rattle.wb_headline.proofs.Events.{Reached, start_reached, event_reaches}
-use Rattle.wb_headline.proofs.Unclean.{NeverClean, IsPlainTask}
-use Rattle.wb_headline.proofs.Following.{many, size, Followed, Goes}
+use Rattle.wb_headline.proofs.Events.{start_reached, event_reaches}
+use Rattle.wb_headline.proofs.Unclean.{IsPlainTask}
+use Rattle.wb_headline.proofs.Following.{many, size}
 use Rattle.wb_headline.proofs.Keeping.{HasNone}
 use Rattle.wb_headline.proofs.Placed.{TaskPlaced}
 use Rattle.wb_headline.proofs.Whole.{Whole}

@@ -1,23 +1,16 @@
 -- A crash is followed, and so is an opening's start.
-use Rattle.std.proofs.Common.{◌≡◌, ◌≢◌, ◌∙◌, ◌⊎◌, inl, inr, ℕ, List, Option, Some, None, refl, sym, ap, subst, length, slice_get, slice_set}
+use Rattle.std.proofs.Common.{◌≡◌, ◌⊎◌, inl, inr, Option, Some, None, refl, sym, subst}
 use Rattle.std.proofs.lemmas.List.{length-map}
-use Rattle.wb_types.specs.declared.mode.Mode.{Mode}
-use Rattle.wb_types.specs.declared.mode.Mode.TheVariants.{Writeback}
 use Rattle.wb_types.specs.declared.mode.Dev.TheVariants.{Metadata, Cache, Origin}
-use Rattle.wb_disk.specs.Device.{History}
 use Rattle.wb_disk.specs.Crash.{Choice}
 use Rattle.wb_disk.proofs.Crashes.{Crashed-crashed_from}
 use Rattle.wb_meta.specs.Representing.{Stored}
-use Rattle.wb_tasks.specs.Plan.{Plan}
-use Rattle.wb_runs.specs.declared.job.Job.{Job}
-use Rattle.wb_runs.specs.States.{Shape, State, Actor, Phase, Stands, Gone, Opens, resting}
+use Rattle.wb_runs.specs.States.{Shape, State, Actor, resting}
 use Rattle.wb_runs.specs.Effects.{all_crashed, after_crash, all_resting}
 use Rattle.wb_runs.specs.Clerk.{Notes, Doing, nobody}
 use Rattle.wb_runs.proofs.Images.{Images, one_image, IsFit, IsFitToo}
-use Rattle.wb_runs.proofs.Underway.{Readable}
 use Rattle.wb_runs.proofs.Metadata.{MetadataKept, kept_readable}
-use Rattle.wb_link.specs.Openings.{Stands as StandsThere, Gone as GoneThere}
-use Rattle.wb_simulation.specs.Sites.{LeadsToOne}
+use Rattle.wb_link.specs.Openings.{Gone as GoneThere}
 use Rattle.wb_simulation.proofs.Opening.{openings_followed}
 use Rattle.wb_headline.proofs.Following.{size, Followed, Goes}
 use Rattle.wb_headline.proofs.Arriving.{SameSectors, sized_so, arrives, gone, agreeing}

@@ -1,5 +1,5 @@
 -- A desk keeps its agreement with the abstract world when a commit begins or ends, and when an order is given, ends by an entry that comes or goes, or is given up.
-use Rattle.std.proofs.Common.{◌≡◌, ◌≢◌, ◌∙◌, ◌<◌, ◌+◌, ◌==◌, inl, inr, ℕ, zero, suc, Bool, true, false, if◌then◌else◌, List, [], ◌∷◌, Option, Some, None, refl, sym, ap, subst, arith, length, map, get_or, slice_get, slice_index_or, slice_set}
+use Rattle.std.proofs.Common.{◌≡◌, ◌≢◌, ◌∙◌, ◌<◌, ◌+◌, ◌==◌, inl, inr, ℕ, zero, suc, Bool, true, false, if◌then◌else◌, List, [], ◌∷◌, Option, Some, None, refl, sym, ap, arith, length, map, slice_index_or, slice_set}
 use Rattle.std.proofs.lemmas.Bool.{cases_eq, eqb-true, eq-eqb, ne_eqb}
 use Rattle.std.proofs.lemmas.List.{get_or-set_same, get_or-set_other}
 use Rattle.wb_types.specs.declared.entry.Entry.{Entry}
@@ -14,13 +14,13 @@ use Rattle.wb_space.specs.declared.block.Block.TheVariants.{Free, Mapped, Reserv
 use Rattle.wb_space.specs.Blocks.{state, released as block_released, commit_begun as block_begun, commit_ended as block_ended}
 use Rattle.wb_orders.specs.Orders.{order_at}
 use Rattle.wb_policy.specs.declared.order.Order.{Order}
-use Rattle.wb_policy.specs.declared.order.Order.TheVariants.{Promote, Replace, Demote, Clean}
+use Rattle.wb_policy.specs.declared.order.Order.TheVariants.{Promote}
 use Rattle.wb_desk.specs.Desks.{DeskState}
 use Rattle.wb_desk.specs.Calls.{reserved, released}
 use Rattle.wb_desk.specs.Commits.{commit_begun, commit_ended}
 use Rattle.wb_desk.specs.Entries.{entry_of, keeps, mapped, unmapped}
 use Rattle.wb_runs.specs.Headline.{cached_from, place_of}
-use Rattle.wb_link.specs.World.{Shared, Block as AbstractBlock, Free as FreeThere, Mapped as MappedThere, Reserved as ReservedThere, Quarantined as QuarantinedThere, begun, ended, given_back}
+use Rattle.wb_link.specs.World.{Shared, Block as AbstractBlock, Mapped as MappedThere, Reserved as ReservedThere, Quarantined as QuarantinedThere, begun, ended, given_back}
 use Rattle.wb_simulation.specs.Opened.{located}
 use Rattle.wb_headline.specs.Desks.{block_there, reserved_there, slot_at, DeskAgrees}
 

@@ -1,12 +1,11 @@
 -- A run of the abstract world goes on by events, and what it promises of the site that it has come to.
 use Rattle.std.proofs.Common.{◌≡◌, ◌∙◌, ℕ, true, List, [], ◌∷◌, ◌++◌, refl, sym, ap, subst, map, Contains}
 use Rattle.wb_disk.specs.Device.{Content, entries}
-use Rattle.wb_contents.specs.Volume.{Locations, at_location}
+use Rattle.wb_contents.specs.Volume.{at_location}
 use Rattle.wb_contents.specs.Promises.{IsEntryFrom}
-use Rattle.wb_link.specs.World.{World, Record, IsRun, after_all, after_record}
+use Rattle.wb_link.specs.World.{Record, IsRun, after_all}
 use Rattle.wb_link.specs.Clerk.{Notes, opened}
-use Rattle.wb_link.specs.Openings.{Event, On, Site, Phase, Stands, after_event, after_events, note_event, noted, EventRight, AllRight, MayHappen, Happens, site}
-use Rattle.wb_link.specs.Headline.{Headline}
+use Rattle.wb_link.specs.Openings.{Event, On, Site, Stands, after_event, after_events, note_event, noted, AllRight, MayHappen, Happens, site}
 use Rattle.wb_link.proofs.Lives.{headline}
 use Rattle.wb_simulation.specs.Worlds.{zeros}
 use Rattle.wb_simulation.specs.Noted.{told}

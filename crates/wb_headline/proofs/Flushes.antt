@@ -4,7 +4,6 @@ use Rattle.std.proofs.lemmas.List.{length-set}
 use Rattle.std.proofs.lemmas.List.Elements.{Contains-append_right}
 use Rattle.std.proofs.lemmas.Option.{get_or_from_slice_get}
 use Rattle.wb_types.specs.declared.number.OBlock.{OBlock}
-use Rattle.wb_types.specs.declared.number.CBlock.{CBlock}
 use Rattle.wb_types.specs.declared.geometry.Geometry.{Geometry}
 use Rattle.wb_types.specs.declared.number.Place.{Place}
 use Rattle.wb_types.specs.declared.mode.Dev.{Dev}
@@ -48,13 +47,13 @@ use Rattle.wb_tasks.specs.declared.step.Got.TheVariants.{Done, Fault, Began, Ref
 use Rattle.wb_devices.specs.declared.devices.Devices.{Devices}
 use Rattle.wb_devices.specs.declared.running.RunningCommit.{RunningCommit}
 use Rattle.wb_devices.specs.Moving.{device_in}
-use Rattle.wb_devices.specs.Committing.{is_coming, goes_on, is_committed}
+use Rattle.wb_devices.specs.Committing.{is_coming, is_committed}
 use Rattle.wb_stage.specs.Asking.{DidRelease, HasBegun, IsGivenUp, ended}
 use Rattle.wb_roots.specs.Roots.{MayBeReadAs, Commit}
 use Rattle.wb_roots.proofs.Leading.{after_failure, after_failed_node}
 use Rattle.wb_runs.specs.declared.job.Job.{Job}
 use Rattle.wb_runs.specs.declared.job.Job.TheVariants.{Flush}
-use Rattle.wb_runs.specs.States.{Shape, State, Actor, Target, Phase, Stands, with_device}
+use Rattle.wb_runs.specs.States.{Shape, State, Actor, Target, Stands, with_device}
 use Rattle.wb_runs.specs.Effects.{actor_then, awaiting_then, dropped, orders_then}
 use Rattle.wb_runs.specs.Holding.{cards_of}
 use Rattle.wb_runs.specs.Clerk.{Notes, Doing, noted_step, device_note, failing, put, finished_note, greater_of}
@@ -62,7 +61,7 @@ use Rattle.wb_runs.proofs.Desks.{given_up_stands}
 use Rattle.wb_runs.proofs.Owning.{Owned, dropped_is}
 use Rattle.wb_runs.proofs.Images.{Images, later_of, one_image}
 use Rattle.wb_runs.proofs.Underway.{Underway, Readable, images_of, is_written, led_on}
-use Rattle.wb_runs.proofs.Metadata.{MetadataKept, AtDesk, Leading, Quiet, Broken, begins_over, ends_over, kept_readable}
+use Rattle.wb_runs.proofs.Metadata.{MetadataKept, AtDesk, Leading, Quiet, begins_over, ends_over, kept_readable}
 use Rattle.wb_link.specs.Tables.{Script, Flushing as FlushingFor}
 use Rattle.wb_refines.specs.Going.{records}
 use Rattle.wb_link.specs.World.{World, Shared, after_all}
@@ -72,9 +71,9 @@ use Rattle.wb_simulation.proofs.Followed.{doing_of}
 use Rattle.wb_simulation.specs.Noting.{NotesAgree}
 use Rattle.wb_simulation.specs.Noted.{told}
 use Rattle.wb_simulation.specs.Sites.{ImagesAgree, IsRunning, locations}
-use Rattle.wb_simulation.specs.Telling.{Telling, AreUnnoted, Quietly, Answers}
-use Rattle.wb_simulation.specs.Worlds.{Agrees, Turn, Stays, Begins, Puts, Ends, TurnedTo, FollowsBy, Follows}
-use Rattle.wb_simulation.specs.Laws.{went, after_step, turn_of}
+use Rattle.wb_simulation.specs.Telling.{AreUnnoted, Quietly, Answers}
+use Rattle.wb_simulation.specs.Worlds.{Agrees, Turn, Stays, Begins, Puts, Ends, FollowsBy, Follows}
+use Rattle.wb_simulation.specs.Laws.{went, after_step}
 use Rattle.wb_simulation.proofs.Flushes.{flush_steps_followed}
 use Rattle.wb_simulation.proofs.Noted.{notes_followed}
 use Rattle.wb_simulation.proofs.Opening.{images_followed}
@@ -478,9 +477,6 @@ module _ (P A : Type 0) (shape : Shape) (images : Images) (t : Target P) (commit
       b = beside P A shape images t commit devices actors n known f a x ex
 
       -- the orders that it has served were not seen, and are not now
-      served : Actor
-      served = record x { task = None; orders = x.awaiting ++ x.orders; awaiting = [] }
-
       served_so : record x_seen { task = None } ≡ actor_seen f.phase.stages (record x { task = None; orders = x.awaiting ++ x.orders; awaiting = [] })
       served_so = λ i. record x_seen { task = None; orders = sym (unseen_before f.phase.stages x.awaiting x.orders (λ o h. f.phase.unseen a x ex o h)) i }
 
@@ -521,9 +517,6 @@ module _ (P A : Type 0) (shape : Shape) (images : Images) (t : Target P) (commit
       subst (λ (v : Actor). Goes P A shape (record { devices = devices; commit = commit; phase = Stands (record { words = t.words; desk = new }); actors = slice_set actors a v }) n) (sym (actor_is P A shape (Stands t) devices x Flush plan (Desk (ReleaseOrder block)) Done xt))
       (by_order (Rattle.wb_stage.specs.Asking.order_of block x.awaiting) refl did)
     where
-      y : Actor
-      y = record x { task = Some (Flush, after plan Done); awaiting = dropped block x.awaiting }
-
       y_seen : actor_seen f.phase.stages (record x { task = Some (Flush, after plan Done); awaiting = dropped block x.awaiting }) ≡ x_seen
       y_seen = λ i. record x_seen { task = (ap (λ (p : Plan). Some (Flush, p)) (flush_releases plan serving.0 (most P A shape) block serving.1 next) ∙ sym task_there) i }
 
@@ -543,7 +536,7 @@ module _ (P A : Type 0) (shape : Shape) (images : Images) (t : Target P) (commit
           let hidden : order_seen f.phase.stages l.live.order ≡ None = ap (order_seen f.phase.stages) l.same ∙ f.phase.unseen a x ex order mine.0 in
           let slot : slice_get slots l.cache.0 ≡ Some None = slot_get f.phase.stages (live_orders t.desk) l.cache.0 (Some l.live.order) here ∙ ap (λ (q : Option Order). Some q) hidden in
           let same : slots_seen f.phase.stages (live_orders (released t.desk l.cache)) ≡ slots = ap (λ (os : List (Option Order)). slots_seen f.phase.stages os) (orders_set t.desk.orders.slots l.cache.0 None)
-              ∙ slots_turned f.phase.stages f.phase.stages (live_orders t.desk) l.cache.0 None (λ i o m g. refl) ∙ set_as_is slots l.cache.0 None slot in
+          ∙ slots_turned f.phase.stages f.phase.stages (live_orders t.desk) l.cache.0 None (λ i o m g. refl) ∙ set_as_is slots l.cache.0 None slot in
           let inside = slot_within t.desk.orders.slots l.cache.0 l.live l.there in
           let many_slots = known.is.kept.slots in
           let many_blocks = known.is.kept.blocks in

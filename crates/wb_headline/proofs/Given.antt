@@ -1,5 +1,5 @@
 -- What a step of a read is given is the last entry of each of its sectors' histories.
-use Rattle.std.proofs.Common.{◌≡◌, ◌∙◌, ◌<◌, ◌≤◌, ◌+◌, ◌*◌, ◌/◌, ◌%◌, ℕ, zero, suc, List, [], ◌∷◌, Option, Some, None, All, refl, sym, ap, subst, arith, length, map, slice_get, slice_set, mul_comm}
+use Rattle.std.proofs.Common.{◌≡◌, ◌∙◌, ◌<◌, ◌≤◌, ◌+◌, ◌*◌, ◌%◌, ℕ, zero, suc, List, [], ◌∷◌, Option, Some, All, refl, sym, ap, subst, arith, length, slice_get, mul_comm}
 use Rattle.std.proofs.Math.Nat.{mul-le-mul_right}
 use Rattle.std.proofs.lemmas.List.Elements.{All-cons}
 use Rattle.std.proofs.lemmas.Nat.{div_below}
@@ -20,9 +20,8 @@ use Rattle.wb_tasks.specs.declared.step.Want.TheVariants.{Device, End}
 use Rattle.wb_devices.specs.declared.devices.Devices.{Devices}
 use Rattle.wb_devices.specs.declared.running.RunningCommit.{RunningCommit}
 use Rattle.wb_devices.specs.Moving.{device_in}
-use Rattle.wb_runs.specs.declared.job.Job.{Job}
 use Rattle.wb_runs.specs.declared.job.Job.TheVariants.{Read}
-use Rattle.wb_runs.specs.States.{Shape, State, Actor, Target, Phase, Stands}
+use Rattle.wb_runs.specs.States.{Shape, Actor, Target, Stands}
 use Rattle.wb_runs.specs.Happenings.{block_range}
 use Rattle.wb_runs.specs.Holding.{cards_of, AllSuited}
 use Rattle.wb_runs.specs.Clerk.{Notes, Doing, readings_from, sector_for}

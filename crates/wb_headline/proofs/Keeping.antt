@@ -1,6 +1,6 @@
 -- Where a target stands, the orders that actors have live, the seals tell where the desk has each block, and each seal that is left is right:
 -- so it stays, whoever goes on.
-use Rattle.std.proofs.Common.{if◌then◌else◌, ◌≡◌, ◌≢◌, ◌∙◌, ◌<◌, ◌==◌, ◌⊎◌, ◌++◌, inl, inr, ℕ, zero, suc, Bool, true, false, List, [], ◌∷◌, Option, Some, None, refl, sym, ap, subst, arith, unwrap_or, slice_get, slice_set, Contains}
+use Rattle.std.proofs.Common.{if◌then◌else◌, ◌≡◌, ◌≢◌, ◌∙◌, ◌<◌, ◌==◌, ◌⊎◌, ◌++◌, inl, inr, ℕ, Bool, true, false, List, [], ◌∷◌, Option, Some, None, refl, sym, ap, subst, arith, unwrap_or, slice_get, slice_set, Contains}
 use Rattle.std.proofs.lemmas.Bool.{cases_eq}
 use Rattle.std.proofs.lemmas.List.Elements.{Contains-append_cases, Contains-append_left, Contains-append_right}
 use Rattle.wb_types.proofs.Lists.{set_cases}
@@ -508,7 +508,7 @@ module _ (P A : Type 0) (shape : Shape) (images : Images) (t : Target P) (commit
         let mine = law.1.1.mine in
         let held = held_there P t.desk actors are k.owned f.phase.stages a x ex q block of c live mine in
         let found = only_of bl x.orders held.order held.has (ap (λ (o : OBlock). is_of o held.order) law.0 ∙ seen_of f.phase.stages block held.order q held.seen of)
-            (λ p h i. only_held P t.desk actors are k.owned f.phase.stages a x ex q block of c live mine held p (Contains-append_left x.orders x.awaiting p h) (ap (λ (o : OBlock). is_of o p) (sym law.0) ∙ i)) in
+        (λ p h i. only_held P t.desk actors are k.owned f.phase.stages a x ex q block of c live mine held p (Contains-append_left x.orders x.awaiting p h) (ap (λ (o : OBlock). is_of o p) (sym law.0) ∙ i)) in
         let is : new ≡ released t.desk (record { 0 = c }) = (subst (λ (o : Option Order). IsGivenUp o t.desk new) found d).0 held.live ∙ ap (λ (i : ℕ). released t.desk (record { 0 = i })) held.at in
         desk_plain job plan xt (ReleaseOrder bl) Done new e (ready job plan xt (Desk (ReleaseOrder bl)) e) (λ i. ap (λ (q : DeskState P). place_of q.tree.entries i) is)
         (over P t.desk actors are k.owned f.phase.stages a x ex q block of c live mine held (k.parted a x ex) bl law.0 new (ap (λ (q : DeskState P). q.orders.slots) is) (y job plan xt (Desk (ReleaseOrder bl)) Done)
@@ -532,9 +532,6 @@ module _ (P A : Type 0) (shape : Shape) (images : Images) (t : Target P) (commit
     pub flush_release_keeps : (bl : OBlock) (new : DeskState P) → Desk (ReleaseOrder bl) ≡ want plan → DidRelease x.awaiting bl t.desk new → KeepingAt (record { words = t.words; desk = new }) (slice_set actors a (y Flush plan xt (Desk (ReleaseOrder bl)) Done))
     flush_release_keeps bl new e d = by (order_found bl x.awaiting) refl d
       where
-        here : Actor
-        here = y Flush plan xt (Desk (ReleaseOrder bl)) Done
-
         holds : x.card.hold ≡ Nothing
         holds = ready Flush plan xt (Desk (ReleaseOrder bl)) e
 

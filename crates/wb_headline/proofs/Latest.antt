@@ -2,8 +2,6 @@
 use Rattle.std.proofs.Common.{◌≡◌, ◌∙◌, inl, inr, ℕ, zero, suc, List, [], ◌∷◌, ◌++◌, Option, Some, None, All, refl, sym, ap, subst, arith, length, map, replicate, slice_get, slice_set}
 use Rattle.std.proofs.lemmas.List.Elements.{All-append}
 use Rattle.wb_types.proofs.Lists.{set_cases}
-use Rattle.wb_types.specs.declared.mode.Mode.{Mode}
-use Rattle.wb_types.specs.declared.extent.Extent.{Extent}
 use Rattle.wb_disk.specs.Device.{Content as Bytes}
 use Rattle.wb_tasks.specs.declared.step.Answer.TheVariants.{Done as Finished, Refused as Refuses}
 use Rattle.wb_tasks.specs.declared.step.DeviceStep.{DeviceStep}
@@ -20,7 +18,7 @@ use Rattle.wb_runs.specs.declared.event.What.{What}
 use Rattle.wb_runs.specs.declared.event.What.TheVariants.{Skipped, Refused, Started, Stepped, Stopped}
 use Rattle.wb_runs.specs.States.{Shape}
 use Rattle.wb_runs.specs.Happenings.{begun_as}
-use Rattle.wb_runs.specs.Clerk.{Notes, Doing, Reading, begun, put, nobody, starting, failing, device_note, finished_note, noted_step, noted_what, readings_from, sector_for}
+use Rattle.wb_runs.specs.Clerk.{Notes, Doing, begun, put, nobody, starting, failing, device_note, finished_note, noted_step, noted_what, readings_from, sector_for}
 use Rattle.wb_runs.specs.Headline.{IsLatest}
 use Rattle.wb_runs.specs.Latest.{IsGiven, GivesLatest, ReadsRightly}
 use Rattle.wb_link.proofs.Lists.{replicated}

@@ -1,6 +1,6 @@
 -- Each start of a promotion, a demotion or a write-back is followed, and that of a replacement: as a demotion there, and as a promotion once
 -- its block has left.
-use Rattle.std.proofs.Common.{◌≡◌, ◌≢◌, ◌∙◌, ◌<◌, ◌≤◌, ◌+◌, ◌^◌, inl, inr, ℕ, zero, suc, Bool, true, false, List, [], ◌∷◌, Option, Some, None, refl, sym, ap, subst, arith, get_or, length, slice_get, slice_set, get_or-set_same, Contains}
+use Rattle.std.proofs.Common.{◌≡◌, ◌≢◌, ◌∙◌, ◌<◌, ◌^◌, inl, inr, ℕ, true, false, List, ◌∷◌, Option, Some, None, refl, sym, ap, subst, arith, get_or, length, slice_get, slice_set, Contains}
 use Rattle.std.proofs.lemmas.Bool.{cases_eq}
 use Rattle.std.proofs.lemmas.List.{length-set}
 use Rattle.std.proofs.lemmas.List.Elements.{Contains-append_left, Contains-append_right}
@@ -10,7 +10,7 @@ use Rattle.wb_types.specs.declared.extent.Extent.{Extent}
 use Rattle.wb_types.specs.declared.number.OBlock.{OBlock}
 use Rattle.wb_types.specs.declared.number.CBlock.{CBlock}
 use Rattle.wb_types.specs.Extents.{IsCutInto}
-use Rattle.wb_disk.specs.Device.{Content as Bytes, History}
+use Rattle.wb_disk.specs.Device.{History}
 use Rattle.wb_contents.specs.Volume.{changed}
 use Rattle.wb_contents.proofs.Positions.{changed_same, changed_other}
 use Rattle.wb_words.specs.declared.card.Hold.TheVariants.{Nothing}
@@ -19,15 +19,15 @@ use Rattle.wb_policy.specs.declared.order.Order.{Order}
 use Rattle.wb_policy.specs.declared.order.Order.TheVariants.{Promote as PromoteOrder, Replace as ReplaceOrder, Demote as DemoteOrder, Clean as CleanOrder}
 use Rattle.wb_space.specs.declared.block.Block.{Block}
 use Rattle.wb_space.specs.declared.block.Block.TheVariants.{Free, Mapped, Reserved}
-use Rattle.wb_space.specs.Blocks.{state, IsClaimed}
+use Rattle.wb_space.specs.Blocks.{state}
 use Rattle.wb_orders.specs.declared.live_order.LiveOrder.{LiveOrder}
 use Rattle.wb_orders.specs.Named.{first_of, second_of, IsNamed}
 use Rattle.wb_orders.specs.Orders.{AreOrders, order_at}
-use Rattle.wb_desk.specs.Desks.{DeskState, DeskInvariant, IsLive, MayReserve, Names, holdings, sectors_asked}
+use Rattle.wb_desk.specs.Desks.{DeskInvariant, IsLive, MayReserve, Names, holdings, sectors_asked}
 use Rattle.wb_desk.specs.Calls.{reserved, blocks_reserved}
 use Rattle.wb_desk.proofs.Leaving.{mapped_state}
 use Rattle.wb_tasks.specs.Tables.{whole_block}
-use Rattle.wb_tasks.specs.Plan.{Plan, table}
+use Rattle.wb_tasks.specs.Plan.{Plan}
 use Rattle.wb_tasks.specs.declared.step.Migration.{Migration}
 use Rattle.wb_tasks.specs.declared.step.Migration.TheVariants.{Promote, Demote, Clean}
 use Rattle.wb_devices.specs.declared.devices.Devices.{Devices}
@@ -35,15 +35,15 @@ use Rattle.wb_devices.specs.declared.running.RunningCommit.{RunningCommit}
 use Rattle.wb_runs.specs.declared.job.Job.{Job}
 use Rattle.wb_runs.specs.declared.job.Job.TheVariants.{Migrate, Replace}
 use Rattle.wb_runs.specs.declared.event.What.TheVariants.{Started}
-use Rattle.wb_runs.specs.States.{Shape, State, Actor, Target, Stands}
-use Rattle.wb_runs.specs.Happenings.{Chosen, Plain, Cut, Orders, StartGives, begun_as, order_for}
+use Rattle.wb_runs.specs.States.{Shape, Actor, Target, Stands}
+use Rattle.wb_runs.specs.Happenings.{Chosen, Cut, Orders, StartGives, begun_as, order_for}
 use Rattle.wb_runs.specs.Effects.{phase_given, given}
 use Rattle.wb_runs.specs.Holding.{TaskSuits}
-use Rattle.wb_runs.specs.Clerk.{Notes, Doing, put, begun}
+use Rattle.wb_runs.specs.Clerk.{Notes, put, begun}
 use Rattle.wb_runs.proofs.Desks.{reserved_stands}
 use Rattle.wb_runs.proofs.Images.{later_of}
 use Rattle.wb_runs.proofs.Lists.{first_or, set_there}
-use Rattle.wb_runs.proofs.Metadata.{AtDesk, unknowing, kept_readable}
+use Rattle.wb_runs.proofs.Metadata.{unknowing, kept_readable}
 use Rattle.wb_runs.proofs.Ordering.{held_of}
 use Rattle.wb_link.specs.World.{World, Shared, after_all, Apart, Free as FreeThere, Mapped as MappedThere, Reserved as ReservedThere}
 use Rattle.wb_simulation.specs.Actors.{IsAside, IsBusyAt}
@@ -56,7 +56,7 @@ use Rattle.wb_simulation.specs.Worlds.{Agrees, Turn, TurnedTo, DeskTurnedTo, Sta
 use Rattle.wb_simulation.proofs.Migrations.{migrations_followed}
 use Rattle.wb_simulation.proofs.Noted.{notes_followed}
 use Rattle.wb_simulation.proofs.Opening.{images_followed}
-use Rattle.wb_headline.specs.Desks.{order_of, orders_of, live_orders, block_there, reserved_there, slot_at, DeskAgrees, HasCome, OrderHasCome, AllHaveCome}
+use Rattle.wb_headline.specs.Desks.{live_orders, block_there, reserved_there, slot_at, DeskAgrees, HasCome, OrderHasCome, AllHaveCome}
 use Rattle.wb_headline.specs.Seen.{Replacing, Leaving, Waiting, Following, replacement_seen, order_seen, slots_seen, orders_seen, task_seen, actor_seen, actors_seen}
 use Rattle.wb_headline.proofs.Alike.{agrees_alike}
 use Rattle.wb_headline.proofs.Allowed.{there}
@@ -66,7 +66,7 @@ use Rattle.wb_headline.proofs.Desking.{desk_follows, desk_orders, desk_reserves,
 use Rattle.wb_headline.proofs.Following.{size, most, Sized, Followed, Goes}
 use Rattle.wb_headline.proofs.Migrations.{any_step, any_fault}
 use Rattle.wb_headline.proofs.Owned.{are_owned, one_of_cache}
-use Rattle.wb_headline.proofs.Seeing.{live_here, named, orders_many, orders_set, slot_there, slot_within, slots_many, stands_there, unmapped_there, vacant_there}
+use Rattle.wb_headline.proofs.Seeing.{live_here, named, orders_set, slot_there, slot_within, slots_many, stands_there, unmapped_there, vacant_there}
 use Rattle.wb_headline.proofs.Seen.{actors_turned, get_seen, in_seen, orders_same, seen_in, seen_named, set_as_is, slot_get, slot_here, slots_turned}
 use Rattle.wb_headline.proofs.Staging.{elsewhere, live_elsewhere}
 use Rattle.wb_headline.proofs.Targets.{standing, leads_on, stays_on, unseen_turned}
@@ -235,9 +235,9 @@ module _ (P A : Type 0) (shape : Shape) (t : Target P) (commit : Option RunningC
           (λ i m. ap (λ (os : List (Option Order)). slice_get os i) (orders_set t.desk.orders.slots c.0 (Some live)) ∙ Rattle.wb_runs.proofs.Lists.set_other (live_orders t.desk) c.0 i (Some o) m)
           same_blocks (λ i m. changed_other g.phase.stages c.0 i Leaving m)
           (λ p e. let both : Some (Some o) ≡ Some (Some p) = sym (set_there (live_orders t.desk) c.0 None (Some o) (vacant_there t.desk.orders.slots c.0 may.give.vacant)) ∙ ap (λ (os : List (Option Order)). slice_get os c.0) (sym (orders_set t.desk.orders.slots c.0 (Some live))) ∙ e in
-              let same : o ≡ p = cc in
-              subst (λ (q : Order). OrderHasCome (changed g.phase.stages c.0 Leaving c.0) (state (blocks_reserved t.desk.space.blocks o) c.0) q) same
-              (subst (λ (r : Replacing). OrderHasCome r (state (blocks_reserved t.desk.space.blocks o) c.0) o) (sym (changed_same g.phase.stages c.0 Leaving)) come_here))
+          let same : o ≡ p = cc in
+          subst (λ (q : Order). OrderHasCome (changed g.phase.stages c.0 Leaving c.0) (state (blocks_reserved t.desk.space.blocks o) c.0) q) same
+          (subst (λ (r : Replacing). OrderHasCome r (state (blocks_reserved t.desk.space.blocks o) c.0) o) (sym (changed_same g.phase.stages c.0 Leaving)) come_here))
         where
           live : LiveOrder
           live = record { order = o; sectors = sectors_asked t.desk.geometry o; threshold = t.desk.threshold; number = t.desk.orders.given; waits = false }
@@ -248,8 +248,8 @@ module _ (P A : Type 0) (shape : Shape) (t : Target P) (commit : Option RunningC
           let s = g.site.world.shared in
           let less = slice_get_within t.desk.orders.slots c.0 None may.give.vacant in
           let h = migrations_followed.starts (size P A shape) (most P A shape) t.words t.desk.space.committing slots devices seen a x_seen migration block c cut g.site.world there_seen (ap task_seen xt) holds some (small c.0 less) cuts
-              (slot_get g.phase.stages (live_orders t.desk) c.0 None (vacant_there t.desk.orders.slots c.0 may.give.vacant)) (ungiven o (order_for migration block) c may named_by)
-              (are_owned P t.desk actors are_orders b.keeping.owned g.phase.stages) given_there g.phase.agrees in
+          (slot_get g.phase.stages (live_orders t.desk) c.0 None (vacant_there t.desk.orders.slots c.0 may.give.vacant)) (ungiven o (order_for migration block) c may named_by)
+          (are_owned P t.desk actors are_orders b.keeping.owned g.phase.stages) given_there g.phase.agrees in
           let s' = (after_all g.site.world h.records).shared in
           let turned = images_stay migration c.0 s s' h.turned in
           let readable = kept_readable shape.geometry b.goes.images devices.metadata P A (Stands t) commit b.goes.known in
@@ -269,18 +269,12 @@ module _ (P A : Type 0) (shape : Shape) (t : Target P) (commit : Option RunningC
         let here : slice_get slots l.cache.0 ≡ Some (Some (order_for migration block)) = slot_get g.phase.stages (live_orders t.desk) l.cache.0 (Some l.live.order) (slot_there t.desk.orders.slots l.cache.0 l.live l.there) ∙ ap (λ (q : Order). Some (order_seen g.phase.stages q)) l.same ∙ ap (λ (v : Option Order). Some v) is_seen in
         let y_seen : Actor = record x_seen { task = Some (begun_job, begun_plan) } in
         let h = migrations_followed.again (size P A shape) (most P A shape) t.words t.desk.space.committing slots devices seen a x_seen migration block l.cache cut g.site.world there_seen (ap task_seen xt) holds some (small l.cache.0 (slot_within t.desk.orders.slots l.cache.0 l.live l.there)) cuts here
-            (in_seen g.phase.stages x.orders o (order_for migration block) has is_seen) (may_be_kept migration block l.cache.0 here) g.phase.agrees in
+        (in_seen g.phase.stages x.orders o (order_for migration block) has is_seen) (may_be_kept migration block l.cache.0 here) g.phase.agrees in
         stays_on P A shape b.goes.images t commit devices actors n b.goes.known g a x ex (Carries (length seen)) t.words devices (record x { task = Some (begun_job, begun_plan) }) y_seen n' refl h tt (notes_then Stays slots y_seen h refl) (sized (record x { task = Some (begun_job, begun_plan) })) (λ p i. i) refl
 
   -- ---- a promotion under a replacement, whose block has left
 
   module _ (old block : OBlock) (cache : CBlock) (has : Contains x.orders (ReplaceOrder old block cache)) (at : state t.desk.space.blocks cache.0 ≡ Reserved) (waits : g.phase.stages cache.0 ≡ Waiting) (cut : List Extent) (cuts : IsCutInto (whole_block (size P A shape) block) cut) where
-    abbrev o : Order
-    o = ReplaceOrder old block cache
-
-    abbrev promoted : Order
-    promoted = PromoteOrder block cache
-
     live : IsLive t.desk (ReplaceOrder old block cache)
     live = b.keeping.owned.live a x (ReplaceOrder old block cache) ex (Contains-append_left x.orders x.awaiting (ReplaceOrder old block cache) has)
 
@@ -311,8 +305,7 @@ module _ (P A : Type 0) (shape : Shape) (t : Target P) (commit : Option RunningC
     ungiven_there k p e =
         let i = slot_here g.phase.stages (live_orders t.desk) k p e in
         let l = live_here t.desk.orders.slots k i.0 i.1 in
-        let other : k ≢ cache.0 = λ q. (let bad : Some (Some p) ≡ Some None = sym e ∙ ap (slice_get slots) q ∙ nothing_there in absurd (cc)) in
-        (
+        let other : k ≢ cache.0 = λ q. (let bad : Some (Some p) ≡ Some None = sym e ∙ ap (slice_get slots) q ∙ nothing_there in absurd (cc)) in (
           λ v m j. other (are_orders.apart k live.cache.0 v l.0 live.live l.1 live.there (subst (λ (u : Order). IsNamed u v) (sym l.2) (seen_named g.phase.stages i.0 p v i.2 (named_there k p v m)))
               (subst (λ (u : Order). IsNamed u v) (sym live.same) (follows v (named_there cache.0 (PromoteOrder block cache) v j))) ∙ on_cache),
           λ s. other (sym (cache_there k p) ∙ s),
@@ -340,9 +333,9 @@ module _ (P A : Type 0) (shape : Shape) (t : Target P) (commit : Option RunningC
     to q h = first_or (PromoteOrder block cache) q x_seen.orders (Contains (orders_seen (changed g.phase.stages cache.0 Following) x.orders) q) h
         (λ same. subst (λ (v : Order). Contains (orders_seen (changed g.phase.stages cache.0 Following) x.orders) v) (sym same) (in_seen (changed g.phase.stages cache.0 Following) x.orders (ReplaceOrder old block cache) (PromoteOrder block cache) has followed_seen))
         (λ later. let i = seen_in g.phase.stages x.orders q later in
-            let l = b.keeping.owned.live a x i.0 ex (Contains-append_left x.orders x.awaiting i.0 i.1) in
-            in_seen (changed g.phase.stages cache.0 Following) x.orders i.0 q i.1 (live_elsewhere P t.desk kept g.phase.stages cache.0 Following i.0 l (λ e. absurd (
-                let bad : Some q ≡ None = sym i.2 ∙ ap (order_seen g.phase.stages) (here_is i.0 l e) ∙ ap (λ (r : Replacing). replacement_seen r old block cache) waits in cc)) ∙ i.2))
+        let l = b.keeping.owned.live a x i.0 ex (Contains-append_left x.orders x.awaiting i.0 i.1) in
+        in_seen (changed g.phase.stages cache.0 Following) x.orders i.0 q i.1 (live_elsewhere P t.desk kept g.phase.stages cache.0 Following i.0 l (λ e. absurd (
+        let bad : Some q ≡ None = sym i.2 ∙ ap (order_seen g.phase.stages) (here_is i.0 l e) ∙ ap (λ (r : Replacing). replacement_seen r old block cache) waits in cc)) ∙ i.2))
 
     from : (q : Order) → Contains (orders_seen (changed g.phase.stages cache.0 Following) x.orders) q → Contains (PromoteOrder block cache ∷ x_seen.orders) q
     from q h =
@@ -363,9 +356,9 @@ module _ (P A : Type 0) (shape : Shape) (t : Target P) (commit : Option RunningC
     come_follow : AllHaveCome t.desk (changed g.phase.stages cache.0 Following)
     come_follow = come_turned P t.desk g.phase.stages g.phase.come t.desk (changed g.phase.stages cache.0 Following) cache.0 (λ i m. refl) (λ i m. refl) (λ i m. changed_other g.phase.stages cache.0 i Following m)
         (λ p e. let both : Some (Some (ReplaceOrder old block cache)) ≡ Some (Some p) = sym lives ∙ e in
-            let same : ReplaceOrder old block cache ≡ p = cc in
-            subst (λ (q : Order). OrderHasCome (changed g.phase.stages cache.0 Following cache.0) (state t.desk.space.blocks cache.0) q) same
-            (subst (λ (r : Replacing). HasCome r (state t.desk.space.blocks cache.0)) (sym (changed_same g.phase.stages cache.0 Following)) at))
+        let same : ReplaceOrder old block cache ≡ p = cc in
+        subst (λ (q : Order). OrderHasCome (changed g.phase.stages cache.0 Following cache.0) (state t.desk.space.blocks cache.0) q) same
+        (subst (λ (r : Replacing). HasCome r (state t.desk.space.blocks cache.0)) (sym (changed_same g.phase.stages cache.0 Following)) at))
 
     -- no order that waits is on that cache block
     away : (p : Order) (l : IsLive t.desk p) (d : ℕ) (z : Actor) → slice_get actors d ≡ Some z → Contains z.awaiting p → l.cache.0 ≢ cache.0
@@ -385,7 +378,7 @@ module _ (P A : Type 0) (shape : Shape) (t : Target P) (commit : Option RunningC
         let less = slice_get_within slots cache.0 None nothing_there in
         let many_seen = slots_many g.phase.stages t.desk.orders.slots in
         let h = migrations_followed.starts (size P A shape) (most P A shape) t.words t.desk.space.committing slots devices seen a x_seen (Promote cache) block cache cut g.site.world there_seen (ap task_seen xt) holds (some (Promote cache) block cut cuts) (small (Promote cache) block cut cuts cache.0 (omega (arith, less, many_seen))) cuts
-            nothing_there ungiven_there (are_owned P t.desk actors are_orders b.keeping.owned g.phase.stages) given_there g.phase.agrees in
+        nothing_there ungiven_there (are_owned P t.desk actors are_orders b.keeping.owned g.phase.stages) given_there g.phase.agrees in
         let s' = (after_all g.site.world h.records).shared in
         let readable = kept_readable shape.geometry b.goes.images devices.metadata P A (Stands t) commit b.goes.known in
         let alike = agrees_alike (PromoteOrder block cache ∷ x_seen.orders) (orders_seen then_stages x.orders) to from y_seen (size P A shape) (most P A shape) t.words t.desk.space.committing (slice_set slots cache.0 (Some (PromoteOrder block cache))) devices seen a x_seen there_seen (after_all g.site.world h.records) h.agrees in

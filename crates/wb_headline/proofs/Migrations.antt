@@ -1,6 +1,5 @@
 -- Whatever comes of a promotion, a demotion or a write-back is followed.
-use Rattle.std.proofs.Common.{◌≡◌, ◌≢◌, ◌∙◌, ◌<◌, ◌≤◌, ◌+◌, ◌^◌, inl, inr, ℕ, zero, suc, Bool, true, false, List, [], ◌∷◌, ◌++◌, Option, Some, None, refl, sym, ap, subst, arith, get_or, length, slice_get, slice_set, Contains}
-use Rattle.std.proofs.lemmas.List.{length-set}
+use Rattle.std.proofs.Common.{◌≡◌, ◌≢◌, ◌∙◌, ◌≤◌, ◌+◌, inl, inr, ℕ, Bool, true, List, [], ◌∷◌, ◌++◌, Option, Some, None, refl, sym, ap, subst, arith, length, slice_get, slice_set, Contains}
 use Rattle.std.proofs.lemmas.List.Elements.{Contains-append_cases, Contains-append_left}
 use Rattle.std.proofs.lemmas.Option.{get_or_from_slice_get, slice_get_within}
 use Rattle.wb_types.specs.declared.extent.Extent.{Extent}
@@ -8,40 +7,37 @@ use Rattle.wb_types.specs.declared.mode.Dev.{Dev}
 use Rattle.wb_types.specs.declared.mode.Dev.TheVariants.{Metadata, Cache, Origin}
 use Rattle.wb_types.specs.declared.number.OBlock.{OBlock}
 use Rattle.wb_types.specs.declared.number.CBlock.{CBlock}
-use Rattle.wb_types.specs.Extents.{IsCutInto}
 use Rattle.wb_disk.specs.Device.{Content as Bytes, History}
 use Rattle.wb_disk.specs.Crash.{Choice}
 use Rattle.wb_disk.specs.Failing.{lands}
+use Rattle.wb_contents.specs.Volume.{changed}
 use Rattle.wb_words.specs.SharedWords.{word_at, place_in}
 use Rattle.wb_words.specs.declared.word.Access.TheVariants.{Owned as Own}
 use Rattle.wb_words.specs.declared.word.Word.TheVariants.{Cell as LockWord, Seal as SealWord, Number, Count as CountWord, Fail}
-use Rattle.wb_words.specs.declared.card.Hold.TheVariants.{Nothing, Held}
+use Rattle.wb_words.specs.declared.card.Hold.TheVariants.{Held}
 use Rattle.wb_words.specs.declared.step.CellStep.{CellStep}
 use Rattle.wb_words.specs.declared.step.CellStep.TheVariants.{Look, Take, Release, Seal, Finish, Count, SetFailed, SetSuspended}
-use Rattle.wb_policy.specs.Law.{IsMappedAt}
 use Rattle.wb_policy.specs.declared.order.Order.{Order}
-use Rattle.wb_policy.specs.declared.order.Order.TheVariants.{Promote as PromoteOrder, Replace, Demote as DemoteOrder, Clean as CleanOrder}
-use Rattle.wb_space.specs.declared.block.Block.TheVariants.{Free, Mapped, Reserved}
+use Rattle.wb_policy.specs.declared.order.Order.TheVariants.{Promote as PromoteOrder, Demote as DemoteOrder}
+use Rattle.wb_space.specs.declared.block.Block.TheVariants.{Mapped, Reserved}
 use Rattle.wb_space.specs.Blocks.{state}
 use Rattle.wb_tree.specs.Mapping.{Mapping}
 use Rattle.wb_tree.specs.Edits.{IsChangedAt}
-use Rattle.wb_orders.specs.declared.live_order.LiveOrder.{LiveOrder}
-use Rattle.wb_orders.specs.Named.{first_of, second_of, IsNamed}
-use Rattle.wb_orders.specs.Orders.{AreOrders, order_at}
+use Rattle.wb_orders.specs.Orders.{AreOrders}
 use Rattle.wb_desk.specs.Desks.{DeskState, DeskInvariant, IsLive, Names, holdings}
-use Rattle.wb_desk.specs.Calls.{reserved, released}
+use Rattle.wb_desk.specs.Calls.{released}
 use Rattle.wb_desk.specs.Entries.{MayMap, mapped, unmapped, entry_of}
 use Rattle.wb_desk.proofs.Entering.{entrance}
 use Rattle.wb_desk.proofs.Leaving.{mapped_state}
 use Rattle.wb_stage.specs.Asking.{DidRelease, DidUnmap, IsGivenUp, is_of, order_of as order_found}
-use Rattle.wb_tasks.specs.Tables.{BlockRange, Migrating, OnBlock, whole_block}
+use Rattle.wb_tasks.specs.Tables.{BlockRange, Migrating, OnBlock}
 use Rattle.wb_tasks.specs.Plan.{Plan, want, table}
 use Rattle.wb_tasks.specs.Ready.{Suits, HoldsBlocks, IsOwnStep}
 use Rattle.wb_tasks.specs.declared.step.Answer.{Answer}
 use Rattle.wb_tasks.specs.declared.step.DeviceStep.TheVariants.{Read as ReadExtent, Write as WriteExtent, Sync, ReadMetadata, WriteNode, WriteRoot}
 use Rattle.wb_tasks.specs.declared.step.DeskStep.TheVariants.{Map, Unmap, ReleaseOrder, BeginCommit, EndCommit}
 use Rattle.wb_tasks.specs.declared.step.Migration.{Migration}
-use Rattle.wb_tasks.specs.declared.step.Migration.TheVariants.{Promote, Demote, Clean}
+use Rattle.wb_tasks.specs.declared.step.Migration.TheVariants.{Promote, Demote}
 use Rattle.wb_tasks.specs.declared.step.Want.{Want}
 use Rattle.wb_tasks.specs.declared.step.Want.TheVariants.{Cell, Device, Desk, End}
 use Rattle.wb_tasks.specs.declared.step.Got.{Got}
@@ -51,14 +47,13 @@ use Rattle.wb_devices.specs.declared.running.RunningCommit.{RunningCommit}
 use Rattle.wb_refines.specs.Translation.{number_of}
 use Rattle.wb_runs.specs.declared.job.Job.{Job}
 use Rattle.wb_runs.specs.declared.job.Job.TheVariants.{Migrate}
-use Rattle.wb_runs.specs.declared.event.What.TheVariants.{Started}
 use Rattle.wb_runs.specs.States.{Shape, State, Actor, Target, Stands}
-use Rattle.wb_runs.specs.Happenings.{Chosen, Plain, Cut, Orders, Asks, Gives, Falters, MayFailAt, StartGives, DoesMap, DoesUnmap, DoesRelease, order_for, task_job}
+use Rattle.wb_runs.specs.Happenings.{Chosen, Plain, Asks, Gives, Falters, MayFailAt, DoesMap, DoesUnmap, DoesRelease, order_for}
 use Rattle.wb_runs.specs.Effects.{actor_then, dropped, replacing}
 use Rattle.wb_runs.specs.Headline.{place_of}
 use Rattle.wb_runs.specs.Holding.{TaskSuits}
 use Rattle.wb_runs.specs.Inside.{StepInside}
-use Rattle.wb_runs.specs.Clerk.{Notes, Doing, noted_step, put, begun}
+use Rattle.wb_runs.specs.Clerk.{Notes, Doing, noted_step}
 use Rattle.wb_runs.proofs.Desks.{mapped_stands, unmapped_stands, released_for}
 use Rattle.wb_runs.proofs.Ordering.{held_of}
 use Rattle.wb_runs.proofs.Owning.{dropped_is}
@@ -66,24 +61,18 @@ use Rattle.wb_runs.proofs.Images.{later_of}
 use Rattle.wb_runs.proofs.InsideRuns.{PlanInside, want_inside}
 use Rattle.wb_runs.proofs.Metadata.{AtDesk, unknowing, kept_readable}
 use Rattle.wb_link.specs.World.{World, after_all}
-use Rattle.wb_simulation.specs.Actors.{IsAside, IsBusyAt}
-use Rattle.wb_simulation.specs.Behind.{order_there}
-use Rattle.wb_simulation.specs.Migrating.{AreOwned, IsUngiven, MayBeGiven, MayBeKept, SeesWhere, given_by}
-use Rattle.wb_simulation.specs.Noted.{told}
-use Rattle.wb_simulation.specs.Noting.{NotesAgree}
+use Rattle.wb_simulation.specs.Migrating.{AreOwned, SeesWhere}
 use Rattle.wb_simulation.specs.Steps.{IsOutside}
 use Rattle.wb_simulation.specs.Telling.{Carries}
-use Rattle.wb_simulation.specs.Worlds.{Agrees, Turn, TurnedTo, DeskTurnedTo, Stays, Maps, Unmaps, GivesUp, FollowsBy}
+use Rattle.wb_simulation.specs.Worlds.{Agrees, Maps, Unmaps, GivesUp, FollowsBy}
 use Rattle.wb_simulation.proofs.Migrations.{migrations_followed}
-use Rattle.wb_simulation.proofs.Noted.{notes_followed}
 use Rattle.wb_simulation.proofs.Opening.{images_followed}
 use Rattle.wb_headline.specs.Desks.{orders_of, live_orders, DeskAgrees}
 use Rattle.wb_headline.specs.Seen.{Replacing, Waiting, order_seen, slots_seen, orders_seen, task_seen, actor_seen, actors_seen}
-use Rattle.wb_headline.proofs.Allowed.{there}
 use Rattle.wb_headline.proofs.Carried.{own, looks_seal, looks_number}
 use Rattle.wb_headline.proofs.Carrying.{cells, read_done, read_fails, write_done, write_fails, map_refused, answers, carried_notes, sized_plain}
 use Rattle.wb_headline.proofs.Desking.{desk_maps, desk_releases, desk_unmaps, other_block}
-use Rattle.wb_headline.proofs.Following.{size, most, Sized, Followed, Goes}
+use Rattle.wb_headline.proofs.Following.{size, most, Followed, Goes}
 use Rattle.wb_headline.proofs.Alike.{agrees_alike}
 use Rattle.wb_headline.proofs.Come.{come_over, come_released, named_seen}
 use Rattle.wb_headline.proofs.Owned.{IsHeld, are_owned, for_block, held_there, one_of_cache, only_held}
@@ -91,7 +80,7 @@ use Rattle.wb_headline.proofs.Seen.{actors_turned, dropped_from, dropped_to, get
 use Rattle.wb_headline.proofs.Staging.{come_then, left, live_elsewhere, slots_then, stood, then_stages, unseen_then, waits_on}
 use Rattle.wb_headline.proofs.Seeing.{orders_set, seal_tells_order, slots_many, stands_alone, unmapped_there}
 use Rattle.wb_headline.proofs.Targets.{standing, actor_is, leads_on, unseen_turned}
-use Rattle.wb_headline.proofs.Whole.{Whole, Stepped_to, Faulted_to, at_target, held_tells, MigrationsGo}
+use Rattle.wb_headline.proofs.Whole.{Whole, Stepped_to, Faulted_to, at_target, held_tells}
 
 same_device : (device : Dev) (devices : Devices (List History)) → HoldsBlocks device → Rattle.wb_runs.specs.States.with_device device devices (Rattle.wb_devices.specs.Moving.device_in device devices) ≡ devices
 same_device Cache devices h = refl
@@ -154,7 +143,7 @@ module _ (P A : Type 0) (shape : Shape) (t : Target P) (commit : Option RunningC
   sees (Look Fail) e = tt
   sees (Look (LockWord o)) e = tt
   sees (Look (CountWord kind)) e = tt
-  sees (Take access o seen) e = tt
+  sees (Take access o word) e = tt
   sees (Release access o) e = tt
   sees (Seal o place dirty) e = tt
   sees (Finish o) e = tt
@@ -183,6 +172,22 @@ module _ (P A : Type 0) (shape : Shape) (t : Target P) (commit : Option RunningC
 
     only : (p : Order) → Contains x.orders p → is_of bl p ≡ true → p ≡ held.order
     only p h e = only_held P t.desk actors are b.keeping.owned f.phase.stages a x ex q bl of c there has held p (Contains-append_left x.orders x.awaiting p h) e
+
+    here_is : (o : Order) (l : IsLive t.desk o) → l.cache.0 ≡ c → o ≡ held.order
+    here_is o l e = one_of_cache P t.desk actors are b.keeping.owned o held.order l held.live (e ∙ sym held.at)
+
+    -- what this actor and the others keep is seen as before, whatever comes of the replacement on that cache block
+    mine_on : (r : Replacing) (o : Order) → Contains (dropped bl x.orders) o → order_seen (changed f.phase.stages c r) o ≡ order_seen f.phase.stages o
+    mine_on r o h =
+        let d = dropped_is bl x.orders o h in
+        let l = b.keeping.owned.live a x o ex (Contains-append_left x.orders x.awaiting o d.0) in
+        live_elsewhere P t.desk kept f.phase.stages c r o l (λ e. true_not (is_of bl o) (ap (is_of bl) (here_is o l e) ∙ seen_of f.phase.stages bl held.order q held.seen of) d.1)
+
+    others_on : (r : Replacing) (d : ℕ) (z : Actor) → d ≢ a → slice_get actors d ≡ Some z → orders_seen (changed f.phase.stages c r) z.orders ≡ orders_seen f.phase.stages z.orders
+    others_on r d z m e = orders_same f.phase.stages (changed f.phase.stages c r) z.orders (λ o h. (
+        let k = Contains-append_left z.orders z.awaiting o h in
+        let l = b.keeping.owned.live d z o e k in
+        live_elsewhere P t.desk kept f.phase.stages c r o l (λ i. m (b.keeping.owned.one d a z x o e ex k (subst (λ (p : Order). Contains (held_of x) p) (sym (here_is o l i)) (Contains-append_left x.orders x.awaiting held.order held.has))))))
 
     -- what is seen of orders and actors then agrees, where at other cache blocks it is the same
     agrees_then : (desk' : DeskState P) (stages' : ℕ → Replacing) (awaiting : List Order) (s' : World) → slots_seen stages' (live_orders desk') ≡ slice_set slots c None → ((o : Order) → Contains (dropped bl x.orders) o → order_seen stages' o ≡ order_seen f.phase.stages o) →
@@ -250,7 +255,6 @@ module _ (P A : Type 0) (shape : Shape) (t : Target P) (commit : Option RunningC
       let room = slice_get_within t.desk.space.blocks c Mapped (mapped_state unknowing t.desk block.0 c kept at) in
       let readable = kept_readable shape.geometry b.goes.images devices.metadata P A (Stands t) commit b.goes.known in
       let same_slots = slots_then P t.desk kept f.phase.stages f.phase.come actors are owned a x ex parted block c live mine t_held in
-      let here : (o : Order) (l : IsLive t.desk o) → l.cache.0 ≡ c → o ≡ t_held.order = λ o l e. one_of_cache P t.desk actors are owned o t_held.order l t_held.live (e ∙ sym t_held.at) in
       subst (λ (k : DeskState P). To (Desk (Unmap bl)) Done read (Asks k)) (sym gone.1)
       (subst (λ (v : Actor). Goes P A shape (record { devices = devices; commit = commit; phase = Stands (record { words = t.words; desk = desk' }); actors = slice_set actors a v }) n) (sym (actor_is P A shape (Stands t) devices x job plan (Desk (Unmap bl)) Done xt))
       (leads_on P A shape b.goes.images t commit devices actors n b.goes.known f a x ex (Unmaps block.0 c) (Carries (length seen)) (record { words = t.words; desk = desk' }) commit devices (slice_set actors a y) n b.goes.images stages' (slice_set slots c None) (slice_set seen a (then_there bl)) g tt
@@ -258,12 +262,7 @@ module _ (P A : Type 0) (shape : Shape) (t : Target P) (commit : Option RunningC
       (sized_plain P A shape b.goes.images t commit devices actors n b.goes.known f a x ex y)
       (subst (λ (k : DeskState P). AtDesk shape.geometry b.goes.images k commit devices.metadata) gone.1 (unmapped_stands P shape.geometry b.goes.images t.desk commit devices.metadata bl new b.goes.known did))
       (agrees_then (DemoteOrder block) bl (for_block Demote block bl law.1) c live mine desk' stages' (replacing bl x.orders ++ x.awaiting) (after_all f.site.world g.records) same_slots
-      (λ o h. let d = dropped_is bl x.orders o h in
-          let l = owned.live a x o ex (Contains-append_left x.orders x.awaiting o d.0) in
-          live_elsewhere P t.desk kept f.phase.stages c Waiting o l (λ e. true_not (is_of bl o) (ap (is_of bl) (here o l e) ∙ seen_of f.phase.stages bl t_held.order (DemoteOrder block) t_held.seen (for_block Demote block bl law.1)) d.1))
-      (λ d z m e. orders_same f.phase.stages stages' z.orders (λ o h. let k = Contains-append_left z.orders z.awaiting o h in
-          let l = owned.live d z o e k in
-          live_elsewhere P t.desk kept f.phase.stages c Waiting o l (λ i. m (owned.one d a z x o e ex k (subst (λ (p : Order). Contains (held_of x) p) (sym (here o l i)) (Contains-append_left x.orders x.awaiting t_held.order t_held.has))))))
+      (mine_on (DemoteOrder block) bl (for_block Demote block bl law.1) c live mine Waiting) (others_on (DemoteOrder block) bl (for_block Demote block bl law.1) c live mine Waiting)
       g.agrees)
       (subst (λ (os : List (Option Order)). DeskAgrees desk' os s') (sym same_slots)
       (desk_unmaps P t.desk slots s s' f.phase.desk block.0 (record { 0 = c }) alone.0 new.tree new.policy room alone.1 gone.0 g.desk.0 g.desk.1))

@@ -1,7 +1,6 @@
 -- An opening that is answered is followed.
-use Rattle.std.proofs.Common.{◌≡◌, ◌≢◌, ◌∙◌, ◌≤◌, ◌+◌, ◌*◌, ◌^◌, ◌⊎◌, inl, inr, ℕ, Bool, true, false, if◌then◌else◌, List, [], ◌∷◌, Option, Some, None, refl, sym, ap, subst, arith, length, map, replicate, slice_get, slice_set, Contains, is_some}
+use Rattle.std.proofs.Common.{◌≡◌, ◌∙◌, ◌≤◌, ◌+◌, ◌*◌, ◌^◌, inl, inr, ℕ, true, false, List, Option, Some, None, refl, sym, ap, subst, arith, length, map, replicate, slice_get, slice_set, Contains}
 use Rattle.std.proofs.lemmas.List.{length-replicate, length-set, length-map}
-use Rattle.std.specs.List.{count_by}
 use Rattle.wb_types.proofs.Lists.{set_cases}
 use Rattle.wb_types.specs.declared.entry.Entry.{Entry}
 use Rattle.wb_types.specs.declared.mode.Mode.{Mode}
@@ -13,7 +12,6 @@ use Rattle.wb_disk.proofs.Leaving.{read-left}
 use Rattle.wb_words.specs.SharedWords.{word_at, place_in}
 use Rattle.wb_contents.specs.Devices.{by_block}
 use Rattle.wb_contents.specs.Volume.{at_location}
-use Rattle.wb_contents.specs.Promises.{IsEntryFrom}
 use Rattle.wb_tree.specs.Mapping.{IsMapping}
 use Rattle.wb_meta.specs.Representing.{Stored}
 use Rattle.wb_meta.specs.declared.read_steps.ReadSteps.{ReadSteps}
@@ -31,31 +29,29 @@ use Rattle.wb_stage.specs.Stages.{is_all_done}
 use Rattle.wb_refines.specs.Translation.{number_of}
 use Rattle.wb_runs.specs.declared.job.Job.{Job}
 use Rattle.wb_runs.specs.declared.job.Job.TheVariants.{Open}
-use Rattle.wb_runs.specs.States.{Shape, State, Actor, Phase, Stands, Gone, Opens, sector_count, cache_sector_count, block_size}
-use Rattle.wb_runs.specs.Effects.{actor_then, task_then, target_over, words_by}
+use Rattle.wb_runs.specs.States.{Shape, State, Actor, Stands, Gone, Opens, sector_count, cache_sector_count, block_size}
+use Rattle.wb_runs.specs.Effects.{actor_then, task_then, target_over}
 use Rattle.wb_runs.specs.Clerk.{Notes, begins, put}
 use Rattle.wb_runs.specs.Headline.{place_of, shown_by, ShowsAllowed}
-use Rattle.wb_runs.proofs.Images.{Images, later_of, one_image}
-use Rattle.wb_runs.proofs.Underway.{Readable}
+use Rattle.wb_runs.proofs.Images.{Images, later_of}
 use Rattle.wb_runs.proofs.Metadata.{MetadataKept, AtDesk, AtOpening, Quiet, Rooting as RootingKept, kept_readable, target_stands}
 use Rattle.wb_runs.proofs.Linking.{IsTask, AtPhase}
 use Rattle.wb_link.specs.World.{World, Shared, Actor as AbstractActor, resting as idle}
-use Rattle.wb_link.specs.Clerk.{Notes as AbstractNotes, opened as opened_notes}
-use Rattle.wb_link.specs.Openings.{Site, Phase as PhaseThere, Stands as StandsThere, Gone as GoneThere, Opens as OpensThere, Learnt, Answering, opened_on, emptied}
+use Rattle.wb_link.specs.Clerk.{opened as opened_notes}
+use Rattle.wb_link.specs.Openings.{Site, Gone as GoneThere, Opens as OpensThere, Learnt, Answering, opened_on}
 use Rattle.wb_simulation.specs.Opened.{located}
-use Rattle.wb_simulation.specs.Noting.{NotesAgree}
-use Rattle.wb_simulation.specs.Sites.{ImagesAgree, DevicesAgree, IsRunning, locations}
+use Rattle.wb_simulation.specs.Sites.{DevicesAgree, IsRunning}
 use Rattle.wb_simulation.specs.Worlds.{zeros, Agrees}
 use Rattle.wb_simulation.proofs.Noted.{notes_followed}
 use Rattle.wb_simulation.proofs.Opened.{opened_followed}
-use Rattle.wb_headline.specs.Desks.{block_there, slot_at, DeskAgrees, live_orders}
+use Rattle.wb_headline.specs.Desks.{block_there, slot_at, live_orders}
 use Rattle.wb_headline.specs.Seen.{Replacing, Leaving, slots_seen, task_seen, actors_seen}
 use Rattle.wb_headline.proofs.Seen.{seen_here, seen_many, vacant_seen}
 use Rattle.wb_runs.proofs.Lists.{replicated}
 use Rattle.wb_headline.proofs.Events.{Reached, event_reaches}
 use Rattle.wb_headline.proofs.Unclean.{NeverClean, event_on}
-use Rattle.wb_headline.proofs.Following.{NoneIsSeen, HasLearnt, HasRoot, HasReadAt, IsOver, opening_at, many, size, most, Sized, TargetFollows, Followed, Goes}
-use Rattle.wb_headline.proofs.Arriving.{SameSectors, sized_so, Arrived, rests, gone}
+use Rattle.wb_headline.proofs.Following.{NoneIsSeen, HasReadAt, IsOver, many, size, most, Followed, Goes}
+use Rattle.wb_headline.proofs.Arriving.{SameSectors, sized_so, rests, gone}
 use Rattle.wb_headline.proofs.Allowed.{shows_allowed, length-rising}
 use Rattle.wb_headline.proofs.Showing.{state_allowed}
 use Rattle.wb_headline.proofs.Answering.{no_orders_live, opened_state, opened_there, view_of, answer_of, answer_may, opened_site, answer_leads, shown_view}

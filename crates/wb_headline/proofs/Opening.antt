@@ -1,5 +1,5 @@
 -- Each step of an opening, done, refused or failing, is followed.
-use Rattle.std.proofs.Common.{◌≡◌, ◌≢◌, ◌∙◌, ◌-◌, ◌⊎◌, inl, inr, ℕ, Bool, true, false, List, [], ◌∷◌, Option, Some, None, refl, sym, ap, subst, arith, length, map, slice_get, slice_set}
+use Rattle.std.proofs.Common.{◌≡◌, ◌≢◌, ◌∙◌, ◌-◌, ◌⊎◌, inl, inr, ℕ, Bool, true, List, [], Option, Some, None, refl, sym, ap, subst, arith, map, slice_get, slice_set}
 use Rattle.std.proofs.lemmas.Option.{some_pair_parts}
 use Rattle.std.proofs.lemmas.List.{length-set}
 use Rattle.wb_types.proofs.Lists.{set_cases}
@@ -30,17 +30,16 @@ use Rattle.wb_devices.specs.Opened.{HasCome, got_of_refusal}
 use Rattle.wb_roots.proofs.Deciding.{read_is_committed}
 use Rattle.wb_runs.specs.declared.job.Job.{Job}
 use Rattle.wb_runs.specs.declared.job.Job.TheVariants.{Open}
-use Rattle.wb_runs.specs.States.{Shape, State, Actor, Phase, Opens}
-use Rattle.wb_runs.specs.Happenings.{Chosen, Plain, Begins, Reaches, Puts, DoesSync, DoesRead, DoesPut}
+use Rattle.wb_runs.specs.States.{Shape, State, Actor, Opens}
+use Rattle.wb_runs.specs.Happenings.{Chosen, Plain, Begins, Reaches, Puts, DoesSync, DoesRead}
 use Rattle.wb_runs.specs.Effects.{commit_then, reading_then, actor_then, task_then, led}
 use Rattle.wb_runs.specs.Clerk.{Notes, Doing, noted_step, device_note, failing, put}
-use Rattle.wb_runs.proofs.Images.{Images, one_image, later_of, IsFitToo}
+use Rattle.wb_runs.proofs.Images.{Images, one_image, IsFitToo}
 use Rattle.wb_runs.proofs.Underway.{Readable, Found, partly_readable}
 use Rattle.wb_runs.proofs.Metadata.{MetadataKept, HasReached, AtOpening, Rooting as RootingKept, kept_readable, root_begins}
-use Rattle.wb_runs.proofs.Opening.{failing_same}
 use Rattle.wb_runs.proofs.Linking.{IsTask, AtPhase}
 use Rattle.wb_link.specs.World.{Shared}
-use Rattle.wb_link.specs.Openings.{Site, Phase as PhaseThere, Stands as StandsThere, Gone as GoneThere, Opens as OpensThere, Learnt, Stage, Settling, Caching, Basing, Looking, Rooting, Renewing, Answering, Learns, Advances, advance}
+use Rattle.wb_link.specs.Openings.{Phase as PhaseThere, Stands as StandsThere, Gone as GoneThere, Opens as OpensThere, Learnt, Stage, Settling, Caching, Basing, Looking, Rooting, Renewing, Answering, Learns, Advances, advance}
 use Rattle.wb_simulation.specs.Opened.{located}
 use Rattle.wb_simulation.specs.Sites.{ImagesAgree, DevicesAgree, LeadsTo, locations}
 use Rattle.wb_simulation.proofs.Opening.{openings_followed}

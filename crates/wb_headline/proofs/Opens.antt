@@ -1,14 +1,13 @@
 -- Whatever step an opening takes, done or failing, it is followed.
-use Rattle.std.proofs.Common.{◌≡◌, ◌≢◌, ◌∙◌, ◌⊎◌, inl, inr, ℕ, Bool, true, false, List, [], ◌∷◌, Option, Some, None, refl, sym, ap, subst, length, slice_get, slice_set, arith, Contains}
+use Rattle.std.proofs.Common.{◌≡◌, ◌∙◌, ◌⊎◌, inl, inr, ℕ, Bool, true, false, List, [], Option, Some, None, refl, sym, ap, subst, length, slice_get, slice_set, arith, Contains}
 use Rattle.wb_types.specs.declared.mode.Mode.{Mode}
 use Rattle.wb_types.specs.declared.mode.Mode.TheVariants.{Writeback}
 use Rattle.wb_types.specs.declared.mode.Dev.TheVariants.{Metadata, Cache, Origin}
 use Rattle.wb_disk.specs.Device.{Content as Bytes, History, synced}
 use Rattle.wb_disk.specs.Crash.{Choice}
 use Rattle.wb_disk.specs.Failing.{lands, synced_where}
-use Rattle.wb_meta.specs.Steps.{DoesStep, FailsStep, coming_step}
+use Rattle.wb_meta.specs.Steps.{DoesStep, coming_step}
 use Rattle.wb_meta.specs.declared.read_steps.ReadSteps.{ReadSteps}
-use Rattle.wb_meta.specs.declared.read_steps.ReadSteps.TheVariants.{Done as AllRead}
 use Rattle.wb_tasks.specs.Plan.{Plan, want, first_step, device_of}
 use Rattle.wb_tasks.specs.declared.step.Answer.{Answer}
 use Rattle.wb_tasks.specs.declared.step.Answer.TheVariants.{Done as Finished, Refused as Refuses}
@@ -22,21 +21,21 @@ use Rattle.wb_devices.specs.declared.running.RunningCommit.{RunningCommit}
 use Rattle.wb_stage.specs.Stages.{is_all_done}
 use Rattle.wb_runs.specs.declared.job.Job.{Job}
 use Rattle.wb_runs.specs.declared.job.Job.TheVariants.{Open}
-use Rattle.wb_runs.specs.States.{Shape, State, Actor, Phase, Stands, Gone, Opens, OfReading, cache_sector_count, sector_count}
+use Rattle.wb_runs.specs.States.{Shape, State, Actor, Opens, OfReading, cache_sector_count, sector_count}
 use Rattle.wb_runs.specs.Happenings.{Chosen, Plain, Cut, Orders, Begins, Reaches, Puts, Commits, Asks, Opened, Gives, Falters, MayFailAt, IsNextOf, DoesPut, DoesSync, FailsSync, FailsPut, LandedOr, sector_put}
-use Rattle.wb_runs.specs.Effects.{device_done, device_failed, stepped, target_over, phase_opened, actor_then}
+use Rattle.wb_runs.specs.Effects.{device_done, device_failed, stepped, phase_opened, actor_then}
 use Rattle.wb_runs.specs.Clerk.{Notes, Doing, noted_step, begins, put}
-use Rattle.wb_runs.specs.Headline.{shown, shown_in, ShowsAllowed}
+use Rattle.wb_runs.specs.Headline.{shown, shown_in}
 use Rattle.wb_runs.proofs.Images.{Images}
 use Rattle.wb_runs.proofs.Underway.{sync_does, sync_fails, put_fails}
 use Rattle.wb_runs.proofs.Metadata.{MetadataKept}
 use Rattle.wb_runs.proofs.Linking.{AtPhase}
-use Rattle.wb_link.specs.Openings.{Phase as PhaseThere, Opens as OpensThere, Stage, Settling, Caching, Basing, Looking, Rooting, Renewing, Answering}
+use Rattle.wb_link.specs.Openings.{Opens as OpensThere, Stage, Settling, Caching, Basing, Looking, Rooting, Renewing, Answering}
 use Rattle.wb_headline.proofs.Following.{NoneIsSeen, opening_at, HasReadAt, AtStage, IsOver, Followed, Goes}
 use Rattle.wb_headline.proofs.Opening.{settle_done, settle_fails, cache_done, cache_fails, origin_done, origin_fails, looks, look_fails, root_done, root_fails, renew_done, renew_fails}
 use Rattle.wb_headline.proofs.Keeping.{NoOrders}
 use Rattle.wb_headline.proofs.Kept.{none_goes}
-use Rattle.wb_headline.proofs.Opened.{at_first, refused_goes, opened_goes, shows}
+use Rattle.wb_headline.proofs.Opened.{at_first, refused_goes, opened_goes}
 use Rattle.wb_policy.specs.declared.order.Order.{Order}
 
 module _ (P A : Type 0) (shape : Shape) (images : Images) (devices : Devices (List History)) (commit : Option RunningCommit) (mode : Mode) (reading : Option (ReadSteps A)) (actors : List Actor) (n : Notes) where

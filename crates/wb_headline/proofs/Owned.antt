@@ -1,6 +1,6 @@
 -- What is asked in the abstract world of the orders that actors have, where they live on the desk and no two actors have one; and that it
 -- stays so when an order is over.
-use Rattle.std.proofs.Common.{◌≡◌, ◌≢◌, ◌∙◌, ◌++◌, ◌||◌, inl, inr, ℕ, Bool, true, false, if◌then◌else◌, List, Option, Some, None, refl, sym, ap, subst, slice_get, slice_set, Contains}
+use Rattle.std.proofs.Common.{◌≡◌, ◌∙◌, ◌||◌, inl, inr, ℕ, Bool, true, false, List, Option, Some, None, refl, sym, ap, subst, slice_get, slice_set, Contains}
 use Rattle.std.proofs.lemmas.Bool.{eq-eqb}
 use Rattle.std.proofs.lemmas.List.Elements.{Contains-append_cases, Contains-append_left, Contains-append_right}
 use Rattle.wb_types.specs.declared.number.OBlock.{OBlock}

@@ -1,5 +1,5 @@
 -- What is seen of a task: every plan goes on there as it does here, but for the orders that a flush gives up.
-use Rattle.std.proofs.Common.{◌≡◌, ◌∙◌, ◌+◌, ◌++◌, ◌==◌, ℕ, zero, suc, Bool, true, false, if◌then◌else◌, List, [], ◌∷◌, Option, Some, None, refl, sym, ap, subst, slice_get}
+use Rattle.std.proofs.Common.{◌≡◌, ◌∙◌, ◌+◌, ◌++◌, ◌==◌, ℕ, zero, suc, Bool, true, false, if◌then◌else◌, List, [], ◌∷◌, Option, Some, None, refl, sym, ap, subst}
 use Rattle.wb_types.specs.declared.number.OBlock.{OBlock}
 use Rattle.wb_types.specs.declared.mode.Dev.TheVariants.{Cache, Origin}
 use Rattle.wb_types.specs.declared.refusal.Refusal.{Refusal}
@@ -8,7 +8,7 @@ use Rattle.wb_words.specs.declared.card.Card.{Card}
 use Rattle.wb_words.specs.declared.step.CellStep.TheVariants.{Look, SetFailed}
 use Rattle.wb_words.specs.declared.word.Word.TheVariants.{Fail}
 use Rattle.wb_tasks.specs.Tables.{TaskJob, OnBlock, Flushing, Opening}
-use Rattle.wb_tasks.specs.Plan.{Plan, want, after, first_step, later_steps, onward, refused, commit_steps, node_writes, root_steps, release_orders, lets_go_unless_busy}
+use Rattle.wb_tasks.specs.Plan.{Plan, want, after, first_step, refused, commit_steps, node_writes, root_steps, release_orders, lets_go_unless_busy}
 use Rattle.wb_tasks.specs.Ready.{Suits, SuitsJob, AreOwnSteps, IsFlushs}
 use Rattle.wb_tasks.specs.declared.step.Answer.{Answer}
 use Rattle.wb_tasks.specs.declared.step.DeviceStep.TheVariants.{Sync, WriteNode, WriteRoot}
@@ -22,7 +22,7 @@ use Rattle.wb_runs.specs.declared.job.Job.TheVariants.{Read, Write, Flush, Open,
 use Rattle.wb_runs.specs.States.{Actor}
 use Rattle.wb_runs.specs.Holding.{AllSuited, TaskSuits}
 use Rattle.wb_simulation.specs.Laws.{IsRequestJob}
-use Rattle.wb_headline.specs.Seen.{Replacing, job_seen, without_releases, steps_seen, plan_seen, task_seen, actor_seen, actors_seen}
+use Rattle.wb_headline.specs.Seen.{Replacing, job_seen, without_releases, steps_seen, plan_seen, task_seen, actors_seen}
 use Rattle.wb_headline.proofs.Seen.{seen_here}
 
 -- any step but that an order is given up

@@ -1,5 +1,5 @@
 -- Every run keeps the whole promise, where its migrations are followed.
-use Rattle.std.proofs.Common.{◌≡◌, ◌≢◌, ◌∙◌, ◌⊎◌, inl, inr, ℕ, Bool, true, false, List, [], ◌∷◌, Option, Some, None, All, refl, sym, ap, subst, length, slice_get}
+use Rattle.std.proofs.Common.{◌≡◌, ◌∙◌, ◌⊎◌, inl, inr, ℕ, List, [], ◌∷◌, Option, Some, None, All, refl, sym, ap, subst, length, slice_get}
 use Rattle.wb_types.specs.declared.mode.Mode.{Mode}
 use Rattle.wb_types.specs.declared.mode.Mode.TheVariants.{Writeback}
 use Rattle.wb_types.specs.declared.refusal.Refusal.{Refusal}
@@ -9,7 +9,6 @@ use Rattle.wb_disk.specs.Device.{Content as Bytes, History}
 use Rattle.wb_meta.specs.Formats.{IsFormatted}
 use Rattle.wb_meta.specs.declared.read_steps.ReadSteps.{ReadSteps}
 use Rattle.wb_tasks.specs.Plan.{Plan, want, first_step}
-use Rattle.wb_tasks.specs.Ready.{Suits}
 use Rattle.wb_tasks.specs.declared.step.Answer.{Answer}
 use Rattle.wb_tasks.specs.declared.step.Answer.TheVariants.{Done as Finished, Refused as Refuses}
 use Rattle.wb_tasks.specs.declared.step.DeviceStep.TheVariants.{Read as ReadExtent}
@@ -25,7 +24,7 @@ use Rattle.wb_runs.specs.declared.event.Event.{Event}
 use Rattle.wb_runs.specs.declared.event.Event.TheVariants.{Start, Step, FaultStep, Stop}
 use Rattle.wb_runs.specs.declared.event.What.{What}
 use Rattle.wb_runs.specs.declared.event.What.TheVariants.{Skipped, Refused, Started, Stepped, Stopped}
-use Rattle.wb_runs.specs.States.{Shape, State, Actor, Target, Phase, Stands, Gone, Opens, start}
+use Rattle.wb_runs.specs.States.{Shape, State, Actor, Phase, Stands, Gone, Opens, start}
 use Rattle.wb_runs.specs.Happenings.{Chosen, Opened, Happening, OfSome, Gives, DoesOpen, MayBe}
 use Rattle.wb_runs.specs.Effects.{stepped, with_actor, device_done, job_of, phase_then, phase_opened, after_what, after_happening, after_all, IsRun}
 use Rattle.wb_runs.specs.Clerk.{Notes, Doing, formatted}

@@ -7,7 +7,6 @@ use Rattle.wb_types.specs.Extents.{rising}
 use Rattle.wb_types.specs.declared.extent.Extent.{Extent}
 use Rattle.wb_types.specs.declared.mode.Dev.{Dev}
 use Rattle.wb_types.specs.declared.mode.Dev.TheVariants.{Metadata, Cache, Origin}
-use Rattle.wb_types.specs.declared.refusal.Refusal.{Refusal}
 use Rattle.wb_disk.specs.Device.{Content as Bytes, History, grown, added}
 use Rattle.wb_disk.specs.Extents.{GivesEach, written_each, written_where}
 use Rattle.wb_words.specs.Rule.{LockRule}
@@ -16,7 +15,7 @@ use Rattle.wb_policy.specs.declared.order.Order.{Order}
 use Rattle.wb_words.specs.SharedWords.{Words}
 use Rattle.wb_words.specs.Effects.{result_of, words_after}
 use Rattle.wb_words.specs.declared.step.CellStep.{CellStep}
-use Rattle.wb_tasks.specs.Tables.{BlockRange, BlockJob, Reading as ReadingPart, Writing as WritingPart, OnBlock, TaskJob}
+use Rattle.wb_tasks.specs.Tables.{BlockRange, Reading as ReadingPart, Writing as WritingPart, OnBlock, TaskJob}
 use Rattle.wb_tasks.specs.Plan.{Plan, want, after, got_of, first_step}
 use Rattle.wb_tasks.specs.Ready.{Suits, HoldsBlocks}
 use Rattle.wb_tasks.specs.declared.step.Answer.{Answer}
@@ -32,11 +31,11 @@ use Rattle.wb_devices.specs.declared.running.RunningCommit.{RunningCommit}
 use Rattle.wb_devices.specs.Moving.{device_in}
 use Rattle.wb_runs.specs.declared.job.Job.{Job}
 use Rattle.wb_runs.specs.declared.job.Job.TheVariants.{Read, Write}
-use Rattle.wb_runs.specs.States.{Shape, State, Actor, Target, Phase, Stands, with_device, block_size, sector_count}
-use Rattle.wb_runs.specs.Happenings.{block_range, extent_refusal}
-use Rattle.wb_runs.specs.Effects.{actor_then, task_then, card_then, orders_then, awaiting_then}
+use Rattle.wb_runs.specs.States.{Shape, State, Actor, Target, Stands, with_device}
+use Rattle.wb_runs.specs.Happenings.{block_range}
+use Rattle.wb_runs.specs.Effects.{actor_then, orders_then, awaiting_then}
 use Rattle.wb_runs.specs.Holding.{cards_of, AllSuited}
-use Rattle.wb_runs.specs.Clerk.{Notes, Doing, Reading, noted_step, device_note, failing, put, read_note, readings_from, sector_for, write_note, enter_each, entering, finished_note, all_raised, raised, Entering, enter, Position}
+use Rattle.wb_runs.specs.Clerk.{Notes, Doing, noted_step, device_note, failing, put, readings_from, sector_for, write_note, enter_each, entering, finished_note, all_raised, Entering, enter}
 use Rattle.wb_runs.proofs.Lists.{set_there}
 use Rattle.wb_runs.proofs.Images.{Images}
 use Rattle.wb_runs.proofs.Metadata.{MetadataKept}
@@ -44,7 +43,6 @@ use Rattle.wb_runs.proofs.Extents.{may_start, some_sectors}
 use Rattle.wb_runs.proofs.Claims.{JobClaim}
 use Rattle.wb_link.specs.World.{World, after_all}
 use Rattle.wb_refines.specs.Translation.{job_for}
-use Rattle.wb_refines.specs.Data.{IsInBlock}
 use Rattle.wb_simulation.specs.Noting.{NotesAgree}
 use Rattle.wb_simulation.specs.Noted.{told}
 use Rattle.wb_simulation.specs.Actors.{IsRequestAt}

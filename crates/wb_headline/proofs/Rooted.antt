@@ -1,5 +1,5 @@
 -- What is known of the metadata while an opening's root is on its way, and of the images after a step.
-use Rattle.std.proofs.Common.{◌≡◌, ◌≢◌, ◌∙◌, ◌+◌, inl, inr, ℕ, zero, suc, Bool, true, false, if◌then◌else◌, List, [], ◌∷◌, Option, Some, None, refl, sym, ap, subst, arith, is_some, cond}
+use Rattle.std.proofs.Common.{◌≡◌, ◌∙◌, ◌+◌, inl, ℕ, suc, Bool, true, false, List, [], ◌∷◌, Option, Some, None, refl, sym, ap, subst, arith, is_some, cond}
 use Rattle.std.specs.List.{count_by}
 use Rattle.std.proofs.lemmas.List.Sums.{sum_by-cons}
 use Rattle.wb_types.specs.declared.entry.Entry.{Entry}
@@ -16,7 +16,7 @@ use Rattle.wb_devices.specs.declared.running.RunningCommit.{RunningCommit}
 use Rattle.wb_roots.specs.Roots.{MayBeReadAs, Commit}
 use Rattle.wb_roots.proofs.Leading.{after_failure}
 use Rattle.wb_runs.specs.Headline.{cached_from, place_of}
-use Rattle.wb_runs.proofs.Images.{Images, Turn, Stays, Begins, Puts, Ends, Settles, Turned, one_image, later_of}
+use Rattle.wb_runs.proofs.Images.{Images, Turn, Stays, Begins, Puts, Ends, Settles, Turned, later_of}
 use Rattle.wb_runs.proofs.Underway.{Underway, Readable, images_of, underway_readable, led_on}
 use Rattle.wb_runs.proofs.Metadata.{Rooting as RootingKept}
 

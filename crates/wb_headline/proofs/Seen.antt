@@ -1,5 +1,5 @@
 -- What is seen of orders, of actors and of their lists: by membership, and where one of them or one stage changes.
-use Rattle.std.proofs.Common.{◌≡◌, ◌≢◌, ◌∙◌, ◌<◌, ◌++◌, ◌&&◌, ◌||◌, ◌⊎◌, inl, inr, ℕ, zero, suc, Bool, true, false, if◌then◌else◌, List, [], ◌∷◌, Option, Some, None, refl, sym, ap, subst, arith, length, map, replicate, slice_get, slice_set, Contains}
+use Rattle.std.proofs.Common.{◌≡◌, ◌≢◌, ◌∙◌, ◌++◌, ◌&&◌, ◌||◌, ◌⊎◌, inl, inr, ℕ, zero, suc, Bool, true, false, if◌then◌else◌, List, [], ◌∷◌, Option, Some, None, refl, sym, ap, subst, arith, length, replicate, slice_get, slice_set, Contains}
 use Rattle.std.proofs.lemmas.List.{length-map}
 use Rattle.wb_types.proofs.Lists.{Contains-first, Contains-behind, map_there}
 use Rattle.wb_types.specs.declared.number.CBlock.{CBlock}
@@ -10,8 +10,6 @@ use Rattle.wb_policy.specs.declared.order.Order.TheVariants.{Promote, Replace, D
 use Rattle.wb_orders.specs.Named.{IsNamed}
 use Rattle.wb_desk.specs.Entries.{is_replacement}
 use Rattle.wb_stage.specs.Asking.{is_of, order_of}
-use Rattle.wb_tasks.specs.Plan.{Plan}
-use Rattle.wb_runs.specs.declared.job.Job.{Job}
 use Rattle.wb_runs.specs.States.{Actor}
 use Rattle.wb_runs.specs.Effects.{dropped, replacing}
 use Rattle.wb_runs.specs.Holding.{cards_of}

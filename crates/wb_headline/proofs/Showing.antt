@@ -1,9 +1,7 @@
 -- Whatever a crash leaves, what an opening would show by either of the two states is allowed.
 use Rattle.std.proofs.Common.{◌≡◌, ◌∙◌, ◌⊎◌, inl, inr, ℕ, List, Option, Some, None, refl, sym, ap, subst, length, Contains}
-use Rattle.wb_types.specs.declared.entry.Entry.{Entry}
 use Rattle.wb_types.specs.declared.geometry.Geometry.{Geometry}
 use Rattle.wb_disk.specs.Device.{Content as Bytes, History, entries}
-use Rattle.wb_disk.specs.Crashes.{MayLeave}
 use Rattle.wb_contents.specs.Devices.{by_block}
 use Rattle.wb_contents.specs.Volume.{at_location}
 use Rattle.wb_contents.specs.Promises.{IsEntryFrom}
@@ -12,9 +10,9 @@ use Rattle.wb_tree.proofs.Reading.MappingRead.{mapping_read}
 use Rattle.wb_meta.specs.Representing.{Represents, Stored}
 use Rattle.wb_roots.specs.Roots.{AreOneOf, IsOf}
 use Rattle.wb_devices.specs.declared.devices.Devices.{Devices}
-use Rattle.wb_runs.specs.States.{Shape, State, block_size, sector_count, cache_sector_count}
+use Rattle.wb_runs.specs.States.{Shape, State, sector_count, cache_sector_count}
 use Rattle.wb_runs.specs.Clerk.{Notes}
-use Rattle.wb_runs.specs.Headline.{place_of, shown_by, ShowsAllowed, ShowsOpened, CrashConsistent}
+use Rattle.wb_runs.specs.Headline.{ShowsOpened, CrashConsistent}
 use Rattle.wb_runs.proofs.Images.{Images}
 use Rattle.wb_runs.proofs.Metadata.{MetadataKept}
 use Rattle.wb_link.specs.Clerk.{Notes as AbstractNotes}

@@ -1,15 +1,14 @@
 -- One replacement comes on, and whatever is on other cache blocks is seen as before; and what comes of a desk whose block leaves, by its
 -- demotion or under the order by which another one is to follow it.
-use Rattle.std.proofs.Common.{◌≡◌, ◌≢◌, ◌∙◌, ◌++◌, ◌⊎◌, inl, inr, ℕ, Bool, true, false, if◌then◌else◌, List, Option, Some, None, refl, sym, ap, subst, length, slice_get, slice_set, get_or-set_same, Contains}
+use Rattle.std.proofs.Common.{◌≡◌, ◌≢◌, ◌∙◌, ◌++◌, ◌⊎◌, inl, inr, ℕ, Bool, true, false, if◌then◌else◌, List, Option, Some, None, refl, sym, ap, subst, slice_get, slice_set, get_or-set_same, Contains}
 use Rattle.std.proofs.lemmas.Bool.{cases_eq}
 use Rattle.std.proofs.lemmas.List.Elements.{Contains-append_cases, Contains-append_left, Contains-append_right}
-use Rattle.std.proofs.lemmas.Option.{get_or_from_slice_get, slice_get_within}
+use Rattle.std.proofs.lemmas.Option.{slice_get_within}
 use Rattle.wb_types.specs.declared.number.CBlock.{CBlock}
 use Rattle.wb_types.specs.declared.number.OBlock.{OBlock}
 use Rattle.wb_contents.specs.Volume.{changed}
 use Rattle.wb_contents.proofs.Positions.{changed_same, changed_other}
 use Rattle.wb_tree.specs.Mapping.{Mapping}
-use Rattle.wb_tree.specs.Edits.{IsChangedAt}
 use Rattle.wb_space.specs.declared.block.Block.{Block}
 use Rattle.wb_space.specs.declared.block.Block.TheVariants.{Free, Mapped, Quarantined}
 use Rattle.wb_space.specs.Blocks.{state, IsClaimed}
@@ -34,7 +33,7 @@ use Rattle.wb_headline.proofs.Come.{come_turned}
 use Rattle.wb_headline.proofs.Desking.{other_block}
 use Rattle.wb_headline.proofs.Owned.{AreParted, IsHeld, only_held, for_block}
 use Rattle.wb_headline.proofs.Seeing.{named, orders_set, over_there, slot_there}
-use Rattle.wb_headline.proofs.Seen.{orders_same, replacing_is, replacing_replace, set_as_is, slots_turned, stage_elsewhere, unseen_waits}
+use Rattle.wb_headline.proofs.Seen.{replacing_is, replacing_replace, set_as_is, slots_turned, stage_elsewhere, unseen_waits}
 
 -- ---- one stage changes
 

@@ -1,27 +1,22 @@
 -- Whatever step is taken where a target stands, done or failing, it is followed.
-use Rattle.std.proofs.Common.{◌≡◌, ◌≢◌, ◌∙◌, ◌≤◌, ◌+◌, ◌/◌, ◌⊎◌, inl, inr, ℕ, Bool, true, false, ◌&&◌, List, [], ◌∷◌, Option, Some, None, refl, sym, ap, subst, length, slice_get, slice_set}
+use Rattle.std.proofs.Common.{◌≡◌, ◌≤◌, ◌+◌, ◌/◌, ◌⊎◌, inl, inr, ℕ, Bool, true, false, ◌&&◌, List, [], Option, Some, None, refl, sym, ap, subst, length, slice_get, slice_set}
 use Rattle.wb_types.specs.declared.extent.Extent.{Extent}
 use Rattle.wb_types.specs.declared.mode.Dev.{Dev}
 use Rattle.wb_types.specs.declared.mode.Dev.TheVariants.{Metadata, Cache, Origin}
-use Rattle.wb_types.specs.declared.refusal.Refusal.{Refusal}
 use Rattle.wb_disk.specs.Device.{Content as Bytes, History, synced}
 use Rattle.wb_disk.specs.Crash.{Choice}
 use Rattle.wb_disk.specs.Failing.{lands, synced_where}
 use Rattle.wb_words.specs.Rule.{LockRule}
-use Rattle.wb_words.specs.Effects.{result_of, words_after}
 use Rattle.wb_words.specs.declared.step.CellStep.{CellStep}
-use Rattle.wb_words.specs.declared.step.CellStep.TheVariants.{Look, Take, Release, Seal, Finish, Count, SetFailed, SetSuspended}
-use Rattle.wb_words.specs.declared.word.Word.{Word}
+use Rattle.wb_words.specs.declared.step.CellStep.TheVariants.{Look, SetFailed}
 use Rattle.wb_words.specs.declared.word.Word.TheVariants.{Fail}
-use Rattle.wb_meta.specs.Steps.{DoesStep, FailsStep, coming_step}
-use Rattle.wb_tree.specs.Mapping.{Mapping}
-use Rattle.wb_tasks.specs.Tables.{BlockJob, Reading as ReadingPart, Writing as WritingPart, OnBlock, Flushing, TaskJob}
-use Rattle.wb_tasks.specs.Plan.{Plan, want, got_of, device_of}
+use Rattle.wb_meta.specs.Steps.{DoesStep, coming_step}
+use Rattle.wb_tasks.specs.Tables.{Reading as ReadingPart, Writing as WritingPart, OnBlock, Flushing, TaskJob}
+use Rattle.wb_tasks.specs.Plan.{Plan, want, device_of}
 use Rattle.wb_tasks.specs.Ready.{Suits, HoldsBlocks, IsOwnStep}
 use Rattle.wb_tasks.proofs.Readiness.{is_own_step}
 use Rattle.wb_tasks.specs.declared.step.DeviceStep.{DeviceStep}
 use Rattle.wb_tasks.specs.declared.step.DeviceStep.TheVariants.{Read as ReadExtent, Write as WriteExtent, Sync, ReadMetadata, WriteNode, WriteRoot}
-use Rattle.wb_tasks.specs.declared.step.DeskStep.{DeskStep}
 use Rattle.wb_tasks.specs.declared.step.DeskStep.TheVariants.{Map, Unmap, ReleaseOrder, BeginCommit, EndCommit}
 use Rattle.wb_tasks.specs.declared.step.Want.{Want}
 use Rattle.wb_tasks.specs.declared.step.Want.TheVariants.{Cell, Device, Desk, End}
@@ -30,31 +25,28 @@ use Rattle.wb_tasks.specs.declared.step.Got.TheVariants.{Done, Fault, Began, Ref
 use Rattle.wb_devices.specs.declared.devices.Devices.{Devices}
 use Rattle.wb_devices.specs.declared.running.RunningCommit.{RunningCommit}
 use Rattle.wb_devices.specs.Moving.{device_in}
-use Rattle.wb_devices.specs.Committing.{is_coming, goes_on, is_committed}
+use Rattle.wb_devices.specs.Committing.{is_coming, is_committed}
 use Rattle.wb_stage.specs.Stages.{is_all_done}
 use Rattle.wb_runs.specs.declared.job.Job.{Job}
-use Rattle.wb_runs.specs.declared.job.Job.TheVariants.{Read, Write, Flush, Open, Migrate}
+use Rattle.wb_runs.specs.declared.job.Job.TheVariants.{Read, Write, Flush}
 use Rattle.wb_runs.specs.States.{Shape, State, Actor, Target, Phase, Stands, with_device, block_size, sector_count}
-use Rattle.wb_runs.specs.Happenings.{Chosen, Plain, Cut, Orders, Begins, Reaches, Puts, Commits, Asks, Opened, Gives, Falters, MayFailAt, DoesPut, DoesSync, DoesBegin, DoesRelease, FailsPut, FailsSync, LandedOr, sector_put, block_range}
-use Rattle.wb_runs.specs.Effects.{device_done, device_failed, stepped, actor_then, put_by, led}
+use Rattle.wb_runs.specs.Happenings.{Chosen, Plain, Puts, Commits, Asks, Gives, Falters, MayFailAt, DoesPut, DoesSync, DoesBegin, DoesRelease, FailsPut, FailsSync, LandedOr, sector_put, block_range}
+use Rattle.wb_runs.specs.Effects.{device_done, device_failed, stepped, actor_then, led}
 use Rattle.wb_runs.specs.Holding.{cards_of, AllSuited}
 use Rattle.wb_runs.specs.Clerk.{Notes, Doing, noted_step}
 use Rattle.wb_runs.specs.Headline.{shown}
 use Rattle.wb_runs.specs.Inside.{StepInside}
 use Rattle.wb_runs.proofs.Images.{Images}
 use Rattle.wb_runs.proofs.Underway.{sync_does, sync_fails, put_fails}
-use Rattle.wb_runs.proofs.Metadata.{MetadataKept, AtDesk}
+use Rattle.wb_runs.proofs.Metadata.{MetadataKept}
 use Rattle.wb_runs.proofs.Claims.{JobClaim}
-use Rattle.wb_link.specs.World.{Actor as AbstractActor}
-use Rattle.wb_simulation.specs.Actors.{IsFlushAt}
 use Rattle.wb_simulation.specs.Laws.{IsBesideOrders}
-use Rattle.wb_simulation.proofs.Followed.{doing_of}
 use Rattle.wb_headline.specs.Desks.{live_orders}
 use Rattle.wb_headline.specs.Seen.{slots_seen}
 use Rattle.wb_runs.proofs.Owning.{Owned}
 use Rattle.wb_types.specs.declared.number.OBlock.{OBlock}
 use Rattle.wb_headline.proofs.Following.{size, most, Followed, Goes}
-use Rattle.wb_headline.proofs.Targets.{standing, beside}
+use Rattle.wb_headline.proofs.Targets.{standing}
 use Rattle.wb_headline.proofs.Requests.{on_words as request_words, reads, read_fails, writes, write_fails, answers as request_answers}
 use Rattle.wb_headline.proofs.Flushes.{syncs, sync_fails as data_sync_fails, node_done, sync_done, root_done, node_fails, metadata_sync_fails, root_fails, begins, begin_refused, ends, on_words as flush_words, answers as flush_answers, gives_up, serving}
 

@@ -1,5 +1,5 @@
 -- Starts of reads, writes, flushes and openings are followed.
-use Rattle.std.proofs.Common.{◌≡◌, ◌≢◌, ◌∙◌, ◌<◌, ◌≤◌, ◌+◌, ◌-◌, ◌*◌, ◌/◌, ◌%◌, ◌⊎◌, inl, inr, ℕ, zero, suc, Bool, true, false, List, [], ◌∷◌, Option, Some, None, refl, sym, ap, subst, arith, length, map, slice_get, slice_set, Contains}
+use Rattle.std.proofs.Common.{◌≡◌, ◌≢◌, ◌∙◌, ◌<◌, ◌≤◌, ◌+◌, ◌-◌, ◌*◌, ◌/◌, ◌%◌, inl, inr, ℕ, zero, suc, true, false, List, [], ◌∷◌, Option, Some, None, refl, sym, ap, subst, arith, length, slice_get, slice_set, Contains}
 use Rattle.std.proofs.Math.Nat.{div-add-mod', mod-lt}
 use Rattle.std.proofs.lemmas.List.{length-set, length-map}
 use Rattle.std.proofs.lemmas.List.Elements.{Contains-append_cases}
@@ -9,9 +9,9 @@ use Rattle.wb_types.specs.declared.extent.Extent.{Extent}
 use Rattle.wb_types.specs.declared.mode.Mode.{Mode}
 use Rattle.wb_types.specs.declared.mode.Mode.TheVariants.{Writeback, Writethrough, Passthrough}
 use Rattle.wb_disk.specs.Device.{Content as Bytes, History}
-use Rattle.wb_words.specs.SharedWords.{Words, flag}
+use Rattle.wb_words.specs.SharedWords.{flag}
 use Rattle.wb_words.specs.declared.card.Hold.TheVariants.{Nothing}
-use Rattle.wb_tasks.specs.Tables.{BlockRange, Reading as ReadingPart, Writing as WritingPart, OnBlock, Flushing}
+use Rattle.wb_tasks.specs.Tables.{Reading as ReadingPart, Writing as WritingPart, OnBlock, Flushing}
 use Rattle.wb_tasks.specs.Plan.{Plan, table}
 use Rattle.wb_policy.specs.declared.order.Order.{Order}
 use Rattle.wb_devices.specs.declared.devices.Devices.{Devices}
@@ -19,22 +19,21 @@ use Rattle.wb_devices.specs.declared.running.RunningCommit.{RunningCommit}
 use Rattle.wb_runs.specs.declared.job.Job.{Job}
 use Rattle.wb_runs.specs.declared.job.Job.TheVariants.{Read, Write, Flush, Open}
 use Rattle.wb_runs.specs.States.{Shape, State, Actor, Target, Phase, Stands, Gone, Opens, OfTarget, resting, block_size}
-use Rattle.wb_runs.specs.Happenings.{Chosen, block_range, extent_refusal, task_job}
+use Rattle.wb_runs.specs.Happenings.{block_range, extent_refusal, task_job}
 use Rattle.wb_runs.specs.Effects.{all_resting}
 use Rattle.wb_runs.specs.Clerk.{Notes, Doing, begun, put, nobody}
 use Rattle.wb_runs.proofs.Images.{Images}
-use Rattle.wb_runs.proofs.Underway.{Readable}
 use Rattle.wb_runs.proofs.Metadata.{MetadataKept, kept_readable}
 use Rattle.wb_runs.proofs.Extents.{Within, AllWithin, MayStart, may_start, some_sectors, cut_within, cut_of_block}
 use Rattle.wb_runs.proofs.Lists.{rests}
 use Rattle.wb_link.specs.Tables.{Job as AbstractJob, Flushing as FlushingFor}
 use Rattle.wb_link.specs.World.{World, after_all, job_alone}
-use Rattle.wb_link.specs.Openings.{Site, Phase as PhaseThere, Stands as StandsThere, Opens as OpensThere, Settling, MayOpen}
+use Rattle.wb_link.specs.Openings.{Opens as OpensThere, Settling, MayOpen}
 use Rattle.wb_refines.specs.Translation.{job_for}
 use Rattle.wb_simulation.specs.Actors.{IsBusyAt}
-use Rattle.wb_simulation.specs.Steps.{IsPart, IsOfBlock}
+use Rattle.wb_simulation.specs.Steps.{IsPart}
 use Rattle.wb_simulation.specs.Telling.{Quietly, Starts}
-use Rattle.wb_simulation.specs.Worlds.{Stays, Follows}
+use Rattle.wb_simulation.specs.Worlds.{Stays}
 use Rattle.wb_simulation.specs.Laws.{Begun}
 use Rattle.wb_simulation.proofs.Starting.{starts_followed}
 use Rattle.wb_simulation.proofs.Opening.{openings_followed}
@@ -43,7 +42,7 @@ use Rattle.wb_headline.specs.Desks.{live_orders}
 use Rattle.wb_headline.specs.Seen.{slots_seen, plan_seen, task_seen, actor_seen, actors_seen}
 use Rattle.wb_headline.proofs.Allowed.{there as is_there}
 use Rattle.wb_headline.proofs.Following.{opening_at, AtStage, IsOver, size, most, Sized, Followed, Goes}
-use Rattle.wb_headline.proofs.Arriving.{SameSectors, sized_so, arrives, opens, agreeing, Agreeing}
+use Rattle.wb_headline.proofs.Arriving.{SameSectors, sized_so, arrives, opens, agreeing}
 use Rattle.wb_headline.proofs.Seen.{get_seen}
 use Rattle.wb_headline.proofs.Targets.{standing, beside, noted_within, stays_on}
 

@@ -1,5 +1,5 @@
 -- Where a target stands, what follows a happening in the abstract world leads to a state that is followed.
-use Rattle.std.proofs.Common.{◌≡◌, ◌≢◌, ◌∙◌, ◌<◌, ◌≤◌, ◌+◌, inl, inr, ℕ, Bool, true, false, List, [], ◌∷◌, Option, Some, None, refl, sym, ap, subst, arith, length, slice_get, slice_set, Contains}
+use Rattle.std.proofs.Common.{◌≡◌, ◌≢◌, ◌∙◌, ◌<◌, inl, inr, ℕ, false, List, [], ◌∷◌, Option, Some, None, refl, sym, ap, subst, arith, length, slice_get, slice_set, Contains}
 use Rattle.std.proofs.lemmas.List.{length-set}
 use Rattle.std.proofs.lemmas.Option.{slice_get_within}
 use Rattle.wb_types.proofs.Lists.{set_cases}
@@ -17,25 +17,22 @@ use Rattle.wb_runs.specs.States.{Shape, State, Actor, Target, Phase, Stands}
 use Rattle.wb_runs.specs.Effects.{actor_then, task_then, card_then, orders_then, awaiting_then, buffer_then, job_of}
 use Rattle.wb_runs.specs.Clerk.{Notes}
 use Rattle.wb_runs.proofs.Images.{Images, later_of}
-use Rattle.wb_runs.proofs.Underway.{Readable}
 use Rattle.wb_runs.proofs.Metadata.{MetadataKept, AtDesk, kept_readable}
 use Rattle.wb_link.specs.Tables.{Script, Job as AbstractJob, Promoting, Demoting, Cleaning, want}
-use Rattle.wb_link.specs.World.{World, Shared, Record, Start, Again, Step, Actor as AbstractActor, after_all, after_record, start_actor, again_actor, step_actor, step_task, actor_after, given, job_alone}
-use Rattle.wb_link.specs.Clerk.{Notes as AbstractNotes}
-use Rattle.wb_link.specs.Openings.{Site}
+use Rattle.wb_link.specs.World.{World, Record, Start, Again, Step, Actor as AbstractActor, after_all, after_record, start_actor, again_actor, step_actor, step_task, actor_after, given, job_alone}
 use Rattle.wb_simulation.specs.Noting.{NotesAgree}
 use Rattle.wb_simulation.specs.Noted.{told}
 use Rattle.wb_simulation.specs.Sites.{ImagesAgree, locations}
-use Rattle.wb_simulation.specs.Telling.{Telling, Quietly, Reads, Writes, Answers, Starts, Carries, IsTold, IsMigrating, IsFromBehind, AreFromBehind}
+use Rattle.wb_simulation.specs.Telling.{Telling, Quietly, Reads, Writes, Answers, Starts, Carries, IsTold, IsMigrating, AreFromBehind}
 use Rattle.wb_simulation.specs.Worlds.{Agrees, Turn, Stays, FollowsBy, Follows}
 use Rattle.wb_simulation.proofs.Opening.{images_followed}
 use Rattle.wb_headline.specs.Desks.{AllHaveCome, DeskAgrees, live_orders}
 use Rattle.wb_headline.specs.Seen.{Replacing, order_seen, slots_seen, task_seen, actor_seen, actors_seen}
 use Rattle.wb_headline.proofs.Allowed.{there}
-use Rattle.wb_headline.proofs.Events.{Reached, gone_on, records_reach}
-use Rattle.wb_headline.proofs.Unclean.{NeverClean, IsPlainRecord, ArePlainRecords, records_on, steps_plain}
+use Rattle.wb_headline.proofs.Events.{gone_on, records_reach}
+use Rattle.wb_headline.proofs.Unclean.{ArePlainRecords, records_on, steps_plain}
 use Rattle.wb_headline.proofs.Desking.{desk_stays}
-use Rattle.wb_headline.proofs.Following.{NoneIsSeen, many, size, most, Sized, TargetFollows, Followed, Goes}
+use Rattle.wb_headline.proofs.Following.{NoneIsSeen, many, size, most, Sized, Followed, Goes}
 use Rattle.wb_headline.proofs.Seen.{get_seen, set_seen}
 use Rattle.wb_simulation.proofs.Followed.{doing_of}
 use Rattle.wb_types.specs.declared.number.OBlock.{OBlock}
