@@ -144,8 +144,8 @@ module _ (P A : Type 0) (global : Global) (k meta_sectors : ℕ) (within : IsWit
   abbrev given_up : DeskState P
   given_up = released (left P A global k meta_sectors within threshold others rest policy generation room) first_cache_block
 
-  abbrev refused : Option (Job × Plan)
-  refused = Some (Flush, record { job = task_job shape (replacement ∷ []) Flush []; steps = []; answer = IsRefused Memory })
+  abbrev refused : List Want → Option (Job × Plan)
+  refused steps = Some (Flush, record { job = task_job shape (replacement ∷ []) Flush []; steps = steps; answer = IsRefused Memory })
 
   abbrev pub refuses : List (Happening P A)
   refuses =
@@ -153,11 +153,13 @@ module _ (P A : Type 0) (global : Global) (k meta_sectors : ℕ) (within : IsWit
       ∷ happened global (Start 0 Flush) Started Plain
       ∷ step (Cell (Look Fail)) (Word 0) Plain
       ∷ step (Desk (BeginCommit false (node_count shape.geometry.cache_blocks))) (GotRefused Memory) Plain
-      ∷ step (Desk (ReleaseOrder first_block)) Done (Asks given_up)
       ∷ []
 
+  abbrev pub gives : Happening P A
+  gives = step (Desk (ReleaseOrder first_block)) Done (Asks given_up)
+
   abbrev at_given_up : (metadata cache origin : List History) → (buffer : List Bytes) → Card → State P A
-  at_given_up metadata cache origin buffer card = now P A global k meta_sectors within threshold others rest metadata cache origin (words_of 0 0 1) given_up refused [] [] buffer card
+  at_given_up metadata cache origin buffer card = now P A global k meta_sectors within threshold others rest metadata cache origin (words_of 0 0 1) given_up (refused []) [] [] buffer card
 
   -- it lives on the first cache block alone
   lives_there : (live : IsLive (left P A global k meta_sectors within threshold others rest policy generation room) replacement) → live.cache ≡ first_cache_block
@@ -178,18 +180,24 @@ module _ (P A : Type 0) (global : Global) (k meta_sectors : ℕ) (within : IsWit
     λ not. absurd (not (record { cache = first_cache_block; live = record { order = replacement; sectors = 128; threshold = threshold; number = 1; waits = false }; there = refl; same = refl; taken = refl })),
   )
 
-  pub refuses_reaches : (metadata cache origin : List History) (buffer : List Bytes) (card : Card) → Reaches shape (at_left metadata cache origin leaving buffer card) refuses (at_given_up metadata cache origin buffer)
+  abbrev at_refused : (metadata cache origin : List History) → (buffer : List Bytes) → Card → State P A
+  at_refused metadata cache origin buffer card = at_left metadata cache origin (refused (Desk (ReleaseOrder first_block) ∷ [])) buffer card
+
+  pub refuses_reaches : (metadata cache origin : List History) (buffer : List Bytes) (card : Card) → Reaches shape (at_left metadata cache origin leaving buffer card) refuses (at_refused metadata cache origin buffer)
   refuses_reaches metadata cache origin buffer card = record {
     run = (
       (refl, ((refl, refl), refl)),
       (
         (refl, (λ d. elim d [ inl gone ↦ absurd (cc) | inr more ↦ elim more [ inl task ↦ task | inr out ↦ out tt ] ]), tt),
-        ((refl, ((refl, refl), refl)), ((refl, (refl, refl, record { idle = refl; next = more })), ((refl, (refl, refl, gives_up)), tt))),
+        ((refl, ((refl, refl), refl)), ((refl, (refl, refl, record { idle = refl; next = more })), tt)),
       ),
     );
     card = first_card (after_all shape (at_left metadata cache origin leaving buffer card) refuses).actors;
     is = refl;
   }
+
+  pub gives_reaches : (metadata cache origin : List History) (buffer : List Bytes) (card : Card) → Reaches shape (at_refused metadata cache origin buffer card) (gives ∷ []) (at_given_up metadata cache origin buffer)
+  gives_reaches metadata cache origin buffer card = record { run = ((refl, (refl, refl, gives_up)), tt); card = card; is = refl }
 
   -- ---- it is answered, and the second block follows
 
@@ -338,7 +346,7 @@ module _ (P A : Type 0) (policy : P) (alloc : A) (global : Global) (k meta_secto
   HasBack w = AtWork w 0 (λ job s. job ≡ Migrate (Promote first_cache_block) second_block) × FirstHas (replacement ∷ []) [] w
 
   abbrev Followed : State P A → Type 0
-  Followed w = AboutToAnswer (Migrate (Promote first_cache_block) second_block) w × Gives w.devices.origin 0 content
+  Followed w = AboutToAnswer (Migrate (Promote first_cache_block) second_block) w × FirstHas [] [] w × Gives w.devices.origin 0 content
       × OfTarget w.phase (λ target. (place_of target.desk.tree.entries 1 ≡ Some 0) × (place_of target.desk.tree.entries 0 ≡ None) × (order_at target.desk.orders.slots 0 ≡ None))
 
   -- ---- the stretches
@@ -395,7 +403,7 @@ module _ (P A : Type 0) (policy : P) (alloc : A) (global : Global) (k meta_secto
       (answers_reaches P A global k meta_sectors within threshold others rest policy generation more room now_metadata (synced dirty) (synced at_home) carried dirty_size back_size card) (λ c. (refl, (refl, refl)))
       (λ c then. on_stretch P A shape' _ following_run _ Followed [] then
       (follows_reaches P A global k meta_sectors within threshold others rest policy generation more room now_metadata (synced dirty) (synced at_home) carried dirty_size back_size c)
-      (λ d. ((refl, refl), sync_gives at_home content (home_gives P A global k meta_sectors within threshold others rest policy generation room m cache origin cache_size origin_size content), (refl, nowhere 0 1 k, refl)))
+      (λ d. ((refl, refl), (refl, refl), sync_gives at_home content (home_gives P A global k meta_sectors within threshold others rest policy generation room m cache origin cache_size origin_size content), (refl, nowhere 0 1 k, refl)))
       (λ d z o. tt)) n
 
   abbrev commit_run : List (Happening P A)
@@ -428,22 +436,30 @@ module _ (P A : Type 0) (policy : P) (alloc : A) (global : Global) (k meta_secto
   abbrev IsClaimed : State P A → Type 0
   IsClaimed w = FirstHas [] (replacement ∷ []) w × FirstCacheBlockIs (Quarantined true false) w
 
+  abbrev WasRefused : State P A → Type 0
+  WasRefused w = AtWork w 0 (λ job s. (job ≡ Flush) × (want s ≡ Desk (ReleaseOrder first_block))) × FirstHas [] (replacement ∷ []) w × FirstCacheBlockIs (Quarantined true false) w
+
   abbrev WasGivenUp : State P A → Type 0
   WasGivenUp w = AtWork w 0 (λ job s. (job ≡ Flush) × (want s ≡ End (IsRefused Memory))) × FirstHas [] [] w × FirstCacheBlockIs (Quarantined false false) w × OfTarget w.phase (λ target. order_at target.desk.orders.slots 0 ≡ None)
 
   abbrev refusing : List (Happening P A)
   refusing = refuses P A global k meta_sectors within threshold others rest policy generation more room
 
+  abbrev giving : Happening P A
+  giving = gives P A global k meta_sectors within threshold others rest policy generation more room
+
   pub given_up_all : GivesUp P A shape' metadata
   given_up_all = record {
     leaving = (opening ++ promoting) ++ (writing ++ replacing);
     refusing = refusing;
-    passes = on_stretch P A shape' (start shape' metadata) ((opening ++ promoting) ++ (writing ++ replacing)) _ IsClaimed ((refusing, λ w n. WasGivenUp w) ∷ []) (known_at_start P A shape' metadata formatted size)
+    giving = giving;
+    passes = on_stretch P A shape' (start shape' metadata) ((opening ++ promoting) ++ (writing ++ replacing)) _ IsClaimed ((refusing, λ w n. WasRefused w) ∷ (giving ∷ [], λ w n. WasGivenUp w) ∷ []) (known_at_start P A shape' metadata formatted size)
         (then_reaches P A shape' (start shape' metadata) (opening ++ promoting) (writing ++ replacing) came _ first_reaches (λ c.
         then_reaches P A shape' (came c) writing replacing wrote _ (writes_reaches P A global k meta_sectors within threshold others rest policy generation room m cache origin cache_size origin_size content c)
         (replaces_reaches P A global k meta_sectors within threshold others rest policy generation room m cache origin cache_size origin_size content)))
         (λ c. ((refl, refl), refl))
-        (λ c known n. on_stretch P A shape' _ refusing _ WasGivenUp [] known (refuses_reaches P A global k meta_sectors within threshold others rest policy generation more room m dirty at_home carried c) (λ d. ((refl, refl), (refl, refl), refl, refl)) (λ d z o. tt) n) (formatted_notes shape');
+        (λ c known n. on_stretch P A shape' _ refusing _ WasRefused ((giving ∷ [], λ w n. WasGivenUp w) ∷ []) known (refuses_reaches P A global k meta_sectors within threshold others rest policy generation more room m dirty at_home carried c) (λ d. ((refl, refl), (refl, refl), refl))
+        (λ d then o. on_stretch P A shape' _ (giving ∷ []) _ WasGivenUp [] then (gives_reaches P A global k meta_sectors within threshold others rest policy generation more room m dirty at_home carried d) (λ e. ((refl, refl), (refl, refl), refl, refl)) (λ e z o. tt) o) n) (formatted_notes shape');
   }
 
   pub replaces_all : Replaces P A shape' metadata content
