@@ -11,12 +11,13 @@ use Rattle.wb_tasks.specs.declared.step.Want.TheVariants.{Cell, Device, Desk, En
 use Rattle.wb_tasks.specs.declared.step.Got.{Got}
 use Rattle.wb_tasks.specs.declared.step.Got.TheVariants.{Done, Fault}
 use Rattle.wb_runs.specs.declared.job.Job.{Job}
-use Rattle.wb_runs.specs.declared.job.Job.TheVariants.{Read, Write, Flush, Open, Migrate}
+use Rattle.wb_runs.specs.declared.job.Job.TheVariants.{Read, Write, Flush, Open, Migrate, Replace}
 use Rattle.wb_runs.specs.declared.event.Event.{Event}
 use Rattle.wb_runs.specs.declared.event.Event.TheVariants.{Start, Step, FaultStep, Stop}
 use Rattle.wb_runs.specs.declared.event.What.{What}
 use Rattle.wb_runs.specs.declared.event.What.TheVariants.{Skipped, Refused, Started, Stepped, Stopped}
 use Rattle.wb_runs.specs.States.{Shape}
+use Rattle.wb_runs.specs.Happenings.{begun_as}
 use Rattle.wb_runs.specs.Clerk.{Notes, Doing, begun, put, nobody, starting, failing, device_note, finished_note, noted_step, noted_what, begins}
 use Rattle.wb_link.proofs.Lists.{replicated}
 
@@ -61,6 +62,7 @@ module _ (sectors : ℕ) where
   device_asked shape n a doing Flush step got read all l = all
   device_asked shape n a doing (Open mode) step got read all l = all
   device_asked shape n a doing (Migrate migration block) step got read all l = all
+  device_asked shape n a doing (Replace old new) step got read all l = all
 
   finished_asked : (n : Notes) (a : ℕ) (doing : Doing) (job : Job) (shown : List Bytes) → AllAsked sectors n.doings → AllAsked sectors (finished_note n a doing job shown).doings
   finished_asked n a doing (Read extent) shown all = none_asked n.doings a all
@@ -68,6 +70,7 @@ module _ (sectors : ℕ) where
   finished_asked n a doing Flush shown all = none_asked n.doings a all
   finished_asked n a doing (Open mode) shown all = λ b d e. nobody_at (length n.doings) b d e
   finished_asked n a doing (Migrate migration block) shown all = none_asked n.doings a all
+  finished_asked n a doing (Replace old new) shown all = none_asked n.doings a all
 
   step_asked : (shape : Shape) (shown : List Bytes) (n : Notes) (a : ℕ) (o : Option (Option Doing)) (next : Want) (got : Got) (read : List Bytes) → slice_get n.doings a ≡ o → AllAsked sectors n.doings → AllAsked sectors (noted_step shape shown n a o next got read).doings
   step_asked shape shown n a (Some (Some doing)) (Device step) got read e all =
@@ -86,9 +89,10 @@ module _ (sectors : ℕ) where
   starting_asked n (Write extent content) all = all
   starting_asked n Flush all = all
   starting_asked n (Migrate migration block) all = all
+  starting_asked n (Replace old new) all = all
 
   pub what_asked : (shape : Shape) (shown : List Bytes) (n : Notes) (event : Event) (what : What) (read : List Bytes) → length n.finished ≡ sectors → AllAsked sectors n.doings → AllAsked sectors (noted_what shape shown n event what read).doings
-  what_asked shape shown n (Start a job) Started read l all = same_asked (starting n job).doings a (begun n job) (begun n job) (starting_asked n job all) l
+  what_asked shape shown n (Start a job) Started read l all = same_asked (starting n job).doings a (begun n (begun_as job)) (begun n (begun_as job)) (starting_asked n job all) l
   what_asked shape shown n (Step a) (Stepped next got) read l all = step_asked shape shown n a (slice_get n.doings a) next got read refl all
   what_asked shape shown n (FaultStep a choice) (Stepped next got) read l all = step_asked shape shown n a (slice_get n.doings a) next got read refl all
   what_asked shape shown n (Stop choice) Stopped read l all = nobody_asked n.doings

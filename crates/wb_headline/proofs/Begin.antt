@@ -28,6 +28,7 @@ use Rattle.wb_headline.proofs.Asked.{AllAsked}
 use Rattle.wb_headline.proofs.Events.{Reached, start_reached, event_reaches}
 use Rattle.wb_headline.proofs.Unclean.{NeverClean, IsPlainTask}
 use Rattle.wb_headline.proofs.Following.{many, size, Followed, Goes}
+use Rattle.wb_headline.proofs.Keeping.{HasNone}
 use Rattle.wb_headline.proofs.Placed.{TaskPlaced}
 use Rattle.wb_headline.proofs.Whole.{Whole}
 
@@ -122,6 +123,6 @@ module _ (P A : Type 0) (shape : Shape) (metadata : List History) (f : IsFormatt
       tasks = λ a x e. subst (λ (v : Actor). PlanInside shape v.task) (sym (replicated shape.actors a resting x e)) tt;
     };
     asked = nobody;
-    keeping = λ a x e. ap (λ (v : Actor). v.orders) (replicated shape.actors a resting x e);
+    keeping = λ a x e. subst (λ (v : Actor). HasNone v) (sym (replicated shape.actors a resting x e)) (refl, refl);
     placed = λ a x e. subst (λ (v : Actor). TaskPlaced (block_size shape) v.card v.task) (sym (replicated shape.actors a resting x e)) tt;
   }

@@ -1,7 +1,8 @@
 -- Where a target stands, the orders that actors have live, the seals tell where the desk has each block, and each seal that is left is right:
 -- so it stays, whoever goes on.
-use Rattle.std.proofs.Common.{if◌then◌else◌, ◌≡◌, ◌≢◌, ◌∙◌, ◌<◌, ◌==◌, ◌⊎◌, inl, inr, ℕ, zero, suc, Bool, true, false, List, [], ◌∷◌, Option, Some, None, refl, sym, ap, subst, arith, unwrap_or, slice_get, slice_set}
+use Rattle.std.proofs.Common.{if◌then◌else◌, ◌≡◌, ◌≢◌, ◌∙◌, ◌<◌, ◌==◌, ◌⊎◌, ◌++◌, inl, inr, ℕ, zero, suc, Bool, true, false, List, [], ◌∷◌, Option, Some, None, refl, sym, ap, subst, arith, unwrap_or, slice_get, slice_set, Contains}
 use Rattle.std.proofs.lemmas.Bool.{cases_eq}
+use Rattle.std.proofs.lemmas.List.Elements.{Contains-append_cases, Contains-append_left, Contains-append_right}
 use Rattle.wb_types.proofs.Lists.{set_cases}
 use Rattle.wb_types.specs.declared.entry.Entry.{Entry}
 use Rattle.wb_types.specs.declared.geometry.Geometry.{Geometry}
@@ -25,19 +26,21 @@ use Rattle.wb_words.specs.Effects.{result_of, words_after, card_after}
 use Rattle.wb_words.specs.Rule.{LockRule}
 use Rattle.wb_tree.specs.Edits.{IsChangedAt}
 use Rattle.wb_policy.specs.Law.{IsMappedAt}
-use Rattle.wb_policy.specs.declared.order.Order.TheVariants.{Demote as DemoteOrder}
+use Rattle.wb_policy.specs.declared.order.Order.{Order}
+use Rattle.wb_policy.specs.declared.order.Order.TheVariants.{Promote as PromoteOrder, Demote as DemoteOrder}
 use Rattle.wb_orders.specs.Orders.{AreOrders}
-use Rattle.wb_desk.specs.Desks.{DeskState, holdings}
+use Rattle.wb_desk.specs.Desks.{DeskState, IsLive, holdings}
 use Rattle.wb_desk.specs.Calls.{released}
 use Rattle.wb_desk.specs.Entries.{entry_of, mapped, MayMap}
 use Rattle.wb_desk.proofs.Entering.{entrance, named_inside}
 use Rattle.wb_desk.proofs.Leaving.{mapped_within}
-use Rattle.wb_stage.specs.Asking.{DidUnmap, IsGivenUp}
+use Rattle.wb_stage.specs.Asking.{DidRelease, DidUnmap, IsGivenUp, is_of, order_of as order_found}
 use Rattle.wb_tasks.specs.Tables.{BlockJob, Reading, Writing, Migrating, OnBlock, Flushing, Opening, TaskJob, access_of, range_of}
 use Rattle.wb_tasks.specs.Plan.{Plan, want, after, after_fault, after_fault_of, after_refusal, first_step, later_steps, lets_go, got_of}
 use Rattle.wb_tasks.specs.Ready.{Has, MayTake, Suits, SuitsJob, IsOwnStep, IsJobs, block_of}
 use Rattle.wb_tasks.proofs.Readiness.{is_own_step, is_ready}
 use Rattle.wb_tasks.specs.declared.step.Answer.{Answer}
+use Rattle.wb_tasks.specs.declared.step.Answer.TheVariants.{Done as Finished}
 use Rattle.wb_tasks.specs.declared.step.DeviceStep.{DeviceStep}
 use Rattle.wb_tasks.specs.declared.step.DeviceStep.TheVariants.{Read as ReadExtent, Write as WriteExtent}
 use Rattle.wb_tasks.specs.declared.step.DeskStep.{DeskStep}
@@ -51,10 +54,10 @@ use Rattle.wb_tasks.specs.declared.step.Got.TheVariants.{Done, Fault, Refused as
 use Rattle.wb_devices.specs.declared.devices.Devices.{Devices}
 use Rattle.wb_devices.specs.declared.running.RunningCommit.{RunningCommit}
 use Rattle.wb_runs.specs.declared.job.Job.{Job}
-use Rattle.wb_runs.specs.declared.job.Job.TheVariants.{Read, Write, Flush, Open, Migrate}
+use Rattle.wb_runs.specs.declared.job.Job.TheVariants.{Read, Write, Flush, Open, Migrate, Replace}
 use Rattle.wb_runs.specs.States.{Shape, Actor, Target, Phase, Stands, Gone, Opens}
 use Rattle.wb_runs.specs.Happenings.{order_for}
-use Rattle.wb_runs.specs.Effects.{actor_then}
+use Rattle.wb_runs.specs.Effects.{actor_then, awaiting_answered, awaiting_released, awaiting_then, dropped, job_of, orders_answered, orders_released, orders_then, replacing}
 use Rattle.wb_runs.specs.Clerk.{Notes}
 use Rattle.wb_runs.specs.Headline.{place_of}
 use Rattle.wb_runs.specs.Holding.{cards_of, AllSuited, TaskSuits}
@@ -62,7 +65,8 @@ use Rattle.wb_runs.specs.Sealed.{SealsNext, Tells, number_of}
 use Rattle.wb_runs.proofs.Images.{Images}
 use Rattle.wb_runs.proofs.Lists.{set_other, set_there}
 use Rattle.wb_runs.proofs.Metadata.{MetadataKept, unknowing}
-use Rattle.wb_runs.proofs.Owning.{Owned, owned_same}
+use Rattle.wb_runs.proofs.Ordering.{held_of, then_had}
+use Rattle.wb_runs.proofs.Owning.{Owned, dropped_is, owned_over, owned_same, owned_within}
 use Rattle.wb_simulation.specs.Actors.{IsDoing}
 use Rattle.wb_simulation.specs.Opened.{located}
 use Rattle.wb_simulation.specs.Steps.{AreOfBlock}
@@ -73,8 +77,12 @@ use Rattle.wb_headline.proofs.Allowed.{there}
 use Rattle.wb_headline.proofs.Carried.{carried}
 use Rattle.wb_headline.proofs.Desking.{located_entered, located_left}
 use Rattle.wb_headline.proofs.Following.{size, most, Followed}
-use Rattle.wb_headline.proofs.Owned.{are_owned, has_gone, over, taken_there}
-use Rattle.wb_headline.proofs.Seeing.{named, stands_alone, unmapped_there}
+use Rattle.wb_headline.proofs.Owned.{AreParted, are_owned, for_block, held_there, one_of_block, only_held, over}
+use Rattle.wb_headline.proofs.Plans.{flushing_is}
+use Rattle.wb_headline.proofs.Seen.{found_of, get_seen, only_of, replacing_is, seen_of, true_not}
+use Rattle.wb_headline.proofs.Staging.{left, owned_then, stood}
+use Rattle.wb_headline.specs.Seen.{slots_seen, plan_seen, task_seen, actor_seen, actors_seen}
+use Rattle.wb_headline.proofs.Seeing.{stands_alone, unmapped_there}
 use Rattle.wb_headline.proofs.Targets.{standing, beside}
 use Rattle.wb_headline.proofs.Telling.{IsSealed, SealsRight, RightWhere, lets_go_right, on_words, owned_alone}
 
@@ -86,16 +94,39 @@ TaskRight entries card (Some doing) = RightWhere (place_of entries) card doing.1
 
 pub record KeepingAt {P : Type 0} (t : Target P) (actors : List Actor) : Type 0 where
   pub owned : Owned t.desk actors
+  pub parted : (a : ℕ) (x : Actor) → slice_get actors a ≡ Some x → AreParted x
   pub tells : (block : OBlock) → Tells t.words t.desk.tree.entries actors block
   pub right : (a : ℕ) (x : Actor) → slice_get actors a ≡ Some x → TaskRight t.desk.tree.entries x.card x.task
 
+abbrev pub HasNone : Actor → Type 0
+HasNone x = (x.orders ≡ []) × (x.awaiting ≡ [])
+
 abbrev pub NoOrders : List Actor → Type 0
-NoOrders actors = (a : ℕ) (x : Actor) → slice_get actors a ≡ Some x → x.orders ≡ []
+NoOrders actors = (a : ℕ) (x : Actor) → slice_get actors a ≡ Some x → HasNone x
 
 abbrev pub Keeping : {P A : Type 0} → Phase P A → List Actor → Type 0
 Keeping (Stands t) actors = KeepingAt t actors
 Keeping Gone actors = NoOrders actors
 Keeping (Opens mode reading) actors = NoOrders actors
+
+-- no order comes to wait for a flush that does not wait too
+released_parted : (b : OBlock) (job : Job) (orders awaiting : List Order) → ((o : Order) → Contains orders o → Contains awaiting o → ⊥) → (o : Order) → Contains (orders_released b job orders) o → Contains (awaiting_released b job awaiting) o → ⊥
+released_parted b Flush orders awaiting p o h w = p o h (dropped_is b awaiting o w).0
+released_parted b job orders awaiting p o h w = p o (dropped_is b orders o h).0 w
+
+answered_parted : (job : Job) (orders awaiting : List Order) → ((o : Order) → Contains orders o → Contains awaiting o → ⊥) → (o : Order) → Contains (orders_answered job orders awaiting) o → Contains (awaiting_answered job awaiting) o → ⊥
+answered_parted Flush orders awaiting p o h w = omega (arith, w.1)
+answered_parted job orders awaiting p o h w = p o h w
+
+parted_then : (orders awaiting : List Order) (job : Job) (next : Want) (got : Got) → ((o : Order) → Contains orders o → Contains awaiting o → ⊥) → (o : Order) → Contains (orders_then orders awaiting job next got) o → Contains (awaiting_then orders awaiting job next got) o → ⊥
+parted_then orders awaiting job (Desk (Map b c)) Done p o h w = p o (dropped_is b orders o h).0 w
+parted_then orders awaiting job (Desk (Unmap b)) Done p o h w = elim (Contains-append_cases (replacing b orders) awaiting o w) [
+  | inl r ↦ true_not (is_of b o) (replacing_is b orders o r).1 (dropped_is b orders o h).1
+  | inr v ↦ p o (dropped_is b orders o h).0 v
+]
+parted_then orders awaiting job (Desk (ReleaseOrder b)) Done p o h w = released_parted b job orders awaiting p o h w
+parted_then orders awaiting job (End Finished) Done p o h w = answered_parted job orders awaiting p o h w
+parted_then orders awaiting job next got p o h w = p o h w
 
 -- what is left of whoever holds a block is right wherever the desk has it as before
 same_right : (old new : List (Option Entry)) (card : Card) (task : Option (Job × Plan)) → ((access : Access) (b : OBlock) → card.hold ≡ Held access b → place_of new b.0 ≡ place_of old b.0) → TaskRight old card task → TaskRight new card task
@@ -137,6 +168,19 @@ seals_same words SetSuspended n = refl
 
 module _ (P A : Type 0) (shape : Shape) (images : Images) (t : Target P) (commit : Option RunningCommit) (devices : Devices (List History)) (actors : List Actor) (n : Notes) (known : MetadataKept {P = P} {A = A} shape.geometry images (Stands t) commit devices.metadata)
     (f : Followed P A shape images (standing P A shape images t commit devices actors n) n) (rule : LockRule shape.geometry.origin_blocks t.words (cards_of actors)) (all_suited : AllSuited shape.geometry.origin_blocks actors) (k : KeepingAt t actors) (a : ℕ) (x : Actor) (ex : slice_get actors a ≡ Some x) where
+  -- what is seen of orders and actors
+  abbrev slots : List (Option Order)
+  slots = slots_seen f.phase.stages (live_orders t.desk)
+
+  abbrev seen : List Actor
+  seen = actors_seen f.phase.stages actors
+
+  abbrev x_seen : Actor
+  x_seen = actor_seen f.phase.stages x
+
+  there_seen : slice_get seen a ≡ Some x_seen
+  there_seen = get_seen f.phase.stages actors a x ex
+
   -- whoever is to seal a block owns it
   pub sealing_owns : (c : ℕ) (z : Actor) → slice_get actors c ≡ Some z → (b : OBlock) (place : Option CBlock) → SealsNext b place z.task → (b.0 < shape.geometry.origin_blocks) × (z.card.hold ≡ Held Own b)
   sealing_owns c z ez b place s = by_task z.task (all_suited c z ez) s
@@ -149,10 +193,11 @@ module _ (P A : Type 0) (shape : Shape) (images : Images) (t : Target P) (commit
   Untold t' b = (word_at t'.words.seals b ≡ word_at t.words.seals b) × (place_of t'.desk.tree.entries b.0 ≡ place_of t.desk.tree.entries b.0) × ((place : Option CBlock) → SealsNext b place x.task → ⊥)
 
   -- who goes on keeps what is kept
-  pub going : (t' : Target P) (y : Actor) → Owned t'.desk (slice_set actors a y) → ((c : ℕ) (z : Actor) → c ≢ a → slice_get actors c ≡ Some z → (access : Access) (b : OBlock) → z.card.hold ≡ Held access b → place_of t'.desk.tree.entries b.0 ≡ place_of t.desk.tree.entries b.0) →
+  pub going : (t' : Target P) (y : Actor) → Owned t'.desk (slice_set actors a y) → AreParted y → ((c : ℕ) (z : Actor) → c ≢ a → slice_get actors c ≡ Some z → (access : Access) (b : OBlock) → z.card.hold ≡ Held access b → place_of t'.desk.tree.entries b.0 ≡ place_of t.desk.tree.entries b.0) →
       ((b : OBlock) → Untold t' b ⊎ Tells t'.words t'.desk.tree.entries (slice_set actors a y) b) → TaskRight t'.desk.tree.entries y.card y.task → KeepingAt t' (slice_set actors a y)
-  going t' y owned others tells mine = record {
+  going t' y owned parted others tells mine = record {
     owned = owned;
+    parted = λ c z e. elim (set_cases actors a c y z e) [ inl i ↦ subst (λ (v : Actor). AreParted v) (sym i.1) parted | inr o ↦ k.parted c z o.1 ];
     tells = λ b. elim (tells b) [ inl same ↦ by_told b same (k.tells b) | inr told ↦ told ];
     right = λ c z e. elim (set_cases actors a c y z e) [
       | inl i ↦ subst (λ (v : Actor). TaskRight t'.desk.tree.entries v.card v.task) (sym i.1) mine
@@ -170,8 +215,8 @@ module _ (P A : Type 0) (shape : Shape) (images : Images) (t : Target P) (commit
       ]
 
   -- where it seals nothing next, and neither words nor places change
-  pub plainly : (t' : Target P) (y : Actor) → t'.words.seals ≡ t.words.seals → ((b : ℕ) → place_of t'.desk.tree.entries b ≡ place_of t.desk.tree.entries b) → ((b : OBlock) (place : Option CBlock) → SealsNext b place x.task → ⊥) → Owned t'.desk (slice_set actors a y) → TaskRight t'.desk.tree.entries y.card y.task → KeepingAt t' (slice_set actors a y)
-  plainly t' y seals places not owned mine = going t' y owned (λ c z n e access b h. places b.0) (λ b. inl (ap (λ (s : List ℕ). word_at s b) seals, places b.0, not b)) mine
+  pub plainly : (t' : Target P) (y : Actor) → t'.words.seals ≡ t.words.seals → ((b : ℕ) → place_of t'.desk.tree.entries b ≡ place_of t.desk.tree.entries b) → ((b : OBlock) (place : Option CBlock) → SealsNext b place x.task → ⊥) → Owned t'.desk (slice_set actors a y) → AreParted y → TaskRight t'.desk.tree.entries y.card y.task → KeepingAt t' (slice_set actors a y)
+  plainly t' y seals places not owned parted mine = going t' y owned parted (λ c z n e access b h. places b.0) (λ b. inl (ap (λ (s : List ℕ). word_at s b) seals, places b.0, not b)) mine
 
   module _ (job : Job) (plan : Plan) (xt : x.task ≡ Some (job, plan)) where
     pub suits : Suits shape.geometry.origin_blocks plan x.card
@@ -195,6 +240,9 @@ module _ (P A : Type 0) (shape : Shape) (images : Images) (t : Target P) (commit
     -- what it is then
     abbrev y : Want → Got → Actor
     y next got = actor_then {P = P} {A = A} shape (Stands t) devices x next got
+
+    y_parted : (next : Want) (got : Got) → AreParted (y next got)
+    y_parted next got = parted_then x.orders x.awaiting (job_of x.task) next got (k.parted a x ex)
 
     -- after a step that leaves its task
     mine : (entries : List (Option Entry)) (next : Want) (got : Got) → (task : Option (Job × Plan)) → Rattle.wb_runs.specs.Effects.task_then (Some (job, plan)) next got ≡ task → TaskRight entries (y next got).card task → TaskRight entries (y next got).card (y next got).task
@@ -257,8 +305,8 @@ module _ (P A : Type 0) (shape : Shape) (images : Images) (t : Target P) (commit
           z : (v : Rattle.wb_link.specs.World.Actor) × (slice_get f.site.world.actors a ≡ Some v)
           z = beside P A shape images t commit devices actors n known f a x ex
 
-          doing : (j : Job) → x.task ≡ Some (j, plan) → IsDoing (size P A shape) (most P A shape) t.words j plan x.card z.0
-          doing j jt = doing_of (size P A shape) (most P A shape) t.words x z.0 j plan (f.phase.agrees.each a x z.0 ex z.1) jt
+          doing : (j : Job) → x.task ≡ Some (j, plan) → IsDoing (size P A shape) (most P A shape) t.words j (plan_seen j plan) x.card z.0
+          doing j jt = doing_of (size P A shape) (most P A shape) t.words x_seen z.0 j (plan_seen j plan) (f.phase.agrees.each a x_seen z.0 there_seen z.1) (ap task_seen jt)
 
           is_seal : Cell (Seal b place dirty) ≡ want plan
           is_seal = ap (λ (s : CellStep). Cell s) (sym is) ∙ e
@@ -266,11 +314,12 @@ module _ (P A : Type 0) (shape : Shape) (images : Images) (t : Target P) (commit
           by_job : (j : Job) → x.task ≡ Some (j, plan) → place_in (seal_word place dirty) ≡ place
           by_job (Read extent) jt = of_it (doing (Read extent) jt).part.block.0 (doing (Read extent) jt).of_block
           by_job (Write extent content) jt = of_it (doing (Write extent content) jt).part.block.0 (doing (Write extent content) jt).of_block
-          by_job Flush jt = absurd (own (Flushing [] (most P A shape)) (Cell (Seal b place dirty)) (doing Flush jt).job is_seal)
+          by_job Flush jt = (let serves = flushing_is plan.job (most P A shape) (doing Flush jt).job in absurd (own (Flushing serves.0 (most P A shape)) (Cell (Seal b place dirty)) serves.1 is_seal))
           by_job (Open mode) jt = absurd (doing (Open mode) jt)
           by_job (Migrate m block) jt =
-              let c = carried (size P A shape) (most P A shape) shape.geometry.origin_blocks t.words t.desk.space.committing (live_orders t.desk) devices actors f.site.world f.phase.agrees a x m block plan ex jt suits (Cell (Seal b place dirty)) is_seal (λ v q. absurd (cc)) (λ ws o. o) in
+              let c = carried (size P A shape) (most P A shape) shape.geometry.origin_blocks t.words t.desk.space.committing slots devices seen f.site.world f.phase.agrees a x_seen m block plan there_seen (ap task_seen jt) suits (Cell (Seal b place dirty)) is_seal (λ v q. absurd (cc)) (λ ws o. o) in
               of_it c.part.block.0 c.of_block
+          by_job (Replace old new) jt = absurd (doing (Replace old new) jt)
 
       abbrev t_words : Target P
       t_words = record { words = words_after t.words step; desk = t.desk }
@@ -319,7 +368,7 @@ module _ (P A : Type 0) (shape : Shape) (images : Images) (t : Target P) (commit
       pub cell_keeps : KeepingAt (record { words = words_after t.words step; desk = t.desk }) (slice_set actors a (y (Cell step) (got_of (result_of t.words step))))
       cell_keeps =
           let got = got_of (result_of t.words step) in
-          going t_words (y (Cell step) got) (owned_same P t.desk actors a x (y (Cell step) got) ex k.owned t.desk refl refl) (λ c z m ez access b h. refl) told
+          going t_words (y (Cell step) got) (owned_same P t.desk actors a x (y (Cell step) got) ex k.owned t.desk refl refl) (y_parted (Cell step) got) (λ c z m ez access b h. refl) told
           (mine t.desk.tree.entries (Cell step) got (Some (job, after plan got)) refl after_words)
 
     -- ---- on a device
@@ -351,27 +400,27 @@ module _ (P A : Type 0) (shape : Shape) (images : Images) (t : Target P) (commit
           by (Opening left) is = holds_none x.card (after plan got).steps (place_of t.desk.tree.entries) (subst (λ (q : TaskJob). SuitsJob shape.geometry.origin_blocks q x.card plan.steps) is suits).0
 
       pub device_keeps : KeepingAt t (slice_set actors a (y (Device step) got))
-      device_keeps = plainly t (y (Device step) got) refl (λ b. refl) (not_sealing (Device step) e (λ b p d q. absurd (cc))) (owned_same P t.desk actors a x (y (Device step) got) ex k.owned t.desk refl refl)
+      device_keeps = plainly t (y (Device step) got) refl (λ b. refl) (not_sealing (Device step) e (λ b p d q. absurd (cc))) (owned_same P t.desk actors a x (y (Device step) got) ex k.owned t.desk refl refl) (y_parted (Device step) got)
           (mine t.desk.tree.entries (Device step) got (Some (job, after plan got)) refl after_device)
 
     -- ---- its answer
 
     pub answer_keeps : (answer : Answer) (got : Got) → End answer ≡ want plan → KeepingAt t (slice_set actors a (y (End answer) got))
-    answer_keeps answer got e = plainly t (y (End answer) got) refl (λ b. refl) (not_sealing (End answer) e (λ b p d q. absurd (cc))) (owned_same P t.desk actors a x (y (End answer) got) ex k.owned t.desk refl refl)
+    answer_keeps answer got e = plainly t (y (End answer) got) refl (λ b. refl) (not_sealing (End answer) e (λ b p d q. absurd (cc))) (owned_within P t.desk actors a x (y (End answer) got) ex k.owned t.desk (λ o h. then_had x (job_of x.task) (End answer) got o h) refl) (y_parted (End answer) got)
         (mine t.desk.tree.entries (End answer) got None refl tt)
 
     -- ---- at the desk
 
     -- where it is asked of who holds nothing, and the entries stay
     pub desk_plain : (step : DeskStep) (got : Got) (desk' : DeskState P) → Desk step ≡ want plan → x.card.hold ≡ Nothing → ((b : ℕ) → place_of desk'.tree.entries b ≡ place_of t.desk.tree.entries b) → Owned desk' (slice_set actors a (y (Desk step) got)) → KeepingAt (record { words = t.words; desk = desk' }) (slice_set actors a (y (Desk step) got))
-    desk_plain step got desk' e none places owned = plainly (record { words = t.words; desk = desk' }) (y (Desk step) got) refl places (not_sealing (Desk step) e (λ b p d q. absurd (cc))) owned
+    desk_plain step got desk' e none places owned = plainly (record { words = t.words; desk = desk' }) (y (Desk step) got) refl places (not_sealing (Desk step) e (λ b p d q. absurd (cc))) owned (y_parted (Desk step) got)
         (mine desk'.tree.entries (Desk step) got (Some (job, after plan got)) refl (holds_none x.card (after plan got).steps (place_of desk'.tree.entries) none))
 
     -- A block that is mapped or unmapped is sealed so next.
     module _ (step : DeskStep) (e : Desk step ≡ want plan) (b : OBlock) (place : Option CBlock) (desk' : DeskState P) (inside : b.0 < shape.geometry.origin_blocks) (holds : x.card.hold ≡ Held Own b) (here : number_of place ≡ place_of desk'.tree.entries b.0) (elsewhere : (i : ℕ) → i ≢ b.0 → place_of desk'.tree.entries i ≡ place_of t.desk.tree.entries i)
         (sealed : (answer : Answer) → (dirty : Bool) × (first_step (after plan Done).steps answer ≡ Cell (Seal b place dirty))) (still : SealsRight (place_of desk'.tree.entries b.0) (after plan Done).steps) (owned : Owned desk' (slice_set actors a (y (Desk step) Done))) where
       moved : KeepingAt (record { words = t.words; desk = desk' }) (slice_set actors a (y (Desk step) Done))
-      moved = going (record { words = t.words; desk = desk' }) (y (Desk step) Done) owned
+      moved = going (record { words = t.words; desk = desk' }) (y (Desk step) Done) owned (y_parted (Desk step) Done)
           (λ c z away ez access o h. elsewhere o.0 (λ same. owned_alone shape.geometry.origin_blocks t.words actors rule a c x z ex ez away b inside holds access (h ∙ (λ i. Held access (record { 0 = same i })))))
           tells
           (mine desk'.tree.entries (Desk step) Done (Some (job, after plan Done)) refl now)
@@ -407,7 +456,7 @@ module _ (P A : Type 0) (shape : Shape) (images : Images) (t : Target P) (commit
 
     pub map_keeps : (bl : OBlock) (c : CBlock) (new : DeskState P) → Desk (Map bl c) ≡ want plan → MayMap t.desk bl c → IsChangedAt t.desk.tree new.tree c.0 (Some (entry_of bl)) → new ≡ mapped t.desk c new.tree new.policy → KeepingAt (record { words = t.words; desk = new }) (slice_set actors a (y job plan xt (Desk (Map bl c)) Done))
     map_keeps bl c new e may changed is =
-        let law = migrations_followed.maps (size P A shape) (most P A shape) shape.geometry.origin_blocks t.words t.desk.space.committing (live_orders t.desk) devices actors a x m block bl c plan f.site.world (are_owned P t.desk actors are k.owned) ex xt its (sym e) f.phase.agrees in
+        let law = migrations_followed.maps (size P A shape) (most P A shape) shape.geometry.origin_blocks t.words t.desk.space.committing slots devices seen a x_seen m block bl c plan f.site.world (are_owned P t.desk actors are k.owned f.phase.stages) there_seen (ap task_seen xt) its (sym e) f.phase.agrees in
         let en = entrance unknowing t.desk bl c known.is.kept may in
         let holds : x.card.hold ≡ Held Own bl = ready job plan xt (Desk (Map bl c)) e in
         let less = en.inside in
@@ -421,40 +470,53 @@ module _ (P A : Type 0) (shape : Shape) (images : Images) (t : Target P) (commit
         (λ i not. ap (λ (es : List (Option Entry)). place_of es i) changed.entries ∙ sym (entered i) ∙ changed_other (located t.desk.tree.entries) bl.0 i (Some c.0) not)
         (λ answer. subst (λ (us : List Want). (dirty : Bool) × (first_step (later_steps us) answer ≡ Cell (Seal bl (Some c) dirty))) (sym first.1) (sealed_next bl (Some c) first.0 answer r.0))
         (subst (λ (o : Option ℕ). SealsRight o (after plan Done).steps) here (subst (λ (us : List Want). SealsRight (Some c.0) (later_steps us)) (sym first.1) r.1))
-        (over P t.desk actors are k.owned a x ex (Promote c) block c.0 law.2.live law.2.mine bl law.1 new (ap (λ (d : DeskState P). d.orders.slots) is) (y job plan xt (Desk (Map bl c)) Done) refl)
+        (over P t.desk actors are k.owned f.phase.stages a x ex (PromoteOrder block c) block (for_block (Promote c) block block refl) c.0 law.2.live law.2.mine
+        (held_there P t.desk actors are k.owned f.phase.stages a x ex (PromoteOrder block c) block (for_block (Promote c) block block refl) c.0 law.2.live law.2.mine) (k.parted a x ex) bl law.1 new (ap (λ (d : DeskState P). d.orders.slots) is) (y job plan xt (Desk (Map bl c)) Done) refl refl)
 
     pub unmap_keeps : (bl : OBlock) (new : DeskState P) → Desk (Unmap bl) ≡ want plan → DidUnmap (λ policy o. new.policy) bl t.desk new → KeepingAt (record { words = t.words; desk = new }) (slice_set actors a (y job plan xt (Desk (Unmap bl)) Done))
     unmap_keeps bl new e did =
-        let law = migrations_followed.unmaps (size P A shape) (most P A shape) shape.geometry.origin_blocks t.words t.desk.space.committing (live_orders t.desk) devices actors a x m block bl plan f.site.world (are_owned P t.desk actors are k.owned) ex xt its (sym e) f.phase.agrees in
+        let law = migrations_followed.unmaps (size P A shape) (most P A shape) shape.geometry.origin_blocks t.words t.desk.space.committing slots devices seen a x_seen m block bl plan f.site.world (are_owned P t.desk actors are k.owned f.phase.stages) there_seen (ap task_seen xt) its (sym e) f.phase.agrees in
         let c = law.2.0 in
-        let at = named P t.desk known.is.kept c (DemoteOrder block) law.2.1.live in
+        let live = law.2.1.live in
+        let mine = law.2.1.mine in
+        let parted = k.parted a x ex in
+        let held = held_there P t.desk actors are k.owned f.phase.stages a x ex (DemoteOrder block) block (for_block Demote block block refl) c live mine in
+        let at = stood P t.desk known.is.kept f.phase.stages f.phase.come actors are k.owned a x ex parted block c live mine held in
         let at_bl : IsMappedAt (holdings t.desk) bl.0 c = subst (λ (o : OBlock). IsMappedAt (holdings t.desk) o.0 c) (sym law.1) at in
-        let l = taken_there P t.desk actors are k.owned a x ex Demote block c law.2.1.live law.2.1.mine in
-        let gone = has_gone P t.desk new block c at l.0 l.1 (subst (λ (o : OBlock). DidUnmap (λ policy o. new.policy) o t.desk new) law.1 did) in
+        let gone = left P t.desk known.is.kept f.phase.stages f.phase.come actors are k.owned a x ex parted block c live mine held new (subst (λ (o : OBlock). DidUnmap (λ policy o. new.policy) o t.desk new) law.1 did) in
         let alone = stands_alone P t.desk known.is.kept bl.0 c at_bl in
         let holds : x.card.hold ≡ Held Own bl = ready job plan xt (Desk (Unmap bl)) e in
         let left = located_left t.desk.tree.entries c alone.0 bl.0 alone.1 in
-        let here : None ≡ place_of new.tree.entries bl.0 = sym (changed_same (located t.desk.tree.entries) bl.0 None) ∙ left bl.0 ∙ ap (λ (es : List (Option Entry)). place_of es bl.0) (sym gone.changed.entries) in
+        let here : None ≡ place_of new.tree.entries bl.0 = sym (changed_same (located t.desk.tree.entries) bl.0 None) ∙ left bl.0 ∙ ap (λ (es : List (Option Entry)). place_of es bl.0) (sym gone.0.entries) in
         let first = begins_by plan (Desk (Unmap bl)) (sym e) (λ v q. absurd (cc)) in
         let r : IsSealed bl None first.0 × SealsRight None first.0 = subst (λ (us : List Want). SealsRight (place_of t.desk.tree.entries bl.0) us) first.1 (right job plan xt Own bl holds) in
         let inside = (mapped_within unknowing t.desk bl.0 c known.is.kept at_bl).1 in
         moved job plan xt (Unmap bl) e bl None new (subst (λ (g : Geometry). bl.0 < g.origin_blocks) known.is.geometry inside) holds here
-        (λ i not. ap (λ (es : List (Option Entry)). place_of es i) gone.changed.entries ∙ sym (left i) ∙ changed_other (located t.desk.tree.entries) bl.0 i None not)
+        (λ i not. ap (λ (es : List (Option Entry)). place_of es i) gone.0.entries ∙ sym (left i) ∙ changed_other (located t.desk.tree.entries) bl.0 i None not)
         (λ answer. subst (λ (us : List Want). (dirty : Bool) × (first_step (later_steps us) answer ≡ Cell (Seal bl None dirty))) (sym first.1) (sealed_next bl None first.0 answer r.0))
         (subst (λ (o : Option ℕ). SealsRight o (after plan Done).steps) here (subst (λ (us : List Want). SealsRight None (later_steps us)) (sym first.1) r.1))
-        (over P t.desk actors are k.owned a x ex Demote block c law.2.1.live law.2.1.mine bl law.1 new (ap (λ (d : DeskState P). d.orders.slots) gone.is ∙ gone.slots new.tree new.policy) (y job plan xt (Desk (Unmap bl)) Done) refl)
+        (subst (λ (d : DeskState P). Owned d (slice_set actors a (y job plan xt (Desk (Unmap bl)) Done))) (sym gone.1)
+        (owned_then P t.desk known.is.kept f.phase.stages f.phase.come actors are k.owned a x ex parted block c live mine held bl law.1 new.tree new.policy (y job plan xt (Desk (Unmap bl)) Done) refl refl))
 
-    pub release_keeps : (bl : OBlock) (new : DeskState P) → Desk (ReleaseOrder bl) ≡ want plan → IsGivenUp (Some (order_for m block)) t.desk new → KeepingAt (record { words = t.words; desk = new }) (slice_set actors a (y job plan xt (Desk (ReleaseOrder bl)) Done))
+    pub release_keeps : (bl : OBlock) (new : DeskState P) → Desk (ReleaseOrder bl) ≡ want plan → DidRelease x.orders bl t.desk new → KeepingAt (record { words = t.words; desk = new }) (slice_set actors a (y job plan xt (Desk (ReleaseOrder bl)) Done))
     release_keeps bl new e d =
-        let law = migrations_followed.gives_up (size P A shape) (most P A shape) shape.geometry.origin_blocks t.words t.desk.space.committing (live_orders t.desk) devices actors a x m block bl plan f.site.world (are_owned P t.desk actors are k.owned) ex xt its (sym e) f.phase.agrees in
-        let l = taken_there P t.desk actors are k.owned a x ex m block law.1.0 law.1.1.live law.1.1.mine in
-        let is : new ≡ released t.desk (record { 0 = law.1.0 }) = d.0 l.0 ∙ ap (λ (i : ℕ). released t.desk (record { 0 = i })) l.1 in
+        let law = migrations_followed.gives_up (size P A shape) (most P A shape) shape.geometry.origin_blocks t.words t.desk.space.committing slots devices seen a x_seen m block bl plan f.site.world (are_owned P t.desk actors are k.owned f.phase.stages) there_seen (ap task_seen xt) its (sym e) f.phase.agrees in
+        let q = order_for m block in
+        let of = for_block m block block refl in
+        let c = law.1.0 in
+        let live = law.1.1.live in
+        let mine = law.1.1.mine in
+        let held = held_there P t.desk actors are k.owned f.phase.stages a x ex q block of c live mine in
+        let found = only_of bl x.orders held.order held.has (ap (λ (o : OBlock). is_of o held.order) law.0 ∙ seen_of f.phase.stages block held.order q held.seen of)
+            (λ p h i. only_held P t.desk actors are k.owned f.phase.stages a x ex q block of c live mine held p (Contains-append_left x.orders x.awaiting p h) (ap (λ (o : OBlock). is_of o p) (sym law.0) ∙ i)) in
+        let is : new ≡ released t.desk (record { 0 = c }) = (subst (λ (o : Option Order). IsGivenUp o t.desk new) found d).0 held.live ∙ ap (λ (i : ℕ). released t.desk (record { 0 = i })) held.at in
         desk_plain job plan xt (ReleaseOrder bl) Done new e (ready job plan xt (Desk (ReleaseOrder bl)) e) (λ i. ap (λ (q : DeskState P). place_of q.tree.entries i) is)
-        (over P t.desk actors are k.owned a x ex m block law.1.0 law.1.1.live law.1.1.mine bl law.0 new (ap (λ (q : DeskState P). q.orders.slots) is) (y job plan xt (Desk (ReleaseOrder bl)) Done) refl)
+        (over P t.desk actors are k.owned f.phase.stages a x ex q block of c live mine held (k.parted a x ex) bl law.0 new (ap (λ (q : DeskState P). q.orders.slots) is) (y job plan xt (Desk (ReleaseOrder bl)) Done)
+        (ap (λ (o : Option (Job × Plan)). orders_released bl (job_of o) x.orders) xt) (ap (λ (o : Option (Job × Plan)). awaiting_released bl (job_of o) x.awaiting) xt))
 
     -- the desk has no memory for its entry
     pub map_refused_keeps : (bl : OBlock) (c : CBlock) (refusal : Refusal) → Desk (Map bl c) ≡ want plan → KeepingAt t (slice_set actors a (y job plan xt (Desk (Map bl c)) (GotRefused refusal)))
-    map_refused_keeps bl c refusal e = plainly t (y job plan xt (Desk (Map bl c)) (GotRefused refusal)) refl (λ i. refl) (not_sealing job plan xt (Desk (Map bl c)) e (λ o p d q. absurd (cc))) (owned_same P t.desk actors a x (y job plan xt (Desk (Map bl c)) (GotRefused refusal)) ex k.owned t.desk refl refl)
+    map_refused_keeps bl c refusal e = plainly t (y job plan xt (Desk (Map bl c)) (GotRefused refusal)) refl (λ i. refl) (not_sealing job plan xt (Desk (Map bl c)) e (λ o p d q. absurd (cc))) (owned_same P t.desk actors a x (y job plan xt (Desk (Map bl c)) (GotRefused refusal)) ex k.owned t.desk refl refl) (y_parted job plan xt (Desk (Map bl c)) (GotRefused refusal))
         (mine job plan xt t.desk.tree.entries (Desk (Map bl c)) (GotRefused refusal) (Some (job, after plan (GotRefused refusal))) refl left)
       where
         left : RightWhere (place_of t.desk.tree.entries) x.card (after plan (GotRefused refusal)).steps
@@ -464,3 +526,39 @@ module _ (P A : Type 0) (shape : Shape) (images : Images) (t : Target P) (commit
             by (OnBlock j) is = subst (λ (q : TaskJob). SealsRight (place_of t.desk.tree.entries o.0) (lets_go q)) (sym is) (lets_go_right (place_of t.desk.tree.entries o.0) j (access_of j) (range_of j).block)
             by (Flushing serves n) is = absurd (let none = (subst (λ (q : TaskJob). SuitsJob shape.geometry.origin_blocks q x.card plan.steps) is its).0 in let bad : Nothing ≡ Held access o = sym none ∙ h in cc)
             by (Opening left) is = absurd (let none = (subst (λ (q : TaskJob). SuitsJob shape.geometry.origin_blocks q x.card plan.steps) is its).0 in let bad : Nothing ≡ Held access o = sym none ∙ h in cc)
+
+  -- a flush gives up an order that waits for it
+  module _ (plan : Plan) (xt : x.task ≡ Some (Flush, plan)) where
+    pub flush_release_keeps : (bl : OBlock) (new : DeskState P) → Desk (ReleaseOrder bl) ≡ want plan → DidRelease x.awaiting bl t.desk new → KeepingAt (record { words = t.words; desk = new }) (slice_set actors a (y Flush plan xt (Desk (ReleaseOrder bl)) Done))
+    flush_release_keeps bl new e d = by (order_found bl x.awaiting) refl d
+      where
+        here : Actor
+        here = y Flush plan xt (Desk (ReleaseOrder bl)) Done
+
+        holds : x.card.hold ≡ Nothing
+        holds = ready Flush plan xt (Desk (ReleaseOrder bl)) e
+
+        held_is : held_of (y Flush plan xt (Desk (ReleaseOrder bl)) Done) ≡ (x.orders ++ dropped bl x.awaiting)
+        held_is = ap (λ (o : Option (Job × Plan)). orders_released bl (job_of o) x.orders ++ awaiting_released bl (job_of o) x.awaiting) xt
+
+        by : (o : Option Order) → order_found bl x.awaiting ≡ o → IsGivenUp o t.desk new → KeepingAt (record { words = t.words; desk = new }) (slice_set actors a (y Flush plan xt (Desk (ReleaseOrder bl)) Done))
+        by None q d = desk_plain Flush plan xt (ReleaseOrder bl) Done new e holds (λ i. ap (λ (v : DeskState P). place_of v.tree.entries i) d)
+            (owned_within P t.desk actors a x (y Flush plan xt (Desk (ReleaseOrder bl)) Done) ex k.owned new (λ o h. then_had x (job_of x.task) (Desk (ReleaseOrder bl)) Done o h) (ap (λ (v : DeskState P). v.orders) d))
+        by (Some order) q d =
+            let mine = found_of bl x.awaiting order q in
+            let had = Contains-append_right x.orders x.awaiting order mine.0 in
+            let l = k.owned.live a x order ex had in
+            let is : new ≡ released t.desk l.cache = d.0 l in
+            desk_plain Flush plan xt (ReleaseOrder bl) Done new e holds (λ i. ap (λ (v : DeskState P). place_of v.tree.entries i) is)
+            (owned_over P t.desk actors a x (y Flush plan xt (Desk (ReleaseOrder bl)) Done) ex k.owned order bl l.cache l.live had l.there l.same mine.1
+            (λ o h. elim (Contains-append_cases x.orders (dropped bl x.awaiting) o (subst (λ (os : List Order). Contains os o) held_is h)) [
+              | inl i ↦ (Contains-append_left x.orders x.awaiting o i, other order l mine.0 mine.1 o i (is_of bl o) refl)
+              | inr i ↦ (let r = dropped_is bl x.awaiting o i in (Contains-append_right x.orders x.awaiting o r.0, r.1))
+            ])
+            new (ap (λ (v : DeskState P). v.orders.slots) is))
+          where
+            other : (order : Order) → IsLive t.desk order → Contains x.awaiting order → is_of bl order ≡ true → (o : Order) → Contains x.orders o → (v : Bool) → is_of bl o ≡ v → is_of bl o ≡ false
+            other order l w v o i false f = f
+            other order l w v o i true f = absurd (
+                let same : o ≡ order = one_of_block P t.desk actors known.is.orders k.owned o order (k.owned.live a x o ex (Contains-append_left x.orders x.awaiting o i)) l bl f v in
+                k.parted a x ex o i (subst (λ (p : Order). Contains x.awaiting p) (sym same) w))

@@ -1,5 +1,5 @@
 -- What is kept of orders and seals is kept by each step, each start and an opening's answer.
-use Rattle.std.proofs.Common.{◌≡◌, ◌≢◌, ◌∙◌, ◌⊎◌, inl, inr, ℕ, zero, suc, Bool, true, false, cond, List, [], ◌∷◌, Option, Some, None, refl, sym, ap, subst, slice_get, slice_set}
+use Rattle.std.proofs.Common.{◌≡◌, ◌≢◌, ◌∙◌, ◌⊎◌, ◌++◌, inl, inr, ℕ, zero, suc, Bool, true, false, cond, List, [], ◌∷◌, Option, Some, None, refl, sym, ap, subst, arith, get_or, slice_get, slice_set, Contains}
 use Rattle.wb_types.proofs.Lists.{set_cases}
 use Rattle.wb_types.specs.declared.entry.Entry.{Entry}
 use Rattle.wb_types.specs.declared.number.OBlock.{OBlock}
@@ -9,7 +9,13 @@ use Rattle.wb_words.specs.Effects.{result_of}
 use Rattle.wb_words.specs.SharedWords.{word_at, place_in}
 use Rattle.wb_words.specs.Rule.{LockRule}
 use Rattle.wb_policy.specs.declared.order.Order.{Order}
-use Rattle.wb_desk.specs.Desks.{DeskState}
+use Rattle.wb_policy.specs.declared.order.Order.TheVariants.{Replace as ReplaceOrder}
+use Rattle.wb_types.specs.declared.number.CBlock.{CBlock}
+use Rattle.wb_orders.specs.Named.{first_of}
+use Rattle.wb_tasks.specs.declared.step.Migration.TheVariants.{Demote}
+use Rattle.std.proofs.lemmas.List.Elements.{Contains-append_right}
+use Rattle.std.proofs.lemmas.Option.{get_or_from_slice_get}
+use Rattle.wb_desk.specs.Desks.{DeskState, MayReserve}
 use Rattle.wb_desk.specs.Commits.{commit_ended}
 use Rattle.wb_tasks.specs.Tables.{BlockJob, Reading, Writing, Migrating, OnBlock}
 use Rattle.wb_tasks.specs.Plan.{Plan, want, got_of}
@@ -20,53 +26,67 @@ use Rattle.wb_tasks.specs.declared.step.DeskStep.TheVariants.{Map, Unmap, Releas
 use Rattle.wb_tasks.specs.declared.step.Want.{Want}
 use Rattle.wb_tasks.specs.declared.step.Want.TheVariants.{Cell, Device, Desk, End}
 use Rattle.wb_tasks.specs.declared.step.Got.{Got}
+use Rattle.wb_tasks.specs.declared.step.Answer.TheVariants.{Done as Finished}
 use Rattle.wb_tasks.specs.declared.step.Got.TheVariants.{Done, Fault, Began, Refused as GotRefused}
 use Rattle.wb_devices.specs.declared.devices.Devices.{Devices}
 use Rattle.wb_devices.specs.declared.running.RunningCommit.{RunningCommit}
 use Rattle.wb_runs.specs.declared.job.Job.{Job}
-use Rattle.wb_runs.specs.declared.job.Job.TheVariants.{Read, Write, Flush, Open, Migrate}
+use Rattle.wb_runs.specs.declared.job.Job.TheVariants.{Read, Write, Flush, Open, Migrate, Replace}
 use Rattle.wb_runs.specs.declared.event.What.TheVariants.{Started}
 use Rattle.wb_runs.specs.States.{Shape, State, Actor, Target, Phase, Stands, resting}
 use Rattle.wb_runs.specs.Happenings.{Chosen, Plain, Cut, Orders, Asks, Commits, Gives, DoesBegin, DoesMap, DoesUnmap, DoesRelease, StartGives, order_for}
-use Rattle.wb_runs.specs.Effects.{actor_then, phase_then, phase_given, given, orders_then, begun_desk, all_resting}
+use Rattle.wb_runs.specs.Effects.{actor_then, phase_then, phase_given, given, orders_then, awaiting_then, orders_released, awaiting_released, orders_answered, awaiting_answered, dropped, replacing, job_of, begun_desk, all_resting}
 use Rattle.wb_runs.specs.Clerk.{Notes}
 use Rattle.wb_runs.specs.Headline.{place_of}
 use Rattle.wb_runs.specs.Holding.{cards_of, AllSuited, TaskSuits}
 use Rattle.wb_runs.specs.Sealed.{SealsNext, number_of}
 use Rattle.wb_runs.proofs.Images.{Images}
 use Rattle.wb_runs.proofs.Metadata.{MetadataKept}
+use Rattle.wb_runs.proofs.Lists.{first_or}
+use Rattle.wb_runs.proofs.Ordering.{held_of}
 use Rattle.wb_runs.proofs.Owning.{Owned, owned_given, owned_none, owned_same}
+use Rattle.wb_headline.proofs.Owned.{AreParted}
 use Rattle.wb_headline.proofs.Following.{Followed}
-use Rattle.wb_headline.proofs.Keeping.{KeepingAt, Keeping, NoOrders, TaskRight, plainly, own, cell_keeps, device_keeps, answer_keeps, desk_plain, map_keeps, map_refused_keeps, unmap_keeps, release_keeps, ready}
+use Rattle.wb_headline.proofs.Keeping.{KeepingAt, Keeping, HasNone, NoOrders, TaskRight, plainly, own, cell_keeps, device_keeps, answer_keeps, desk_plain, map_keeps, map_refused_keeps, unmap_keeps, release_keeps, flush_release_keeps, ready}
 use Rattle.wb_headline.proofs.Targets.{standing}
 
 -- ---- where no target stands nobody has an order
 
-pub none_set : (actors : List Actor) (a : ℕ) (y : Actor) → y.orders ≡ [] → NoOrders actors → NoOrders (slice_set actors a y)
+pub none_set : (actors : List Actor) (a : ℕ) (y : Actor) → HasNone y → NoOrders actors → NoOrders (slice_set actors a y)
 none_set actors a y here none b z e = elim (set_cases actors a b y z e) [
-  | inl i ↦ ap (λ (v : Actor). v.orders) i.1 ∙ here
+  | inl i ↦ subst (λ (v : Actor). HasNone v) (sym i.1) here
   | inr o ↦ none b z o.1
 ]
 
-none_then : (next : Want) (got : Got) → orders_then [] next got ≡ []
-none_then (Desk (Map b c)) Done = refl
-none_then (Desk (Unmap b)) Done = refl
-none_then (Desk (ReleaseOrder b)) Done = refl
-none_then next got = refl
+none_released : (b : OBlock) (job : Job) (orders awaiting : List Order) → orders ≡ [] → awaiting ≡ [] → (orders_released b job orders ≡ []) × (awaiting_released b job awaiting ≡ [])
+none_released b Flush orders awaiting e f = (e, ap (λ (os : List Order). dropped b os) f)
+none_released b job orders awaiting e f = (ap (λ (os : List Order). dropped b os) e, f)
+
+none_answered : (job : Job) (orders awaiting : List Order) → orders ≡ [] → awaiting ≡ [] → (orders_answered job orders awaiting ≡ []) × (awaiting_answered job awaiting ≡ [])
+none_answered Flush orders awaiting e f = (ap (λ (os : List Order). os ++ orders) f ∙ e, refl)
+none_answered job orders awaiting e f = (e, f)
+
+none_then : (orders awaiting : List Order) (job : Job) (next : Want) (got : Got) → orders ≡ [] → awaiting ≡ [] → (orders_then orders awaiting job next got ≡ []) × (awaiting_then orders awaiting job next got ≡ [])
+none_then orders awaiting job (Desk (Map b c)) Done e f = (ap (λ (os : List Order). dropped b os) e, f)
+none_then orders awaiting job (Desk (Unmap b)) Done e f = (ap (λ (os : List Order). dropped b os) e, ap (λ (os : List Order). replacing b os ++ awaiting) e ∙ f)
+none_then orders awaiting job (Desk (ReleaseOrder b)) Done e f = none_released b job orders awaiting e f
+none_then orders awaiting job (End Finished) Done e f = none_answered job orders awaiting e f
+none_then orders awaiting job next got e f = (e, f)
 
 pub none_rest : (actors : List Actor) → NoOrders (all_resting actors)
 none_rest [] a x e = absurd (cc)
-none_rest (z ∷ zs) zero x e = (let both : resting ≡ x = cc in ap (λ (v : Actor). v.orders) (sym both))
+none_rest (z ∷ zs) zero x e = (let both : resting ≡ x = cc in subst (λ (v : Actor). HasNone v) both (refl, refl))
 none_rest (z ∷ zs) (suc a) x e = none_rest zs a x e
 
 pub none_goes : (P A : Type 0) (shape : Shape) (phase : Phase P A) (devices : Devices (List History)) (actors : List Actor) (a : ℕ) (x : Actor) (next : Want) (got : Got) → slice_get actors a ≡ Some x → NoOrders actors → NoOrders (slice_set actors a (actor_then shape phase devices x next got))
-none_goes P A shape phase devices actors a x next got ex none = none_set actors a (actor_then shape phase devices x next got) (ap (λ (os : List Order). orders_then os next got) (none a x ex) ∙ none_then next got) none
+none_goes P A shape phase devices actors a x next got ex none = none_set actors a (actor_then shape phase devices x next got) (none_then x.orders x.awaiting (job_of x.task) next got (none a x ex).0 (none a x ex).1) none
 
 -- ---- where one is made nobody is at anything
 
 pub made_keeps : (P : Type 0) (t : Target P) (actors : List Actor) → NoOrders actors → ((b : ℕ) (z : Actor) → slice_get actors b ≡ Some z → z.task ≡ None) → ((block : OBlock) → number_of (place_in (word_at t.words.seals block)) ≡ place_of t.desk.tree.entries block.0) → KeepingAt t actors
 made_keeps P t actors none rest told = record {
-  owned = owned_none P t.desk actors none;
+  owned = owned_none P t.desk actors (λ a x e. ap (λ (os : List Order). os ++ x.awaiting) (none a x e).0 ∙ (none a x e).1);
+  parted = λ a x e order h i. (let k = subst (λ (os : List Order). Contains os order) (none a x e).0 h in omega (arith, k.1));
   tells = λ b. inl (told b);
   right = λ a x e. subst (λ (o : Option (Job × Plan)). TaskRight t.desk.tree.entries x.card o) (sym (rest a x e)) tt;
 }
@@ -85,20 +105,22 @@ ended_same P X of desk same = by desk.space.committing
     by false = refl
 
 -- a read or write of an extent that does not fail is done
-gives_done : (P A : Type 0) (shape : Shape) (w : State P A) (job : Job) (j : BlockJob) (step : DeviceStep) (got : Got) (read : List Bytes) (chosen : Chosen P A) → IsJobs j step → Gives shape w job (Device step) got read chosen → got ≡ Done
-gives_done P A shape w (Read extent) j (ReadExtent d e) got read chosen i g = g.2
-gives_done P A shape w (Read extent) j (WriteExtent d e) got read chosen i g = absurd g
-gives_done P A shape w (Write extent content) j (ReadExtent d e) got read chosen i g = absurd g
-gives_done P A shape w (Write extent content) j (WriteExtent d e) got read chosen i g = g.2
-gives_done P A shape w Flush j (ReadExtent d e) got read chosen i g = absurd g
-gives_done P A shape w Flush j (WriteExtent d e) got read chosen i g = absurd g
-gives_done P A shape w (Open mode) j (ReadExtent d e) got read chosen i g = absurd g
-gives_done P A shape w (Open mode) j (WriteExtent d e) got read chosen i g = absurd g
-gives_done P A shape w (Migrate m block) j (ReadExtent d e) got read chosen i g = g.2
-gives_done P A shape w (Migrate m block) j (WriteExtent d e) got read chosen i g = g.2
-gives_done P A shape w job (Reading part) step got read chosen i g = absurd i
-gives_done P A shape w job (Writing part) step got read chosen i g = absurd i
-gives_done P A shape w job (Migrating m part) step got read chosen i g = absurd i
+gives_done : (P A : Type 0) (shape : Shape) (w : State P A) (x : Actor) (job : Job) (j : BlockJob) (step : DeviceStep) (got : Got) (read : List Bytes) (chosen : Chosen P A) → IsJobs j step → Gives shape w x job (Device step) got read chosen → got ≡ Done
+gives_done P A shape w x (Read extent) j (ReadExtent d e) got read chosen i g = g.2
+gives_done P A shape w x (Read extent) j (WriteExtent d e) got read chosen i g = absurd g
+gives_done P A shape w x (Write extent content) j (ReadExtent d e) got read chosen i g = absurd g
+gives_done P A shape w x (Write extent content) j (WriteExtent d e) got read chosen i g = g.2
+gives_done P A shape w x Flush j (ReadExtent d e) got read chosen i g = absurd g
+gives_done P A shape w x Flush j (WriteExtent d e) got read chosen i g = absurd g
+gives_done P A shape w x (Open mode) j (ReadExtent d e) got read chosen i g = absurd g
+gives_done P A shape w x (Open mode) j (WriteExtent d e) got read chosen i g = absurd g
+gives_done P A shape w x (Migrate m block) j (ReadExtent d e) got read chosen i g = g.2
+gives_done P A shape w x (Migrate m block) j (WriteExtent d e) got read chosen i g = g.2
+gives_done P A shape w x (Replace old new) j (ReadExtent d e) got read chosen i g = absurd g
+gives_done P A shape w x (Replace old new) j (WriteExtent d e) got read chosen i g = absurd g
+gives_done P A shape w x job (Reading part) step got read chosen i g = absurd i
+gives_done P A shape w x job (Writing part) step got read chosen i g = absurd i
+gives_done P A shape w x job (Migrating m part) step got read chosen i g = absurd i
 
 module _ (P A : Type 0) (shape : Shape) (images : Images) (t : Target P) (commit : Option RunningCommit) (devices : Devices (List History)) (actors : List Actor) (n : Notes) (known : MetadataKept {P = P} {A = A} shape.geometry images (Stands t) commit devices.metadata)
     (f : Followed P A shape images (standing P A shape images t commit devices actors n) n) (rule : LockRule shape.geometry.origin_blocks t.words (cards_of actors)) (all_suited : AllSuited shape.geometry.origin_blocks actors) (k : KeepingAt t actors) (a : ℕ) (x : Actor) (ex : slice_get actors a ≡ Some x) where
@@ -109,24 +131,40 @@ module _ (P A : Type 0) (shape : Shape) (images : Images) (t : Target P) (commit
       nothing : x.card.hold ≡ Nothing
       nothing = subst (λ (o : Option (Job × Plan)). TaskSuits shape.geometry.origin_blocks x.card o) xt (all_suited a x ex)
 
-      kept : (t' : Target P) (y : Actor) (job : Job) (plan : Plan) → y.task ≡ Some (job, plan) → y.card ≡ x.card → t'.words.seals ≡ t.words.seals → ((b : ℕ) → place_of t'.desk.tree.entries b ≡ place_of t.desk.tree.entries b) → Owned t'.desk (slice_set actors a y) → KeepingAt t' (slice_set actors a y)
-      kept t' y job plan task card seals places owned = plainly P A shape images t commit devices actors n known f rule all_suited k a x ex t' y seals places
-          (λ b place s. subst (λ (o : Option (Job × Plan)). SealsNext b place o) xt s) owned
+      kept : (t' : Target P) (y : Actor) (job : Job) (plan : Plan) → y.task ≡ Some (job, plan) → y.card ≡ x.card → t'.words.seals ≡ t.words.seals → ((b : ℕ) → place_of t'.desk.tree.entries b ≡ place_of t.desk.tree.entries b) → Owned t'.desk (slice_set actors a y) → AreParted y → KeepingAt t' (slice_set actors a y)
+      kept t' y job plan task card seals places owned parted = plainly P A shape images t commit devices actors n known f rule all_suited k a x ex t' y seals places
+          (λ b place s. subst (λ (o : Option (Job × Plan)). SealsNext b place o) xt s) owned parted
           (subst (λ (o : Option (Job × Plan)). TaskRight t'.desk.tree.entries y.card o) (sym task) (λ access b h. absurd (let bad : Nothing ≡ Held access b = sym nothing ∙ ap (λ (c : Rattle.wb_words.specs.declared.card.Card.Card). c.hold) (sym card) ∙ h in cc)))
 
-      plain : (job : Job) (y : Actor) (plan : Plan) → y.task ≡ Some (job, plan) → y.card ≡ x.card → y.orders ≡ x.orders → KeepingAt t (slice_set actors a y)
-      plain job y plan task card orders = kept t y job plan task card refl (λ b. refl) (owned_same P t.desk actors a x y ex k.owned t.desk orders refl)
+      plain : (job : Job) (y : Actor) (plan : Plan) → y.task ≡ Some (job, plan) → y.card ≡ x.card → held_of y ≡ held_of x → AreParted y → KeepingAt t (slice_set actors a y)
+      plain job y plan task card held parted = kept t y job plan task card refl (λ b. refl) (owned_same P t.desk actors a x y ex k.owned t.desk held refl) parted
+
+      -- one that is given now did not live
+      fresh : (order : Order) (c : CBlock) → MayReserve t.desk c order → Contains x.awaiting order → ⊥
+      fresh order c may h =
+          let l = k.owned.live a x order ex (Contains-append_right x.orders x.awaiting order h) in
+          let busy = known.is.orders.marks l.cache.0 (first_of order).0 l.live l.there (inl (ap (λ (p : Order). (first_of p).0) l.same)) in
+          let idle = get_or_from_slice_get t.desk.orders.busy (first_of order).0 false false may.give.idle.0 in
+          let bad : true ≡ false = sym busy ∙ idle in absurd (cc)
+
+      parted_with : (order : Order) (c : CBlock) → MayReserve t.desk c order → (o : Order) → Contains (order ∷ x.orders) o → Contains x.awaiting o → ⊥
+      parted_with order c may o h w = first_or order o x.orders ⊥ h (λ same. fresh order c may (subst (λ (p : Order). Contains x.awaiting p) same w)) (λ later. k.parted a x ex o later w)
 
       by_job : (job : Job) (chosen : Chosen P A) → StartGives shape (Stands t) (Some x) job Started chosen → Keeping (phase_given {P = P} {A = A} (Stands t) job chosen) (slice_set actors a (given shape x job chosen))
-      by_job (Read extent) chosen h = plain (Read extent) (given shape x (Read extent) chosen) _ refl refl refl
-      by_job (Write extent content) chosen h = plain (Write extent content) (given shape x (Write extent content) chosen) _ refl refl refl
-      by_job Flush chosen h = plain Flush (given shape x Flush chosen) _ refl refl refl
-      by_job (Open mode) chosen h = plain (Open mode) (given shape x (Open mode) chosen) _ refl refl refl
-      by_job (Migrate m b) (Cut cut) h = plain (Migrate m b) (given {P = P} {A = A} shape x (Migrate m b) (Cut cut)) _ refl refl refl
+      by_job (Read extent) chosen h = plain (Read extent) (given shape x (Read extent) chosen) _ refl refl refl (k.parted a x ex)
+      by_job (Write extent content) chosen h = plain (Write extent content) (given shape x (Write extent content) chosen) _ refl refl refl (k.parted a x ex)
+      by_job Flush chosen h = plain Flush (given shape x Flush chosen) _ refl refl refl (k.parted a x ex)
+      by_job (Open mode) chosen h = plain (Open mode) (given shape x (Open mode) chosen) _ refl refl refl (k.parted a x ex)
+      by_job (Migrate m b) (Cut cut) h = plain (Migrate m b) (given {P = P} {A = A} shape x (Migrate m b) (Cut cut)) _ refl refl refl (k.parted a x ex)
       by_job (Migrate m b) (Orders cut c) h =
           let y : Actor = given {P = P} {A = A} shape x (Migrate m b) (Orders cut c) in
-          kept (record { words = t.words; desk = Rattle.wb_desk.specs.Calls.reserved t.desk c (order_for m b) false }) y (Migrate m b) _ refl refl refl (λ i. refl) (owned_given P t.desk actors a x y ex k.owned c (order_for m b) known.is.orders h.1 refl)
+          kept (record { words = t.words; desk = Rattle.wb_desk.specs.Calls.reserved t.desk c (order_for m b) false }) y (Migrate m b) _ refl refl refl (λ i. refl) (owned_given P t.desk actors a x y ex k.owned c (order_for m b) known.is.orders h.1 refl) (parted_with (order_for m b) c h.1)
       by_job (Migrate m b) chosen h = absurd h
+      by_job (Replace old new) (Cut cut) h = plain (Migrate Demote old) (given {P = P} {A = A} shape x (Replace old new) (Cut cut)) _ refl refl refl (k.parted a x ex)
+      by_job (Replace old new) (Orders cut c) h =
+          let y : Actor = given {P = P} {A = A} shape x (Replace old new) (Orders cut c) in
+          kept (record { words = t.words; desk = Rattle.wb_desk.specs.Calls.reserved t.desk c (ReplaceOrder old new c) false }) y (Migrate Demote old) _ refl refl refl (λ i. refl) (owned_given P t.desk actors a x y ex k.owned c (ReplaceOrder old new c) known.is.orders h.1 refl) (parted_with (ReplaceOrder old new c) c h.1)
+      by_job (Replace old new) chosen h = absurd h
 
   module _ (job : Job) (plan : Plan) (xt : x.task ≡ Some (job, plan)) where
     abbrev After : Want → Got → Chosen P A → Type 0
@@ -150,33 +188,35 @@ module _ (P A : Type 0) (shape : Shape) (images : Images) (t : Target P) (commit
         (owned_same P t.desk actors a x (actor_then {P = P} {A = A} shape (Stands t) devices x (Desk EndCommit) got) ex k.owned (cond t.desk.space.committing (commit_ended t.desk) t.desk) refl (ended_same P Rattle.wb_orders.specs.Orders.Orders (λ (d : DeskState P). d.orders) t.desk refl))
 
     -- it goes on
-    pub step_keeps : (next : Want) (got : Got) (read : List Bytes) (chosen : Chosen P A) → next ≡ want plan → Gives shape (standing P A shape images t commit devices actors n) job next got read chosen → After next got chosen
+    pub step_keeps : (next : Want) (got : Got) (read : List Bytes) (chosen : Chosen P A) → next ≡ want plan → Gives shape (standing P A shape images t commit devices actors n) x job next got read chosen → After next got chosen
     step_keeps (Cell step) got read chosen e g = by (given_word job g)
       where
-        given_word : (j : Job) → Gives shape (standing P A shape images t commit devices actors n) j (Cell step) got read chosen → got ≡ got_of (result_of t.words step)
+        given_word : (j : Job) → Gives shape (standing P A shape images t commit devices actors n) x j (Cell step) got read chosen → got ≡ got_of (result_of t.words step)
         given_word (Read extent) g = g.1
         given_word (Write extent content) g = g.1
         given_word Flush g = g.1
         given_word (Open mode) g = g.1
         given_word (Migrate m b) g = g.1
+        given_word (Replace old new) g = g.1
 
         by : got ≡ got_of (result_of t.words step) → After (Cell step) got chosen
         by is = subst (λ (v : Got). After (Cell step) v chosen) (sym is) (cell_keeps P A shape images t commit devices actors n known f rule all_suited k a x ex job plan xt step e)
     step_keeps (Device step) got read chosen e g = device_keeps P A shape images t commit devices actors n known f rule all_suited k a x ex job plan xt step e got
-        (λ j is. inl (gives_done P A shape (standing P A shape images t commit devices actors n) job j step got read chosen (own P A shape images t commit devices actors n known f rule all_suited k a x ex job plan xt (OnBlock j) (Device step) is e) g))
+        (λ j is. inl (gives_done P A shape (standing P A shape images t commit devices actors n) x job j step got read chosen (own P A shape images t commit devices actors n known f rule all_suited k a x ex job plan xt (OnBlock j) (Device step) is e) g))
     step_keeps (End answer) got read chosen e g = answer_keeps P A shape images t commit devices actors n known f rule all_suited k a x ex job plan xt answer got e
     step_keeps (Desk EndCommit) got read chosen e g = ends_keeps got chosen e
     step_keeps (Desk (BeginCommit clean most)) got read chosen e g = begins_keeps clean most got chosen e (given_begin job g)
       where
-        given_begin : (j : Job) → Gives shape (standing P A shape images t commit devices actors n) j (Desk (BeginCommit clean most)) got read chosen → DoesBegin most t.desk got chosen
+        given_begin : (j : Job) → Gives shape (standing P A shape images t commit devices actors n) x j (Desk (BeginCommit clean most)) got read chosen → DoesBegin most t.desk got chosen
         given_begin (Read extent) g = g.2
         given_begin (Write extent content) g = g.2
         given_begin Flush g = g.2
         given_begin (Open mode) g = g.2
         given_begin (Migrate m b) g = g.2
+        given_begin (Replace old new) g = g.2
     step_keeps (Desk (Map bl c)) got read chosen e g = by job xt g
       where
-        by : (j : Job) → x.task ≡ Some (j, plan) → Gives shape (standing P A shape images t commit devices actors n) j (Desk (Map bl c)) got read chosen → After (Desk (Map bl c)) got chosen
+        by : (j : Job) → x.task ≡ Some (j, plan) → Gives shape (standing P A shape images t commit devices actors n) x j (Desk (Map bl c)) got read chosen → After (Desk (Map bl c)) got chosen
         by (Migrate m b) jt g = by_got got chosen g.1
           where
             by_got : (got : Got) (chosen : Chosen P A) → DoesMap bl c t.desk got chosen → After (Desk (Map bl c)) got chosen
@@ -187,9 +227,10 @@ module _ (P A : Type 0) (shape : Shape) (images : Images) (t : Target P) (commit
         by (Write extent content) jt g = absurd g
         by Flush jt g = absurd g
         by (Open mode) jt g = absurd g
+        by (Replace old new) jt g = absurd g
     step_keeps (Desk (Unmap bl)) got read chosen e g = by job xt g
       where
-        by : (j : Job) → x.task ≡ Some (j, plan) → Gives shape (standing P A shape images t commit devices actors n) j (Desk (Unmap bl)) got read chosen → After (Desk (Unmap bl)) got chosen
+        by : (j : Job) → x.task ≡ Some (j, plan) → Gives shape (standing P A shape images t commit devices actors n) x j (Desk (Unmap bl)) got read chosen → After (Desk (Unmap bl)) got chosen
         by (Migrate m b) jt g = subst (λ (v : Got). After (Desk (Unmap bl)) v chosen) (sym g.1) (by_chosen chosen g.2)
           where
             by_chosen : (chosen : Chosen P A) → DoesUnmap bl t.desk chosen → After (Desk (Unmap bl)) Done chosen
@@ -199,18 +240,24 @@ module _ (P A : Type 0) (shape : Shape) (images : Images) (t : Target P) (commit
         by (Write extent content) jt g = absurd g
         by Flush jt g = absurd g
         by (Open mode) jt g = absurd g
+        by (Replace old new) jt g = absurd g
     step_keeps (Desk (ReleaseOrder bl)) got read chosen e g = by job xt g
       where
-        by : (j : Job) → x.task ≡ Some (j, plan) → Gives shape (standing P A shape images t commit devices actors n) j (Desk (ReleaseOrder bl)) got read chosen → After (Desk (ReleaseOrder bl)) got chosen
+        by : (j : Job) → x.task ≡ Some (j, plan) → Gives shape (standing P A shape images t commit devices actors n) x j (Desk (ReleaseOrder bl)) got read chosen → After (Desk (ReleaseOrder bl)) got chosen
         by (Migrate m b) jt g = subst (λ (v : Got). After (Desk (ReleaseOrder bl)) v chosen) (sym g.1) (by_chosen chosen g.2)
           where
-            by_chosen : (chosen : Chosen P A) → DoesRelease (order_for m b) t.desk chosen → After (Desk (ReleaseOrder bl)) Done chosen
+            by_chosen : (chosen : Chosen P A) → DoesRelease x.orders bl t.desk chosen → After (Desk (ReleaseOrder bl)) Done chosen
             by_chosen (Asks new) d = release_keeps P A shape images t commit devices actors n known f rule all_suited k a x ex m b plan jt bl new e d
+            by_chosen chosen d = absurd d
+        by Flush jt g = subst (λ (v : Got). After (Desk (ReleaseOrder bl)) v chosen) (sym g.1) (by_chosen chosen g.2)
+          where
+            by_chosen : (chosen : Chosen P A) → DoesRelease x.awaiting bl t.desk chosen → After (Desk (ReleaseOrder bl)) Done chosen
+            by_chosen (Asks new) d = flush_release_keeps P A shape images t commit devices actors n known f rule all_suited k a x ex plan jt bl new e d
             by_chosen chosen d = absurd d
         by (Read extent) jt g = absurd g
         by (Write extent content) jt g = absurd g
-        by Flush jt g = absurd g
         by (Open mode) jt g = absurd g
+        by (Replace old new) jt g = absurd g
 
     -- a step on a device that fails
     pub fault_keeps : (step : DeviceStep) (chosen : Chosen P A) → Device step ≡ want plan → After (Device step) Fault chosen

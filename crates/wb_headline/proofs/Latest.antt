@@ -13,12 +13,13 @@ use Rattle.wb_tasks.specs.declared.step.Want.TheVariants.{Cell, Device, Desk, En
 use Rattle.wb_tasks.specs.declared.step.Got.{Got}
 use Rattle.wb_tasks.specs.declared.step.Got.TheVariants.{Done, Fault}
 use Rattle.wb_runs.specs.declared.job.Job.{Job}
-use Rattle.wb_runs.specs.declared.job.Job.TheVariants.{Read, Write, Flush, Open, Migrate}
+use Rattle.wb_runs.specs.declared.job.Job.TheVariants.{Read, Write, Flush, Open, Migrate, Replace}
 use Rattle.wb_runs.specs.declared.event.Event.{Event}
 use Rattle.wb_runs.specs.declared.event.Event.TheVariants.{Start, Step, FaultStep, Stop}
 use Rattle.wb_runs.specs.declared.event.What.{What}
 use Rattle.wb_runs.specs.declared.event.What.TheVariants.{Skipped, Refused, Started, Stepped, Stopped}
 use Rattle.wb_runs.specs.States.{Shape}
+use Rattle.wb_runs.specs.Happenings.{begun_as}
 use Rattle.wb_runs.specs.Clerk.{Notes, Doing, Reading, begun, put, nobody, starting, failing, device_note, finished_note, noted_step, noted_what, readings_from, sector_for}
 use Rattle.wb_runs.specs.Headline.{IsLatest}
 use Rattle.wb_runs.specs.Latest.{IsGiven, GivesLatest, ReadsRightly}
@@ -68,6 +69,7 @@ device_latest shape n a doing (Write extent content) step got read all l g = all
 device_latest shape n a doing Flush step got read all l g = all
 device_latest shape n a doing (Open mode) step got read all l g = all
 device_latest shape n a doing (Migrate migration block) step got read all l g = all
+device_latest shape n a doing (Replace old new) step got read all l g = all
 
 finished_latest : (n : Notes) (a : ℕ) (doing : Doing) (job : Job) (shown : List Bytes) → AllLatest n.doings → AllLatest (finished_note n a doing job shown).doings
 finished_latest n a doing (Read extent) shown all = none_latest n.doings a all
@@ -75,6 +77,7 @@ finished_latest n a doing (Write extent content) shown all = none_latest n.doing
 finished_latest n a doing Flush shown all = none_latest n.doings a all
 finished_latest n a doing (Open mode) shown all = λ b d e. absurd (let same : ◌≡◌ {A = Option Doing} None (Some d) = replicated (length n.doings) b None (Some d) e in cc)
 finished_latest n a doing (Migrate migration block) shown all = none_latest n.doings a all
+finished_latest n a doing (Replace old new) shown all = none_latest n.doings a all
 
 step_latest : (shape : Shape) (shown : List Bytes) (n : Notes) (a : ℕ) (o : Option (Option Doing)) (next : Want) (got : Got) (read : List Bytes) → slice_get n.doings a ≡ o → AllLatest n.doings → ((doing : Doing) (step : DeviceStep) → o ≡ Some (Some doing) → next ≡ Device step → GivenIf shape n doing.job step got read) → AllLatest (noted_step shape shown n a o next got read).doings
 step_latest shape shown n a (Some (Some doing)) (Device step) got read e all given =
@@ -87,6 +90,7 @@ step_latest shape shown n a (Some (Some doing)) (Device step) got read e all giv
     same Flush (ReadExtent d x) Done g = g
     same (Open mode) (ReadExtent d x) Done g = g
     same (Migrate migration block) (ReadExtent d x) Done g = g
+    same (Replace old new) (ReadExtent d x) Done g = g
     same job (ReadExtent d x) got g = by got g
       where
         by : (v : Got) → GivenIf shape n job (ReadExtent d x) v read → GivenIf shape (put n a (Some (failing doing (ReadExtent d x) v))) job (ReadExtent d x) v read
@@ -98,6 +102,7 @@ step_latest shape shown n a (Some (Some doing)) (Device step) got read e all giv
             by_job Flush g = g
             by_job (Open mode) g = g
             by_job (Migrate migration block) g = g
+            by_job (Replace old new) g = g
         by v g = tt
     same job (WriteExtent d x) got g = tt
     same job (Sync d) got g = tt
@@ -117,6 +122,7 @@ starting_latest n (Read extent) all = all
 starting_latest n (Write extent content) all = all
 starting_latest n Flush all = all
 starting_latest n (Migrate migration block) all = all
+starting_latest n (Replace old new) all = all
 
 -- a step that is chosen to fail does
 abbrev pub IsFault : Event → What → Type 0
@@ -124,7 +130,7 @@ IsFault (FaultStep a choice) (Stepped next got) = got ≡ Fault
 IsFault event what = Unit {0}
 
 pub what_latest : (shape : Shape) (shown : List Bytes) (n : Notes) (event : Event) (what : What) (read : List Bytes) → ReadsRightly shape n event what read → IsFault event what → AllLatest n.doings → AllLatest (noted_what shape shown n event what read).doings
-what_latest shape shown n (Start a job) Started read r fails all = put_latest (starting n job).doings a (begun n job) (starting_latest n job all) (λ i d l. absurd (omega (arith, l)))
+what_latest shape shown n (Start a job) Started read r fails all = put_latest (starting n job).doings a (begun n (begun_as job)) (starting_latest n job all) (λ i d l. absurd (omega (arith, l)))
 what_latest shape shown n (Step a) (Stepped next got) read r fails all = step_latest shape shown n a (slice_get n.doings a) next got read refl all (λ doing step noted is. by step doing got noted is)
   where
     by : (step : DeviceStep) (doing : Doing) (got' : Got) → slice_get n.doings a ≡ Some (Some doing) → next ≡ Device step → GivenIf shape n doing.job step got read

@@ -26,6 +26,12 @@ mod Promise
 mod Carrying
 mod Owned
 mod Migrations
+mod Migrating
+mod Seen
+mod Plans
+mod Alike
+mod Come
+mod Staging
 mod Seeing
 mod Carried
 mod Placed

@@ -69,6 +69,6 @@ module _ (P A : Type 0) (shape : Shape) (images : Images) (devices : Devices (Li
         by_at (inl s) = by_stage s.total s.left s.stage s.phase_is s.read (next ∙ ap want s.is)
         by_at (inr over) = absurd (over.refused (let same : End Finished ≡ End plan.answer = next ∙ ap (λ (ws : List Want). first_step ws plan.answer) over.nothing in let is : Finished ≡ plan.answer = cc in sym is))
 
-    pub opening_keeps : (answer : Answer) (chosen : Chosen P A) → End answer ≡ want plan → Gives shape w (Open opened_in) (End answer) got read chosen → Then answer (phase_then {P = P} {A = A} shape (Opens mode reading) (End answer) got chosen)
+    pub opening_keeps : (answer : Answer) (chosen : Chosen P A) → End answer ≡ want plan → Gives shape w x (Open opened_in) (End answer) got read chosen → Then answer (phase_then {P = P} {A = A} shape (Opens mode reading) (End answer) got chosen)
     opening_keeps Finished chosen next g = finished chosen next g.2
     opening_keeps (Refuses refusal) chosen next g = subst (λ (c : Chosen P A). Then (Refuses refusal) (phase_opened shape mode reading c)) (sym g.0.1) (no_orders (Refuses refusal))

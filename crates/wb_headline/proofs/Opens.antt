@@ -1,5 +1,5 @@
 -- Whatever step an opening takes, done or failing, it is followed.
-use Rattle.std.proofs.Common.{◌≡◌, ◌≢◌, ◌∙◌, ◌⊎◌, inl, inr, ℕ, Bool, true, false, List, [], ◌∷◌, Option, Some, None, refl, sym, ap, subst, length, slice_get, slice_set}
+use Rattle.std.proofs.Common.{◌≡◌, ◌≢◌, ◌∙◌, ◌⊎◌, inl, inr, ℕ, Bool, true, false, List, [], ◌∷◌, Option, Some, None, refl, sym, ap, subst, length, slice_get, slice_set, arith, Contains}
 use Rattle.wb_types.specs.declared.mode.Mode.{Mode}
 use Rattle.wb_types.specs.declared.mode.Mode.TheVariants.{Writeback}
 use Rattle.wb_types.specs.declared.mode.Dev.TheVariants.{Metadata, Cache, Origin}
@@ -32,15 +32,18 @@ use Rattle.wb_runs.proofs.Underway.{sync_does, sync_fails, put_fails}
 use Rattle.wb_runs.proofs.Metadata.{MetadataKept}
 use Rattle.wb_runs.proofs.Linking.{AtPhase}
 use Rattle.wb_link.specs.Openings.{Phase as PhaseThere, Opens as OpensThere, Stage, Settling, Caching, Basing, Looking, Rooting, Renewing, Answering}
-use Rattle.wb_headline.proofs.Following.{opening_at, HasReadAt, AtStage, IsOver, Followed, Goes}
+use Rattle.wb_headline.proofs.Following.{NoneIsSeen, opening_at, HasReadAt, AtStage, IsOver, Followed, Goes}
 use Rattle.wb_headline.proofs.Opening.{settle_done, settle_fails, cache_done, cache_fails, origin_done, origin_fails, looks, look_fails, root_done, root_fails, renew_done, renew_fails}
-use Rattle.wb_headline.proofs.Opened.{refused_goes, opened_goes, shows}
+use Rattle.wb_headline.proofs.Keeping.{NoOrders}
+use Rattle.wb_headline.proofs.Kept.{none_goes}
+use Rattle.wb_headline.proofs.Opened.{at_first, refused_goes, opened_goes, shows}
+use Rattle.wb_policy.specs.declared.order.Order.{Order}
 
 module _ (P A : Type 0) (shape : Shape) (images : Images) (devices : Devices (List History)) (commit : Option RunningCommit) (mode : Mode) (reading : Option (ReadSteps A)) (actors : List Actor) (n : Notes) where
   abbrev w : State P A
   w = record { devices = devices; commit = commit; phase = Opens mode reading; actors = actors }
 
-  module _ (known : MetadataKept {P = P} {A = A} shape.geometry images (Opens mode reading) commit devices.metadata) (f : Followed P A shape images w n) (alone : AtPhase {P = P} {A = A} (Opens mode reading) actors) (a : ℕ) (x : Actor) (ex : slice_get actors a ≡ Some x) (opened_in : Mode) (doing : Doing) (job_is : doing.job ≡ Open opened_in)
+  module _ (known : MetadataKept {P = P} {A = A} shape.geometry images (Opens mode reading) commit devices.metadata) (f : Followed P A shape images w n) (alone : AtPhase {P = P} {A = A} (Opens mode reading) actors) (none : NoOrders actors) (a : ℕ) (x : Actor) (ex : slice_get actors a ≡ Some x) (opened_in : Mode) (doing : Doing) (job_is : doing.job ≡ Open opened_in)
       (cache_size : length devices.cache ≡ cache_sector_count shape) (origin_size : length devices.origin ≡ sector_count shape) where
     -- what a step leads to, and what it shows
     abbrev Done_by : Job → List Bytes → Want → Got → List Bytes → Chosen P A → Type 0
@@ -52,7 +55,7 @@ module _ (P A : Type 0) (shape : Shape) (images : Images) (devices : Devices (Li
         (noted_step shape (shown shape (stepped shape w a x next Fault chosen (λ step. device_failed (lands (device_of step) choice) job buffer step chosen))) n a (Some (Some doing)) next Fault read)
 
     module _ (total left : ℕ) (job : Job) (buffer : List Bytes) (got : Got) (read : List Bytes) (chosen : Chosen P A) where
-      by_stage : (stage : Stage) → f.site.phase ≡ OpensThere Writeback stage → HasReadAt stage reading commit f.phase.later → x.task ≡ Some (Open opened_in, opening_at total left stage) → Gives shape w (Open opened_in) (want (opening_at total left stage)) got read chosen → Done_by job buffer (want (opening_at total left stage)) got read chosen
+      by_stage : (stage : Stage) → f.site.phase ≡ OpensThere Writeback stage → HasReadAt stage reading commit f.phase.later → x.task ≡ Some (Open opened_in, opening_at total left stage) → Gives shape w x (Open opened_in) (want (opening_at total left stage)) got read chosen → Done_by job buffer (want (opening_at total left stage)) got read chosen
       by_stage Settling ph rd xt g = subst (λ (v : Got). Done_by job buffer (Device (Sync Metadata)) v read chosen) (sym g.1)
           (settle_done P A shape images devices commit mode reading actors n known f alone a x ex opened_in [] doing job_is total left ph rd xt read chosen g.2)
       by_stage Caching ph rd xt g = subst (λ (v : Got). Done_by job buffer (Device (Sync Cache)) v read chosen) (sym g.1)
@@ -76,9 +79,14 @@ module _ (P A : Type 0) (shape : Shape) (images : Images) (devices : Devices (Li
           (renew_done P A shape images devices commit mode reading actors n known f alone a x ex opened_in [] doing job_is total left i ph rd xt (synced devices.metadata) read (sync_does rd.0.running.image rd.0.running.steps devices.metadata s.0)))
       by_stage (Answering i) ph rd xt g = by_chosen chosen g.2
         where
+          none_seen : NoneIsSeen at_first (slice_set actors a (actor_then {P = P} {A = A} shape (Opens mode reading) devices x (End Finished) got))
+          none_seen b z e o h = absurd (
+              let k = subst (λ (os : List Order). Contains os o) (none_goes P A shape (Opens mode reading) devices actors a x (End Finished) got ex none b z e).1 h in
+              omega (arith, k.1))
+
           over_reading : (policy : P) → is_all_done commit ≡ true → Done_by job buffer (End Finished) got read (Opened policy)
           over_reading policy done =
-              let o = opened_goes P A shape images devices commit mode reading actors n known f alone a x ex opened_in (opening_at total left (Answering i)) xt got i ph rd policy done cache_size origin_size in
+              let o = opened_goes P A shape images devices commit mode reading actors n known f alone a x ex opened_in (opening_at total left (Answering i)) xt got i ph rd policy done cache_size origin_size (λ b z e o h. none_seen b z e o h) in
               let Then : Option (ReadSteps A) → Job → Type 0 = λ r j. Goes P A shape (record { devices = devices; commit = None; phase = phase_opened shape mode r (Opened policy); actors = slice_set actors a (actor_then {P = P} {A = A} shape (Opens mode reading) devices x (End Finished) got) })
               (Rattle.wb_runs.specs.Clerk.finished_note n a doing j (shown_in shape devices (phase_opened shape mode r (Opened policy)))) in
               subst (λ (j : Job). Then reading j) (sym job_is) (subst (λ (r : Option (ReadSteps A)). Then r (Open opened_in)) (sym rd.0.reading_is) o)
@@ -118,14 +126,14 @@ module _ (P A : Type 0) (shape : Shape) (images : Images) (devices : Devices (Li
     -- ---- whatever it is at
 
     module _ (plan : Plan) (xt : x.task ≡ Some (Open opened_in, plan)) (job : Job) (buffer : List Bytes) where
-      pub opening_steps : (next : Want) (got : Got) (read : List Bytes) (chosen : Chosen P A) → next ≡ want plan → Gives shape w (Open opened_in) next got read chosen → Done_by job buffer next got read chosen
+      pub opening_steps : (next : Want) (got : Got) (read : List Bytes) (chosen : Chosen P A) → next ≡ want plan → Gives shape w x (Open opened_in) next got read chosen → Done_by job buffer next got read chosen
       opening_steps next got read chosen e g = by_at (f.phase.each a x (Open opened_in) plan ex xt)
         where
           -- it has only to answer, refused
           answers : IsOver plan f.site.phase → (answer : Answer) → plan.answer ≡ answer → next ≡ End answer → Done_by job buffer next got read chosen
           answers over Finished ea en = absurd (over.refused ea)
           answers over (Refuses refusal) ea en =
-              let g' = subst (λ (v : Want). Gives shape w (Open opened_in) v got read chosen) en g in
+              let g' = subst (λ (v : Want). Gives shape w x (Open opened_in) v got read chosen) en g in
               subst (λ (v : Want). Done_by job buffer v got read chosen) (sym en) (subst (λ (c : Chosen P A). Done_by job buffer (End (Refuses refusal)) got read c) (sym g'.0.1)
               (refused_goes P A shape images devices commit mode reading actors n known f alone a x ex opened_in plan xt got refusal over))
 
@@ -133,7 +141,7 @@ module _ (P A : Type 0) (shape : Shape) (images : Images) (devices : Devices (Li
           by_at (inl s) =
               let en : next ≡ want (opening_at s.total s.left s.stage) = e ∙ ap want s.is in
               subst (λ (v : Want). Done_by job buffer v got read chosen) (sym en) (by_stage s.total s.left job buffer got read chosen s.stage s.phase_is s.read (xt ∙ ap (λ (p : Plan). Some (Open opened_in, p)) s.is)
-              (subst (λ (v : Want). Gives shape w (Open opened_in) v got read chosen) en g))
+              (subst (λ (v : Want). Gives shape w x (Open opened_in) v got read chosen) en g))
           by_at (inr over) = answers over plan.answer refl (e ∙ ap (λ (ws : List Want). first_step ws plan.answer) over.nothing)
 
       pub opening_faults : (choice : Choice) (next : Want) (read : List Bytes) (chosen : Chosen P A) → next ≡ want plan → Falters w choice next chosen → Failed_by choice job buffer next read chosen

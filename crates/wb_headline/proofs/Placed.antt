@@ -37,13 +37,13 @@ use Rattle.wb_tasks.specs.declared.step.Got.{Got}
 use Rattle.wb_tasks.specs.declared.step.Got.TheVariants.{Done, Fault}
 use Rattle.wb_refines.specs.Translation.{location_at, number_of}
 use Rattle.wb_runs.specs.declared.job.Job.{Job}
-use Rattle.wb_runs.specs.declared.job.Job.TheVariants.{Read, Write, Flush, Open, Migrate}
+use Rattle.wb_runs.specs.declared.job.Job.TheVariants.{Read, Write, Flush, Open, Migrate, Replace}
 use Rattle.wb_runs.specs.declared.event.Event.{Event}
 use Rattle.wb_runs.specs.declared.event.Event.TheVariants.{Start, Step, FaultStep, Stop}
 use Rattle.wb_runs.specs.declared.event.What.{What}
 use Rattle.wb_runs.specs.declared.event.What.TheVariants.{Skipped, Refused, Started, Stepped, Stopped}
 use Rattle.wb_runs.specs.States.{Shape, State, Actor, Phase, Stands, Gone, Opens, OfTarget, block_size}
-use Rattle.wb_runs.specs.Happenings.{Chosen, OfSome, Gives, Falters, MayFailAt, MayBe, block_range, task_job}
+use Rattle.wb_runs.specs.Happenings.{Chosen, OfSome, Gives, Falters, MayFailAt, MayBe, begun_as, block_range, task_job}
 use Rattle.wb_runs.specs.Effects.{actor_then, task_then, card_then, stepped, with_actor, cleared, given, phase_given, started, job_of, cut_of, device_done, device_failed, all_resting, after_what}
 use Rattle.wb_runs.specs.Holding.{TaskSuits}
 use Rattle.wb_runs.proofs.Lists.{rests}
@@ -258,6 +258,7 @@ module _ (P A : Type 0) (shape : Shape) where
   other_job Flush plan card n = tt
   other_job (Open mode) plan card n = tt
   other_job (Migrate migration block) plan card n = tt
+  other_job (Replace old new) plan card n = tt
 
   no_write : (job : Job) (plan : Plan) (card : Card) (next : Want) (got : Got) → ((extent : Extent) (content : Bytes) → job ≡ Write extent content → ⊥) → TaskPlaced (block_size shape) card (task_then (Some (job, plan)) next got)
   no_write job plan card (End answer) got n = tt
@@ -287,7 +288,7 @@ module _ (P A : Type 0) (shape : Shape) where
       same_card Gone step = refl
       same_card (Opens mode reading) step = refl
 
-      write_on : (next : Want) (got : Got) (read : List Bytes) (chosen : Chosen P A) → next ≡ want plan → Gives shape w (Write extent content) next got read chosen → At (Write extent content) next got
+      write_on : (next : Want) (got : Got) (read : List Bytes) (chosen : Chosen P A) → next ≡ want plan → Gives shape w x (Write extent content) next got read chosen → At (Write extent content) next got
       write_on (End answer) got read chosen e g = tt
       write_on (Cell step) got read chosen e g = on_cell w.phase step got e g.1
       write_on (Device (WriteExtent d ext)) got read chosen e g =
@@ -311,12 +312,13 @@ module _ (P A : Type 0) (shape : Shape) where
       write_fault choice (Desk step) e m = absurd m
       write_fault choice (End answer) e m = absurd m
 
-    job_on : (job : Job) → x.task ≡ Some (job, plan) → (next : Want) (got : Got) (read : List Bytes) (chosen : Chosen P A) → next ≡ want plan → Gives shape w job next got read chosen → At job next got
+    job_on : (job : Job) → x.task ≡ Some (job, plan) → (next : Want) (got : Got) (read : List Bytes) (chosen : Chosen P A) → next ≡ want plan → Gives shape w x job next got read chosen → At job next got
     job_on (Write extent content) xt next got read chosen e g = write_on extent content xt next got read chosen e g
     job_on (Read extent) xt next got read chosen e g = no_write (Read extent) plan (card_then shape w.phase x.card next) next got (λ ex c s. absurd (cc))
     job_on Flush xt next got read chosen e g = no_write Flush plan (card_then shape w.phase x.card next) next got (λ ex c s. absurd (cc))
     job_on (Open mode) xt next got read chosen e g = no_write (Open mode) plan (card_then shape w.phase x.card next) next got (λ ex c s. absurd (cc))
     job_on (Migrate migration block) xt next got read chosen e g = no_write (Migrate migration block) plan (card_then shape w.phase x.card next) next got (λ ex c s. absurd (cc))
+    job_on (Replace old new) xt next got read chosen e g = no_write (Replace old new) plan (card_then shape w.phase x.card next) next got (λ ex c s. absurd (cc))
 
     job_fault : (job : Job) → x.task ≡ Some (job, plan) → (choice : Choice) (next : Want) → next ≡ want plan → MayFailAt w.devices choice next → At job next Fault
     job_fault (Write extent content) xt choice next e m = write_fault extent content xt choice next e m
@@ -324,6 +326,7 @@ module _ (P A : Type 0) (shape : Shape) where
     job_fault Flush xt choice next e m = no_write Flush plan (card_then shape w.phase x.card next) next Fault (λ ex c s. absurd (cc))
     job_fault (Open mode) xt choice next e m = no_write (Open mode) plan (card_then shape w.phase x.card next) next Fault (λ ex c s. absurd (cc))
     job_fault (Migrate migration block) xt choice next e m = no_write (Migrate migration block) plan (card_then shape w.phase x.card next) next Fault (λ ex c s. absurd (cc))
+    job_fault (Replace old new) xt choice next e m = no_write (Replace old new) plan (card_then shape w.phase x.card next) next Fault (λ ex c s. absurd (cc))
 
   abbrev Placed : State P A → Type 0
   Placed w = AllPlaced (block_size shape) w.actors
@@ -337,12 +340,12 @@ module _ (P A : Type 0) (shape : Shape) where
         TaskPlaced (block_size shape) (card_then shape w.phase x.card next) (task_then (Some task) next got) → Placed (stepped shape w a x next got chosen change)
     goes a x task next got chosen change xt here = set_placed (block_size shape) w.actors a (actor_then shape w.phase w.devices x next got) (subst (λ (t : Option (Job × Plan)). TaskPlaced (block_size shape) (card_then shape w.phase x.card next) (task_then t next got)) (sym xt) here) all
 
-    steps : (a : ℕ) (next : Want) (got : Got) (read : List Bytes) (chosen : Chosen P A) (o : Option Actor) → slice_get w.actors a ≡ o → OfSome o (λ x. OfSome x.task (λ doing. (next ≡ want doing.1) × Gives shape w doing.0 next got read chosen)) →
+    steps : (a : ℕ) (next : Want) (got : Got) (read : List Bytes) (chosen : Chosen P A) (o : Option Actor) → slice_get w.actors a ≡ o → OfSome o (λ x. OfSome x.task (λ doing. (next ≡ want doing.1) × Gives shape w x doing.0 next got read chosen)) →
         Placed (with_actor w o (λ x. stepped shape w a x next got chosen (λ step. device_done (job_of x.task) x.buffer step chosen)))
     steps a next got read chosen None e h = absurd h
     steps a next got read chosen (Some x) e h = by_task x.task refl h
       where
-        by_task : (t : Option (Job × Plan)) → x.task ≡ t → OfSome t (λ doing. (next ≡ want doing.1) × Gives shape w doing.0 next got read chosen) → Placed (stepped shape w a x next got chosen (λ step. device_done (job_of x.task) x.buffer step chosen))
+        by_task : (t : Option (Job × Plan)) → x.task ≡ t → OfSome t (λ doing. (next ≡ want doing.1) × Gives shape w x doing.0 next got read chosen) → Placed (stepped shape w a x next got chosen (λ step. device_done (job_of x.task) x.buffer step chosen))
         by_task None xt h = absurd h
         by_task (Some task) xt h = goes a x task next got chosen (λ step. device_done (job_of x.task) x.buffer step chosen) xt (job_on w a x e all task.1 (suited a x task e xt) task.0 xt next got read chosen h.0 h.1)
 
@@ -356,12 +359,13 @@ module _ (P A : Type 0) (shape : Shape) where
         by_task (Some task) xt h = goes a x task next Fault chosen (λ step. device_failed (lands (device_of step) choice) (job_of x.task) x.buffer step chosen) xt (job_fault w a x e all task.1 (suited a x task e xt) task.0 xt choice next h.0 h.1)
 
     -- who starts has its table
-    table_placed : (job : Job) (x : Actor) (chosen : Chosen P A) → TaskPlaced (block_size shape) x.card (Some (job, table (task_job shape job (cut_of chosen))))
+    table_placed : (job : Job) (x : Actor) (chosen : Chosen P A) → TaskPlaced (block_size shape) x.card (Some (begun_as job, table (task_job shape x.awaiting job (cut_of chosen))))
     table_placed (Write extent content) x chosen = record { part = block_range shape extent (cut_of chosen); job = refl; sized = refl; at = inl tt }
     table_placed (Read extent) x chosen = tt
     table_placed Flush x chosen = tt
     table_placed (Open mode) x chosen = tt
     table_placed (Migrate migration block) x chosen = tt
+    table_placed (Replace old new) x chosen = tt
 
     clear : (job : Job) → Placed (cleared w job)
     clear (Open mode) = rest_placed (block_size shape) w.actors
@@ -369,6 +373,7 @@ module _ (P A : Type 0) (shape : Shape) where
     clear (Write extent content) = all
     clear Flush = all
     clear (Migrate migration block) = all
+    clear (Replace old new) = all
 
     starts : (a : ℕ) (job : Job) (chosen : Chosen P A) → Placed (started shape w a job chosen)
     starts a job chosen = by_actor (slice_get (cleared w job).actors a)

@@ -20,7 +20,7 @@ use Rattle.wb_tasks.specs.declared.step.Got.TheVariants.{Done}
 use Rattle.wb_devices.specs.declared.devices.Devices.{Devices}
 use Rattle.wb_devices.specs.declared.running.RunningCommit.{RunningCommit}
 use Rattle.wb_runs.specs.declared.job.Job.{Job}
-use Rattle.wb_runs.specs.declared.job.Job.TheVariants.{Read, Write, Flush, Open, Migrate}
+use Rattle.wb_runs.specs.declared.job.Job.TheVariants.{Read, Write, Flush, Open, Migrate, Replace}
 use Rattle.wb_runs.specs.declared.event.Event.{Event}
 use Rattle.wb_runs.specs.declared.event.Event.TheVariants.{Start, Step, FaultStep, Stop}
 use Rattle.wb_runs.specs.declared.event.What.{What}
@@ -50,27 +50,29 @@ module _ (P A : Type 0) (shape : Shape) where
   -- ---- reads
 
   read_by_phase : (devices : Devices (List History)) (commit : Option RunningCommit) (phase : Phase P A) (actors : List Actor) (n : Notes) → Whole P A shape (record { devices = devices; commit = commit; phase = phase; actors = actors }) n → (a : ℕ) (x : Actor) (job : Job) (plan : Plan) → slice_get actors a ≡ Some x → x.task ≡ Some (job, plan) →
-      (d : Noted shape job plan (slice_get n.doings a)) (device : Dev) (e : Extent) (read : List Bytes) (chosen : Chosen P A) → Device (ReadExtent device e) ≡ want plan → Gives shape (record { devices = devices; commit = commit; phase = phase; actors = actors }) job (Device (ReadExtent device e)) Done read chosen → GivesLatest shape n job e read
+      (d : Noted shape job plan (slice_get n.doings a)) (device : Dev) (e : Extent) (read : List Bytes) (chosen : Chosen P A) → Device (ReadExtent device e) ≡ want plan → Gives shape (record { devices = devices; commit = commit; phase = phase; actors = actors }) x job (Device (ReadExtent device e)) Done read chosen → GivesLatest shape n job e read
   read_by_phase devices commit (Stands t) actors n b a x (Read extent) plan ex xt d device e read chosen next g =
       given_latest P A shape b.goes.images t commit devices actors n b.goes.known b.goes.followed b.used.here b.used.suited a x ex plan (subst (λ (o : Option (Job × Plan)). TaskSuits shape.geometry.origin_blocks x.card o) xt (b.used.suited a x ex)) d.doing d.is extent xt d.job_is d.claim device e next g.0 read g.3 g.4
   read_by_phase devices commit (Stands t) actors n b a x (Migrate migration block) plan ex xt d device e read chosen next g = g.1.0
   read_by_phase devices commit (Stands t) actors n b a x (Write extent content) plan ex xt d device e read chosen next g = absurd g
   read_by_phase devices commit (Stands t) actors n b a x Flush plan ex xt d device e read chosen next g = absurd g
   read_by_phase devices commit (Stands t) actors n b a x (Open mode) plan ex xt d device e read chosen next g = absurd g
+  read_by_phase devices commit (Stands t) actors n b a x (Replace old new) plan ex xt d device e read chosen next g = absurd g
   read_by_phase devices commit Gone actors n b a x job plan ex xt d device e read chosen next g = absurd (subst (λ (o : Option (Job × Plan)). TaskHere {P = P} {A = A} Gone o) xt (b.linked.here a x ex))
   read_by_phase devices commit (Opens mode reading) actors n b a x job plan ex xt d device e read chosen next g = by_job job (subst (λ (o : Option (Job × Plan)). TaskHere {P = P} {A = A} (Opens mode reading) o) xt (b.linked.here a x ex)) g
     where
-      by_job : (job : Job) → InPhase {P = P} {A = A} (Opens mode reading) job → Gives shape (record { devices = devices; commit = commit; phase = Opens mode reading; actors = actors }) job (Device (ReadExtent device e)) Done read chosen → GivesLatest shape n job e read
+      by_job : (job : Job) → InPhase {P = P} {A = A} (Opens mode reading) job → Gives shape (record { devices = devices; commit = commit; phase = Opens mode reading; actors = actors }) x job (Device (ReadExtent device e)) Done read chosen → GivesLatest shape n job e read
       by_job (Open m) h g = absurd g
       by_job (Read extent) h g = absurd h
       by_job (Write extent content) h g = absurd h
       by_job Flush h g = absurd h
       by_job (Migrate migration block) h g = absurd h
+      by_job (Replace old new) h g = absurd h
 
   -- ---- what an opening shows
 
   shows_by_phase : (devices : Devices (List History)) (commit : Option RunningCommit) (phase : Phase P A) (actors : List Actor) (n : Notes) → Whole P A shape (record { devices = devices; commit = commit; phase = phase; actors = actors }) n → (a : ℕ) (x : Actor) (opened_in : Mode) (plan : Plan) → slice_get actors a ≡ Some x → x.task ≡ Some (Open opened_in, plan) →
-      (got : Got) (read : List Bytes) (chosen : Chosen P A) → End Finished ≡ want plan → Gives shape (record { devices = devices; commit = commit; phase = phase; actors = actors }) (Open opened_in) (End Finished) got read chosen → ShowsAllowed n (shown_in shape devices (phase_then shape phase (End Finished) got chosen))
+      (got : Got) (read : List Bytes) (chosen : Chosen P A) → End Finished ≡ want plan → Gives shape (record { devices = devices; commit = commit; phase = phase; actors = actors }) x (Open opened_in) (End Finished) got read chosen → ShowsAllowed n (shown_in shape devices (phase_then shape phase (End Finished) got chosen))
   shows_by_phase devices commit (Stands t) actors n b a x opened_in plan ex xt got read chosen next g = absurd (subst (λ (o : Option (Job × Plan)). TaskHere {P = P} {A = A} (Stands t) o) xt (b.linked.here a x ex))
   shows_by_phase devices commit Gone actors n b a x opened_in plan ex xt got read chosen next g = absurd (subst (λ (o : Option (Job × Plan)). TaskHere {P = P} {A = A} Gone o) xt (b.linked.here a x ex))
   shows_by_phase devices commit (Opens mode reading) actors n b a x opened_in plan ex xt got read chosen next g = by_at (f.phase.each a x (Open opened_in) plan ex xt)
@@ -100,11 +102,11 @@ module _ (P A : Type 0) (shape : Shape) where
     noted_for : (x : Actor) (job : Job) (plan : Plan) → slice_get w.actors a ≡ Some x → x.task ≡ Some (job, plan) → Noted shape job plan (slice_get n.doings a)
     noted_for x job plan e xt = noted_of shape job plan (slice_get n.doings a) (subst (λ (t : Option (Job × Plan)). TaskClaim shape t (slice_get n.doings a)) xt (b.linked.claims a x e))
 
-    read_rightly : (device : Dev) (ext : Extent) (read : List Bytes) (chosen : Chosen P A) (o : Option Actor) → slice_get w.actors a ≡ o → OfSome o (λ x. OfSome x.task (λ doing. (Device (ReadExtent device ext) ≡ want doing.1) × Gives shape w doing.0 (Device (ReadExtent device ext)) Done read chosen)) → IsGiven shape n (slice_get n.doings a) ext read
+    read_rightly : (device : Dev) (ext : Extent) (read : List Bytes) (chosen : Chosen P A) (o : Option Actor) → slice_get w.actors a ≡ o → OfSome o (λ x. OfSome x.task (λ doing. (Device (ReadExtent device ext) ≡ want doing.1) × Gives shape w x doing.0 (Device (ReadExtent device ext)) Done read chosen)) → IsGiven shape n (slice_get n.doings a) ext read
     read_rightly device ext read chosen None e h = absurd h
     read_rightly device ext read chosen (Some x) e h = by_task x.task refl h
       where
-        by_task : (t : Option (Job × Plan)) → x.task ≡ t → OfSome t (λ doing. (Device (ReadExtent device ext) ≡ want doing.1) × Gives shape w doing.0 (Device (ReadExtent device ext)) Done read chosen) → IsGiven shape n (slice_get n.doings a) ext read
+        by_task : (t : Option (Job × Plan)) → x.task ≡ t → OfSome t (λ doing. (Device (ReadExtent device ext) ≡ want doing.1) × Gives shape w x doing.0 (Device (ReadExtent device ext)) Done read chosen) → IsGiven shape n (slice_get n.doings a) ext read
         by_task None xt h = absurd h
         by_task (Some task) xt h =
             let d = noted_for x task.0 task.1 e xt in
@@ -113,12 +115,12 @@ module _ (P A : Type 0) (shape : Shape) where
 
     -- ---- what an opening shows
 
-    open_rightly : (got : Got) (read : List Bytes) (chosen : Chosen P A) (o : Option Actor) → slice_get w.actors a ≡ o → OfSome o (λ x. OfSome x.task (λ doing. (End Finished ≡ want doing.1) × Gives shape w doing.0 (End Finished) got read chosen)) →
+    open_rightly : (got : Got) (read : List Bytes) (chosen : Chosen P A) (o : Option Actor) → slice_get w.actors a ≡ o → OfSome o (λ x. OfSome x.task (λ doing. (End Finished ≡ want doing.1) × Gives shape w x doing.0 (End Finished) got read chosen)) →
         ShowsRightly n (shown shape (with_actor w o (λ x. stepped shape w a x (End Finished) got chosen (λ step. device_done (job_of x.task) x.buffer step chosen)))) (slice_get n.doings a)
     open_rightly got read chosen None e h = absurd h
     open_rightly got read chosen (Some x) e h = by_task x.task refl h
       where
-        by_task : (t : Option (Job × Plan)) → x.task ≡ t → OfSome t (λ doing. (End Finished ≡ want doing.1) × Gives shape w doing.0 (End Finished) got read chosen) →
+        by_task : (t : Option (Job × Plan)) → x.task ≡ t → OfSome t (λ doing. (End Finished ≡ want doing.1) × Gives shape w x doing.0 (End Finished) got read chosen) →
             ShowsRightly n (shown shape (stepped shape w a x (End Finished) got chosen (λ step. device_done (job_of x.task) x.buffer step chosen))) (slice_get n.doings a)
         by_task None xt h = absurd h
         by_task (Some task) xt h =
@@ -126,12 +128,13 @@ module _ (P A : Type 0) (shape : Shape) where
             subst (λ (v : Option (Option Doing)). ShowsRightly n (shown_in shape w.devices (phase_then shape w.phase (End Finished) got chosen)) v) (sym d.is) (subst (λ (j : Job). ShownBy n (shown_in shape w.devices (phase_then shape w.phase (End Finished) got chosen)) j) (sym d.job_is)
             (by_job task.0 task.1 xt h.0 h.1))
           where
-            by_job : (job : Job) (plan : Plan) → x.task ≡ Some (job, plan) → End Finished ≡ want plan → Gives shape w job (End Finished) got read chosen → ShownBy n (shown_in shape w.devices (phase_then shape w.phase (End Finished) got chosen)) job
+            by_job : (job : Job) (plan : Plan) → x.task ≡ Some (job, plan) → End Finished ≡ want plan → Gives shape w x job (End Finished) got read chosen → ShownBy n (shown_in shape w.devices (phase_then shape w.phase (End Finished) got chosen)) job
             by_job (Open m) plan xt next g = shows_by_phase w.devices w.commit w.phase w.actors n b a x m plan e xt got read chosen next g
             by_job (Read extent) plan xt next g = tt
             by_job (Write extent content) plan xt next g = tt
             by_job Flush plan xt next g = tt
             by_job (Migrate migration block) plan xt next g = tt
+            by_job (Replace old new) plan xt next g = tt
 
   -- ---- one happening
 
@@ -187,6 +190,7 @@ module _ (P A : Type 0) (shape : Shape) where
       by_job (Write extent content) (Refuses refusal) c r s = tt
       by_job Flush answer c r s = tt
       by_job (Migrate migration block) answer c r s = tt
+      by_job (Replace old new) answer c r s = tt
   right_doing n shown_now (Some None) answer latest covers refuses _ = absurd covers
   right_doing n shown_now None answer latest covers refuses _ = absurd covers
 

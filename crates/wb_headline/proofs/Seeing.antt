@@ -1,7 +1,9 @@
 -- Where a desk has a block, and what its live orders say of that: a seal that tells it tells where an order has the block, and what is
 -- written there is beside other orders.
-use Rattle.std.proofs.Common.{◌≡◌, ◌∙◌, ◌<◌, ◌/◌, inl, inr, ℕ, zero, suc, List, [], ◌∷◌, Option, Some, None, refl, sym, ap, subst, arith, IsSome, length, slice_get, slice_index_or}
+use Rattle.std.proofs.Common.{◌≡◌, ◌∙◌, ◌<◌, ◌/◌, inl, inr, ℕ, zero, suc, List, [], ◌∷◌, Option, Some, None, refl, sym, ap, subst, arith, IsSome, length, slice_get, slice_set, slice_index_or}
+use Rattle.std.proofs.lemmas.List.{length-map}
 use Rattle.std.proofs.lemmas.Option.{get_or_from_slice_get}
+use Rattle.wb_types.proofs.Lists.{set_cases}
 use Rattle.wb_types.specs.declared.entry.Entry.{Entry}
 use Rattle.wb_types.specs.declared.extent.Extent.{Extent}
 use Rattle.wb_types.specs.declared.mode.Dev.{Dev}
@@ -31,6 +33,7 @@ use Rattle.wb_simulation.specs.Laws.{IsFrom, IsBesideOrders}
 use Rattle.wb_simulation.specs.Migrating.{SealTells}
 use Rattle.wb_simulation.proofs.Opened.{found_at}
 use Rattle.wb_headline.specs.Desks.{order_of, orders_of, live_orders}
+use Rattle.wb_headline.specs.Seen.{Replacing, slot_seen, slots_seen}
 use Rattle.wb_headline.proofs.Desking.{StandsAlone, alone_there, none_from}
 
 -- ---- orders by cache block
@@ -52,6 +55,29 @@ slot_within [] zero l e = absurd (cc)
 slot_within [] (suc c) l e = absurd (cc)
 slot_within (s ∷ slots) zero l e = omega arith
 slot_within (s ∷ slots) (suc c) l e = let i = slot_within slots c l e in omega (arith, i)
+
+pub orders_set : (slots : List (Option LiveOrder)) (c : ℕ) (o : Option LiveOrder) → orders_of (slice_set slots c o) ≡ slice_set (orders_of slots) c (order_of o)
+orders_set [] zero o = refl
+orders_set [] (suc c) o = refl
+orders_set (s ∷ slots) zero o = refl
+orders_set (s ∷ slots) (suc c) o = ap (λ (os : List (Option Order)). order_of s ∷ os) (orders_set slots c o)
+
+pub vacant_there : (slots : List (Option LiveOrder)) (c : ℕ) → slice_get slots c ≡ Some None → slice_get (orders_of slots) c ≡ Some None
+vacant_there [] c e = absurd (cc)
+vacant_there (None ∷ slots) zero e = refl
+vacant_there (Some o ∷ slots) zero e = absurd (cc)
+vacant_there (s ∷ slots) (suc c) e = vacant_there slots c e
+
+pub orders_many : (slots : List (Option LiveOrder)) → length (orders_of slots) ≡ length slots
+orders_many [] = refl
+orders_many (s ∷ slots) = ap suc (orders_many slots)
+
+pub slots_many : (stages : ℕ → Replacing) (slots : List (Option LiveOrder)) → length (slots_seen stages (orders_of slots)) ≡ length slots
+slots_many stages slots = length-map (orders_of slots) (λ (s : Option Order). slot_seen stages s) ∙ orders_many slots
+
+-- no order lives where it is over
+pub over_there : (orders : List (Option Order)) (c : ℕ) (o : Order) → slice_get (slice_set orders c None) c ≡ Some (Some o) → ⊥
+over_there orders c o e = elim (set_cases orders c c None (Some o) e) [ inl i ↦ absurd (let bad = i.1 in cc) | inr n ↦ n.0 refl ]
 
 -- ---- blocks
 
@@ -92,33 +118,36 @@ module _ (P : Type 0) (desk : DeskState P) (kept : DeskInvariant unknowing desk)
       let at : IsMappedAt (holdings desk) b f.0 = there desk.tree.entries f.0 f.1 f.4 ∙ ap (λ (k : ℕ). Some (Some k)) f.5 in
       subst (λ (k : ℕ). IsMappedAt (holdings desk) b k) (let is = f.2 in omega (arith, is)) at
 
-  -- A seal that tells where the desk has a block tells where its order has it.
-  pub seal_tells_order : (words : Words) (migration : Migration) (block : OBlock) → number_of (place_in (word_at words.seals block)) ≡ place_of desk.tree.entries block.0 → SealTells words (live_orders desk) migration block
-  seal_tells_order words migration block told c e = by migration (named c.0 (order_for migration block) e)
-    where
-      where_is : (place : Option CBlock) → number_of place ≡ Some c.0 → place ≡ Some c
-      where_is None n = absurd (let bad : None ≡ Some c.0 = n in cc)
-      where_is (Some d) n = let both : Some d.0 ≡ Some c.0 = n in let same : d.0 ≡ c.0 = cc in (λ i. Some (record { 0 = same i }))
+  -- ---- orders that name what is
 
-      here : IsMappedAt (holdings desk) block.0 c.0 → place_in (word_at words.seals block) ≡ Some c
-      here at = where_is (place_in (word_at words.seals block)) (told ∙ stands_there block.0 c.0 at)
+  module _ (slots : List (Option Order)) (names : (c : ℕ) (o : Order) → slice_get slots c ≡ Some (Some o) → Names (holdings desk) (state desk.space.blocks c) c o) where
+    -- A seal that tells where the desk has a block tells where its order has it.
+    pub seal_tells_order : (words : Words) (migration : Migration) (block : OBlock) → number_of (place_in (word_at words.seals block)) ≡ place_of desk.tree.entries block.0 → SealTells words slots migration block
+    seal_tells_order words migration block told c e = by migration (names c.0 (order_for migration block) e)
+      where
+        where_is : (place : Option CBlock) → number_of place ≡ Some c.0 → place ≡ Some c
+        where_is None n = absurd (let bad : None ≡ Some c.0 = n in cc)
+        where_is (Some d) n = let both : Some d.0 ≡ Some c.0 = n in let same : d.0 ≡ c.0 = cc in (λ i. Some (record { 0 = same i }))
 
-      by : (m : Migration) → Names (holdings desk) (state desk.space.blocks c.0) c.0 (order_for m block) → IsWhere m c (place_in (word_at words.seals block))
-      by (Promote k) n = tt
-      by Demote n = here n
-      by Clean n = here n
+        here : IsMappedAt (holdings desk) block.0 c.0 → place_in (word_at words.seals block) ≡ Some c
+        here at = where_is (place_in (word_at words.seals block)) (told ∙ stands_there block.0 c.0 at)
 
-  -- What is written where the desk has a block is in no cache block out of which another one is copied.
-  pub beside_orders : (size : ℕ) (block : OBlock) (device : Dev) (e : Extent) → ((k : ℕ) → location_at size device e ≡ Some k → place_of desk.tree.entries block.0 ≡ Some k) → IsBesideOrders size (live_orders desk) block device e
-  beside_orders size block Origin e where_is = tt
-  beside_orders size block Metadata e where_is = tt
-  beside_orders size block Cache e where_is = λ c order live at. by c order (mapped_there block.0 c (where_is (e.first / size) refl ∙ ap (λ (k : ℕ). Some k) at)) (named c order live)
-    where
-      by : (c : ℕ) (order : Order) → IsMappedAt (holdings desk) block.0 c → Names (holdings desk) (state desk.space.blocks c) c order → IsFrom block order
-      by c (PromoteOrder b k) at n = tt
-      by c (Replace old x k) at n = elim n.2 [
-        | inl there ↦ same_block old block (one_there (holdings desk) old.0 block.0 c there at)
-        | inr gone ↦ absurd (subst (λ (v : Block). IsClaimed v) (get_or_from_slice_get desk.space.blocks c Mapped Free (mapped_state unknowing desk block.0 c kept at)) gone.1)
-      ]
-      by c (DemoteOrder b) at n = same_block b block (one_there (holdings desk) b.0 block.0 c n at)
-      by c (CleanOrder b) at n = same_block b block (one_there (holdings desk) b.0 block.0 c n at)
+        by : (m : Migration) → Names (holdings desk) (state desk.space.blocks c.0) c.0 (order_for m block) → IsWhere m c (place_in (word_at words.seals block))
+        by (Promote k) n = tt
+        by Demote n = here n
+        by Clean n = here n
+
+    -- What is written where the desk has a block is in no cache block out of which another one is copied.
+    pub beside_orders : (size : ℕ) (block : OBlock) (device : Dev) (e : Extent) → ((k : ℕ) → location_at size device e ≡ Some k → place_of desk.tree.entries block.0 ≡ Some k) → IsBesideOrders size slots block device e
+    beside_orders size block Origin e where_is = tt
+    beside_orders size block Metadata e where_is = tt
+    beside_orders size block Cache e where_is = λ c order live at. by c order (mapped_there block.0 c (where_is (e.first / size) refl ∙ ap (λ (k : ℕ). Some k) at)) (names c order live)
+      where
+        by : (c : ℕ) (order : Order) → IsMappedAt (holdings desk) block.0 c → Names (holdings desk) (state desk.space.blocks c) c order → IsFrom block order
+        by c (PromoteOrder b k) at n = tt
+        by c (Replace old x k) at n = elim n.2 [
+          | inl there ↦ same_block old block (one_there (holdings desk) old.0 block.0 c there at)
+          | inr gone ↦ absurd (subst (λ (v : Block). IsClaimed v) (get_or_from_slice_get desk.space.blocks c Mapped Free (mapped_state unknowing desk block.0 c kept at)) gone.1)
+        ]
+        by c (DemoteOrder b) at n = same_block b block (one_there (holdings desk) b.0 block.0 c n at)
+        by c (CleanOrder b) at n = same_block b block (one_there (holdings desk) b.0 block.0 c n at)

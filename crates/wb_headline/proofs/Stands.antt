@@ -35,7 +35,7 @@ use Rattle.wb_stage.specs.Stages.{is_all_done}
 use Rattle.wb_runs.specs.declared.job.Job.{Job}
 use Rattle.wb_runs.specs.declared.job.Job.TheVariants.{Read, Write, Flush, Open, Migrate}
 use Rattle.wb_runs.specs.States.{Shape, State, Actor, Target, Phase, Stands, with_device, block_size, sector_count}
-use Rattle.wb_runs.specs.Happenings.{Chosen, Plain, Cut, Orders, Begins, Reaches, Puts, Commits, Asks, Opened, Gives, Falters, MayFailAt, DoesPut, DoesSync, DoesBegin, FailsPut, FailsSync, LandedOr, sector_put, block_range}
+use Rattle.wb_runs.specs.Happenings.{Chosen, Plain, Cut, Orders, Begins, Reaches, Puts, Commits, Asks, Opened, Gives, Falters, MayFailAt, DoesPut, DoesSync, DoesBegin, DoesRelease, FailsPut, FailsSync, LandedOr, sector_put, block_range}
 use Rattle.wb_runs.specs.Effects.{device_done, device_failed, stepped, actor_then, put_by, led}
 use Rattle.wb_runs.specs.Holding.{cards_of, AllSuited}
 use Rattle.wb_runs.specs.Clerk.{Notes, Doing, noted_step}
@@ -50,10 +50,13 @@ use Rattle.wb_simulation.specs.Actors.{IsFlushAt}
 use Rattle.wb_simulation.specs.Laws.{IsBesideOrders}
 use Rattle.wb_simulation.proofs.Followed.{doing_of}
 use Rattle.wb_headline.specs.Desks.{live_orders}
+use Rattle.wb_headline.specs.Seen.{slots_seen}
+use Rattle.wb_runs.proofs.Owning.{Owned}
+use Rattle.wb_types.specs.declared.number.OBlock.{OBlock}
 use Rattle.wb_headline.proofs.Following.{size, most, Followed, Goes}
 use Rattle.wb_headline.proofs.Targets.{standing, beside}
 use Rattle.wb_headline.proofs.Requests.{on_words as request_words, reads, read_fails, writes, write_fails, answers as request_answers}
-use Rattle.wb_headline.proofs.Flushes.{syncs, sync_fails as data_sync_fails, node_done, sync_done, root_done, node_fails, metadata_sync_fails, root_fails, begins, begin_refused, ends, on_words as flush_words, answers as flush_answers}
+use Rattle.wb_headline.proofs.Flushes.{syncs, sync_fails as data_sync_fails, node_done, sync_done, root_done, node_fails, metadata_sync_fails, root_fails, begins, begin_refused, ends, on_words as flush_words, answers as flush_answers, gives_up, serving}
 
 same_device : (device : Dev) (devices : Devices (List History)) → HoldsBlocks device → with_device device devices (device_in device devices) ≡ devices
 same_device Cache devices h = refl
@@ -87,15 +90,15 @@ module _ (P A : Type 0) (shape : Shape) (images : Images) (t : Target P) (commit
     abbrev of_read : TaskJob
     of_read = OnBlock (ReadingPart (block_range shape extent claim.cut))
 
-    pub read_steps : (next : Want) (got : Got) (read : List Bytes) (chosen : Chosen P A) → next ≡ want plan → Gives shape w (Read extent) next got read chosen → Done_by (Read extent) next got read chosen
+    pub read_steps : (next : Want) (got : Got) (read : List Bytes) (chosen : Chosen P A) → next ≡ want plan → Gives shape w x (Read extent) next got read chosen → Done_by (Read extent) next got read chosen
     read_steps (Cell step) got read chosen e g = subst (λ (v : Got). Done_by (Read extent) (Cell step) v read chosen) (sym g.1)
         (request_words P A shape images t commit devices actors n known f rule all_suited a x ex (Read extent) plan xt suits [] doing noted job_is step tt e)
     read_steps (Device (ReadExtent d ex')) got read chosen e g = subst (λ (v : Got). Done_by (Read extent) (Device (ReadExtent d ex')) v read chosen) (sym g.2)
         (subst (λ (c : Chosen P A). Done_by (Read extent) (Device (ReadExtent d ex')) Done read c) (sym g.1)
         (subst (λ (ds : Devices (List History)). Goes P A shape (record { devices = ds; commit = commit; phase = Stands t; actors = slice_set actors a (actor_then {P = P} {A = A} shape (Stands t) devices x (Device (ReadExtent d ex')) Done) }) (noted_step shape [] n a (Some (Some doing)) (Device (ReadExtent d ex')) Done read)) (sym (same_device d devices g.0))
         (reads P A shape images t commit devices actors n known f rule all_suited a x ex [] doing noted extent plan xt suits job_is claim d ex' e g.0 read g.3 g.4)))
-    read_steps (End answer) got read chosen e g = subst (λ (c : Chosen P A). Done_by (Read extent) (End answer) got read c) (sym g.0.1)
-        (request_answers P A shape images t commit devices actors n known f rule all_suited a x ex _ doing noted (Read extent) tt plan xt suits job_is claim answer e got read)
+    read_steps (End answer) got read chosen e g = subst (λ (v : Got). Done_by (Read extent) (End answer) v read chosen) (sym g.1) (subst (λ (c : Chosen P A). Done_by (Read extent) (End answer) Done read c) (sym g.0.1)
+        (request_answers P A shape images t commit devices actors n known f rule all_suited a x ex _ doing noted (Read extent) tt plan xt suits job_is claim answer e read))
     read_steps (Device (WriteExtent d ex')) got read chosen e g = absurd g
     read_steps (Device (Sync d)) got read chosen e g = absurd (own of_read (Device (Sync d)) claim.is_job e)
     read_steps (Device (ReadMetadata k)) got read chosen e g = absurd (own of_read (Device (ReadMetadata k)) claim.is_job e)
@@ -119,17 +122,17 @@ module _ (P A : Type 0) (shape : Shape) (images : Images) (t : Target P) (commit
   -- ---- writes
 
   module _ (extent : Extent) (content : Bytes) (xt : x.task ≡ Some (Write extent content, plan)) (job_is : doing.job ≡ Write extent content) (claim : JobClaim shape (Write extent content) plan doing)
-      (beside_orders : (device : Dev) (e : Extent) → Device (WriteExtent device e) ≡ want plan → IsBesideOrders (size P A shape) (live_orders t.desk) (record { 0 = extent.first / block_size shape }) device e) where
+      (beside_orders : (device : Dev) (e : Extent) → Device (WriteExtent device e) ≡ want plan → IsBesideOrders (size P A shape) (slots_seen f.phase.stages (live_orders t.desk)) (record { 0 = extent.first / block_size shape }) device e) where
     abbrev of_write : TaskJob
     of_write = OnBlock (WritingPart (block_range shape extent claim.cut))
 
-    pub write_steps : (next : Want) (got : Got) (read : List Bytes) (chosen : Chosen P A) → next ≡ want plan → Gives shape w (Write extent content) next got read chosen → Done_by (Write extent content) next got read chosen
+    pub write_steps : (next : Want) (got : Got) (read : List Bytes) (chosen : Chosen P A) → next ≡ want plan → Gives shape w x (Write extent content) next got read chosen → Done_by (Write extent content) next got read chosen
     write_steps (Cell step) got read chosen e g = subst (λ (v : Got). Done_by (Write extent content) (Cell step) v read chosen) (sym g.1)
         (request_words P A shape images t commit devices actors n known f rule all_suited a x ex (Write extent content) plan xt suits [] doing noted job_is step tt e)
     write_steps (Device (WriteExtent d ex')) got read chosen e g = subst (λ (v : Got). Done_by (Write extent content) (Device (WriteExtent d ex')) v read chosen) (sym g.2)
         (writes P A shape images t commit devices actors n known f rule all_suited a x ex [] doing noted extent content plan xt suits job_is claim d ex' e g.0 read g.3 (beside_orders d ex' e))
-    write_steps (End answer) got read chosen e g = subst (λ (c : Chosen P A). Done_by (Write extent content) (End answer) got read c) (sym g.0.1)
-        (request_answers P A shape images t commit devices actors n known f rule all_suited a x ex _ doing noted (Write extent content) tt plan xt suits job_is claim answer e got read)
+    write_steps (End answer) got read chosen e g = subst (λ (v : Got). Done_by (Write extent content) (End answer) v read chosen) (sym g.1) (subst (λ (c : Chosen P A). Done_by (Write extent content) (End answer) Done read c) (sym g.0.1)
+        (request_answers P A shape images t commit devices actors n known f rule all_suited a x ex _ doing noted (Write extent content) tt plan xt suits job_is claim answer e read))
     write_steps (Device (ReadExtent d ex')) got read chosen e g = absurd g
     write_steps (Device (Sync d)) got read chosen e g = absurd (own of_write (Device (Sync d)) claim.is_job e)
     write_steps (Device (ReadMetadata k)) got read chosen e g = absurd (own of_write (Device (ReadMetadata k)) claim.is_job e)
@@ -156,17 +159,14 @@ module _ (P A : Type 0) (shape : Shape) (images : Images) (t : Target P) (commit
 
   -- ---- flushes
 
-  module _ (xt : x.task ≡ Some (Flush, plan)) (job_is : doing.job ≡ Flush) where
-    flushing : plan.job ≡ Flushing [] (most P A shape)
-    flushing =
-        let b = beside P A shape images t commit devices actors n known f a x ex in
-        let r : IsFlushAt (size P A shape) (most P A shape) t.words plan b.0 = doing_of (size P A shape) (most P A shape) t.words x b.0 Flush plan (f.phase.agrees.each a x b.0 ex b.1) xt in
-        r.job
+  module _ (xt : x.task ≡ Some (Flush, plan)) (job_is : doing.job ≡ Flush) (owned : Owned t.desk actors) where
+    serves : (blocks : List OBlock) × (plan.job ≡ Flushing blocks (most P A shape))
+    serves = serving P A shape images t commit devices actors n known f rule a x ex plan xt [] doing noted job_is
 
-    mine : (next : Want) → next ≡ want plan → IsOwnStep (Flushing [] (most P A shape)) next
-    mine next e = own (Flushing [] (most P A shape)) next flushing e
+    mine : (next : Want) → next ≡ want plan → IsOwnStep (Flushing serves.0 (most P A shape)) next
+    mine next e = own (Flushing serves.0 (most P A shape)) next serves.1 e
 
-    which : (step : CellStep) → IsOwnStep (Flushing [] (most P A shape)) (Cell step) → (step ≡ Look Fail) ⊎ (step ≡ SetFailed)
+    which : (step : CellStep) → IsOwnStep (Flushing serves.0 (most P A shape)) (Cell step) → (step ≡ Look Fail) ⊎ (step ≡ SetFailed)
     which (Look Fail) o = inl refl
     which SetFailed o = inr refl
     which step o = absurd o
@@ -193,11 +193,15 @@ module _ (P A : Type 0) (shape : Shape) (images : Images) (t : Target P) (commit
     by_begin clean allowed (GotRefused refusal) read Plain e d = begin_refused P A shape images t commit devices actors n known f rule a x ex plan xt [] doing noted job_is refusal allowed clean e d
     by_begin clean allowed got read chosen e d = absurd d
 
+    by_release : (block : OBlock) (read : List Bytes) (chosen : Chosen P A) → Desk (ReleaseOrder block) ≡ want plan → DoesRelease x.awaiting block t.desk chosen → Done_by Flush (Desk (ReleaseOrder block)) Done read chosen
+    by_release block read (Asks new) e d = gives_up P A shape images t commit devices actors n known f rule a x ex plan xt [] doing noted job_is block new owned e d
+    by_release block read chosen e d = absurd d
+
     all_done : (o : Option RunningCommit) → is_all_done o ≡ true → (c : RunningCommit) × (o ≡ Some c) × (is_committed c.steps ≡ true)
     all_done None e = absurd (cc)
     all_done (Some c) e = (c, refl, e)
 
-    pub flush_steps : (next : Want) (got : Got) (read : List Bytes) (chosen : Chosen P A) → length doing.then_finished ≡ length n.floors → next ≡ want plan → Gives shape w Flush next got read chosen → Done_by Flush next got read chosen
+    pub flush_steps : (next : Want) (got : Got) (read : List Bytes) (chosen : Chosen P A) → length doing.then_finished ≡ length n.floors → next ≡ want plan → Gives shape w x Flush next got read chosen → Done_by Flush next got read chosen
     flush_steps (Cell step) got read chosen asked e g = subst (λ (v : Got). Done_by Flush (Cell step) v read chosen) (sym g.1)
         (flush_words P A shape images t commit devices actors n known f rule a x ex plan xt [] doing noted job_is step (which step (mine (Cell step) e)) e)
     flush_steps (Device (Sync Cache)) got read chosen asked e g = subst (λ (v : Got). Done_by Flush (Device (Sync Cache)) v read chosen) (sym g.1) (syncs P A shape images t commit devices actors n known f rule a x ex plan xt [] doing noted job_is Cache tt e read)
@@ -215,14 +219,14 @@ module _ (P A : Type 0) (shape : Shape) (images : Images) (t : Target P) (commit
     flush_steps (Desk EndCommit) got read chosen asked e g =
         let c = all_done commit g.2 in
         subst (λ (v : Got). Done_by Flush (Desk EndCommit) v read chosen) (sym g.1) (ends P A shape images t commit devices actors n known f rule a x ex plan xt [] doing noted job_is c.0 c.1 e c.2)
-    flush_steps (End answer) got read chosen asked e g = subst (λ (c : Chosen P A). Done_by Flush (End answer) got read c) (sym g.0.1)
-        (flush_answers P A shape images t commit devices actors n known f rule a x ex plan xt _ doing noted job_is answer got read e asked)
+    flush_steps (End answer) got read chosen asked e g = subst (λ (v : Got). Done_by Flush (End answer) v read chosen) (sym g.1) (subst (λ (c : Chosen P A). Done_by Flush (End answer) Done read c) (sym g.0.1)
+        (flush_answers P A shape images t commit devices actors n known f rule a x ex plan xt _ doing noted job_is answer read e asked))
     flush_steps (Device (ReadExtent d ex')) got read chosen asked e g = absurd g
     flush_steps (Device (WriteExtent d ex')) got read chosen asked e g = absurd g
     flush_steps (Device (ReadMetadata k)) got read chosen asked e g = absurd (mine (Device (ReadMetadata k)) e)
     flush_steps (Desk (Map b c)) got read chosen asked e g = absurd g
     flush_steps (Desk (Unmap b)) got read chosen asked e g = absurd g
-    flush_steps (Desk (ReleaseOrder b)) got read chosen asked e g = absurd g
+    flush_steps (Desk (ReleaseOrder b)) got read chosen asked e g = subst (λ (v : Got). Done_by Flush (Desk (ReleaseOrder b)) v read chosen) (sym g.1) (by_release b read chosen e g.2)
 
     -- a step of the commit that fails
     failing : (c : RunningCommit) (new : List History) (choice : Choice) → LandedOr (lands Metadata choice (sector_put (coming_step c.image c.steps))) (DoesStep c.image c.steps devices.metadata new) (new ≡ devices.metadata) → DoesStep c.image c.steps devices.metadata new ⊎ (new ≡ devices.metadata)

@@ -27,13 +27,13 @@ use Rattle.wb_tasks.specs.declared.step.Got.TheVariants.{Fault}
 use Rattle.wb_devices.specs.declared.devices.Devices.{Devices}
 use Rattle.wb_devices.specs.declared.running.RunningCommit.{RunningCommit}
 use Rattle.wb_runs.specs.declared.job.Job.{Job}
-use Rattle.wb_runs.specs.declared.job.Job.TheVariants.{Read, Write, Flush, Open, Migrate}
+use Rattle.wb_runs.specs.declared.job.Job.TheVariants.{Read, Write, Flush, Open, Migrate, Replace}
 use Rattle.wb_runs.specs.declared.event.Event.{Event}
 use Rattle.wb_runs.specs.declared.event.Event.TheVariants.{Start, Step, FaultStep, Stop}
 use Rattle.wb_runs.specs.declared.event.What.{What}
 use Rattle.wb_runs.specs.declared.event.What.TheVariants.{Skipped, Refused, Started, Stepped, Stopped}
 use Rattle.wb_runs.specs.States.{Shape, State, Actor, Target, Phase, Stands, Gone, Opens, block_size, start, sector_count}
-use Rattle.wb_runs.specs.Happenings.{Chosen, Cut, Happening, OfSome, DoesNotApply, Gives, Falters, MayFailAt, StartGives, MayBe, block_range}
+use Rattle.wb_runs.specs.Happenings.{Chosen, Cut, Happening, OfSome, DoesNotApply, Gives, Falters, MayFailAt, StartGives, MayBe, begun_as, block_range}
 use Rattle.wb_runs.specs.Effects.{device_done, device_failed, stepped, with_actor, job_of, given, cleared, phase_given, started, after_what, after_happening, after_all, IsRun, phase_then, actor_then}
 use Rattle.wb_runs.specs.Clerk.{Notes, Doing, noted_step, noted_what, put, begun, starting}
 use Rattle.wb_runs.specs.Headline.{place_of, shown, note_happening, noted}
@@ -50,12 +50,15 @@ use Rattle.wb_simulation.specs.Laws.{IsBesideOrders}
 use Rattle.wb_headline.proofs.Asked.{AllAsked, what_asked}
 use Rattle.wb_headline.proofs.Following.{Goes}
 use Rattle.wb_headline.specs.Desks.{live_orders}
+use Rattle.wb_headline.specs.Seen.{slots_seen}
+use Rattle.wb_headline.proofs.Come.{named_seen}
 use Rattle.wb_headline.proofs.Placed.{AllPlaced, TaskPlaced, WritePlaced, holds_it, placed_what, written_there}
 use Rattle.wb_headline.proofs.Seeing.{beside_orders}
 use Rattle.wb_runs.proofs.Ruling.{card_at}
 use Rattle.wb_headline.proofs.Keeping.{Keeping, sealing_owns}
 use Rattle.wb_headline.proofs.Kept.{fault_keeps, none_goes, none_rest, none_set, start_keeps, step_keeps}
 use Rattle.wb_headline.proofs.Made.{opening_keeps}
+use Rattle.wb_headline.proofs.Targets.{never_replaces}
 use Rattle.wb_headline.proofs.Telling.{owned_alone}
 use Rattle.wb_headline.proofs.Crashing.{crash_goes}
 use Rattle.wb_headline.proofs.Opens.{opening_steps, opening_faults}
@@ -136,17 +139,17 @@ module _ (P A : Type 0) (shape : Shape) where
         let part_is : placed.part ≡ block_range shape extent claim.cut = cc in
         holds_it (block_size shape) some plan x.card placed device e next shape.geometry.origin_blocks (subst (λ (o : Option (Job × Plan)). TaskSuits shape.geometry.origin_blocks x.card o) xt (b.used.suited a x ex)) ∙ ap (λ (r : BlockRange). Held Owned r.block) part_is
 
-    pub written_beside : IsBesideOrders (block_size shape) (live_orders t.desk) (record { 0 = extent.first / block_size shape }) device e
+    pub written_beside : IsBesideOrders (block_size shape) (slots_seen b.goes.followed.phase.stages (live_orders t.desk)) (record { 0 = extent.first / block_size shape }) device e
     written_beside =
         let there = written_there (block_size shape) some plan x.card placed device e next in
         let word : word_at t.words.seals own_block ≡ there.0 = (b.used.here.knows a x.card (card_at actors a x ex)).seal Owned own_block there.0 holds there.1 in
         let told = held_tells t commit devices actors n b a x (Write extent content) plan ex xt own_block holds (λ place dirty q. absurd (let bad : Device (WriteExtent device e) ≡ Cell (Seal own_block place dirty) = next ∙ q in cc)) in
-        beside_orders P t.desk b.goes.known.is.kept (block_size shape) own_block device e (λ k at. sym told ∙ ap (λ (v : ℕ). number_of (place_in v)) word ∙ sym there.2 ∙ at)
+        beside_orders P t.desk b.goes.known.is.kept (slots_seen b.goes.followed.phase.stages (live_orders t.desk)) (named_seen P t.desk b.goes.followed.phase.stages b.goes.followed.phase.come b.goes.known.is.kept) (block_size shape) own_block device e (λ k at. sym told ∙ ap (λ (v : ℕ). number_of (place_in v)) word ∙ sym there.2 ∙ at)
 
-  -- What is followed of migrations: each step, done and failing, and each start.
+  -- What is followed of migrations: each step, done and failing, and each start, of a replacement too.
   pub record MigrationsGo : Type 0 where
     pub steps : (t : Target P) (commit : Option RunningCommit) (devices : Devices (List History)) (actors : List Actor) (n : Notes) → Whole (at_target t commit devices actors) n → (a : ℕ) (x : Actor) (migration : Migration) (block : OBlock) (plan : Plan) (doing : Doing) → slice_get actors a ≡ Some x → x.task ≡ Some (Migrate migration block, plan) →
-        slice_get n.doings a ≡ Some (Some doing) → doing.job ≡ Migrate migration block → (next : Want) (got : Got) (read : List Bytes) (chosen : Chosen P A) → next ≡ want plan → Gives shape (at_target t commit devices actors) (Migrate migration block) next got read chosen →
+        slice_get n.doings a ≡ Some (Some doing) → doing.job ≡ Migrate migration block → (next : Want) (got : Got) (read : List Bytes) (chosen : Chosen P A) → next ≡ want plan → Gives shape (at_target t commit devices actors) x (Migrate migration block) next got read chosen →
         Stepped_to (at_target t commit devices actors) n a x (Migrate migration block) next got read chosen doing
     pub faults : (t : Target P) (commit : Option RunningCommit) (devices : Devices (List History)) (actors : List Actor) (n : Notes) → Whole (at_target t commit devices actors) n → (a : ℕ) (x : Actor) (migration : Migration) (block : OBlock) (plan : Plan) (doing : Doing) → slice_get actors a ≡ Some x → x.task ≡ Some (Migrate migration block, plan) →
         slice_get n.doings a ≡ Some (Some doing) → doing.job ≡ Migrate migration block → (choice : Choice) (next : Want) (read : List Bytes) (chosen : Chosen P A) → next ≡ want plan → MayFailAt devices choice next → Falters (at_target t commit devices actors) choice next chosen →
@@ -154,10 +157,13 @@ module _ (P A : Type 0) (shape : Shape) where
     pub starts : (t : Target P) (commit : Option RunningCommit) (devices : Devices (List History)) (actors : List Actor) (n : Notes) → Whole (at_target t commit devices actors) n → (a : ℕ) (x : Actor) (migration : Migration) (block : OBlock) (chosen : Chosen P A) → slice_get actors a ≡ Some x → x.task ≡ None →
         StartGives shape (Stands t) (Some x) (Migrate migration block) Started chosen →
         Goes P A shape (record { devices = devices; commit = commit; phase = phase_given {P = P} {A = A} (Stands t) (Migrate migration block) chosen; actors = slice_set actors a (given shape x (Migrate migration block) chosen) }) (put n a (Some (begun n (Migrate migration block))))
+    pub replaces : (t : Target P) (commit : Option RunningCommit) (devices : Devices (List History)) (actors : List Actor) (n : Notes) → Whole (at_target t commit devices actors) n → (a : ℕ) (x : Actor) (old new : OBlock) (chosen : Chosen P A) → slice_get actors a ≡ Some x → x.task ≡ None →
+        StartGives shape (Stands t) (Some x) (Replace old new) Started chosen →
+        Goes P A shape (record { devices = devices; commit = commit; phase = phase_given {P = P} {A = A} (Stands t) (Replace old new) chosen; actors = slice_set actors a (given shape x (Replace old new) chosen) }) (put n a (Some (begun n (begun_as (Replace old new)))))
 
   module _ (migrations : MigrationsGo) where
     by_phase : (devices : Devices (List History)) (commit : Option RunningCommit) (phase : Phase P A) (actors : List Actor) (n : Notes) → Whole (record { devices = devices; commit = commit; phase = phase; actors = actors }) n → (a : ℕ) (x : Actor) (job : Job) (plan : Plan) → slice_get actors a ≡ Some x → x.task ≡ Some (job, plan) →
-        (d : Noted shape job plan (slice_get n.doings a)) (next : Want) (got : Got) (read : List Bytes) (chosen : Chosen P A) → next ≡ want plan → Gives shape (record { devices = devices; commit = commit; phase = phase; actors = actors }) job next got read chosen →
+        (d : Noted shape job plan (slice_get n.doings a)) (next : Want) (got : Got) (read : List Bytes) (chosen : Chosen P A) → next ≡ want plan → Gives shape (record { devices = devices; commit = commit; phase = phase; actors = actors }) x job next got read chosen →
         Stepped_to (record { devices = devices; commit = commit; phase = phase; actors = actors }) n a x job next got read chosen d.doing
     by_phase devices commit (Stands t) actors n b a x job plan ex xt d next got read chosen e g = by_job job xt d g
       where
@@ -167,22 +173,24 @@ module _ (P A : Type 0) (shape : Shape) where
         asked : (doing : Doing) → slice_get n.doings a ≡ Some (Some doing) → length doing.then_finished ≡ length n.floors
         asked doing noted = b.asked a doing noted ∙ sym b.goes.followed.sized.sectors ∙ sym b.goes.followed.notes_agree.floors_as_many
 
-        by_job : (job : Job) → x.task ≡ Some (job, plan) → (d : Noted shape job plan (slice_get n.doings a)) → Gives shape (at_target t commit devices actors) job next got read chosen → Stepped_to (at_target t commit devices actors) n a x job next got read chosen d.doing
+        by_job : (job : Job) → x.task ≡ Some (job, plan) → (d : Noted shape job plan (slice_get n.doings a)) → Gives shape (at_target t commit devices actors) x job next got read chosen → Stepped_to (at_target t commit devices actors) n a x job next got read chosen d.doing
         by_job (Read extent) xt d g = read_steps P A shape b.goes.images t commit devices actors n b.goes.known b.goes.followed b.used.here b.used.suited a x ex plan suits d.doing d.is extent xt d.job_is d.claim next got read chosen e g
         by_job (Write extent content) xt d g = write_steps P A shape b.goes.images t commit devices actors n b.goes.known b.goes.followed b.used.here b.used.suited a x ex plan suits d.doing d.is extent content xt d.job_is d.claim (λ device ext f. written_beside t commit devices actors n b a x extent content plan ex xt d.doing d.claim device ext f) next got read chosen e g
-        by_job Flush xt d g = flush_steps P A shape b.goes.images t commit devices actors n b.goes.known b.goes.followed b.used.here b.used.suited a x ex plan suits d.doing d.is xt d.job_is next got read chosen (asked d.doing d.is) e g
+        by_job Flush xt d g = flush_steps P A shape b.goes.images t commit devices actors n b.goes.known b.goes.followed b.used.here b.used.suited a x ex plan suits d.doing d.is xt d.job_is b.keeping.owned next got read chosen (asked d.doing d.is) e g
         by_job (Open mode) xt d g = absurd (subst (λ (o : Option (Job × Plan)). TaskHere {P = P} {A = A} (Stands t) o) xt (b.linked.here a x ex))
         by_job (Migrate migration block) xt d g = migrations.steps t commit devices actors n b a x migration block plan d.doing ex xt d.is d.job_is next got read chosen e g
+        by_job (Replace old new) xt d g = absurd (never_replaces P A shape b.goes.images t commit devices actors n b.goes.known b.goes.followed a x ex old new plan xt)
     by_phase devices commit Gone actors n b a x job plan ex xt d next got read chosen e g = absurd (subst (λ (o : Option (Job × Plan)). TaskHere {P = P} {A = A} Gone o) xt (b.linked.here a x ex))
     by_phase devices commit (Opens mode reading) actors n b a x job plan ex xt d next got read chosen e g = by_job job xt d g (subst (λ (o : Option (Job × Plan)). TaskHere {P = P} {A = A} (Opens mode reading) o) xt (b.linked.here a x ex))
       where
-        by_job : (job : Job) → x.task ≡ Some (job, plan) → (d : Noted shape job plan (slice_get n.doings a)) → Gives shape (record { devices = devices; commit = commit; phase = Opens mode reading; actors = actors }) job next got read chosen → InPhase {P = P} {A = A} (Opens mode reading) job →
+        by_job : (job : Job) → x.task ≡ Some (job, plan) → (d : Noted shape job plan (slice_get n.doings a)) → Gives shape (record { devices = devices; commit = commit; phase = Opens mode reading; actors = actors }) x job next got read chosen → InPhase {P = P} {A = A} (Opens mode reading) job →
             Stepped_to (record { devices = devices; commit = commit; phase = Opens mode reading; actors = actors }) n a x job next got read chosen d.doing
-        by_job (Open m) xt d g h = opening_steps P A shape b.goes.images devices commit mode reading actors n b.goes.known b.goes.followed b.linked.alone a x ex m d.doing d.job_is b.inside.cache b.inside.origin plan xt (Open m) x.buffer next got read chosen e g
+        by_job (Open m) xt d g h = opening_steps P A shape b.goes.images devices commit mode reading actors n b.goes.known b.goes.followed b.linked.alone b.keeping a x ex m d.doing d.job_is b.inside.cache b.inside.origin plan xt (Open m) x.buffer next got read chosen e g
         by_job (Read extent) xt d g h = absurd h
         by_job (Write extent content) xt d g h = absurd h
         by_job Flush xt d g h = absurd h
         by_job (Migrate migration block) xt d g h = absurd h
+        by_job (Replace old new) xt d g h = absurd h
 
     fault_by_phase : (devices : Devices (List History)) (commit : Option RunningCommit) (phase : Phase P A) (actors : List Actor) (n : Notes) → Whole (record { devices = devices; commit = commit; phase = phase; actors = actors }) n → (a : ℕ) (x : Actor) (job : Job) (plan : Plan) → slice_get actors a ≡ Some x → x.task ≡ Some (job, plan) →
         (d : Noted shape job plan (slice_get n.doings a)) (choice : Choice) (next : Want) (read : List Bytes) (chosen : Chosen P A) → next ≡ want plan → MayFailAt devices choice next → Falters (record { devices = devices; commit = commit; phase = phase; actors = actors }) choice next chosen →
@@ -198,30 +206,32 @@ module _ (P A : Type 0) (shape : Shape) where
         by_job : (job : Job) → x.task ≡ Some (job, plan) → (d : Noted shape job plan (slice_get n.doings a)) → Faulted_to (at_target t commit devices actors) n a x choice job next read chosen d.doing
         by_job (Read extent) xt d = read_faults P A shape b.goes.images t commit devices actors n b.goes.known b.goes.followed b.used.here b.used.suited a x ex plan suits d.doing d.is extent xt d.job_is d.claim choice next read chosen e m g
         by_job (Write extent content) xt d = write_faults P A shape b.goes.images t commit devices actors n b.goes.known b.goes.followed b.used.here b.used.suited a x ex plan suits d.doing d.is extent content xt d.job_is d.claim (λ device ext f. written_beside t commit devices actors n b a x extent content plan ex xt d.doing d.claim device ext f) choice next read chosen inside b.inside.cache b.inside.origin e m g
-        by_job Flush xt d = flush_faults P A shape b.goes.images t commit devices actors n b.goes.known b.goes.followed b.used.here b.used.suited a x ex plan suits d.doing d.is xt d.job_is choice next read chosen e m g
+        by_job Flush xt d = flush_faults P A shape b.goes.images t commit devices actors n b.goes.known b.goes.followed b.used.here b.used.suited a x ex plan suits d.doing d.is xt d.job_is b.keeping.owned choice next read chosen e m g
         by_job (Open mode) xt d = absurd (subst (λ (o : Option (Job × Plan)). TaskHere {P = P} {A = A} (Stands t) o) xt (b.linked.here a x ex))
         by_job (Migrate migration block) xt d = migrations.faults t commit devices actors n b a x migration block plan d.doing ex xt d.is d.job_is choice next read chosen e m g
+        by_job (Replace old new) xt d = absurd (never_replaces P A shape b.goes.images t commit devices actors n b.goes.known b.goes.followed a x ex old new plan xt)
     fault_by_phase devices commit Gone actors n b a x job plan ex xt d choice next read chosen e m g = absurd (subst (λ (o : Option (Job × Plan)). TaskHere {P = P} {A = A} Gone o) xt (b.linked.here a x ex))
     fault_by_phase devices commit (Opens mode reading) actors n b a x job plan ex xt d choice next read chosen e m g = by_job job xt d (subst (λ (o : Option (Job × Plan)). TaskHere {P = P} {A = A} (Opens mode reading) o) xt (b.linked.here a x ex))
       where
         by_job : (job : Job) → x.task ≡ Some (job, plan) → (d : Noted shape job plan (slice_get n.doings a)) → InPhase {P = P} {A = A} (Opens mode reading) job → Faulted_to (record { devices = devices; commit = commit; phase = Opens mode reading; actors = actors }) n a x choice job next read chosen d.doing
-        by_job (Open md) xt d h = opening_faults P A shape b.goes.images devices commit mode reading actors n b.goes.known b.goes.followed b.linked.alone a x ex md d.doing d.job_is b.inside.cache b.inside.origin plan xt (Open md) x.buffer choice next read chosen e g
+        by_job (Open md) xt d h = opening_faults P A shape b.goes.images devices commit mode reading actors n b.goes.known b.goes.followed b.linked.alone b.keeping a x ex md d.doing d.job_is b.inside.cache b.inside.origin plan xt (Open md) x.buffer choice next read chosen e g
         by_job (Read extent) xt d h = absurd h
         by_job (Write extent content) xt d h = absurd h
         by_job Flush xt d h = absurd h
         by_job (Migrate migration block) xt d h = absurd h
+        by_job (Replace old new) xt d h = absurd h
 
     module _ (w : State P A) (n : Notes) (b : Whole w n) (a : ℕ) where
       noted_for : (x : Actor) (job : Job) (plan : Plan) → slice_get w.actors a ≡ Some x → x.task ≡ Some (job, plan) → Noted shape job plan (slice_get n.doings a)
       noted_for x job plan e xt = noted_of shape job plan (slice_get n.doings a) (subst (λ (t : Option (Job × Plan)). TaskClaim shape t (slice_get n.doings a)) xt (b.linked.claims a x e))
 
-      step_goes : (next : Want) (got : Got) (read : List Bytes) (chosen : Chosen P A) (o : Option Actor) → slice_get w.actors a ≡ o → OfSome o (λ x. OfSome x.task (λ doing. (next ≡ want doing.1) × Gives shape w doing.0 next got read chosen)) →
+      step_goes : (next : Want) (got : Got) (read : List Bytes) (chosen : Chosen P A) (o : Option Actor) → slice_get w.actors a ≡ o → OfSome o (λ x. OfSome x.task (λ doing. (next ≡ want doing.1) × Gives shape w x doing.0 next got read chosen)) →
           Goes P A shape (with_actor w o (λ x. stepped shape w a x next got chosen (λ step. device_done (job_of x.task) x.buffer step chosen)))
           (noted_step shape (shown shape (with_actor w o (λ x. stepped shape w a x next got chosen (λ step. device_done (job_of x.task) x.buffer step chosen)))) n a (slice_get n.doings a) next got read)
       step_goes next got read chosen None e h = absurd h
       step_goes next got read chosen (Some x) e h = by_task x.task refl h
         where
-          by_task : (t : Option (Job × Plan)) → x.task ≡ t → OfSome t (λ doing. (next ≡ want doing.1) × Gives shape w doing.0 next got read chosen) →
+          by_task : (t : Option (Job × Plan)) → x.task ≡ t → OfSome t (λ doing. (next ≡ want doing.1) × Gives shape w x doing.0 next got read chosen) →
               Goes P A shape (stepped shape w a x next got chosen (λ step. device_done (job_of x.task) x.buffer step chosen)) (noted_step shape (shown shape (stepped shape w a x next got chosen (λ step. device_done (job_of x.task) x.buffer step chosen))) n a (slice_get n.doings a) next got read)
           by_task None xt h = absurd h
           by_task (Some task) xt h =
@@ -247,7 +257,7 @@ module _ (P A : Type 0) (shape : Shape) where
 
     -- the state that a start leads to
     abbrev Begun_to : State P A → Notes → ℕ → Job → Chosen P A → Type 0
-    Begun_to w n a job chosen = Goes P A shape (started shape w a job chosen) (put (starting n job) a (Some (begun n job)))
+    Begun_to w n a job chosen = Goes P A shape (started shape w a job chosen) (put (starting n job) a (Some (begun n (begun_as job))))
 
     start_opening : (w : State P A) (n : Notes) → Whole w n → (a : ℕ) (x : Actor) (mode : Mode) (chosen : Chosen P A) → slice_get w.actors a ≡ Some x → (¬ Rattle.wb_runs.specs.Happenings.IsOutOfPlace w.phase (Open mode)) → Begun_to w n a (Open mode) chosen
     start_opening w n b a x mode chosen ex place =
@@ -274,6 +284,10 @@ module _ (P A : Type 0) (shape : Shape) where
         let w = at_target t commit devices actors in
         subst (λ (o : Option Actor). Goes P A shape (with_actor w o (λ y. record w { phase = phase_given w.phase (Migrate migration block) chosen; actors = slice_set w.actors a (given {P = P} {A = A} shape y (Migrate migration block) chosen) })) (put n a (Some (begun n (Migrate migration block))))) (sym ex)
         (migrations.starts t commit devices actors n b a x migration block chosen ex xt g)
+    start_at_target t commit devices actors n b a x (Replace old new) chosen ex xt place g =
+        let w = at_target t commit devices actors in
+        subst (λ (o : Option Actor). Goes P A shape (with_actor w o (λ y. record w { phase = phase_given w.phase (Replace old new) chosen; actors = slice_set w.actors a (given {P = P} {A = A} shape y (Replace old new) chosen) })) (put n a (Some (begun n (begun_as (Replace old new)))))) (sym ex)
+        (migrations.replaces t commit devices actors n b a x old new chosen ex xt g)
     start_at_target t commit devices actors n b a x (Read extent) chosen ex xt place g = absurd g
     start_at_target t commit devices actors n b a x (Write extent content) chosen ex xt place g = absurd g
 
@@ -287,10 +301,12 @@ module _ (P A : Type 0) (shape : Shape) where
     start_by_phase w Gone e n b a x (Write extent content) chosen ex xt place g = absurd (place (λ z. z))
     start_by_phase w Gone e n b a x Flush chosen ex xt place g = absurd (place (λ z. z))
     start_by_phase w Gone e n b a x (Migrate migration block) chosen ex xt place g = absurd (place (λ z. z))
+    start_by_phase w Gone e n b a x (Replace old new) chosen ex xt place g = absurd (place (λ z. z))
     start_by_phase w (Opens mode reading) e n b a x (Read extent) chosen ex xt place g = absurd (place (λ z. z))
     start_by_phase w (Opens mode reading) e n b a x (Write extent content) chosen ex xt place g = absurd (place (λ z. z))
     start_by_phase w (Opens mode reading) e n b a x Flush chosen ex xt place g = absurd (place (λ z. z))
     start_by_phase w (Opens mode reading) e n b a x (Migrate migration block) chosen ex xt place g = absurd (place (λ z. z))
+    start_by_phase w (Opens mode reading) e n b a x (Replace old new) chosen ex xt place g = absurd (place (λ z. z))
 
     start_goes : (w : State P A) (n : Notes) → Whole w n → (a : ℕ) (job : Job) (chosen : Chosen P A) → (¬ DoesNotApply w (Start a job)) → StartGives shape w.phase (slice_get w.actors a) job Started chosen → Begun_to w n a job chosen
     start_goes w n b a job chosen applies g =
@@ -300,12 +316,12 @@ module _ (P A : Type 0) (shape : Shape) where
     -- ---- orders and seals
 
     keep_by_phase : (devices : Devices (List History)) (commit : Option RunningCommit) (phase : Phase P A) (actors : List Actor) (n : Notes) → Whole (record { devices = devices; commit = commit; phase = phase; actors = actors }) n → (a : ℕ) (x : Actor) (job : Job) (plan : Plan) → slice_get actors a ≡ Some x → x.task ≡ Some (job, plan) →
-        (next : Want) (got : Got) (read : List Bytes) (chosen : Chosen P A) → next ≡ want plan → Gives shape (record { devices = devices; commit = commit; phase = phase; actors = actors }) job next got read chosen → Keeping (phase_then shape phase next got chosen) (slice_set actors a (actor_then shape phase devices x next got))
+        (next : Want) (got : Got) (read : List Bytes) (chosen : Chosen P A) → next ≡ want plan → Gives shape (record { devices = devices; commit = commit; phase = phase; actors = actors }) x job next got read chosen → Keeping (phase_then shape phase next got chosen) (slice_set actors a (actor_then shape phase devices x next got))
     keep_by_phase devices commit (Stands t) actors n b a x job plan ex xt next got read chosen e g = step_keeps P A shape b.goes.images t commit devices actors n b.goes.known b.goes.followed b.used.here b.used.suited b.keeping a x ex job plan xt next got read chosen e g
     keep_by_phase devices commit Gone actors n b a x job plan ex xt next got read chosen e g = none_goes P A shape Gone devices actors a x next got ex b.keeping
     keep_by_phase devices commit (Opens mode reading) actors n b a x job plan ex xt next got read chosen e g = by job xt next e g (subst (λ (o : Option (Job × Plan)). TaskHere {P = P} {A = A} (Opens mode reading) o) xt (b.linked.here a x ex))
       where
-        by : (j : Job) → x.task ≡ Some (j, plan) → (v : Want) → v ≡ want plan → Gives shape (record { devices = devices; commit = commit; phase = Opens mode reading; actors = actors }) j v got read chosen → InPhase {P = P} {A = A} (Opens mode reading) j → Keeping (phase_then {P = P} {A = A} shape (Opens mode reading) v got chosen) (slice_set actors a (actor_then {P = P} {A = A} shape (Opens mode reading) devices x v got))
+        by : (j : Job) → x.task ≡ Some (j, plan) → (v : Want) → v ≡ want plan → Gives shape (record { devices = devices; commit = commit; phase = Opens mode reading; actors = actors }) x j v got read chosen → InPhase {P = P} {A = A} (Opens mode reading) j → Keeping (phase_then {P = P} {A = A} shape (Opens mode reading) v got chosen) (slice_set actors a (actor_then {P = P} {A = A} shape (Opens mode reading) devices x v got))
         by (Open opened_in) jt (End answer) e g h = opening_keeps P A shape b.goes.images devices commit mode reading actors n b.goes.known b.goes.followed b.linked.alone b.keeping a x ex opened_in plan jt b.inside.cache b.inside.origin got read answer chosen e g
         by (Open opened_in) jt (Cell step) e g h = none_goes P A shape (Opens mode reading) devices actors a x (Cell step) got ex b.keeping
         by (Open opened_in) jt (Device step) e g h = none_goes P A shape (Opens mode reading) devices actors a x (Device step) got ex b.keeping
@@ -314,6 +330,7 @@ module _ (P A : Type 0) (shape : Shape) where
         by (Write extent content) jt v e g h = absurd h
         by Flush jt v e g h = absurd h
         by (Migrate migration block) jt v e g h = absurd h
+        by (Replace old new) jt v e g h = absurd h
 
     keep_fault : (devices : Devices (List History)) (commit : Option RunningCommit) (phase : Phase P A) (actors : List Actor) (n : Notes) → Whole (record { devices = devices; commit = commit; phase = phase; actors = actors }) n → (a : ℕ) (x : Actor) (job : Job) (plan : Plan) → slice_get actors a ≡ Some x → x.task ≡ Some (job, plan) → (choice : Choice) (next : Want) (chosen : Chosen P A) → next ≡ want plan → MayFailAt devices choice next →
         Keeping (phase_then shape phase next Fault chosen) (slice_set actors a (actor_then shape phase devices x next Fault))
@@ -327,12 +344,12 @@ module _ (P A : Type 0) (shape : Shape) where
     abbrev Keeps : State P A → Type 0
     Keeps w = Keeping w.phase w.actors
 
-    keep_steps : (w : State P A) (n : Notes) → Whole w n → (a : ℕ) (next : Want) (got : Got) (read : List Bytes) (chosen : Chosen P A) (o : Option Actor) → slice_get w.actors a ≡ o → OfSome o (λ x. OfSome x.task (λ doing. (next ≡ want doing.1) × Gives shape w doing.0 next got read chosen)) →
+    keep_steps : (w : State P A) (n : Notes) → Whole w n → (a : ℕ) (next : Want) (got : Got) (read : List Bytes) (chosen : Chosen P A) (o : Option Actor) → slice_get w.actors a ≡ o → OfSome o (λ x. OfSome x.task (λ doing. (next ≡ want doing.1) × Gives shape w x doing.0 next got read chosen)) →
         Keeps (with_actor w o (λ x. stepped shape w a x next got chosen (λ step. device_done (job_of x.task) x.buffer step chosen)))
     keep_steps w n b a next got read chosen None e h = absurd h
     keep_steps w n b a next got read chosen (Some x) e h = by x.task refl h
       where
-        by : (t : Option (Job × Plan)) → x.task ≡ t → OfSome t (λ doing. (next ≡ want doing.1) × Gives shape w doing.0 next got read chosen) → Keeping (phase_then shape w.phase next got chosen) (slice_set w.actors a (actor_then shape w.phase w.devices x next got))
+        by : (t : Option (Job × Plan)) → x.task ≡ t → OfSome t (λ doing. (next ≡ want doing.1) × Gives shape w x doing.0 next got read chosen) → Keeping (phase_then shape w.phase next got chosen) (slice_set w.actors a (actor_then shape w.phase w.devices x next got))
         by None xt h = absurd h
         by (Some task) xt h = keep_by_phase w.devices w.commit w.phase w.actors n b a x task.0 task.1 e xt next got read chosen h.0 h.1
 
@@ -349,7 +366,7 @@ module _ (P A : Type 0) (shape : Shape) where
     keep_opening w a x mode chosen ex =
         let c = cleared w (Open mode) in
         subst (λ (o : Option Actor). Keeps (with_actor c o (λ y. record c { phase = phase_given c.phase (Open mode) chosen; actors = slice_set c.actors a (given shape y (Open mode) chosen) }))) (sym (there_rests w.actors a x ex))
-        (none_set c.actors a (given shape Rattle.wb_runs.specs.States.resting (Open mode) chosen) refl (none_rest w.actors))
+        (none_set c.actors a (given shape Rattle.wb_runs.specs.States.resting (Open mode) chosen) (refl, refl) (none_rest w.actors))
 
     keep_at_target : (t : Target P) (commit : Option RunningCommit) (devices : Devices (List History)) (actors : List Actor) (n : Notes) → Whole (at_target t commit devices actors) n → (a : ℕ) (x : Actor) (job : Job) (chosen : Chosen P A) → slice_get actors a ≡ Some x → x.task ≡ None → (¬ Rattle.wb_runs.specs.Happenings.IsOutOfPlace {P = P} {A = A} (Stands t) job) →
         StartGives shape (Stands t) (Some x) job Started chosen → cleared (at_target t commit devices actors) job ≡ at_target t commit devices actors → Keeps (started shape (at_target t commit devices actors) a job chosen)
@@ -373,14 +390,19 @@ module _ (P A : Type 0) (shape : Shape) where
     keep_start w (Stands t) e n b a x (Migrate m block) chosen ex xt place g =
         let is : record { devices = w.devices; commit = w.commit; phase = Stands t; actors = w.actors } ≡ w = λ i. record w { phase = sym e i } in
         subst (λ (v : State P A). Keeps (started shape v a (Migrate m block) chosen)) is (keep_at_target t w.commit w.devices w.actors n (subst (λ (v : State P A). Whole v n) (sym is) b) a x (Migrate m block) chosen ex xt place g refl)
+    keep_start w (Stands t) e n b a x (Replace old new) chosen ex xt place g =
+        let is : record { devices = w.devices; commit = w.commit; phase = Stands t; actors = w.actors } ≡ w = λ i. record w { phase = sym e i } in
+        subst (λ (v : State P A). Keeps (started shape v a (Replace old new) chosen)) is (keep_at_target t w.commit w.devices w.actors n (subst (λ (v : State P A). Whole v n) (sym is) b) a x (Replace old new) chosen ex xt place g refl)
     keep_start w Gone e n b a x (Read extent) chosen ex xt place g = absurd (place (λ z. z))
     keep_start w Gone e n b a x (Write extent content) chosen ex xt place g = absurd (place (λ z. z))
     keep_start w Gone e n b a x Flush chosen ex xt place g = absurd (place (λ z. z))
     keep_start w Gone e n b a x (Migrate m block) chosen ex xt place g = absurd (place (λ z. z))
+    keep_start w Gone e n b a x (Replace old new) chosen ex xt place g = absurd (place (λ z. z))
     keep_start w (Opens mode reading) e n b a x (Read extent) chosen ex xt place g = absurd (place (λ z. z))
     keep_start w (Opens mode reading) e n b a x (Write extent content) chosen ex xt place g = absurd (place (λ z. z))
     keep_start w (Opens mode reading) e n b a x Flush chosen ex xt place g = absurd (place (λ z. z))
     keep_start w (Opens mode reading) e n b a x (Migrate m block) chosen ex xt place g = absurd (place (λ z. z))
+    keep_start w (Opens mode reading) e n b a x (Replace old new) chosen ex xt place g = absurd (place (λ z. z))
 
     keep_starts : (w : State P A) (n : Notes) → Whole w n → (a : ℕ) (job : Job) (chosen : Chosen P A) → (¬ DoesNotApply w (Start a job)) → StartGives shape w.phase (slice_get w.actors a) job Started chosen → Keeps (started shape w a job chosen)
     keep_starts w n b a job chosen applies g =

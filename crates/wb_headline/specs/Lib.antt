@@ -1,1 +1,2 @@
 pub mod Desks
+pub mod Seen

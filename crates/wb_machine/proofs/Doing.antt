@@ -96,12 +96,12 @@ module _ (devices : Devices (List History)) (commit : Option RunningCommit) (dev
         DoesOn devices commit job buffer (ReadExtent device e) read devices' commit'
     did_read (Read extent) device e read can many each d c = record { gives = λ shape t actors x. (can.1, refl, refl, many, each); copies = tt; devices_are = d ∙ sym (same_device device devices); commit_is = c }
     did_read (Migrate migration block) device e read can many each d c = record {
-    did_read (Replace old new) device e read can many each d c = absurd can.0
       gives = λ shape t actors x. (can.1, (refl, refl), refl, can.2);
       copies = given_copy (device_in device devices) e.first e.count read many each;
       devices_are = d ∙ sym (same_device device devices);
       commit_is = c;
     }
+    did_read (Replace old new) device e read can many each d c = absurd can.0
     did_read (Write extent content) device e read can many each d c = absurd can.0
     did_read Flush device e read can many each d c = absurd can.0
     did_read (Open mode) device e read can many each d c = absurd can.0
@@ -116,12 +116,12 @@ module _ (devices : Devices (List History)) (commit : Option RunningCommit) (dev
       commit_is = c;
     }
     did_write (Migrate migration block) device e choice read can b n r d c = record {
-    did_write (Replace old new) device e choice read can b n r d c = absurd can.0
       gives = λ shape t actors x. (can.1, (r, refl), refl, can.2);
       copies = tt;
       devices_are = d ∙ ap (λ new. with_device device devices new) (lands_all device choice b n (device_in device devices) e.first buffer);
       commit_is = c;
     }
+    did_write (Replace old new) device e choice read can b n r d c = absurd can.0
     did_write Flush device e choice read can b n r d c = absurd can.0
     did_write (Open mode) device e choice read can b n r d c = absurd can.0
 

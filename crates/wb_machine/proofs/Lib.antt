@@ -15,3 +15,4 @@ pub mod Landing
 pub mod Flags
 mod Orders
 mod Stepped
+mod Kept

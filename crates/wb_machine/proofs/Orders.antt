@@ -7,7 +7,7 @@ use Rattle.wb_types.specs.declared.refusal.Refusal.{Refusal}
 use Rattle.wb_types.specs.declared.refusal.Refusal.TheVariants.{Busy}
 use Rattle.wb_policy.specs.declared.order.Order.{Order}
 use Rattle.wb_policy.specs.declared.quiet.Quiet.{Quiet}
-use Rattle.wb_desk.specs.Desks.{DeskState, DeskInvariant, MayReserve, holdings}
+use Rattle.wb_desk.specs.Desks.{DeskState, MayReserve, holdings}
 use Rattle.wb_tasks.specs.Plan.{Plan, table}
 use Rattle.wb_tasks.specs.Tables.{whole_block}
 use Rattle.wb_tasks.specs.declared.step.Migration.TheVariants.{Demote}
@@ -30,6 +30,7 @@ use Rattle.wb_desk.specs.Entries.{is_replacement}
 use Rattle.wb_desk.proofs.Index.{mapped_once}
 use Rattle.wb_types.specs.declared.number.CBlock.{CBlock}
 use Rattle.wb_tasks.specs.declared.step.Migration.{Migration}
+use Rattle.wb_tree.specs.Mapping.{IsMapping}
 
 pub none_of : {X : Type 0} (o : Option X) → is_some o ≡ false → o ≡ None
 none_of None e = refl
@@ -103,7 +104,7 @@ started_ordered shape desk m (Migrate migration block) desk' m' plan e t p = eli
   | inr given ↦
       let order : Order = given.1.0 in
       let same : order_for migration block ≡ order = let both = given.1.1 in cc in
-      let r = subst (λ (o : Order). MayReserve desk given.0 o × (desk' ≡ reserved desk given.0 o false) × (m' ≡ record m { orders = o ∷ m.orders })) (sym same) given.1.2 in
+      let r = subst (λ (o : Order). MayReserve desk given.0 o × (desk' ≡ reserved desk given.0 o false) × (m' ≡ record m { orders = o ∷ m.orders })) (sym same) (given.1.2, given.1.3, given.1.4) in
       record {
         chosen = Orders (cut_for shape (Migrate migration block)) given.0;
         gives = λ words card. (pieces_cut 1 (whole_block (block_size shape) block) (omega arith), r.0);
@@ -119,7 +120,7 @@ started_ordered shape desk m (Replace old new) desk' m' plan e t p = elim t [
   | inr given ↦
       let order : Order = given.1.0 in
       let same : ReplaceOrder old new given.0 ≡ order = let both = given.1.1 in cc in
-      let r = subst (λ (o : Order). MayReserve desk given.0 o × (desk' ≡ reserved desk given.0 o false) × (m' ≡ record m { orders = o ∷ m.orders })) (sym same) given.1.2 in
+      let r = subst (λ (o : Order). MayReserve desk given.0 o × (desk' ≡ reserved desk given.0 o false) × (m' ≡ record m { orders = o ∷ m.orders })) (sym same) (given.1.2, given.1.3, given.1.4) in
       record {
         chosen = Orders (cut_for shape (Replace old new)) given.0;
         gives = λ words card. (pieces_cut 1 (whole_block (block_size shape) old) (omega arith), r.0);
@@ -146,7 +147,7 @@ takes_migration desk m migration block false desk' m' n g = (n, (λ cache order 
 takes_where : (desk : DeskState Quiet) (old new : OBlock) (cache : CBlock) (order : Order) → order_by (Replace old new) cache ≡ Some order → MayReserve desk cache order → IsMappedAt (holdings desk) old.0 cache.0
 takes_where desk old new cache order e may = let same : ReplaceOrder old new cache ≡ order = cc in (subst (λ (o : Order). MayReserve desk cache o) (sym same) may).lawful.1
 
-pub takes_replacement : (desk : DeskState Quiet) (m : Member) (old new : OBlock) (cache : CBlock) (b : Bool) (desk' : DeskState Quiet) (m' : Member) → DeskInvariant Quiet.knows desk → IsMappedAt (holdings desk) old.0 cache.0 → ¬ KeepsReplacement desk m.orders old new →
+pub takes_replacement : (desk : DeskState Quiet) (m : Member) (old new : OBlock) (cache : CBlock) (b : Bool) (desk' : DeskState Quiet) (m' : Member) → IsMapping desk.geometry.cache_blocks desk.geometry.origin_blocks desk.tree.entries → IsMappedAt (holdings desk) old.0 cache.0 → ¬ KeepsReplacement desk m.orders old new →
     GetsOrder desk m (ReplaceOrder old new cache) b desk' m' → TakesOrder desk m (Replace old new) b desk' m'
 takes_replacement desk m old new cache true desk' m' kept at n g =
     let same : g.0 ≡ cache = g.1.lawful.0 in
@@ -154,7 +155,7 @@ takes_replacement desk m old new cache true desk' m' kept at n g =
 takes_replacement desk m old new cache false desk' m' kept at n g = (
   n,
   (λ there order e may.
-      let here = mapped_once desk.geometry.cache_blocks desk.geometry.origin_blocks desk.tree.entries old.0 there.0 cache.0 kept.mapping (takes_where desk old new there order e may) at in
+      let here = mapped_once desk.geometry.cache_blocks desk.geometry.origin_blocks desk.tree.entries old.0 there.0 cache.0 kept (takes_where desk old new there order e may) at in
       let same : ReplaceOrder old new cache ≡ order = ap (λ (k : ℕ). ReplaceOrder old new (record { 0 = k })) (sym here) ∙ (let both = e in cc) in
       g.0 there (subst (λ (o : Order). MayReserve desk there o) (sym same) may)),
   g.1,

@@ -24,26 +24,34 @@ use Rattle.wb_machine.specs.Serving.{Performs, Steps, StepsBy, is_copied, member
 use Rattle.std.specs.declared.alloc.Global.{Global}
 use Rattle.wb_words.specs.Cards.{blank_card}
 use Rattle.wb_tasks.specs.declared.step.Answer.TheVariants.{Done as Finished}
-use Rattle.wb_machine.specs.Keeping.{IsLeft}
+use Rattle.wb_machine.specs.Keeping.{IsLeft, IsLeftBy}
 
 -- only a step that is done changes the orders of its actor
-pub orders_stay : (orders awaiting : List Order) (job : Job) (next : Want) (got : Got) → got ≢ Done → orders_then orders awaiting job next got ≡ orders
+orders_stay : (orders awaiting : List Order) (job : Job) (next : Want) (got : Got) → got ≢ Done → orders_then orders awaiting job next got ≡ orders
 orders_stay orders awaiting job (Desk (Map b c)) Done n = absurd (n refl)
 orders_stay orders awaiting job (Desk (Unmap b)) Done n = absurd (n refl)
 orders_stay orders awaiting job (Desk (ReleaseOrder b)) Done n = absurd (n refl)
 orders_stay orders awaiting job (End Finished) Done n = absurd (n refl)
 orders_stay orders awaiting job next got n = refl
 
-pub awaiting_stays : (orders awaiting : List Order) (job : Job) (next : Want) (got : Got) → got ≢ Done → awaiting_then orders awaiting job next got ≡ awaiting
+awaiting_stays : (orders awaiting : List Order) (job : Job) (next : Want) (got : Got) → got ≢ Done → awaiting_then orders awaiting job next got ≡ awaiting
 awaiting_stays orders awaiting job (Desk (Unmap b)) Done n = absurd (n refl)
 awaiting_stays orders awaiting job (Desk (ReleaseOrder b)) Done n = absurd (n refl)
 awaiting_stays orders awaiting job (End Finished) Done n = absurd (n refl)
 awaiting_stays orders awaiting job next got n = refl
 
 -- a list that becomes what it is to become
-pub left_is : (old new then_list : List Order) (left : Option (Vec Order Global)) → IsLeft old left then_list → IsLeft old left new → new ≡ then_list
-left_is old new then_list None e f = f ∙ sym e
-left_is old new then_list (Some left) e f = f ∙ sym e
+left_is : (old new later : List Order) (left : Option (Vec Order Global)) → IsLeft old left later → IsLeft old left new → new ≡ later
+left_is old new later None e f = f ∙ sym e
+left_is old new later (Some left) e f = f ∙ sym e
+
+pub orders_are : (orders awaiting new : List Order) (job : Job) (next : Want) (got : Got) (left : Option (Vec Order Global)) → IsLeft orders left (orders_then orders awaiting job next Done) → IsLeftBy got orders left new → new ≡ orders_then orders awaiting job next got
+orders_are orders awaiting new job next Done left e f = left_is orders new (orders_then orders awaiting job next Done) left e f
+orders_are orders awaiting new job next got left e f = f ∙ sym (orders_stay orders awaiting job next got (λ d. cc))
+
+pub awaiting_are : (orders awaiting new : List Order) (job : Job) (next : Want) (got : Got) (left : Option (Vec Order Global)) → IsLeft awaiting left (awaiting_then orders awaiting job next Done) → IsLeftBy got awaiting left new → new ≡ awaiting_then orders awaiting job next got
+awaiting_are orders awaiting new job next Done left e f = left_is awaiting new (awaiting_then orders awaiting job next Done) left e f
+awaiting_are orders awaiting new job next got left e f = f ∙ sym (awaiting_stays orders awaiting job next got (λ d. cc))
 
 -- what it writes next where it read nothing
 pub buffer_stays : (devices : Devices (List History)) (buffer : List Bytes) (next : Want) (got : Got) (job : Job) → is_copied job next ≡ false → buffer_then devices buffer next got job ≡ buffer

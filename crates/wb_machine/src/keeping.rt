@@ -17,7 +17,7 @@ ghost use Rattle.wb_machine.specs.Keeping.{IsLeft};
 
 use std::alloc::Global;
 use wb_desk::Desk;
-use wb_policy::{Order, Quiet};
+use wb_policy::{Order, Policy, Quiet};
 use wb_runs::Job;
 use wb_space::Holding;
 use wb_tasks::{Answer, DeskStep, Migration, Want};
@@ -115,12 +115,13 @@ fn is_reserved(desk: &Desk<Quiet>, cache: CBlock) -> bool
     ensures has { OnTrue result (slice_get desk.now.space.blocks cache.0 ≡ Some Reserved) }
     ensures other { OnFalse result (¬ (slice_get desk.now.space.blocks cache.0 ≡ Some Reserved)) }
 {
+    see_desk(desk);
     cache.0 < desk.geometry().cache_blocks && desk.holding(cache) == Holding::Reserved
 }
 
 /// What holds of every desk. It does nothing.
-pub(crate) fn see_desk(desk: &Desk<Quiet>)
-    ensures { DeskInvariant Quiet.knows desk.now }
+pub(crate) fn see_desk<P: Policy>(desk: &Desk<P>)
+    ensures { DeskInvariant P.knows desk.now }
 {
     let _ = desk.counts();
 }

@@ -10,7 +10,7 @@ ghost use Rattle.wb_machine.specs.declared.machine.TheConstants.{ACTORS};
 ghost use Rattle.wb_machine.specs.Life.{contents_of, shape_of, wants_target};
 ghost use Rattle.wb_machine.specs.Members.{free};
 ghost use Rattle.wb_runs.specs.Effects.{task_then};
-ghost use Rattle.wb_machine.specs.Keeping.{IsLeft};
+ghost use Rattle.wb_machine.specs.Keeping.{IsLeftBy};
 ghost use Rattle.wb_machine.specs.Serving.{CanStep, Comes, FailsOrRests, GetsOrder, Starts, Steps, TakesOrder, held_for, is_copied, is_ordered};
 ghost use Rattle.wb_machine.specs.Standing.{IsRoomy};
 
@@ -179,9 +179,7 @@ impl Member {
         let buffer = self.buffer.as_slice();
         let (got, read) = target.perform(number, alloc, devices, job, held, buffer, want)?;
         self.go_on(want, got);
-        if got == Got::Done {
-            self.change_orders(orders_then, awaiting_then);
-        }
+        self.change_orders(got, orders_then, awaiting_then);
         let what = What::Stepped(want, got);
         if copies {
             self.take_read(read);
@@ -208,13 +206,16 @@ impl Member {
         }
     }
 
-    /// It has these orders from now on, and these wait for a flush, where they are given.
-    fn change_orders(&mut self, orders: Option<Vec<Order>>, awaiting: Option<Vec<Order>>)
+    /// It has these orders from now on, and these wait for a flush, where a step was done that leaves them so.
+    fn change_orders(&mut self, got: Got, orders: Option<Vec<Order>>, awaiting: Option<Vec<Order>>)
         ensures task { self.new.task ≡ self.old.task }
-        ensures orders { IsLeft self.old.orders orders self.new.orders }
-        ensures awaiting { IsLeft self.old.awaiting awaiting self.new.awaiting }
+        ensures orders { IsLeftBy got self.old.orders orders self.new.orders }
+        ensures awaiting { IsLeftBy got self.old.awaiting awaiting self.new.awaiting }
         ensures buffer { self.new.buffer ≡ self.old.buffer }
     {
+        if got != Got::Done {
+            return;
+        }
         if let Some(left) = orders {
             self.orders = left;
         }

@@ -28,6 +28,7 @@ ghost use Rattle.wb_machine.specs.Standing.{HasReadAll, IsReading, StandsAt};
 use crate::machine::ACTORS;
 use crate::making::{Made, make};
 use crate::rooting::{fail_root, put_committed};
+use std::alloc::Global;
 use wb_devices::{Devices, Opening, RunningCommit};
 use wb_disk::{CrashChoice, Disk, MemDisk};
 use wb_flow::OpenTask;
@@ -118,7 +119,7 @@ impl Opener {
             running.steps = CommitSteps::Done;
             return;
         }
-        self.made = None;
+        forget(&mut self.made);
         self.opening.reading = Some(ReadSteps::Begun {
             alloc: self.opening.alloc,
             global: self.opening.alloc,
@@ -250,10 +251,24 @@ impl Opener {
         ensures commit { self.new.opening.commit ≡ None }
         ensures reading { reading_of self.new ≡ None }
     {
-        self.opening.reading = None;
+        end_reading(&mut self.opening.reading);
         self.opening.commit = None;
-        self.made = None;
+        forget(&mut self.made);
     }
+}
+
+/// What was read is let go.
+fn end_reading(reading: &mut Option<ReadSteps<Global>>)
+    ensures { reading.new ≡ None }
+{
+    *reading = None;
+}
+
+/// What was made is let go.
+fn forget(made: &mut Option<Made>)
+    ensures { made.new ≡ None }
+{
+    *made = None;
 }
 
 /// The sector that an opening reads next.

@@ -3,7 +3,6 @@
 ghost use Rattle.std.specs.Prelude.{◌≡◌, ◌<◌, [], false, length};
 ghost use Rattle.wb_runs.specs.declared.event.Event.TheVariants.{Start};
 ghost use Rattle.wb_machine.specs.declared.machine.TheConstants.{ACTORS};
-ghost use Rattle.wb_machine.specs.declared.phase.Phase.TheVariants.{Underway};
 ghost use Rattle.wb_machine.specs.Life.{Happens, IsThere, is_busy, is_opening, is_sound, shape_of, state_of, wants_target};
 ghost use Rattle.wb_machine.specs.Members.{works_there};
 ghost use Rattle.wb_machine.specs.Standing.{IsSound};
@@ -11,7 +10,7 @@ ghost use Rattle.wb_machine.specs.Standing.{IsSound};
 use crate::machine::ACTORS;
 use crate::member::Member;
 use crate::opener::Opener;
-use crate::phase::Phase;
+use crate::phase::{Phase, put};
 use std::alloc::Global;
 use wb_devices::{Devices, Opening};
 use wb_disk::MemDisk;
@@ -53,15 +52,8 @@ pub(crate) fn open(
         },
         made: None,
     };
-    put_opener(phase, opener);
+    put(phase, Phase::Underway(opener));
     What::Started
-}
-
-/// An opening at work in place of what stands.
-fn put_opener(phase: &mut Phase, opener: Opener)
-    ensures { phase.new ≡ Underway opener }
-{
-    *phase = Phase::Underway(opener);
 }
 
 /// Whether the job is an opening in write-back mode.

@@ -8,8 +8,8 @@ ghost use Rattle.wb_machine.specs.Life.{Happens, IsThere, answered, device_step_
 ghost use Rattle.wb_machine.specs.Standing.{IsSound};
 
 use crate::making::Made;
-use crate::opener::fail_step;
-use crate::phase::Phase;
+use crate::opener::{Opener, fail_step};
+use crate::phase::{Phase, let_go, put};
 use std::mem;
 use wb_devices::Devices;
 use wb_disk::{CrashChoice, MemDisk};
@@ -52,8 +52,20 @@ pub(crate) fn step_opening(
 fn answer(phase: &mut Phase)
     ensures { phase.new ≡ answered phase.old }
 {
-    if let Phase::Underway(opener) = mem::replace(phase, Phase::Closed) {
-        *phase = stands_by(opener.task.want(), opener.made);
+    let was = mem::replace(phase, Phase::Closed);
+    put(phase, answered(was));
+}
+
+/// What stands after the answer of what stood.
+fn answered(phase: Phase) -> Phase
+    ensures { result ≡ answered phase }
+{
+    match phase {
+        Phase::Underway(Opener { task, made, .. }) => stands_by(task.want(), made),
+        other => {
+            let_go(other);
+            Phase::Closed
+        }
     }
 }
 

@@ -8,7 +8,7 @@ ghost use Rattle.wb_machine.specs.Life.{Happens, IsThere, state_of};
 ghost use Rattle.wb_machine.specs.Standing.{IsSound};
 ghost use Rattle.wb_types.specs.declared.geometry.Geometry.{Geometry};
 
-use crate::phase::Phase;
+use crate::phase::{Phase, put};
 use wb_devices::Devices;
 use wb_disk::{CrashChoice, MemDisk};
 use wb_runs::What;
@@ -31,6 +31,6 @@ pub(crate) fn stop(devices: &mut Devices<MemDisk>, phase: &mut Phase, choice: &C
     let _ = devices.metadata.stop(Dev::Metadata, choice);
     let _ = devices.cache.stop(Dev::Cache, choice);
     let _ = devices.origin.stop(Dev::Origin, choice);
-    *phase = Phase::Closed;
+    put(phase, Phase::Closed);
     What::Stopped
 }

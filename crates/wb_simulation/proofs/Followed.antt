@@ -20,7 +20,7 @@ use Rattle.wb_refines.specs.Going.{shared_after, gone}
 use Rattle.wb_refines.specs.Translation.{job_for}
 use Rattle.wb_refines.specs.Models.{IsRequest, TakesBeside, plan_of}
 use Rattle.wb_runs.specs.declared.job.Job.{Job}
-use Rattle.wb_runs.specs.declared.job.Job.TheVariants.{Read, Write, Flush, Open, Migrate}
+use Rattle.wb_runs.specs.declared.job.Job.TheVariants.{Read, Write, Flush, Open, Migrate, Replace}
 use Rattle.wb_runs.specs.States.{Actor}
 use Rattle.wb_runs.specs.Holding.{cards_of}
 use Rattle.wb_simulation.specs.Steps.{IsPart, AreOfBlock}
@@ -44,6 +44,7 @@ migrates_not (Write extent content) q = tt
 migrates_not Flush q = tt
 migrates_not (Open mode) q = tt
 migrates_not (Migrate migration block) q = q
+migrates_not (Replace old new) q = absurd q
 
 -- the step is the first of what is left
 pub begins_by : (plan : Plan) (next : Want) → want plan ≡ next → ((answer : Answer) → next ≢ End answer) → (ws : List Want) × (plan.steps ≡ next ∷ ws)
@@ -119,6 +120,7 @@ followed size most blocks words committing orders devices actors a x plan step s
 followed size most blocks words committing orders devices actors a x plan step s y rule ex ey Flush q e suits next g st = absurd q
 followed size most blocks words committing orders devices actors a x plan step s y rule ex ey (Open mode) q e suits next g st = absurd q
 followed size most blocks words committing orders devices actors a x plan step s y rule ex ey (Migrate migration block) q e suits next g st = absurd q
+followed size most blocks words committing orders devices actors a x plan step s y rule ex ey (Replace old new) q e suits next g st = absurd q
 
 pub cell_steps_followed : CellStepsFollowed
 cell_steps_followed size most blocks words committing orders devices actors a x job plan step s q rule ex task suits next g =

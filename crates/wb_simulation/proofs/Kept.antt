@@ -9,7 +9,7 @@ use Rattle.wb_tasks.specs.declared.step.Want.{Want}
 use Rattle.wb_link.specs.World.{Actor as AbstractActor}
 use Rattle.wb_refines.specs.Models.{HasStopped, IsFree}
 use Rattle.wb_runs.specs.declared.job.Job.{Job}
-use Rattle.wb_runs.specs.declared.job.Job.TheVariants.{Read, Write, Flush, Open, Migrate}
+use Rattle.wb_runs.specs.declared.job.Job.TheVariants.{Read, Write, Flush, Open, Migrate, Replace}
 use Rattle.wb_runs.specs.States.{Actor}
 use Rattle.wb_simulation.specs.Actors.{IsLate, IsRequestAt, IsFlushAt, IsAside, IsDoing, IsBusyAt, StandsFor}
 
@@ -68,6 +68,7 @@ module _ (size most : ℕ) (words words' : Words) (up : flag words.fail ≡ true
       by_job Flush plan d = flush_on plan d
       by_job (Open mode) plan d = absurd d
       by_job (Migrate migration block) plan d = aside_on plan d
+      by_job (Replace old new) plan d = absurd d
 
   pub stands_on : (x : Actor) → StandsFor size most words x y → StandsFor size most words' x y
   stands_on x s = record { at = busy_on x.task x.card s.at; below = s.below; order = s.order; among_others = s.among_others }

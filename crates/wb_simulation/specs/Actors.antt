@@ -18,7 +18,7 @@ use Rattle.wb_refines.specs.Models.{IsAt, HasStopped, IsBelow}
 use Rattle.wb_refines.specs.Flushes.{IsFlushing, IsOnMetadata}
 use Rattle.wb_refines.specs.Tasks.{IsIdle}
 use Rattle.wb_runs.specs.declared.job.Job.{Job}
-use Rattle.wb_runs.specs.declared.job.Job.TheVariants.{Read, Write, Flush, Open, Migrate}
+use Rattle.wb_runs.specs.declared.job.Job.TheVariants.{Read, Write, Flush, Open, Migrate, Replace}
 use Rattle.wb_runs.specs.States.{Actor}
 use Rattle.wb_simulation.specs.Steps.{IsPart, AreOfBlock, IsOutside}
 
@@ -78,6 +78,7 @@ IsDoing size most words (Write extent content) plan card y = IsRequestAt size co
 IsDoing size most words Flush plan card y = IsFlushAt size most words plan y
 IsDoing size most words (Open mode) plan card y = ⊥
 IsDoing size most words (Migrate migration block) plan card y = IsAside words plan y
+IsDoing size most words (Replace old new) plan card y = ⊥
 
 -- one without a task is idle, or has kept something at a failure
 abbrev pub IsBusyAt : (size most : ℕ) → Words → Option (Job × Plan) → Card → AbstractActor → Type 0

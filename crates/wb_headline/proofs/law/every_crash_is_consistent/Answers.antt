@@ -1,4 +1,4 @@
-use Rattle.wb_headline.proofs.Migrations.{migrations_go}
+use Rattle.wb_headline.proofs.Migrating.{migrations_go}
 use Rattle.wb_headline.proofs.Promise.{run_consistent}
 use Rattle.wb_headline.proofs.law.every_crash_is_consistent.Goals as goal
 

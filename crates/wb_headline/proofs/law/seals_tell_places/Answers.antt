@@ -1,4 +1,4 @@
-use Rattle.wb_headline.proofs.Migrations.{migrations_go}
+use Rattle.wb_headline.proofs.Migrating.{migrations_go}
 use Rattle.wb_headline.proofs.Promise.{run_seals}
 use Rattle.wb_headline.proofs.law.seals_tell_places.Goals as goal
 

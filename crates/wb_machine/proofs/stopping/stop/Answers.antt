@@ -13,4 +13,4 @@ returns-clause-does c shape =
     let m = crashes Metadata c.args.choice.now old.metadata c.applies.new.self c.stop.new.self c.stop.result c.applies.ensures.kept metadata c.stop.ensures.applies.1 c.stop.ensures.crashed in
     let k = crashes Cache c.args.choice.now old.cache c.applies-else-not-applies.new.self c.stop-2.new.self c.stop-2.result c.applies-else-not-applies.ensures.kept cache c.stop-2.ensures.applies.1 c.stop-2.ensures.crashed in
     let o = crashes Origin c.args.choice.now old.origin c.applies-else-not-applies-2.new.self c.stop-3.new.self c.stop-3.result c.applies-else-not-applies-2.ensures.kept origin c.stop-3.ensures.applies.1 c.stop-3.ensures.crashed in
-    stops shape ACTORS old (record { metadata = c.stop.new.self; cache = c.stop-2.new.self; origin = c.stop-3.new.self }) c.args.phase.now c.requires c.args.choice.now _ (record { metadata = metadata; cache = cache; origin = origin }) (rw (m, k, o) refl) refl
+    rw c.put.ensures (stops shape ACTORS old (record { metadata = c.stop.new.self; cache = c.stop-2.new.self; origin = c.stop-3.new.self }) c.args.phase.now c.requires c.args.choice.now _ (record { metadata = metadata; cache = cache; origin = origin }) (rw (m, k, o) refl) refl)
