@@ -1,5 +1,5 @@
 -- A run in which a dirty block leaves its cache block, a flush serves the replacement, and another block follows.
-use Rattle.std.proofs.Common.{Global, ◌≡◌, ◌∙◌, ◌≤◌, ◌+◌, ◌*◌, ◌^◌, ◌<◌, inl, inr, ℕ, zero, suc, true, false, List, [], ◌∷◌, ◌++◌, Option, Some, None, refl, sym, ap, subst, arith, length, replicate, is_some}
+use Rattle.std.proofs.Common.{Global, ◌≡◌, ◌∙◌, ◌≤◌, ◌+◌, ◌*◌, ◌^◌, ◌<◌, inl, inr, ℕ, zero, suc, true, false, List, [], ◌∷◌, ◌++◌, Option, Some, None, refl, sym, ap, subst, arith, length, replicate, is_some, slice_get}
 use Rattle.std.specs.List.{count_by}
 use Rattle.std.proofs.lemmas.List.{length-map, length-replicate}
 use Rattle.wb_types.specs.Limits.{node_count}
@@ -46,11 +46,11 @@ use Rattle.wb_runs.specs.declared.job.Job.TheVariants.{Write, Flush, Migrate, Re
 use Rattle.wb_runs.specs.declared.event.Event.TheVariants.{Start}
 use Rattle.wb_runs.specs.declared.event.What.TheVariants.{Started}
 use Rattle.wb_runs.specs.States.{Shape, State, Actor, OfTarget, resting, cache_sector_count, start}
-use Rattle.wb_runs.specs.Happenings.{AtWork, Chosen, Plain, Cut, Asks, Happening, task_job}
+use Rattle.wb_runs.specs.Happenings.{AtWork, OfSome, Chosen, Plain, Cut, Asks, Happening, task_job}
 use Rattle.wb_runs.specs.Effects.{after_all, all_resting, contents_at, IsRun}
 use Rattle.wb_runs.specs.Clerk.{Notes, formatted as formatted_notes}
 use Rattle.wb_runs.specs.Headline.{place_of, noted}
-use Rattle.wb_runs.specs.Possible.{PassesThrough, AboutToAnswer, two_blocks, first_block, second_block, first_cache_block, first_sector, replacement, FirstHas, FirstCacheBlockIs, Replaces, CanReplace, GivesUp, CanGiveUp}
+use Rattle.wb_runs.specs.Possible.{PassesThrough, AboutToAnswer, two_blocks, first_block, second_block, first_cache_block, first_sector, replacement, FirstHas, FirstCacheBlockIs, Replaces, CanReplace, GivesUp, CanGiveUp, StartsAgain, CanStartAgain}
 use Rattle.wb_runs.proofs.Shown.{nowhere}
 use Rattle.wb_runs.proofs.Beginning.{bare_commit}
 use Rattle.wb_runs.proofs.Rooted.{rooted}
@@ -60,7 +60,7 @@ use Rattle.wb_runs.proofs.MetadataRuns.{IsKnown, known_always, known_at_start}
 use Rattle.wb_runs.proofs.Formatted.{HasNoTree, formatted_none}
 use Rattle.wb_runs.proofs.FirstFlush.{happened, flush_steps, flush_run}
 use Rattle.wb_runs.proofs.FirstOpening.{happenings as first_opening, is_run as opens_run, none_then, rooted_metadata as opened_metadata, opened_is, run_append, after_append}
-use Rattle.wb_runs.proofs.FirstReplacement.{whole, next_whole, uncut, Reaches, first_card, words_of, now, does, over, left, settled, followed, may_follow, dirtied, home, taken_home, promotes, promoted_now, opened_now, promotes_reaches, writes, written_now, writes_reaches, replaces, left_now, replaces_reaches, dirtied_size, dirtied_gives, home_gives, home_size, follows_tree, sync_gives}
+use Rattle.wb_runs.proofs.FirstReplacement.{whole, next_whole, uncut, Reaches, first_card, words_of, now, does, over, left, settled, followed, may_follow, dirtied, home, taken_home, promotes, promoted_now, opened_now, promotes_reaches, writes, written_now, writes_reaches, replaces, left_now, replaces_reaches, dirtied_size, dirtied_gives, home_gives, home_size, fails, fails_reaches, starts_again, again_reaches, follows_tree, sync_gives}
 
 -- ---- one stretch after the other
 
@@ -448,6 +448,31 @@ module _ (P A : Type 0) (policy : P) (alloc : A) (global : Global) (k meta_secto
   abbrev giving : Happening P A
   giving = gives P A global k meta_sectors within threshold others rest policy generation more room
 
+  abbrev KeepsIt : State P A → Type 0
+  KeepsIt w = OfSome (slice_get w.actors 0) (λ x. x.task ≡ None) × FirstHas (replacement ∷ []) [] w
+
+  abbrev IsAgain : State P A → Type 0
+  IsAgain w = AtWork w 0 (λ job s. job ≡ Migrate Demote first_block) × FirstHas (replacement ∷ []) [] w
+
+  abbrev failing : List (Happening P A)
+  failing = fails P A global k meta_sectors within threshold others rest policy generation room m cache origin cache_size origin_size content
+
+  abbrev again : Happening P A
+  again = starts_again P A global k meta_sectors within threshold others rest policy generation room m cache origin cache_size origin_size content
+
+  pub again_all : StartsAgain P A shape' metadata
+  again_all = record {
+    failing = (opening ++ promoting) ++ (writing ++ failing);
+    starting = again;
+    passes = on_stretch P A shape' (start shape' metadata) ((opening ++ promoting) ++ (writing ++ failing)) _ KeepsIt ((again ∷ [], λ w n. IsAgain w) ∷ []) (known_at_start P A shape' metadata formatted size)
+        (then_reaches P A shape' (start shape' metadata) (opening ++ promoting) (writing ++ failing) came _ first_reaches (λ c.
+        then_reaches P A shape' (came c) writing failing wrote _ (writes_reaches P A global k meta_sectors within threshold others rest policy generation room m cache origin cache_size origin_size content c)
+        (fails_reaches P A global k meta_sectors within threshold others rest policy generation room m cache origin cache_size origin_size content)))
+        (λ c. (refl, (refl, refl)))
+        (λ c known n. on_stretch P A shape' _ (again ∷ []) _ IsAgain [] known (again_reaches P A global k meta_sectors within threshold others rest policy generation room m cache origin cache_size origin_size content c)
+        (λ d. (refl, (refl, refl))) (λ d z o. tt) n) (formatted_notes shape');
+  }
+
   pub given_up_all : GivesUp P A shape' metadata
   given_up_all = record {
     leaving = (opening ++ promoting) ++ (writing ++ replacing);
@@ -487,6 +512,13 @@ can_give_up P A policy reading begun cache_blocks meta_sectors within threshold 
     by_blocks : (n : ℕ) (within : IsWithinLimits 64 n 2 meta_sectors) → IsFormatted (two_blocks n meta_sectors within) metadata → A × Global → GivesUp P A (record { geometry = two_blocks n meta_sectors within; threshold = threshold; actors = suc others }) metadata
     by_blocks zero within formatted with = absurd (omega (arith, within.cache_from))
     by_blocks (suc k) within formatted with = given_up_all P A policy with.0 with.1 k meta_sectors within threshold others metadata [] room formatted size
+
+pub can_start_again : (P A : Type 0) → CanStartAgain P A
+can_start_again P A policy reading begun cache_blocks meta_sectors within threshold others metadata room formatted size = by_blocks cache_blocks within formatted (by_reading P A reading begun)
+  where
+    by_blocks : (n : ℕ) (within : IsWithinLimits 64 n 2 meta_sectors) → IsFormatted (two_blocks n meta_sectors within) metadata → A × Global → StartsAgain P A (record { geometry = two_blocks n meta_sectors within; threshold = threshold; actors = suc others }) metadata
+    by_blocks zero within formatted with = absurd (omega (arith, within.cache_from))
+    by_blocks (suc k) within formatted with = again_all P A policy with.0 with.1 k meta_sectors within threshold others metadata [] room formatted size
 
 pub can_replace : (P A : Type 0) → CanReplace P A
 can_replace P A policy reading begun cache_blocks meta_sectors within threshold others metadata content room formatted size = by_blocks cache_blocks within formatted (by_reading P A reading begun)

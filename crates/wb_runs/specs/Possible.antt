@@ -198,3 +198,17 @@ abbrev pub CanGiveUp : (P A : Type 0) → Type 0
 CanGiveUp P A = (policy : P) (reading : ReadSteps A) → sectors_read reading ≡ 0 → (cache_blocks meta_sectors : ℕ) (within : IsWithinLimits 64 cache_blocks 2 meta_sectors) (threshold others : ℕ) (metadata : List History) → 128 ≤ threshold
     → IsFormatted (two_blocks cache_blocks meta_sectors within) metadata → length metadata ≡ meta_sectors
     → GivesUp P A (record { geometry = two_blocks cache_blocks meta_sectors within; threshold = threshold; actors = suc others }) metadata
+
+-- A run after which a replacement has failed, and its actor has nothing to do, but its order still; with one happening more it starts again.
+pub record StartsAgain (P A : Type 0) (shape : Shape) (metadata : List History) : Type 0 where
+  pub failing : List (Happening P A)
+  pub starting : Happening P A
+  pub passes : PassesThrough shape (start shape metadata) (formatted shape) (
+      (failing, λ w n. OfSome (slice_get w.actors 0) (λ x. x.task ≡ None) × FirstHas (replacement ∷ []) [] w)
+      ∷ (starting ∷ [], λ w n. AtWork w 0 (λ job s. job ≡ Migrate Demote first_block) × FirstHas (replacement ∷ []) [] w)
+      ∷ [])
+
+abbrev pub CanStartAgain : (P A : Type 0) → Type 0
+CanStartAgain P A = (policy : P) (reading : ReadSteps A) → sectors_read reading ≡ 0 → (cache_blocks meta_sectors : ℕ) (within : IsWithinLimits 64 cache_blocks 2 meta_sectors) (threshold others : ℕ) (metadata : List History) → 128 ≤ threshold
+    → IsFormatted (two_blocks cache_blocks meta_sectors within) metadata → length metadata ≡ meta_sectors
+    → StartsAgain P A (record { geometry = two_blocks cache_blocks meta_sectors within; threshold = threshold; actors = suc others }) metadata
