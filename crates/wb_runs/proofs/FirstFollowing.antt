@@ -1,5 +1,5 @@
 -- A run in which a dirty block leaves its cache block, a flush serves the replacement, and another block follows.
-use Rattle.std.proofs.Common.{Global, ◌≡◌, ◌∙◌, ◌≤◌, ◌+◌, ◌*◌, ◌^◌, ◌<◌, inl, inr, ℕ, zero, suc, true, false, List, [], ◌∷◌, ◌++◌, Option, Some, None, refl, sym, ap, subst, arith, length, replicate, is_some}
+use Rattle.std.proofs.Common.{Global, ◌≡◌, ◌∙◌, ◌≤◌, ◌+◌, ◌*◌, ◌^◌, ◌<◌, inl, inr, ℕ, zero, suc, true, false, List, [], ◌∷◌, ◌++◌, Option, Some, None, refl, sym, ap, subst, arith, length, replicate, is_some, slice_get}
 use Rattle.std.specs.List.{count_by}
 use Rattle.std.proofs.lemmas.List.{length-map, length-replicate}
 use Rattle.wb_types.specs.Limits.{node_count}
@@ -46,11 +46,11 @@ use Rattle.wb_runs.specs.declared.job.Job.TheVariants.{Write, Flush, Migrate, Re
 use Rattle.wb_runs.specs.declared.event.Event.TheVariants.{Start}
 use Rattle.wb_runs.specs.declared.event.What.TheVariants.{Started}
 use Rattle.wb_runs.specs.States.{Shape, State, Actor, OfTarget, resting, cache_sector_count, start}
-use Rattle.wb_runs.specs.Happenings.{AtWork, Chosen, Plain, Cut, Asks, Happening, task_job}
+use Rattle.wb_runs.specs.Happenings.{AtWork, OfSome, Chosen, Plain, Cut, Asks, Happening, task_job}
 use Rattle.wb_runs.specs.Effects.{after_all, all_resting, contents_at, IsRun}
 use Rattle.wb_runs.specs.Clerk.{Notes, formatted as formatted_notes}
 use Rattle.wb_runs.specs.Headline.{place_of, noted}
-use Rattle.wb_runs.specs.Possible.{PassesThrough, AboutToAnswer, two_blocks, first_block, second_block, first_cache_block, first_sector, replacement, FirstHas, FirstCacheBlockIs, Replaces, CanReplace, GivesUp, CanGiveUp}
+use Rattle.wb_runs.specs.Possible.{PassesThrough, AboutToAnswer, two_blocks, first_block, second_block, first_cache_block, first_sector, replacement, FirstHas, FirstCacheBlockIs, Replaces, CanReplace, GivesUp, CanGiveUp, StartsAgain, CanStartAgain}
 use Rattle.wb_runs.proofs.Shown.{nowhere}
 use Rattle.wb_runs.proofs.Beginning.{bare_commit}
 use Rattle.wb_runs.proofs.Rooted.{rooted}
@@ -60,7 +60,7 @@ use Rattle.wb_runs.proofs.MetadataRuns.{IsKnown, known_always, known_at_start}
 use Rattle.wb_runs.proofs.Formatted.{HasNoTree, formatted_none}
 use Rattle.wb_runs.proofs.FirstFlush.{happened, flush_steps, flush_run}
 use Rattle.wb_runs.proofs.FirstOpening.{happenings as first_opening, is_run as opens_run, none_then, rooted_metadata as opened_metadata, opened_is, run_append, after_append}
-use Rattle.wb_runs.proofs.FirstReplacement.{whole, next_whole, uncut, Reaches, first_card, words_of, now, does, over, left, settled, followed, may_follow, dirtied, home, taken_home, promotes, promoted_now, opened_now, promotes_reaches, writes, written_now, writes_reaches, replaces, left_now, replaces_reaches, dirtied_size, dirtied_gives, home_gives, home_size, follows_tree, sync_gives}
+use Rattle.wb_runs.proofs.FirstReplacement.{whole, next_whole, uncut, Reaches, first_card, words_of, now, does, over, left, settled, followed, may_follow, dirtied, home, taken_home, promotes, promoted_now, opened_now, promotes_reaches, writes, written_now, writes_reaches, replaces, left_now, replaces_reaches, dirtied_size, dirtied_gives, home_gives, home_size, fails, fails_reaches, starts_again, again_reaches, follows_tree, sync_gives}
 
 -- ---- one stretch after the other
 
@@ -144,8 +144,8 @@ module _ (P A : Type 0) (global : Global) (k meta_sectors : ℕ) (within : IsWit
   abbrev given_up : DeskState P
   given_up = released (left P A global k meta_sectors within threshold others rest policy generation room) first_cache_block
 
-  abbrev refused : Option (Job × Plan)
-  refused = Some (Flush, record { job = task_job shape (replacement ∷ []) Flush []; steps = []; answer = IsRefused Memory })
+  abbrev refused : List Want → Option (Job × Plan)
+  refused steps = Some (Flush, record { job = task_job shape (replacement ∷ []) Flush []; steps = steps; answer = IsRefused Memory })
 
   abbrev pub refuses : List (Happening P A)
   refuses =
@@ -153,11 +153,13 @@ module _ (P A : Type 0) (global : Global) (k meta_sectors : ℕ) (within : IsWit
       ∷ happened global (Start 0 Flush) Started Plain
       ∷ step (Cell (Look Fail)) (Word 0) Plain
       ∷ step (Desk (BeginCommit false (node_count shape.geometry.cache_blocks))) (GotRefused Memory) Plain
-      ∷ step (Desk (ReleaseOrder first_block)) Done (Asks given_up)
       ∷ []
 
+  abbrev pub gives : Happening P A
+  gives = step (Desk (ReleaseOrder first_block)) Done (Asks given_up)
+
   abbrev at_given_up : (metadata cache origin : List History) → (buffer : List Bytes) → Card → State P A
-  at_given_up metadata cache origin buffer card = now P A global k meta_sectors within threshold others rest metadata cache origin (words_of 0 0 1) given_up refused [] [] buffer card
+  at_given_up metadata cache origin buffer card = now P A global k meta_sectors within threshold others rest metadata cache origin (words_of 0 0 1) given_up (refused []) [] [] buffer card
 
   -- it lives on the first cache block alone
   lives_there : (live : IsLive (left P A global k meta_sectors within threshold others rest policy generation room) replacement) → live.cache ≡ first_cache_block
@@ -178,18 +180,24 @@ module _ (P A : Type 0) (global : Global) (k meta_sectors : ℕ) (within : IsWit
     λ not. absurd (not (record { cache = first_cache_block; live = record { order = replacement; sectors = 128; threshold = threshold; number = 1; waits = false }; there = refl; same = refl; taken = refl })),
   )
 
-  pub refuses_reaches : (metadata cache origin : List History) (buffer : List Bytes) (card : Card) → Reaches shape (at_left metadata cache origin leaving buffer card) refuses (at_given_up metadata cache origin buffer)
+  abbrev at_refused : (metadata cache origin : List History) → (buffer : List Bytes) → Card → State P A
+  at_refused metadata cache origin buffer card = at_left metadata cache origin (refused (Desk (ReleaseOrder first_block) ∷ [])) buffer card
+
+  pub refuses_reaches : (metadata cache origin : List History) (buffer : List Bytes) (card : Card) → Reaches shape (at_left metadata cache origin leaving buffer card) refuses (at_refused metadata cache origin buffer)
   refuses_reaches metadata cache origin buffer card = record {
     run = (
       (refl, ((refl, refl), refl)),
       (
         (refl, (λ d. elim d [ inl gone ↦ absurd (cc) | inr more ↦ elim more [ inl task ↦ task | inr out ↦ out tt ] ]), tt),
-        ((refl, ((refl, refl), refl)), ((refl, (refl, refl, record { idle = refl; next = more })), ((refl, (refl, refl, gives_up)), tt))),
+        ((refl, ((refl, refl), refl)), ((refl, (refl, refl, record { idle = refl; next = more })), tt)),
       ),
     );
     card = first_card (after_all shape (at_left metadata cache origin leaving buffer card) refuses).actors;
     is = refl;
   }
+
+  pub gives_reaches : (metadata cache origin : List History) (buffer : List Bytes) (card : Card) → Reaches shape (at_refused metadata cache origin buffer card) (gives ∷ []) (at_given_up metadata cache origin buffer)
+  gives_reaches metadata cache origin buffer card = record { run = ((refl, (refl, refl, gives_up)), tt); card = card; is = refl }
 
   -- ---- it is answered, and the second block follows
 
@@ -338,7 +346,7 @@ module _ (P A : Type 0) (policy : P) (alloc : A) (global : Global) (k meta_secto
   HasBack w = AtWork w 0 (λ job s. job ≡ Migrate (Promote first_cache_block) second_block) × FirstHas (replacement ∷ []) [] w
 
   abbrev Followed : State P A → Type 0
-  Followed w = AboutToAnswer (Migrate (Promote first_cache_block) second_block) w × Gives w.devices.origin 0 content
+  Followed w = AboutToAnswer (Migrate (Promote first_cache_block) second_block) w × FirstHas [] [] w × Gives w.devices.origin 0 content
       × OfTarget w.phase (λ target. (place_of target.desk.tree.entries 1 ≡ Some 0) × (place_of target.desk.tree.entries 0 ≡ None) × (order_at target.desk.orders.slots 0 ≡ None))
 
   -- ---- the stretches
@@ -395,7 +403,7 @@ module _ (P A : Type 0) (policy : P) (alloc : A) (global : Global) (k meta_secto
       (answers_reaches P A global k meta_sectors within threshold others rest policy generation more room now_metadata (synced dirty) (synced at_home) carried dirty_size back_size card) (λ c. (refl, (refl, refl)))
       (λ c then. on_stretch P A shape' _ following_run _ Followed [] then
       (follows_reaches P A global k meta_sectors within threshold others rest policy generation more room now_metadata (synced dirty) (synced at_home) carried dirty_size back_size c)
-      (λ d. ((refl, refl), sync_gives at_home content (home_gives P A global k meta_sectors within threshold others rest policy generation room m cache origin cache_size origin_size content), (refl, nowhere 0 1 k, refl)))
+      (λ d. ((refl, refl), (refl, refl), sync_gives at_home content (home_gives P A global k meta_sectors within threshold others rest policy generation room m cache origin cache_size origin_size content), (refl, nowhere 0 1 k, refl)))
       (λ d z o. tt)) n
 
   abbrev commit_run : List (Happening P A)
@@ -428,22 +436,55 @@ module _ (P A : Type 0) (policy : P) (alloc : A) (global : Global) (k meta_secto
   abbrev IsClaimed : State P A → Type 0
   IsClaimed w = FirstHas [] (replacement ∷ []) w × FirstCacheBlockIs (Quarantined true false) w
 
+  abbrev WasRefused : State P A → Type 0
+  WasRefused w = AtWork w 0 (λ job s. (job ≡ Flush) × (want s ≡ Desk (ReleaseOrder first_block))) × FirstHas [] (replacement ∷ []) w × FirstCacheBlockIs (Quarantined true false) w
+
   abbrev WasGivenUp : State P A → Type 0
   WasGivenUp w = AtWork w 0 (λ job s. (job ≡ Flush) × (want s ≡ End (IsRefused Memory))) × FirstHas [] [] w × FirstCacheBlockIs (Quarantined false false) w × OfTarget w.phase (λ target. order_at target.desk.orders.slots 0 ≡ None)
 
   abbrev refusing : List (Happening P A)
   refusing = refuses P A global k meta_sectors within threshold others rest policy generation more room
 
+  abbrev giving : Happening P A
+  giving = gives P A global k meta_sectors within threshold others rest policy generation more room
+
+  abbrev KeepsIt : State P A → Type 0
+  KeepsIt w = OfSome (slice_get w.actors 0) (λ x. x.task ≡ None) × FirstHas (replacement ∷ []) [] w
+
+  abbrev IsAgain : State P A → Type 0
+  IsAgain w = AtWork w 0 (λ job s. job ≡ Migrate Demote first_block) × FirstHas (replacement ∷ []) [] w
+
+  abbrev failing : List (Happening P A)
+  failing = fails P A global k meta_sectors within threshold others rest policy generation room m cache origin cache_size origin_size content
+
+  abbrev again : Happening P A
+  again = starts_again P A global k meta_sectors within threshold others rest policy generation room m cache origin cache_size origin_size content
+
+  pub again_all : StartsAgain P A shape' metadata
+  again_all = record {
+    failing = (opening ++ promoting) ++ (writing ++ failing);
+    starting = again;
+    passes = on_stretch P A shape' (start shape' metadata) ((opening ++ promoting) ++ (writing ++ failing)) _ KeepsIt ((again ∷ [], λ w n. IsAgain w) ∷ []) (known_at_start P A shape' metadata formatted size)
+        (then_reaches P A shape' (start shape' metadata) (opening ++ promoting) (writing ++ failing) came _ first_reaches (λ c.
+        then_reaches P A shape' (came c) writing failing wrote _ (writes_reaches P A global k meta_sectors within threshold others rest policy generation room m cache origin cache_size origin_size content c)
+        (fails_reaches P A global k meta_sectors within threshold others rest policy generation room m cache origin cache_size origin_size content)))
+        (λ c. (refl, (refl, refl)))
+        (λ c known n. on_stretch P A shape' _ (again ∷ []) _ IsAgain [] known (again_reaches P A global k meta_sectors within threshold others rest policy generation room m cache origin cache_size origin_size content c)
+        (λ d. (refl, (refl, refl))) (λ d z o. tt) n) (formatted_notes shape');
+  }
+
   pub given_up_all : GivesUp P A shape' metadata
   given_up_all = record {
     leaving = (opening ++ promoting) ++ (writing ++ replacing);
     refusing = refusing;
-    passes = on_stretch P A shape' (start shape' metadata) ((opening ++ promoting) ++ (writing ++ replacing)) _ IsClaimed ((refusing, λ w n. WasGivenUp w) ∷ []) (known_at_start P A shape' metadata formatted size)
+    giving = giving;
+    passes = on_stretch P A shape' (start shape' metadata) ((opening ++ promoting) ++ (writing ++ replacing)) _ IsClaimed ((refusing, λ w n. WasRefused w) ∷ (giving ∷ [], λ w n. WasGivenUp w) ∷ []) (known_at_start P A shape' metadata formatted size)
         (then_reaches P A shape' (start shape' metadata) (opening ++ promoting) (writing ++ replacing) came _ first_reaches (λ c.
         then_reaches P A shape' (came c) writing replacing wrote _ (writes_reaches P A global k meta_sectors within threshold others rest policy generation room m cache origin cache_size origin_size content c)
         (replaces_reaches P A global k meta_sectors within threshold others rest policy generation room m cache origin cache_size origin_size content)))
         (λ c. ((refl, refl), refl))
-        (λ c known n. on_stretch P A shape' _ refusing _ WasGivenUp [] known (refuses_reaches P A global k meta_sectors within threshold others rest policy generation more room m dirty at_home carried c) (λ d. ((refl, refl), (refl, refl), refl, refl)) (λ d z o. tt) n) (formatted_notes shape');
+        (λ c known n. on_stretch P A shape' _ refusing _ WasRefused ((giving ∷ [], λ w n. WasGivenUp w) ∷ []) known (refuses_reaches P A global k meta_sectors within threshold others rest policy generation more room m dirty at_home carried c) (λ d. ((refl, refl), (refl, refl), refl))
+        (λ d then o. on_stretch P A shape' _ (giving ∷ []) _ WasGivenUp [] then (gives_reaches P A global k meta_sectors within threshold others rest policy generation more room m dirty at_home carried d) (λ e. ((refl, refl), (refl, refl), refl, refl)) (λ e z o. tt) o) n) (formatted_notes shape');
   }
 
   pub replaces_all : Replaces P A shape' metadata content
@@ -471,6 +512,13 @@ can_give_up P A policy reading begun cache_blocks meta_sectors within threshold 
     by_blocks : (n : ℕ) (within : IsWithinLimits 64 n 2 meta_sectors) → IsFormatted (two_blocks n meta_sectors within) metadata → A × Global → GivesUp P A (record { geometry = two_blocks n meta_sectors within; threshold = threshold; actors = suc others }) metadata
     by_blocks zero within formatted with = absurd (omega (arith, within.cache_from))
     by_blocks (suc k) within formatted with = given_up_all P A policy with.0 with.1 k meta_sectors within threshold others metadata [] room formatted size
+
+pub can_start_again : (P A : Type 0) → CanStartAgain P A
+can_start_again P A policy reading begun cache_blocks meta_sectors within threshold others metadata room formatted size = by_blocks cache_blocks within formatted (by_reading P A reading begun)
+  where
+    by_blocks : (n : ℕ) (within : IsWithinLimits 64 n 2 meta_sectors) → IsFormatted (two_blocks n meta_sectors within) metadata → A × Global → StartsAgain P A (record { geometry = two_blocks n meta_sectors within; threshold = threshold; actors = suc others }) metadata
+    by_blocks zero within formatted with = absurd (omega (arith, within.cache_from))
+    by_blocks (suc k) within formatted with = again_all P A policy with.0 with.1 k meta_sectors within threshold others metadata [] room formatted size
 
 pub can_replace : (P A : Type 0) → CanReplace P A
 can_replace P A policy reading begun cache_blocks meta_sectors within threshold others metadata content room formatted size = by_blocks cache_blocks within formatted (by_reading P A reading begun)

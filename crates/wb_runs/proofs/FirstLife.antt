@@ -64,7 +64,7 @@ cut = record { each_once = IsPermutation-refl (0 ∷ []); none_empty = All-cons 
 abbrev pub nothing_lands : Choice
 nothing_lands = record { base = Durable; named = [] }
 
-may_fail : (sectors : ℕ) → MayFail Origin nothing_lands sectors
+pub may_fail : (sectors : ℕ) → MayFail Origin nothing_lands sectors
 may_fail sectors = record { here = All-nil _; inside = All-nil _; two = All-nil _ }
 
 -- the target that stands, and what the first actor knows

@@ -10,9 +10,12 @@ use Rattle.wb_types.specs.declared.extent.Extent.{Extent}
 use Rattle.wb_types.specs.Extents.{IsCutInto, sectors_in}
 use Rattle.wb_types.specs.declared.mode.Mode.TheVariants.{Writeback}
 use Rattle.wb_types.specs.declared.mode.Dev.TheVariants.{Cache, Origin}
+use Rattle.wb_types.specs.declared.refusal.Refusal.TheVariants.{Io}
+use Rattle.std.specs.Int.Bits.{bit_or}
 use Rattle.wb_types.specs.declared.number.OBlock.{OBlock}
 use Rattle.wb_disk.specs.Device.{Content as Bytes, History, Gives, grown, only, newest, written, synced}
-use Rattle.wb_disk.specs.Extents.{written_each}
+use Rattle.wb_disk.specs.Extents.{written_each, written_where}
+use Rattle.wb_disk.specs.Failing.{lands}
 use Rattle.wb_meta.proofs.Histories.{newest-added}
 use Rattle.wb_words.specs.SharedWords.{Words, seal_word}
 use Rattle.wb_words.specs.Cards.{blank_card}
@@ -20,7 +23,7 @@ use Rattle.wb_words.specs.declared.card.Card.{Card}
 use Rattle.wb_words.specs.declared.word.Access.TheVariants.{Owned}
 use Rattle.wb_words.specs.declared.word.Kind.TheVariants.{WriteHit}
 use Rattle.wb_words.specs.declared.word.Word.TheVariants.{Cell as LockWord, Seal as SealWord, Number, Fail}
-use Rattle.wb_words.specs.declared.step.CellStep.TheVariants.{Look, Take, Release, Seal, Finish, Count}
+use Rattle.wb_words.specs.declared.step.CellStep.TheVariants.{Look, Take, Release, Seal, Finish, Count, SetFailed}
 use Rattle.wb_tree.specs.Mapping.{Mapping, IsSound, empty_mapping}
 use Rattle.wb_tree.specs.Edits.{IsChangedAt}
 use Rattle.wb_tree.proofs.Branching.Edits.{changed_at, changed-sound}
@@ -33,19 +36,19 @@ use Rattle.wb_desk.specs.Entries.{MayMap, MayUnmap, entry_of, mapped, unmapped}
 use Rattle.wb_desk.specs.Commits.{commit_begun}
 use Rattle.wb_desk.specs.Opening.{opened}
 use Rattle.wb_stage.specs.Asking.{DidUnmap, ended}
-use Rattle.wb_tasks.specs.Plan.{Plan}
+use Rattle.wb_tasks.specs.Plan.{Plan, table}
 use Rattle.wb_tasks.specs.Tables.{TaskJob}
-use Rattle.wb_tasks.specs.declared.step.Answer.TheVariants.{Done as Finished}
+use Rattle.wb_tasks.specs.declared.step.Answer.TheVariants.{Done as Finished, Refused as IsRefused}
 use Rattle.wb_tasks.specs.declared.step.Migration.TheVariants.{Promote, Demote}
 use Rattle.wb_tasks.specs.declared.step.DeviceStep.TheVariants.{Read as ReadExtent, Write as WriteExtent}
 use Rattle.wb_tasks.specs.declared.step.DeskStep.TheVariants.{Map, Unmap}
 use Rattle.wb_tasks.specs.declared.step.Want.{Want}
 use Rattle.wb_tasks.specs.declared.step.Want.TheVariants.{Cell, Device, Desk, End}
 use Rattle.wb_tasks.specs.declared.step.Got.{Got}
-use Rattle.wb_tasks.specs.declared.step.Got.TheVariants.{Done, Word}
+use Rattle.wb_tasks.specs.declared.step.Got.TheVariants.{Done, Word, Fault}
 use Rattle.wb_runs.specs.declared.job.Job.{Job}
 use Rattle.wb_runs.specs.declared.job.Job.TheVariants.{Write, Migrate, Replace}
-use Rattle.wb_runs.specs.declared.event.Event.TheVariants.{Start, Step}
+use Rattle.wb_runs.specs.declared.event.Event.TheVariants.{Start, Step, FaultStep}
 use Rattle.wb_runs.specs.declared.event.What.TheVariants.{Started, Stepped}
 use Rattle.wb_runs.specs.States.{Shape, State, Actor, Stands}
 use Rattle.wb_runs.specs.Happenings.{Chosen, Plain, Cut, Orders, Asks, Happening, task_job}
@@ -55,6 +58,7 @@ use Rattle.wb_runs.proofs.Desks.{changed}
 use Rattle.wb_runs.proofs.Completing.{empty_sound}
 use Rattle.wb_runs.proofs.InsideRuns.{length-written_where}
 use Rattle.wb_runs.proofs.FirstFlush.{happened}
+use Rattle.wb_runs.proofs.FirstLife.{nothing_lands, may_fail}
 use Rattle.wb_runs.proofs.FirstPromotion.{none_mapped, no_cost}
 
 -- ---- which blocks stand where
@@ -431,6 +435,76 @@ module _ (P A : Type 0) (global : Global) (k meta_sectors : ℕ) (within : IsWit
 
         pub replaces_reaches : (card : Card) → Reaches shape (written_now card) replaces left_now
         replaces_reaches card = record { run = replaces_run card; card = first_card (after_all shape (written_now card) replaces).actors; is = refl }
+
+        -- ---- or it fails to, and its order is kept
+
+        abbrev pub fails : List (Happening P A)
+        fails =
+            does (End Finished) Done Plain
+            ∷ happened global (Start 0 replaces_job) Started (Orders (whole ∷ []) first_cache_block)
+            ∷ does (Cell (Look Fail)) (Word 0) Plain
+            ∷ does (Cell (Look (LockWord first_block))) (Word 0) Plain
+            ∷ does (Cell (Take Owned first_block 0)) Done Plain
+            ∷ does (Cell (Look (SealWord first_block))) (Word (seal_word (Some first_cache_block) true)) Plain
+            ∷ does (Cell (Look (Number first_block))) (Word 1) Plain
+            ∷ does (Device (ReadExtent Cache whole)) Done Plain
+            ∷ happened global (FaultStep 0 nothing_lands) (Stepped (Device (WriteExtent Origin whole)) Fault) Plain
+            ∷ does (Cell SetFailed) Done Plain
+            ∷ does (End (IsRefused (Io Origin))) Done Plain
+            ∷ []
+
+        abbrev failed_words : Words
+        failed_words = record { cells = 1 ∷ 0 ∷ []; seals = 3 ∷ 0 ∷ []; numbers = 1 ∷ 0 ∷ []; read_hits = 0; read_misses = 0; write_hits = 1; write_misses = 0; fail = bit_or 0 1 }
+
+        abbrev failed_with : Option (Job × Plan) → Card → State P A
+        failed_with task = now metadata dirtied (written_where (lands Origin nothing_lands) origin 0 taken_home) failed_words claimed task (replacement ∷ []) [] taken_home
+
+        abbrev pub failed_now : Card → State P A
+        failed_now = failed_with None
+
+        fails_run : (card : Card) → IsRun shape (written_now card) fails
+        fails_run card = (
+          (refl, ((refl, refl), refl)),
+          (
+            (refl, (λ d. elim d [ inl gone ↦ absurd (cc) | inr more ↦ elim more [ inl task ↦ task | inr out ↦ out tt ] ]), (uncut whole (omega arith), may_replace)),
+            (
+              (refl, ((refl, refl), refl)),
+              (
+                (refl, ((refl, refl), refl)),
+                (
+                  (refl, ((refl, refl), refl)),
+                  (
+                    (refl, ((refl, refl), refl)),
+                    (
+                      (refl, ((refl, refl), refl)),
+                      (
+                        (refl, (tt, (refl, refl), refl, omega (arith, dirtied_size, cache_size))),
+                        ((refl, refl, (refl, may_fail (length origin), (refl, tt))), ((refl, ((refl, refl), refl)), ((refl, ((refl, refl), refl)), tt))),
+                      ),
+                    ),
+                  ),
+                ),
+              ),
+            ),
+          ),
+        )
+
+        pub fails_reaches : (card : Card) → Reaches shape (written_now card) fails failed_now
+        fails_reaches card = record { run = fails_run card; card = first_card (after_all shape (written_now card) fails).actors; is = refl }
+
+        -- and it starts again
+        abbrev pub starts_again : Happening P A
+        starts_again = happened global (Start 0 replaces_job) Started (Cut (whole ∷ []))
+
+        abbrev pub again_now : Card → State P A
+        again_now = failed_with (Some (leaves_job, table (task_job shape [] replaces_job (whole ∷ []))))
+
+        pub again_reaches : (card : Card) → Reaches shape (failed_now card) (starts_again ∷ []) again_now
+        again_reaches card = record {
+          run = ((refl, (λ d. elim d [ inl gone ↦ absurd (cc) | inr more ↦ elim more [ inl task ↦ task | inr out ↦ out tt ] ]), (uncut whole (omega arith), (first_cache_block, (0, omega arith, refl), refl))), tt);
+          card = card;
+          is = refl;
+        }
 
         -- its content goes home
         pub home_gives : Gives home 0 content

@@ -20,7 +20,8 @@ use Rattle.wb_meta.specs.Reads.{sectors_read}
 use Rattle.wb_meta.specs.declared.read_steps.ReadSteps.{ReadSteps}
 use Rattle.wb_tasks.specs.Plan.{want}
 use Rattle.wb_tasks.specs.declared.step.Answer.TheVariants.{Done as Finished, Refused as IsRefused}
-use Rattle.wb_tasks.specs.declared.step.Want.TheVariants.{End}
+use Rattle.wb_tasks.specs.declared.step.DeskStep.TheVariants.{ReleaseOrder}
+use Rattle.wb_tasks.specs.declared.step.Want.TheVariants.{Desk, End}
 use Rattle.wb_runs.specs.declared.job.Job.{Job}
 use Rattle.wb_runs.specs.declared.job.Job.TheVariants.{Read, Write, Flush, Migrate}
 use Rattle.wb_runs.specs.States.{Shape, State, Gone, OfTarget, start}
@@ -166,7 +167,7 @@ pub record Replaces (P A : Type 0) (shape : Shape) (metadata : List History) (co
       ∷ (starting, λ w n. AtWork w 0 (λ job s. job ≡ Migrate (Promote first_cache_block) second_block) × FirstHas (replacement ∷ []) [] w)
       ∷ (
         following,
-        λ w n. AboutToAnswer (Migrate (Promote first_cache_block) second_block) w × Gives w.devices.origin 0 content
+        λ w n. AboutToAnswer (Migrate (Promote first_cache_block) second_block) w × FirstHas [] [] w × Gives w.devices.origin 0 content
             × OfTarget w.phase (λ target. (place_of target.desk.tree.entries 1 ≡ Some 0) × (place_of target.desk.tree.entries 0 ≡ None) × (order_at target.desk.orders.slots 0 ≡ None)),
       )
       ∷ [])
@@ -177,16 +178,37 @@ CanReplace P A = (policy : P) (reading : ReadSteps A) → sectors_read reading �
     → IsFormatted (two_blocks cache_blocks meta_sectors within) metadata → length metadata ≡ meta_sectors
     → Replaces P A (record { geometry = two_blocks cache_blocks meta_sectors within; threshold = threshold; actors = suc others }) metadata content
 
--- A run that comes as far, but whose flush is refused for want of memory: the order is given up, and its cache block claimed no longer.
+-- A run that comes as far, but whose flush is refused for want of memory: it is about to give the order up then, and with one happening more
+-- it has: the order is over, and its cache block claimed no longer.
 pub record GivesUp (P A : Type 0) (shape : Shape) (metadata : List History) : Type 0 where
   pub leaving : List (Happening P A)
   pub refusing : List (Happening P A)
+  pub giving : Happening P A
   pub passes : PassesThrough shape (start shape metadata) (formatted shape) (
       (leaving, λ w n. FirstHas [] (replacement ∷ []) w × FirstCacheBlockIs (Quarantined true false) w)
-      ∷ (refusing, λ w n. AtWork w 0 (λ job s. (job ≡ Flush) × (want s ≡ End (IsRefused Memory))) × FirstHas [] [] w × FirstCacheBlockIs (Quarantined false false) w × OfTarget w.phase (λ target. order_at target.desk.orders.slots 0 ≡ None))
+      ∷ (refusing, λ w n. AtWork w 0 (λ job s. (job ≡ Flush) × (want s ≡ Desk (ReleaseOrder first_block))) × FirstHas [] (replacement ∷ []) w × FirstCacheBlockIs (Quarantined true false) w)
+      ∷ (
+        giving ∷ [],
+        λ w n. AtWork w 0 (λ job s. (job ≡ Flush) × (want s ≡ End (IsRefused Memory))) × FirstHas [] [] w × FirstCacheBlockIs (Quarantined false false) w
+            × OfTarget w.phase (λ target. order_at target.desk.orders.slots 0 ≡ None),
+      )
       ∷ [])
 
 abbrev pub CanGiveUp : (P A : Type 0) → Type 0
 CanGiveUp P A = (policy : P) (reading : ReadSteps A) → sectors_read reading ≡ 0 → (cache_blocks meta_sectors : ℕ) (within : IsWithinLimits 64 cache_blocks 2 meta_sectors) (threshold others : ℕ) (metadata : List History) → 128 ≤ threshold
     → IsFormatted (two_blocks cache_blocks meta_sectors within) metadata → length metadata ≡ meta_sectors
     → GivesUp P A (record { geometry = two_blocks cache_blocks meta_sectors within; threshold = threshold; actors = suc others }) metadata
+
+-- A run after which a replacement has failed, and its actor has nothing to do, but its order still; with one happening more it starts again.
+pub record StartsAgain (P A : Type 0) (shape : Shape) (metadata : List History) : Type 0 where
+  pub failing : List (Happening P A)
+  pub starting : Happening P A
+  pub passes : PassesThrough shape (start shape metadata) (formatted shape) (
+      (failing, λ w n. OfSome (slice_get w.actors 0) (λ x. x.task ≡ None) × FirstHas (replacement ∷ []) [] w)
+      ∷ (starting ∷ [], λ w n. AtWork w 0 (λ job s. job ≡ Migrate Demote first_block) × FirstHas (replacement ∷ []) [] w)
+      ∷ [])
+
+abbrev pub CanStartAgain : (P A : Type 0) → Type 0
+CanStartAgain P A = (policy : P) (reading : ReadSteps A) → sectors_read reading ≡ 0 → (cache_blocks meta_sectors : ℕ) (within : IsWithinLimits 64 cache_blocks 2 meta_sectors) (threshold others : ℕ) (metadata : List History) → 128 ≤ threshold
+    → IsFormatted (two_blocks cache_blocks meta_sectors within) metadata → length metadata ≡ meta_sectors
+    → StartsAgain P A (record { geometry = two_blocks cache_blocks meta_sectors within; threshold = threshold; actors = suc others }) metadata

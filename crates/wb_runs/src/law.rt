@@ -1,7 +1,7 @@
 //! The theorems over all runs.
 
 ghost use Rattle.wb_runs.specs.Headline.{AnswersCoverTheirSectors, EventsSkipRightly, MetadataAreRead, OpeningsRefuseByCause};
-ghost use Rattle.wb_runs.specs.Possible.{CanDemote, CanFlush, CanGiveUp, CanOpen, CanPromote, CanReplace, CanSurvive};
+ghost use Rattle.wb_runs.specs.Possible.{CanDemote, CanFlush, CanGiveUp, CanOpen, CanPromote, CanReplace, CanStartAgain, CanSurvive};
 ghost use Rattle.wb_runs.specs.Progress.{NeverStuck};
 ghost use Rattle.wb_runs.specs.Inside.{StepsStayInside};
 ghost use Rattle.wb_runs.specs.Holding.{WordsAreUsedRightly};
@@ -78,6 +78,11 @@ pub fn a_block_can_be_replaced<P, A>()
 /// And one in which that flush is refused for want of memory, and gives the order up.
 pub fn a_replacement_can_be_given_up<P, A>()
     ensures { CanGiveUp P A }
+{}
+
+/// And one in which a replacement fails before its block has left, and starts again under the order that its actor has still.
+pub fn a_replacement_can_start_again<P, A>()
+    ensures { CanStartAgain P A }
 {}
 
 /// After every run the cache and the origin have their sizes, and whoever has a task wants next a step on sectors that are there, or a
