@@ -46,7 +46,7 @@ use Rattle.wb_runs.specs.States.{Shape, Actor, Stands, Target as RunTarget, with
 use Rattle.wb_runs.specs.Happenings.{Plain, Commits, Asks, AreWhole, DoesSync, FailsSync, Gives}
 use Rattle.wb_runs.specs.Effects.{contents_for, led}
 use Rattle.wb_machine.specs.declared.target.Target.{Target}
-use Rattle.wb_machine.specs.Serving.{ComesNext, DoesOn, FailsAt, IsDoable, IsPossible, IsPut, MayBePut, Performs, PutsSector, WasAsked, WasPut, IsCopy, Migrates, chosen_at, commit_by, noted_read, over, stood, told, GivesUp, HasToGiveUp}
+use Rattle.wb_machine.specs.Serving.{ComesNext, DoesOn, FailsAt, IsDoable, IsPossible, IsPut, MayBePut, Performs, PutsSector, WasAsked, WasPut, IsCopy, Migrates, chosen_at, commit_by, noted_read, over, stood, told, GivesUp}
 use Rattle.wb_policy.specs.declared.order.Order.{Order}
 
 -- ---- devices

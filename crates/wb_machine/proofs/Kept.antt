@@ -1,18 +1,11 @@
 -- What stands in lists of orders that are looked through, and which cache block a replacement is about.
-use Rattle.std.proofs.Common.{◌≡◌, ◌≢◌, ◌<◌, ◌≤◌, ◌+◌, ◌++◌, ◌∙◌, inl, inr, ℕ, zero, suc, List, [], ◌∷◌, Option, Some, None, refl, sym, ap, subst, arith, drop, length, map, slice_get, slice_index_or, append_assoc, append-nil, Contains, Bool, true, false, Result, Ok, Err, IfOk}
-use Rattle.std.proofs.lemmas.Option.{slice_get_within}
-use Rattle.std.specs.Option.{option_map}
+use Rattle.std.proofs.Common.{◌≡◌, ◌≢◌, ◌<◌, ◌≤◌, ◌+◌, ℕ, zero, suc, List, [], ◌∷◌, sym, subst, arith, drop, length, slice_index_or, Contains, Bool, true, false, Result, Ok, Err, IfOk}
 use Rattle.wb_types.specs.declared.number.OBlock.{OBlock}
 use Rattle.wb_types.specs.declared.number.CBlock.{CBlock}
 use Rattle.wb_policy.specs.Law.{IsMappedAt, IsUnmapped}
 use Rattle.wb_policy.specs.declared.order.Order.{Order}
 use Rattle.wb_policy.specs.declared.order.Order.TheVariants.{Replace}
 use Rattle.wb_policy.specs.declared.quiet.Quiet.{Quiet}
-use Rattle.wb_space.specs.Blocks.{shown}
-use Rattle.wb_space.specs.declared.block.Block.{Block}
-use Rattle.wb_space.specs.declared.block.Block.TheVariants.{Free, Mapped, Reserved, Quarantined}
-use Rattle.wb_space.specs.declared.holding.Holding.{Holding}
-use Rattle.wb_space.specs.declared.holding.Holding.TheVariants as holding
 use Rattle.wb_tree.specs.Mapping.{IsMapping}
 use Rattle.wb_desk.specs.Desks.{DeskState, holdings}
 use Rattle.wb_desk.proofs.Index.{mapped_once}

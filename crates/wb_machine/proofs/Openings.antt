@@ -30,7 +30,7 @@ use Rattle.wb_devices.specs.Committing.{goes_on}
 use Rattle.wb_devices.specs.Moving.{device_in}
 use Rattle.wb_devices.specs.declared.running.RunningCommit.{RunningCommit}
 use Rattle.wb_runs.specs.declared.job.Job.{Job}
-use Rattle.wb_runs.specs.declared.job.Job.TheVariants.{Open, Migrate}
+use Rattle.wb_runs.specs.declared.job.Job.TheVariants.{Open}
 use Rattle.wb_runs.specs.declared.event.Event.{Event}
 use Rattle.wb_runs.specs.declared.event.Event.TheVariants.{Start, Step, FaultStep, Stop}
 use Rattle.wb_runs.specs.declared.event.What.{What}

@@ -1,7 +1,6 @@
 -- What a start of who is at nothing comes to over a target, by the order that it has or takes.
 use Rattle.std.proofs.Common.{◌≡◌, ◌∙◌, ◌&&◌, inl, inr, Bool, true, false, List, [], ◌∷◌, Option, Some, None, refl, sym, ap, subst, is_some, is_none, not, if◌then◌else◌, filter, ℕ}
 use Rattle.std.proofs.Common.{arith}
-use Rattle.std.specs.declared.alloc.Global.{Global}
 use Rattle.wb_types.proofs.Cutting.{pieces_cut}
 use Rattle.wb_types.specs.declared.refusal.Refusal.{Refusal}
 use Rattle.wb_types.specs.declared.refusal.Refusal.TheVariants.{Busy}
@@ -22,7 +21,7 @@ use Rattle.wb_runs.specs.Effects.{dropped, replacing}
 use Rattle.wb_runs.specs.Happenings.{Plain, Cut, Orders, job_refusal, order_for, task_job, KeepsMigration, KeepsReplacement, begun_as}
 use Rattle.wb_machine.specs.Life.{wants_target}
 use Rattle.wb_machine.specs.Members.{Member}
-use Rattle.wb_machine.specs.Serving.{GetsJob, IsPassed, Starts, StartsIf, TakesOrder, cut_for, GetsOrder, KeepsFor, is_ordered, order_by}
+use Rattle.wb_machine.specs.Serving.{GetsJob, Starts, StartsIf, TakesOrder, cut_for, GetsOrder, KeepsFor, is_ordered, order_by}
 use Rattle.wb_policy.specs.declared.order.Order.TheVariants.{Replace as ReplaceOrder}
 use Rattle.wb_policy.specs.Law.{IsMappedAt, IsUnmapped}
 use Rattle.wb_desk.specs.Calls.{reserved}

@@ -1,8 +1,7 @@
 -- What an event does over a target that stands is what wb_runs says.
-use Rattle.std.proofs.Common.{◌≡◌, ◌≤◌, ◌&&◌, inl, inr, ℕ, zero, suc, Bool, true, false, List, [], ◌∷◌, Option, Some, None, refl, sym, ap, subst, ◌∙◌, arith, if◌then◌else◌, slice_get, slice_set, slice_index_or, length, length-set, replicate, is_none}
+use Rattle.std.proofs.Common.{◌≡◌, ◌≤◌, inl, inr, ℕ, zero, suc, Bool, true, false, List, [], ◌∷◌, Option, Some, None, refl, sym, ap, subst, ◌∙◌, if◌then◌else◌, slice_get, slice_set, slice_index_or, length, length-set, replicate, is_none}
 use Rattle.std.specs.declared.alloc.Global.{Global}
 use Rattle.wb_types.specs.Limits.{node_count}
-use Rattle.wb_types.specs.declared.refusal.Refusal.{Refusal}
 use Rattle.wb_types.specs.declared.mode.Dev.TheVariants.{Metadata, Cache, Origin}
 use Rattle.wb_types.specs.declared.number.OBlock.{OBlock}
 use Rattle.wb_types.specs.declared.number.CBlock.{CBlock}
@@ -21,7 +20,6 @@ use Rattle.wb_tasks.specs.Tables.{TaskJob, OnBlock, Flushing, Opening as Opening
 use Rattle.wb_tasks.specs.Plan.{Plan, table, want}
 use Rattle.wb_tasks.specs.Ready.{IsOwnStep}
 use Rattle.wb_tasks.proofs.Readiness.{is_own_step, job_stays}
-use Rattle.wb_tasks.specs.declared.step.Migration.TheVariants.{Promote, Demote, Clean}
 use Rattle.wb_tasks.specs.declared.step.DeviceStep.{DeviceStep}
 use Rattle.wb_tasks.specs.declared.step.DeviceStep.TheVariants.{Read as ReadExtent, Write as WriteExtent, Sync, ReadMetadata, WriteNode, WriteRoot}
 use Rattle.wb_tasks.specs.declared.step.DeskStep.TheVariants.{Map, Unmap, ReleaseOrder, BeginCommit, EndCommit}
@@ -37,7 +35,7 @@ use Rattle.wb_runs.specs.declared.event.Event.TheVariants.{Start, Step, FaultSte
 use Rattle.wb_runs.specs.declared.event.What.{What}
 use Rattle.wb_runs.specs.declared.event.What.TheVariants.{Skipped, Refused, Started, Stepped, Stopped}
 use Rattle.wb_runs.specs.States.{Shape, Actor, Stands, Phase, Target as RunTarget}
-use Rattle.wb_runs.specs.Happenings.{Chosen, Plain, Cut, Orders, Begins, Reaches, Puts, Commits, Asks, Opened, OfSome, DoesNotApply, DoesMap, DoesRelease, DoesUnmap, Gives, Falters, MayFailAt, StartGives, order_for, task_job, begun_as}
+use Rattle.wb_runs.specs.Happenings.{Chosen, Plain, Cut, Orders, Begins, Reaches, Puts, Commits, Asks, Opened, OfSome, DoesNotApply, DoesMap, DoesRelease, DoesUnmap, Gives, Falters, MayFailAt, StartGives, task_job, begun_as}
 use Rattle.wb_runs.specs.Effects.{after_what, asked_desk, begun_desk, card_then, commit_then, cut_of, desk_then, devices_then, given, job_of, phase_given, task_then, went, words_then}
 use Rattle.wb_runs.specs.Holding.{TaskSuits}
 use Rattle.wb_runs.proofs.Desks.{is_live, is_unmappable}

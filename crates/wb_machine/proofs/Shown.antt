@@ -1,5 +1,5 @@
 -- What a target shows of one sector.
-use Rattle.std.proofs.Common.{◌≡◌, ◌∙◌, ◌≤◌, ◌<◌, ◌+◌, ◌*◌, ◌/◌, ◌%◌, ◌==◌, ℕ, zero, suc, Bool, true, false, List, [], ◌∷◌, Option, Some, None, refl, sym, ap, subst, arith, drop, get_or, if◌then◌else◌, length, map, slice_get, unwrap_or}
+use Rattle.std.proofs.Common.{◌≡◌, ◌∙◌, ◌≤◌, ◌<◌, ◌+◌, ◌*◌, ◌/◌, ◌%◌, ℕ, zero, suc, List, [], ◌∷◌, Option, Some, None, refl, sym, ap, arith, length, map, slice_get, unwrap_or}
 use Rattle.std.proofs.lemmas.List.{length-map}
 use Rattle.std.proofs.lemmas.Option.{slice_get-map, slice_get_past}
 use Rattle.std.proofs.Math.Nat.{add-mul, mul-le-mul_right, mul_comm}
@@ -8,7 +8,7 @@ use Rattle.wb_types.specs.Extents.{rising}
 use Rattle.wb_types.specs.declared.entry.Entry.{Entry}
 use Rattle.wb_disk.specs.Device.{Content as Bytes}
 use Rattle.wb_runs.specs.States.{Shape, block_size, sector_count}
-use Rattle.wb_runs.specs.Headline.{cached_from, content_of, place_of, shown_by}
+use Rattle.wb_runs.specs.Headline.{content_of, place_of, shown_by}
 
 rising_at : (first n i : ℕ) → i < n → slice_get (rising first n) i ≡ Some (first + i)
 rising_at first zero i l = absurd (omega (arith, l))

@@ -1,10 +1,10 @@
 -- In every run the cache and the origin keep their sizes.
-use Rattle.std.proofs.Common.{◌≡◌, ◌∙◌, ◌*◌, ℕ, suc, Bool, true, false, List, [], ◌∷◌, Option, Some, None, refl, sym, ap, subst, if◌then◌else◌, length, map, replicate, slice_get, slice_set, length-set}
+use Rattle.std.proofs.Common.{◌≡◌, ◌∙◌, ℕ, suc, Bool, true, false, List, [], ◌∷◌, Option, Some, None, refl, ap, if◌then◌else◌, length, slice_get, slice_set}
 use Rattle.std.proofs.lemmas.List.{length-replicate, length-map}
 use Rattle.std.specs.declared.alloc.Global.{Global}
 use Rattle.wb_types.specs.declared.mode.Dev.{Dev}
 use Rattle.wb_types.specs.declared.mode.Dev.TheVariants.{Metadata, Cache, Origin}
-use Rattle.wb_disk.specs.Crash.{Choice, crashed, crashed_from}
+use Rattle.wb_disk.specs.Crash.{Choice, crashed_from}
 use Rattle.wb_disk.specs.Device.{Content as Bytes, History, synced}
 use Rattle.wb_disk.specs.Extents.{written_where}
 use Rattle.wb_disk.specs.Failing.{lands}
@@ -19,14 +19,13 @@ use Rattle.wb_tasks.specs.declared.step.Want.{Want}
 use Rattle.wb_tasks.specs.declared.step.Want.TheVariants.{Cell, Device, Desk, End}
 use Rattle.wb_tasks.specs.declared.step.Got.{Got}
 use Rattle.wb_devices.specs.declared.devices.Devices.{Devices}
-use Rattle.wb_devices.specs.Moving.{device_in}
 use Rattle.wb_runs.specs.declared.job.Job.{Job}
 use Rattle.wb_runs.specs.declared.job.Job.TheVariants.{Read, Write, Flush, Migrate, Open, Replace}
 use Rattle.wb_runs.specs.declared.event.Event.{Event}
 use Rattle.wb_runs.specs.declared.event.Event.TheVariants.{Start, Step, FaultStep, Stop}
 use Rattle.wb_runs.specs.declared.event.What.{What}
-use Rattle.wb_runs.specs.declared.event.What.TheVariants.{Skipped, Refused, Started, Stepped, Stopped}
-use Rattle.wb_runs.specs.States.{Actor, Shape, cache_sector_count, sector_count, start, with_device}
+use Rattle.wb_runs.specs.declared.event.What.TheVariants.{Started, Stepped, Stopped}
+use Rattle.wb_runs.specs.States.{Actor, Shape, cache_sector_count, sector_count, start}
 use Rattle.wb_runs.specs.Happenings.{Chosen, Plain, Falters, Gives, MayBe, OfSome}
 use Rattle.wb_runs.specs.Effects.{IsRun, after_all, after_happening, after_what, all_crashed, cleared, contents_for, device_done, device_failed, devices_then, given, job_of, phase_given, put_by, stepped, with_actor}
 use Rattle.wb_machine.specs.Life.{Happened, Now}

@@ -1,8 +1,7 @@
 -- What a member is after a step on its job, by the parts that the step changes.
-use Rattle.std.proofs.Common.{◌≡◌, ◌∙◌, ℕ, Bool, true, false, List, [], Option, Some, None, refl, sym, ap, subst, ◌≢◌, Vec}
+use Rattle.std.proofs.Common.{◌≡◌, ◌∙◌, ℕ, true, false, List, [], Option, Some, None, refl, sym, ap, subst, ◌≢◌, Vec}
 use Rattle.wb_disk.specs.Device.{Content as Bytes, History}
 use Rattle.wb_devices.specs.declared.devices.Devices.{Devices}
-use Rattle.wb_devices.specs.Moving.{device_in}
 use Rattle.wb_policy.specs.declared.order.Order.{Order}
 use Rattle.wb_tasks.specs.Plan.{Plan, want}
 use Rattle.wb_tasks.specs.declared.step.DeviceStep.TheVariants.{Read as ReadExtent}
@@ -13,9 +12,8 @@ use Rattle.wb_tasks.specs.declared.step.Got.{Got}
 use Rattle.wb_tasks.specs.declared.step.Got.TheVariants.{Done}
 use Rattle.wb_runs.specs.declared.job.Job.{Job}
 use Rattle.wb_runs.specs.declared.job.Job.TheVariants.{Migrate}
-use Rattle.wb_runs.specs.declared.event.What.{What}
 use Rattle.wb_runs.specs.declared.event.What.TheVariants.{Stepped}
-use Rattle.wb_runs.specs.Effects.{buffer_then, contents_at, job_of, orders_then, task_then, awaiting_then}
+use Rattle.wb_runs.specs.Effects.{buffer_then, job_of, orders_then, task_then, awaiting_then}
 use Rattle.wb_machine.specs.declared.target.Target.{Target}
 use Rattle.wb_machine.specs.declared.machine.TheConstants.{ACTORS}
 use Rattle.wb_machine.specs.Life.{shape_of}
@@ -45,13 +43,32 @@ left_is : (old new later : List Order) (left : Option (Vec Order Global)) → Is
 left_is old new later None e f = f ∙ sym e
 left_is old new later (Some left) e f = f ∙ sym e
 
-pub orders_are : (orders awaiting new : List Order) (job : Job) (next : Want) (got : Got) (left : Option (Vec Order Global)) → IsLeft orders left (orders_then orders awaiting job next Done) → IsLeftBy got orders left new → new ≡ orders_then orders awaiting job next got
-orders_are orders awaiting new job next Done left e f = left_is orders new (orders_then orders awaiting job next Done) left e f
-orders_are orders awaiting new job next got left e f = f ∙ sym (orders_stay orders awaiting job next got (λ d. cc))
+orders_by : (orders awaiting new : List Order) (job : Job) (next : Want) (got : Got) (left : Option (Vec Order Global)) → IsLeft orders left (orders_then orders awaiting job next Done) → IsLeftBy got orders left new → new ≡ orders_then orders awaiting job next got
+orders_by orders awaiting new job next Done left e f = left_is orders new (orders_then orders awaiting job next Done) left e f
+orders_by orders awaiting new job next got left e f = f ∙ sym (orders_stay orders awaiting job next got (λ d. cc))
 
-pub awaiting_are : (orders awaiting new : List Order) (job : Job) (next : Want) (got : Got) (left : Option (Vec Order Global)) → IsLeft awaiting left (awaiting_then orders awaiting job next Done) → IsLeftBy got awaiting left new → new ≡ awaiting_then orders awaiting job next got
-awaiting_are orders awaiting new job next Done left e f = left_is awaiting new (awaiting_then orders awaiting job next Done) left e f
-awaiting_are orders awaiting new job next got left e f = f ∙ sym (awaiting_stays orders awaiting job next got (λ d. cc))
+awaiting_by : (orders awaiting new : List Order) (job : Job) (next : Want) (got : Got) (left : Option (Vec Order Global)) → IsLeft awaiting left (awaiting_then orders awaiting job next Done) → IsLeftBy got awaiting left new → new ≡ awaiting_then orders awaiting job next got
+awaiting_by orders awaiting new job next Done left e f = left_is awaiting new (awaiting_then orders awaiting job next Done) left e f
+awaiting_by orders awaiting new job next got left e f = f ∙ sym (awaiting_stays orders awaiting job next got (λ d. cc))
+
+-- These orders of who steps were seen before the step, and those that wait; and its orders were the same when they were changed.
+module _ (m : Member) (orders awaiting : List Order) (seen : orders ≡ m.orders) (waiting : awaiting ≡ m.awaiting) (job : Job) (next : Want) (got : Got) where
+  pub orders_are : (before new : List Order) (left : Option (Vec Order Global)) → before ≡ m.orders → IsLeft orders left (orders_then orders awaiting job next Done) → IsLeftBy got before left new → new ≡ orders_then m.orders m.awaiting job next got
+  orders_are before new left b e f = orders_by m.orders m.awaiting new job next got left
+      (subst (λ (x : List Order). IsLeft m.orders left (orders_then m.orders x job next Done)) waiting (subst (λ (x : List Order). IsLeft x left (orders_then x awaiting job next Done)) seen e))
+      (subst (λ (x : List Order). IsLeftBy got x left new) b f)
+
+  pub awaiting_are : (before new : List Order) (left : Option (Vec Order Global)) → before ≡ m.awaiting → IsLeft awaiting left (awaiting_then orders awaiting job next Done) → IsLeftBy got before left new → new ≡ awaiting_then m.orders m.awaiting job next got
+  awaiting_are before new left b e f = awaiting_by m.orders m.awaiting new job next got left
+      (subst (λ (x : List Order). IsLeft x left (awaiting_then m.orders x job next Done)) waiting (subst (λ (x : List Order). IsLeft awaiting left (awaiting_then x awaiting job next Done)) seen e))
+      (subst (λ (x : List Order). IsLeftBy got x left new) b f)
+
+  -- and it took its step with them, and with what was in its buffer
+  pub performs_so : (devices : Devices (List History)) (old : Target) (a : ℕ) (held : List Order) (buffer given : List Bytes) (devices' : Devices (List History)) (new : Target) → held ≡ held_for job orders awaiting → buffer ≡ m.buffer →
+      Performs devices old a job held buffer next got given devices' new → Performs devices old a job (held_for job m.orders m.awaiting) m.buffer next got given devices' new
+  performs_so devices old a held buffer given devices' new h b p =
+      subst (λ (x : List Order). Performs devices old a job x m.buffer next got given devices' new) (h ∙ ap (λ (x : List Order). held_for job x awaiting) seen ∙ ap (λ (x : List Order). held_for job m.orders x) waiting)
+      (subst (λ (x : List Bytes). Performs devices old a job held x next got given devices' new) b p)
 
 -- what it writes next where it read nothing
 pub buffer_stays : (devices : Devices (List History)) (buffer : List Bytes) (next : Want) (got : Got) (job : Job) → is_copied job next ≡ false → buffer_then devices buffer next got job ≡ buffer
