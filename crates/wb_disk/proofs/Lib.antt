@@ -4,3 +4,4 @@ pub mod Sectors
 pub mod Crashes
 pub mod FailedSyncs
 pub mod Leaving
+pub mod Noting

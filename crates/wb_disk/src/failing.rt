@@ -4,9 +4,28 @@ ghost use Rattle.std.specs.Prelude.{◌≡◌, ◌<◌, ◌≤◌, ◌↔◌, Is
 ghost use Rattle.wb_disk.specs.declared.crash_choice.NamedContent.{NamedContent as Named};
 ghost use Rattle.wb_disk.specs.Crash.{named_position};
 ghost use Rattle.wb_disk.specs.Failing.{MayFail, lands};
+ghost use Rattle.wb_disk.specs.Stored.{lands_at};
 
 use crate::{Base, CrashChoice, NamedContent};
 use wb_types::Dev;
+
+/// On which sectors a sync lands: on all, or where a choice for a device says so.
+#[derive(Clone, Copy)]
+pub(crate) enum Landing<'a> {
+    Everywhere,
+    As(Dev, &'a CrashChoice),
+}
+
+impl Landing<'_> {
+    pub(crate) fn is_at(self, at: u64) -> bool
+        ensures { result ≡ lands_at self.entry at }
+    {
+        match self {
+            Landing::Everywhere => true,
+            Landing::As(device, choice) => choice.has_landed(device, at),
+        }
+    }
+}
 
 impl CrashChoice {
     /// Whether a step on this device, of so many sectors, may fail so: each name is of one of its sectors, and the

@@ -1,6 +1,6 @@
 //! A disk in memory.
 
-ghost use Rattle.std.specs.Prelude.{◌≡◌, ◌<◌, ◌≤◌, ◌+◌, ◌↔◌, [], ◌∷◌, ◌++◌, IsOk, IsTrue, IfOk, OnOk, OnErr, IfErr, length};
+ghost use Rattle.std.specs.Prelude.{◌≡◌, ◌<◌, ◌≤◌, ◌+◌, ◌↔◌, [], ◌∷◌, ◌++◌, IsOk, IsTrue, IfOk, OnOk, OnErr, IfErr, length, map};
 ghost use Rattle.std.specs.Bool.{OnTrue, OnFalse};
 ghost use Rattle.wb_types.specs.declared.refusal.Refusal.TheVariants.{Memory as OutOfMemory};
 ghost use Rattle.wb_disk.specs.Device.{Gives, written, synced, OneMore, Crashed, PartlySynced};
@@ -8,22 +8,27 @@ ghost use Rattle.wb_disk.specs.Extents.{GivesEach, written_each};
 ghost use Rattle.wb_disk.specs.Memory.{blank, zeros, HasRoom, HasRoomFor, DiffersOnlyAt, FrontWritten};
 ghost use Rattle.wb_disk.specs.Crash.{Applies, crashed};
 ghost use Rattle.wb_disk.specs.Failing.{MayFail, lands, synced_where};
-ghost use Rattle.wb_disk.specs.Stored.{histories, capacities};
+ghost use Rattle.wb_disk.specs.Stored.{histories, capacities, cut_at_mark, IsNoted, lands_at};
 
 use crate::crash::mark_chosen;
+use crate::failing::Landing;
 use crate::pending::Pending;
 use crate::{CrashChoice, Disk, DiskFault};
 use std::alloc::{AllocError, Global};
 use std::marker::Model;
+use wb_bits::BitSet;
 use wb_types::{Content, Dev, Refusal};
 
 /// A disk in memory, which tells all that it holds.
 ///
 /// A contract sees its contents, its count of faults, and of each sector how many writes since the last sync
 /// there is memory for.
+///
+/// Each sector that was written since the last sync is noted, so that a sync goes over these alone.
 #[derive(Drop)]
 pub struct MemDisk {
     sectors: Vec<Pending>,
+    unsynced: BitSet,
     faults: u64,
 }
 
@@ -39,10 +44,14 @@ impl Model for MemDisk {
       faults = d.faults;
       capacity = capacities d.sectors.items;
     } };
+
+    ghost use Rattle.wb_disk.specs.Stored.{IsNoted};
+
+    ghost invariant = { λ d. IsNoted (histories d.sectors.items) d.unsynced };
 }
 
 impl MemDisk {
-    /// A disk of zeros. `Memory` where there is none for so many sectors.
+    /// A disk of zeros. `Memory` where there is none for so many sectors; 2^40 of them are more than any machine can name.
     pub fn new(alloc: Global, sectors: u64) -> Result<MemDisk, Refusal>
         ensures ok { IfOk result (λ disk. disk ≡ zeros sectors) }
         ensures err { IfErr result (λ refusal. refusal ≡ OutOfMemory) }
@@ -51,8 +60,12 @@ impl MemDisk {
         for _ in 0..sectors {
             push_blank(alloc, &mut all)?;
         }
+        if sectors >= 1 << 40 {
+            return Err(Refusal::Memory);
+        }
         Ok(MemDisk {
             sectors: all,
+            unsynced: BitSet::new(alloc, sectors as usize)?,
             faults: 0,
         })
     }
@@ -97,9 +110,8 @@ impl MemDisk {
         if !mark_chosen(&mut self.sectors, device, choice) {
             return false;
         }
-        for pending in self.sectors.iter_mut() {
-            pending.cut();
-        }
+        cut_all(&mut self.sectors);
+        self.unsynced.clear();
         true
     }
 
@@ -113,7 +125,8 @@ impl MemDisk {
     }
 
     /// A sync that fails, of the disk as this device: a sector on which the choice lets it land has its newest content
-    /// alone, another its whole list. It is a fault that counts. It takes no memory, and goes over all sectors.
+    /// alone, another its whole list. It is a fault that counts. It takes no memory, and goes over the sectors that were
+    /// written since the last sync, and for each over the names.
     ///
     /// False, and nothing changes, where a sync of this device cannot fail so: another device is named, or a sector
     /// that the disk has not got, or another number than 0 and 1.
@@ -130,7 +143,11 @@ impl MemDisk {
             return false;
         }
         self.faults = self.faults.wrapping_add(1);
-        settle_landing(&mut self.sectors, device, choice);
+        settle_where(
+            &mut self.sectors,
+            &self.unsynced,
+            Landing::As(device, choice),
+        );
         true
     }
 }
@@ -181,6 +198,7 @@ impl Disk for MemDisk {
         match pending.make_room() {
             Ok(()) => {
                 pending.add(from);
+                self.unsynced.insert(at as usize);
                 Ok(())
             }
             Err(_) => {
@@ -225,29 +243,42 @@ impl Disk for MemDisk {
         Ok(())
     }
 
-    /// It never fails. It goes over all sectors.
+    /// It never fails. It goes over the sectors that were written since the last sync.
     fn sync(&mut self) -> Result<(), DiskFault>
         ensures ok { IsOk result }
         ensures synced { self.new ≡ record self.old { contents = synced self.old.contents } }
     {
-        for pending in self.sectors.iter_mut() {
-            pending.settle();
-        }
+        settle_where(&mut self.sectors, &self.unsynced, Landing::Everywhere);
+        self.unsynced.clear();
         Ok(())
     }
 
     ghost whole = { λ d h. refl };
 }
 
-/// Settles the sectors on which the choice lets a failing sync land.
-fn settle_landing(sectors: &mut [Pending], device: Dev, choice: &CrashChoice)
-    ensures contents { histories sectors.new ≡ synced_where (lands device choice.now) (histories sectors.old) }
+/// Keeps of each sector the content at its mark alone.
+fn cut_all(sectors: &mut [Pending])
+    ensures contents { histories sectors.new ≡ map cut_at_mark sectors.old }
     ensures capacity { capacities sectors.new ≡ capacities sectors.old }
 {
-    for (at, pending) in sectors.iter_mut().enumerate() {
-        if choice.has_landed(device, at as u64) {
-            pending.settle();
+    for pending in sectors.iter_mut() {
+        pending.cut();
+    }
+}
+
+/// Settles the sectors on which a sync lands. It looks at those that are noted alone.
+fn settle_where(sectors: &mut [Pending], unsynced: &BitSet, landing: Landing)
+    requires noted { IsNoted (histories sectors.old) unsynced.now }
+    ensures contents { histories sectors.new ≡ synced_where (lands_at landing.entry) (histories sectors.old) }
+    ensures capacity { capacities sectors.new ≡ capacities sectors.old }
+    ensures noted { IsNoted (histories sectors.new) unsynced.now }
+{
+    let mut from = 0;
+    while let Some(at) = unsynced.least_from(from) {
+        if landing.is_at(at as u64) {
+            sectors[at].settle();
         }
+        from = at + 1;
     }
 }
 

@@ -9,8 +9,8 @@ use Rattle.wb_disk.proofs.memory.MemDisk.fail_sync.Goals as goal
 pub returns-clause-contents : goal.returns-clause-contents
 returns-clause-contents c =
     let landed : ℕ → Bool = lands c.args.device c.args.choice.now in
-    let put = with_items_is c.self.inside.sectors c.settle_landing.new.sectors (omega arith) in
-    rw put (c.settle_landing.ensures.contents ∙ ap (λ rs. synced_where landed (histories rs)) c.deref_mut.ensures.value ∙ ap (λ m. synced_where landed m.contents) c.self.view_is)
+    let put = with_items_is c.self.inside.sectors c.settle_where.new.sectors (omega arith) in
+    rw put (c.settle_where.ensures.contents ∙ ap (λ rs. synced_where landed (histories rs)) c.deref_mut.ensures.value ∙ ap (λ m. synced_where landed m.contents) c.self.view_is)
 
 pub returns-clause-outcome : goal.returns-clause-outcome
 returns-clause-outcome c =

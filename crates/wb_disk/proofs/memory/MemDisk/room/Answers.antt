@@ -2,7 +2,15 @@ use Rattle.std.proofs.Common.{◌∙◌, ap}
 use Rattle.std.proofs.lemmas.Result.{on_ok_weaker, on_err_weaker}
 use Rattle.wb_disk.specs.Stored.{history}
 use Rattle.wb_disk.proofs.Sectors.{at_place, map-set_same, shown-same, room_of_stored, HasRoom-stored, DiffersOnlyAt-stored}
+use Rattle.wb_disk.proofs.Noting.{noted-same}
 use Rattle.wb_disk.proofs.memory.MemDisk.room.Goals as goal
+
+pub invariant_of-self : goal.invariant_of-self
+invariant_of-self c =
+    let ps = c.self.inside.sectors.items in
+    let p = c.index_mut.result.now in
+    let here = at_place ps c.self.inside.faults c.args.at p c.args.self.now c.self.view_is c.requires c.index_mut.ensures.value in
+    noted-same ps c.self.inside.unsynced c.args.at p c.make_room.new.self c.self.invariant here c.make_room.ensures.contents
 
 pub returns-clause-room : goal.returns-clause-room
 returns-clause-room c =

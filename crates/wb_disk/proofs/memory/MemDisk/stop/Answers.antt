@@ -1,49 +1,43 @@
-use Rattle.std.proofs.Common.{◌≡◌, ◌∙◌, Some, map, take, get_or, add-one, arith, ap, sym, subst, List}
+use Rattle.std.proofs.Common.{◌≡◌, ◌∙◌, map, arith, ap, sym, subst, List}
 use Rattle.std.specs.Vec.{with_items}
-use Rattle.std.proofs.lemmas.List.{with_items_is, take_all}
-use Rattle.std.proofs.lemmas.Option.{slice_get-get_or}
-use Rattle.std.specs.List.{slice_get}
+use Rattle.std.proofs.lemmas.List.{with_items_is}
 use Rattle.wb_disk.specs.Device.{History, Crashed}
 use Rattle.wb_disk.specs.Crash.{crashed}
-use Rattle.wb_disk.specs.Stored.{history, histories, capacity_of, capacities, cut_at_mark}
-use Rattle.wb_disk.proofs.Sectors.{map-set_same, mapped_more, drop-set_more, shown-changed}
+use Rattle.wb_disk.specs.Stored.{histories, capacities, cut_at_mark, IsNoted}
+use Rattle.wb_disk.specs.declared.pending.Pending.{Pending}
+use Rattle.wb_disk.proofs.Sectors.{shown-changed}
 use Rattle.wb_disk.proofs.Crashes.{crashed-marked, Crashed-crashed_from}
+use Rattle.wb_disk.proofs.Noting.{noted-cut}
 use Rattle.wb_disk.proofs.memory.MemDisk.stop.Goals as goal
 
-pub loop-pending-preserved : goal.loop-pending-preserved
-loop-pending-preserved c =
-    let i = c.loop-pending.pending-index in
-    let ps = c.loop-pending.pending-items in
-    let p = get_or ps i c.pending-item.result in
-    let here : slice_get ps i ≡ Some p = slice_get-get_or ps i c.pending-item.result (omega arith) in
-    record {
-      cut = rw add-one (mapped_more history cut_at_mark ps c.deref_mut-pending-items.result.now i p c.cut.new.self here c.loop-pending.invariant.rest c.loop-pending.invariant.cut c.cut.ensures.contents);
-      capacity = map-set_same capacity_of ps i p c.cut.new.self here c.cut.ensures.capacity ∙ c.loop-pending.invariant.capacity;
-      rest = drop-set_more ps c.deref_mut-pending-items.result.now i c.cut.new.self c.loop-pending.invariant.rest;
-    }
+pub invariant_of-self-2 : goal.invariant_of-self-2
+invariant_of-self-2 c =
+    let ps = c.self.inside.sectors.items in
+    let ms = c.mark_chosen.new.sectors in
+    let qs = c.cut_all.new.sectors in
+    let marked_all : (with_items c.self.inside.sectors ms).items ≡ ms = with_items_is c.self.inside.sectors ms (omega arith) in
+    let put : (with_items (with_items c.self.inside.sectors ms) qs).items ≡ qs = with_items_is (with_items c.self.inside.sectors ms) qs (omega arith) in
+    let cut = c.cut_all.ensures.contents ∙ ap (λ rs. map cut_at_mark rs) (c.deref_mut-2.ensures.value ∙ marked_all) in
+    let kept : histories ms ≡ histories ps = c.mark_chosen.ensures.contents ∙ ap (λ rs. histories rs) c.deref_mut.ensures.value in
+    subst (λ (rs : List Pending). IsNoted (histories rs) c.clear.new.self) (sym put) (rw c.clear.ensures (noted-cut c.self.inside.unsynced (histories ps) (histories qs) ms cut kept c.self.invariant.size))
 
 pub returns-clause-crashed : goal.returns-clause-crashed
 returns-clause-crashed c =
     let choice = c.args.choice.now in
     let ps = c.self.inside.sectors.items in
     let ms = c.mark_chosen.new.sectors in
-    let qs = c.loop-pending.pending-items in
-    let seen = c.deref_mut-pending-items.result.now in
+    let qs = c.cut_all.new.sectors in
     let marked_all : (with_items c.self.inside.sectors ms).items ≡ ms = with_items_is c.self.inside.sectors ms (omega arith) in
-    let is_seen : seen ≡ ms = c.deref_mut-pending-items.ensures.value ∙ marked_all in
-    let all_new : take c.loop-pending.pending-index qs ≡ qs = take_all c.loop-pending.pending-index qs (omega arith) in
-    let all_old : take c.loop-pending.pending-index seen ≡ seen = take_all c.loop-pending.pending-index seen (omega arith) in
-    let was : c.deref_mut.result.now ≡ ps = c.deref_mut.ensures.value in
-    let marks_kept : histories ms ≡ histories ps = c.mark_chosen.ensures.contents ∙ ap (λ rs. histories rs) was in
-    let cut : histories qs ≡ crashed c.args.device choice (histories ps) =
-    ap (λ rs. histories rs) (sym all_new)
-    ∙ c.loop-pending.invariant.cut
-    ∙ ap (λ rs. map cut_at_mark rs) (all_old ∙ is_seen)
-    ∙ crashed-marked c.args.device choice ms (c.mark_chosen.ensures.marked c.if-not-mark_chosen.false)
-    ∙ ap (crashed c.args.device choice) marks_kept in
-    let capacity : capacities qs ≡ capacities ps =
-    c.loop-pending.invariant.capacity ∙ ap (λ rs. capacities rs) is_seen ∙ c.mark_chosen.ensures.capacity ∙ ap (λ rs. capacities rs) was in
     let put : (with_items (with_items c.self.inside.sectors ms) qs).items ≡ qs = with_items_is (with_items c.self.inside.sectors ms) qs (omega arith) in
+    let seen = c.deref_mut-2.ensures.value ∙ marked_all in
+    let was = c.deref_mut.ensures.value in
+    let cut : histories qs ≡ crashed c.args.device choice (histories ps) =
+    c.cut_all.ensures.contents
+    ∙ ap (λ rs. map cut_at_mark rs) seen
+    ∙ crashed-marked c.args.device choice ms (c.mark_chosen.ensures.marked c.if-not-mark_chosen.false)
+    ∙ ap (crashed c.args.device choice) (c.mark_chosen.ensures.contents ∙ ap (λ rs. histories rs) was) in
+    let capacity : capacities qs ≡ capacities ps =
+    c.cut_all.ensures.capacity ∙ ap (λ rs. capacities rs) seen ∙ c.mark_chosen.ensures.capacity ∙ ap (λ rs. capacities rs) was in
     rw put (shown-changed (crashed c.args.device choice) ps qs c.self.inside.faults c.args.self.now c.self.view_is cut capacity)
 
 pub returns-clause-outcome : goal.returns-clause-outcome

@@ -1,38 +1,26 @@
-use Rattle.std.proofs.Common.{◌≡◌, ◌∙◌, Some, map, take, get_or, add-one, arith, ap, sym}
-use Rattle.std.specs.Vec.{with_items}
-use Rattle.std.proofs.lemmas.List.{with_items_is, take_all}
-use Rattle.std.proofs.lemmas.Option.{slice_get-get_or}
-use Rattle.std.specs.List.{slice_get}
-use Rattle.wb_disk.specs.Device.{newest, only, synced}
-use Rattle.wb_disk.specs.Stored.{history, histories, capacity_of, capacities}
-use Rattle.wb_disk.proofs.Sectors.{map-set_same, mapped_more, drop-set_more, map-map, shown-changed}
+use Rattle.std.proofs.Common.{◌≡◌, ◌∙◌, true, List, arith, ap, sym, subst}
+use Rattle.std.proofs.lemmas.List.{with_items_is}
+use Rattle.wb_disk.specs.Device.{synced}
+use Rattle.wb_disk.specs.Failing.{synced_where}
+use Rattle.wb_disk.specs.Stored.{histories, capacities, IsNoted}
+use Rattle.wb_disk.specs.declared.pending.Pending.{Pending}
+use Rattle.wb_disk.proofs.Sectors.{shown-changed}
+use Rattle.wb_disk.proofs.Noting.{noted-synced, synced_everywhere}
 use Rattle.wb_disk.proofs.memory.MemDiskDisk.sync.Goals as goal
 
-pub loop-pending-preserved : goal.loop-pending-preserved
-loop-pending-preserved c =
-    let i = c.loop-pending.pending-index in
-    let ps = c.loop-pending.pending-items in
-    let p = get_or ps i c.pending-item.result in
-    let here : slice_get ps i ≡ Some p = slice_get-get_or ps i c.pending-item.result (omega arith) in
-    record {
-      settled = rw add-one (mapped_more history (λ p. only (newest (history p))) ps c.deref_mut-pending-items.result.now i p c.settle.new.self here c.loop-pending.invariant.rest c.loop-pending.invariant.settled c.settle.ensures.contents);
-      capacity = map-set_same capacity_of ps i p c.settle.new.self here c.settle.ensures.capacity ∙ c.loop-pending.invariant.capacity;
-      rest = drop-set_more ps c.deref_mut-pending-items.result.now i c.settle.new.self c.loop-pending.invariant.rest;
-    }
+pub invariant_of-self : goal.invariant_of-self
+invariant_of-self c =
+    let ps = c.self.inside.sectors.items in
+    let qs = c.settle_where.new.sectors in
+    let put = with_items_is c.self.inside.sectors qs (omega arith) in
+    let settled : histories qs ≡ synced (histories ps) = c.settle_where.ensures.contents ∙ ap (λ rs. synced_where (λ k. true) (histories rs)) c.deref_mut.ensures.value ∙ synced_everywhere 0 (histories ps) in
+    subst (λ (rs : List Pending). IsNoted (histories rs) c.clear.new.self) (sym put) (rw c.clear.ensures (noted-synced c.self.inside.unsynced (histories ps) (histories qs) settled c.self.invariant.size))
 
 pub returns-clause-synced : goal.returns-clause-synced
 returns-clause-synced c =
     let ps = c.self.inside.sectors.items in
-    let qs = c.loop-pending.pending-items in
-    let seen = c.deref_mut-pending-items.result.now in
-    let is_seen : seen ≡ ps = c.deref_mut-pending-items.ensures.value in
-    let all_new : take c.loop-pending.pending-index qs ≡ qs = take_all c.loop-pending.pending-index qs (omega arith) in
-    let all_old : take c.loop-pending.pending-index seen ≡ seen = take_all c.loop-pending.pending-index seen (omega arith) in
-    let settled : histories qs ≡ synced (histories ps) =
-    ap (λ rs. histories rs) (sym all_new)
-    ∙ c.loop-pending.invariant.settled
-    ∙ ap (λ rs. map (λ p. only (newest (history p))) rs) (all_old ∙ is_seen)
-    ∙ map-map (λ h. only (newest h)) history ps in
-    let capacity : capacities qs ≡ capacities ps = c.loop-pending.invariant.capacity ∙ ap (λ rs. capacities rs) is_seen in
-    let put : (with_items c.self.inside.sectors qs).items ≡ qs = with_items_is c.self.inside.sectors qs (omega arith) in
+    let qs = c.settle_where.new.sectors in
+    let put = with_items_is c.self.inside.sectors qs (omega arith) in
+    let settled : histories qs ≡ synced (histories ps) = c.settle_where.ensures.contents ∙ ap (λ rs. synced_where (λ k. true) (histories rs)) c.deref_mut.ensures.value ∙ synced_everywhere 0 (histories ps) in
+    let capacity = c.settle_where.ensures.capacity ∙ ap (λ rs. capacities rs) c.deref_mut.ensures.value in
     rw put (shown-changed synced ps qs c.self.inside.faults c.args.self.now c.self.view_is settled capacity)

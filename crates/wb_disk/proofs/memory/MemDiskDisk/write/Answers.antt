@@ -2,7 +2,22 @@ use Rattle.std.proofs.Common.{◌∙◌, ap}
 use Rattle.wb_disk.specs.Device.{written, added}
 use Rattle.wb_disk.specs.Stored.{history, capacity_of}
 use Rattle.wb_disk.proofs.Sectors.{at_place, map-set_same, histories-written, room_of_stored, DiffersOnlyAt-stored}
+use Rattle.wb_disk.proofs.Noting.{noted-same, noted-stored}
 use Rattle.wb_disk.proofs.memory.MemDiskDisk.write.Goals as goal
+
+pub invariant_of-self : goal.invariant_of-self
+invariant_of-self c =
+    let ps = c.self.inside.sectors.items in
+    let p = c.index_mut-pending.result.now in
+    let here = at_place ps c.self.inside.faults c.args.at p c.args.self.now c.self.view_is c.requires c.index_mut-pending.ensures.value in
+    rw c.insert.ensures (noted-stored ps c.self.inside.unsynced c.args.at p c.add.new.self c.self.invariant here)
+
+pub invariant_of-self-in-Err : goal.invariant_of-self-in-Err
+invariant_of-self-in-Err c =
+    let ps = c.self.inside.sectors.items in
+    let p = c.index_mut-pending.result.now in
+    let here = at_place ps c.self.inside.faults c.args.at p c.args.self.now c.self.view_is c.requires c.index_mut-pending.ensures.value in
+    noted-same ps c.self.inside.unsynced c.args.at p c.make_room.new.self c.self.invariant here c.make_room.ensures.contents
 
 pub returns-in-Ok-clause-ok : goal.returns-in-Ok-clause-ok
 returns-in-Ok-clause-ok c =
