@@ -20,6 +20,7 @@ use Rattle.wb_desk.specs.Calls.{reserved, released}
 use Rattle.wb_desk.specs.Commits.{commit_begun, commit_ended}
 use Rattle.wb_desk.specs.Entries.{entry_of, keeps, mapped, unmapped}
 use Rattle.wb_runs.specs.Headline.{cached_from, place_of}
+use Rattle.wb_runs.proofs.Located.{StandsAlone, alone_later, none_from}
 use Rattle.wb_link.specs.World.{Shared, Block as AbstractBlock, Mapped as MappedThere, Reserved as ReservedThere, Quarantined as QuarantinedThere, begun, ended, given_back}
 use Rattle.wb_simulation.specs.Opened.{located}
 use Rattle.wb_headline.specs.Desks.{block_there, reserved_there, slot_at, DeskAgrees}
@@ -143,35 +144,6 @@ located_entered entries at entry l none free block = elim (cases_eq block entry.
     unequal false e n = e
 
 -- ---- a block that leaves
-
--- this cache block has the entry, and no other one has that block
-pub record StandsAlone (entries : List (Option Entry)) (at : ℕ) (entry : Entry) (block : ℕ) : Type 0 where
-  pub there : slice_index_or entries at None ≡ Some entry
-  pub is : entry.origin.0 ≡ block
-  pub alone : (i : ℕ) (other : Entry) → slice_index_or entries i None ≡ Some other → other.origin.0 ≡ block → i ≡ at
-
-alone_later : (e : Option Entry) (entries : List (Option Entry)) (at : ℕ) (entry : Entry) (block : ℕ) → StandsAlone (e ∷ entries) (suc at) entry block → StandsAlone entries at entry block
-alone_later e entries at entry block s = record { there = s.there; is = s.is; alone = λ i other there is. let same = s.alone (suc i) other there is in omega (arith, same) }
-
-pub none_from : (entries : List (Option Entry)) (first block : ℕ) → ((i : ℕ) (other : Entry) → slice_index_or entries i None ≡ Some other → other.origin.0 ≢ block) → cached_from block first entries ≡ None
-none_from [] first block none = refl
-none_from (None ∷ entries) first block none = none_from entries (suc first) block (λ i. none (suc i))
-none_from (Some e ∷ entries) first block none =
-    ap (λ (t : Bool). if t then Some first else cached_from block (suc first) entries) (ne_eqb e.origin.0 block (none 0 e refl)) ∙ none_from entries (suc first) block (λ i. none (suc i))
-
-alone_from : (entries : List (Option Entry)) (first at : ℕ) (entry : Entry) (block : ℕ) → StandsAlone entries at entry block → cached_from block first entries ≡ Some (first + at)
-alone_from [] first at entry block s = absurd (let bad = s.there in cc)
-alone_from (None ∷ entries) first zero entry block s = absurd (let bad = s.there in cc)
-alone_from (None ∷ entries) first (suc at) entry block s = alone_from entries (suc first) at entry block (alone_later None entries at entry block s) ∙ (let same : suc first + at ≡ first + suc at = omega arith in ap (λ k. Some k) same)
-alone_from (Some e ∷ entries) first zero entry block s =
-    let here : e ≡ entry = (let both = s.there in cc) in
-    ap (λ (t : Bool). if t then Some first else cached_from block (suc first) entries) (eq-eqb e.origin.0 block (ap (λ (x : Entry). x.origin.0) here ∙ s.is)) ∙ (let same : first ≡ first + 0 = omega arith in ap (λ k. Some k) same)
-alone_from (Some e ∷ entries) first (suc at) entry block s =
-    ap (λ (t : Bool). if t then Some first else cached_from block (suc first) entries) (ne_eqb e.origin.0 block (λ is. let same = s.alone 0 e refl is in omega (arith, same)))
-    ∙ alone_from entries (suc first) at entry block (alone_later (Some e) entries at entry block s) ∙ (let same : suc first + at ≡ first + suc at = omega arith in ap (λ k. Some k) same)
-
-pub alone_there : (entries : List (Option Entry)) (at : ℕ) (entry : Entry) (block : ℕ) → StandsAlone entries at entry block → place_of entries block ≡ Some at
-alone_there entries at entry block s = alone_from entries 0 at entry block s ∙ (let same : 0 + at ≡ at = omega arith in ap (λ k. Some k) same)
 
 -- a tree with one entry less has its block nowhere, and the others where they were
 left_from : (entries : List (Option Entry)) (first at : ℕ) (entry : Entry) (block b : ℕ) → StandsAlone entries at entry block → block ≢ b → cached_from b first (slice_set entries at None) ≡ cached_from b first entries

@@ -82,7 +82,7 @@ use Rattle.wb_headline.proofs.Plans.{flushing_is}
 use Rattle.wb_headline.proofs.Seen.{found_of, get_seen, only_of, replacing_is, seen_of, true_not}
 use Rattle.wb_headline.proofs.Staging.{left, owned_then, stood}
 use Rattle.wb_headline.specs.Seen.{slots_seen, plan_seen, task_seen, actor_seen, actors_seen}
-use Rattle.wb_headline.proofs.Seeing.{stands_alone, unmapped_there}
+use Rattle.wb_runs.proofs.Located.{stands_alone, unmapped_there}
 use Rattle.wb_headline.proofs.Targets.{standing, beside}
 use Rattle.wb_headline.proofs.Telling.{IsSealed, SealsRight, RightWhere, lets_go_right, on_words, owned_alone}
 

@@ -66,7 +66,8 @@ use Rattle.wb_headline.proofs.Desking.{desk_follows, desk_orders, desk_reserves,
 use Rattle.wb_headline.proofs.Following.{size, most, Sized, Followed, Goes}
 use Rattle.wb_headline.proofs.Migrations.{any_step, any_fault}
 use Rattle.wb_headline.proofs.Owned.{are_owned, one_of_cache}
-use Rattle.wb_headline.proofs.Seeing.{live_here, named, orders_set, slot_there, slot_within, slots_many, stands_there, unmapped_there, vacant_there}
+use Rattle.wb_runs.proofs.Located.{stands_there, unmapped_there}
+use Rattle.wb_headline.proofs.Seeing.{live_here, named, orders_set, slot_there, slot_within, slots_many, vacant_there}
 use Rattle.wb_headline.proofs.Seen.{actors_turned, get_seen, in_seen, orders_same, seen_in, seen_named, set_as_is, slot_get, slot_here, slots_turned}
 use Rattle.wb_headline.proofs.Staging.{elsewhere, live_elsewhere}
 use Rattle.wb_headline.proofs.Targets.{standing, leads_on, stays_on, unseen_turned}

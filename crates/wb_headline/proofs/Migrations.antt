@@ -78,7 +78,8 @@ use Rattle.wb_headline.proofs.Come.{come_over, come_released, named_seen}
 use Rattle.wb_headline.proofs.Owned.{IsHeld, are_owned, for_block, held_there, one_of_cache, only_held}
 use Rattle.wb_headline.proofs.Seen.{actors_turned, dropped_from, dropped_to, get_seen, only_of, orders_same, seen_of, slots_turned, true_not}
 use Rattle.wb_headline.proofs.Staging.{come_then, left, live_elsewhere, slots_then, stood, then_stages, unseen_then, waits_on}
-use Rattle.wb_headline.proofs.Seeing.{orders_set, seal_tells_order, slots_many, stands_alone, unmapped_there}
+use Rattle.wb_runs.proofs.Located.{stands_alone, unmapped_there}
+use Rattle.wb_headline.proofs.Seeing.{orders_set, seal_tells_order, slots_many}
 use Rattle.wb_headline.proofs.Targets.{standing, actor_is, leads_on, unseen_turned}
 use Rattle.wb_headline.proofs.Whole.{Whole, Stepped_to, Faulted_to, at_target, held_tells}
 

@@ -1,17 +1,16 @@
 -- Where a desk has a block, and what its live orders say of that: a seal that tells it tells where an order has the block, and what is
 -- written there is beside other orders.
-use Rattle.std.proofs.Common.{◌≡◌, ◌∙◌, ◌<◌, ◌/◌, inl, inr, ℕ, zero, suc, List, [], ◌∷◌, Option, Some, None, refl, sym, ap, subst, arith, IsSome, length, slice_get, slice_set, slice_index_or}
+use Rattle.std.proofs.Common.{◌≡◌, ◌∙◌, ◌<◌, ◌/◌, inl, inr, ℕ, zero, suc, List, [], ◌∷◌, Option, Some, None, refl, ap, subst, arith, length, slice_get, slice_set}
 use Rattle.std.proofs.lemmas.List.{length-map}
 use Rattle.std.proofs.lemmas.Option.{get_or_from_slice_get}
 use Rattle.wb_types.proofs.Lists.{set_cases}
-use Rattle.wb_types.specs.declared.entry.Entry.{Entry}
 use Rattle.wb_types.specs.declared.extent.Extent.{Extent}
 use Rattle.wb_types.specs.declared.mode.Dev.{Dev}
 use Rattle.wb_types.specs.declared.mode.Dev.TheVariants.{Metadata, Cache, Origin}
 use Rattle.wb_types.specs.declared.number.OBlock.{OBlock}
 use Rattle.wb_types.specs.declared.number.CBlock.{CBlock}
 use Rattle.wb_words.specs.SharedWords.{Words, word_at, place_in}
-use Rattle.wb_policy.specs.Law.{Holdings, IsMappedAt, IsUnmapped}
+use Rattle.wb_policy.specs.Law.{IsMappedAt}
 use Rattle.wb_policy.specs.declared.order.Order.{Order}
 use Rattle.wb_policy.specs.declared.order.Order.TheVariants.{Promote as PromoteOrder, Replace, Demote as DemoteOrder, Clean as CleanOrder}
 use Rattle.wb_space.specs.declared.block.Block.{Block}
@@ -20,7 +19,7 @@ use Rattle.wb_space.specs.Blocks.{state, IsClaimed}
 use Rattle.wb_orders.specs.declared.live_order.LiveOrder.{LiveOrder}
 use Rattle.wb_orders.specs.Orders.{order_at}
 use Rattle.wb_desk.specs.Desks.{DeskState, DeskInvariant, Names, NamesWhatIs, holdings}
-use Rattle.wb_desk.proofs.Leaving.{entry_there, mapped_state}
+use Rattle.wb_desk.proofs.Leaving.{mapped_state}
 use Rattle.wb_desk.proofs.Seen.{there}
 use Rattle.wb_tasks.specs.declared.step.Migration.{Migration}
 use Rattle.wb_tasks.specs.declared.step.Migration.TheVariants.{Promote, Demote, Clean}
@@ -28,13 +27,13 @@ use Rattle.wb_refines.specs.Translation.{location_at, number_of}
 use Rattle.wb_refines.specs.Migrations.{IsWhere}
 use Rattle.wb_runs.specs.Happenings.{order_for}
 use Rattle.wb_runs.specs.Headline.{place_of}
+use Rattle.wb_runs.proofs.Located.{same_block, one_there, stands_there}
 use Rattle.wb_runs.proofs.Metadata.{unknowing}
 use Rattle.wb_simulation.specs.Laws.{IsFrom, IsBesideOrders}
 use Rattle.wb_simulation.specs.Migrating.{SealTells}
 use Rattle.wb_simulation.proofs.Opened.{found_at}
 use Rattle.wb_headline.specs.Desks.{order_of, orders_of, live_orders}
 use Rattle.wb_headline.specs.Seen.{Replacing, slot_seen, slots_seen}
-use Rattle.wb_headline.proofs.Desking.{StandsAlone, alone_there, none_from}
 
 -- ---- orders by cache block
 
@@ -79,15 +78,6 @@ slots_many stages slots = length-map (orders_of slots) (λ (s : Option Order). s
 pub over_there : (orders : List (Option Order)) (c : ℕ) (o : Order) → slice_get (slice_set orders c None) c ≡ Some (Some o) → ⊥
 over_there orders c o e = elim (set_cases orders c c None (Some o) e) [ inl i ↦ absurd (let bad = i.1 in cc) | inr n ↦ n.0 refl ]
 
--- ---- blocks
-
-pub same_block : (b d : OBlock) → b.0 ≡ d.0 → b ≡ d
-same_block b d e = λ i. record { 0 = e i }
-
--- one block at most stands in a cache block
-one_there : (mapping : Holdings) (b d c : ℕ) → IsMappedAt mapping b c → IsMappedAt mapping d c → b ≡ d
-one_there mapping b d c m n = let both : Some (Some b) ≡ Some (Some d) = sym m ∙ n in cc
-
 module _ (P : Type 0) (desk : DeskState P) (kept : DeskInvariant unknowing desk) where
   -- whatever order lives in a cache block names what is
   pub named : (c : ℕ) (o : Order) → slice_get (live_orders desk) c ≡ Some (Some o) → Names (holdings desk) (state desk.space.blocks c) c o
@@ -96,21 +86,6 @@ module _ (P : Type 0) (desk : DeskState P) (kept : DeskInvariant unknowing desk)
       let within = slot_within desk.orders.slots c l.0 l.1 in
       let many = kept.slots in
       subst (λ (q : Order). Names (holdings desk) (state desk.space.blocks c) c q) l.2 (subst (λ (s : Option LiveOrder). NamesWhatIs (holdings desk) (state desk.space.blocks c) c s) l.1 (kept.each c (omega (arith, within, many))).stands)
-
-  pub stands_alone : (b c : ℕ) → IsMappedAt (holdings desk) b c → (entry : Entry) × StandsAlone desk.tree.entries c entry b
-  stands_alone b c at = by (slice_index_or desk.tree.entries c None) refl (entry_there desk.tree.entries b c at)
-    where
-      by : (o : Option Entry) → slice_index_or desk.tree.entries c None ≡ o → IsSome o → (entry : Entry) × StandsAlone desk.tree.entries c entry b
-      by None e s = absurd (cc)
-      by (Some entry) e s =
-          let is : entry.origin.0 ≡ b = one_there (holdings desk) entry.origin.0 b c (there desk.tree.entries c entry e) at in
-          (entry, record { there = e; is = is; alone = λ i other t o. kept.mapping.once i c other entry t e (same_block other.origin entry.origin (o ∙ sym is)) })
-
-  pub stands_there : (b c : ℕ) → IsMappedAt (holdings desk) b c → place_of desk.tree.entries b ≡ Some c
-  stands_there b c at = let s = stands_alone b c at in alone_there desk.tree.entries c s.0 b s.1
-
-  pub unmapped_there : (b : ℕ) → IsUnmapped (holdings desk) b → place_of desk.tree.entries b ≡ None
-  unmapped_there b u = none_from desk.tree.entries 0 b (λ i other t is. u i (there desk.tree.entries i other t ∙ ap (λ (k : ℕ). Some (Some k)) is))
 
   mapped_there : (b c : ℕ) → place_of desk.tree.entries b ≡ Some c → IsMappedAt (holdings desk) b c
   mapped_there b c e =
@@ -130,7 +105,7 @@ module _ (P : Type 0) (desk : DeskState P) (kept : DeskInvariant unknowing desk)
         where_is (Some d) n = let both : Some d.0 ≡ Some c.0 = n in let same : d.0 ≡ c.0 = cc in (λ i. Some (record { 0 = same i }))
 
         here : IsMappedAt (holdings desk) block.0 c.0 → place_in (word_at words.seals block) ≡ Some c
-        here at = where_is (place_in (word_at words.seals block)) (told ∙ stands_there block.0 c.0 at)
+        here at = where_is (place_in (word_at words.seals block)) (told ∙ stands_there P desk kept block.0 c.0 at)
 
         by : (m : Migration) → Names (holdings desk) (state desk.space.blocks c.0) c.0 (order_for m block) → IsWhere m c (place_in (word_at words.seals block))
         by (Promote k) n = tt

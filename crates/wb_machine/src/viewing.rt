@@ -9,6 +9,7 @@ ghost use Rattle.wb_machine.specs.Life.{shape_of, state_of};
 ghost use Rattle.wb_machine.specs.Showing.{dirty_now};
 ghost use Rattle.wb_machine.specs.Standing.{IsSound};
 
+use crate::keeping::see_desk;
 use crate::known_crew::KnownCrew;
 use crate::opener::content_of;
 use crate::phase::Phase;
@@ -17,7 +18,7 @@ use wb_desk::Desk;
 use wb_devices::Devices;
 use wb_disk::MemDisk;
 use wb_policy::Quiet;
-use wb_types::{CBlock, Content, Geometry};
+use wb_types::{CBlock, Content, Geometry, OBlock};
 
 /// What the target that stands shows of a sector of the origin. None where none stands, or the origin has no such sector.
 pub(crate) fn view_of(
@@ -70,19 +71,16 @@ fn count_dirty(desk: &Desk<Quiet>, crew: &KnownCrew) -> u32
 
 /// The cache block that has the entry of a block, if one has.
 fn place_of(desk: &Desk<Quiet>, block: u64) -> Option<u32>
+    requires { block < desk.now.geometry.origin_blocks }
     ensures place { result ≡ place_of desk.now.tree.entries block }
     ensures inside { IfSome result (λ c. c < desk.now.geometry.cache_blocks) }
 {
-    let cache_blocks = desk.geometry().cache_blocks;
-    let _mapped = desk.counts();
-    for c in 0..cache_blocks {
-        if let Some(entry) = desk.entry(CBlock(c)) {
-            if u64::from(entry.origin.0) == block {
-                return Some(c);
-            }
-        }
+    see_desk(desk);
+    let _fits = desk.geometry();
+    match desk.place(OBlock(block as u32)) {
+        Some(CBlock(c)) => Some(c),
+        None => None,
     }
-    None
 }
 
 /// The newest content of a sector whose block stands here, if the device has it.

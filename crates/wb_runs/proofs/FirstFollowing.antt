@@ -16,6 +16,7 @@ use Rattle.wb_types.specs.declared.mode.Dev.TheVariants.{Cache, Origin}
 use Rattle.wb_disk.specs.Device.{Content as Bytes, History, Gives, only, newest, synced}
 use Rattle.wb_disk.specs.Extents.{written_each}
 use Rattle.wb_disk.specs.Memory.{blank}
+use Rattle.wb_words.specs.SharedWords.{word_at, seal_word}
 use Rattle.wb_words.specs.Cards.{blank_card}
 use Rattle.wb_words.specs.declared.card.Card.{Card}
 use Rattle.wb_words.specs.declared.word.Access.TheVariants.{Owned}
@@ -34,7 +35,7 @@ use Rattle.wb_desk.specs.Commits.{MayBegin}
 use Rattle.wb_desk.specs.Opening.{opened}
 use Rattle.wb_tasks.specs.Plan.{Plan, table, want}
 use Rattle.wb_tasks.specs.declared.step.Answer.TheVariants.{Done as Finished, Refused as IsRefused}
-use Rattle.wb_tasks.specs.declared.step.Migration.TheVariants.{Promote, Demote}
+use Rattle.wb_tasks.specs.declared.step.Migration.TheVariants.{Promote, Demote, Clean}
 use Rattle.wb_tasks.specs.declared.step.DeviceStep.TheVariants.{Read as ReadExtent, Write as WriteExtent}
 use Rattle.wb_tasks.specs.declared.step.DeskStep.TheVariants.{Map, ReleaseOrder, BeginCommit}
 use Rattle.wb_tasks.specs.declared.step.Want.{Want}
@@ -50,7 +51,7 @@ use Rattle.wb_runs.specs.Happenings.{AtWork, OfSome, Chosen, Plain, Cut, Asks, H
 use Rattle.wb_runs.specs.Effects.{after_all, all_resting, contents_at, IsRun}
 use Rattle.wb_runs.specs.Clerk.{Notes, formatted as formatted_notes}
 use Rattle.wb_runs.specs.Headline.{place_of, noted}
-use Rattle.wb_runs.specs.Possible.{PassesThrough, AboutToAnswer, two_blocks, first_block, second_block, first_cache_block, first_sector, replacement, FirstHas, FirstCacheBlockIs, Replaces, CanReplace, GivesUp, CanGiveUp, StartsAgain, CanStartAgain}
+use Rattle.wb_runs.specs.Possible.{PassesThrough, AboutToAnswer, two_blocks, first_block, second_block, first_cache_block, first_sector, replacement, FirstHas, FirstCacheBlockIs, Replaces, CanReplace, GivesUp, CanGiveUp, StartsAgain, CanStartAgain, WritesBack, CanWriteBack}
 use Rattle.wb_runs.proofs.Shown.{nowhere}
 use Rattle.wb_runs.proofs.Beginning.{bare_commit}
 use Rattle.wb_runs.proofs.Rooted.{rooted}
@@ -60,6 +61,7 @@ use Rattle.wb_runs.proofs.MetadataRuns.{IsKnown, known_always, known_at_start}
 use Rattle.wb_runs.proofs.Formatted.{HasNoTree, formatted_none}
 use Rattle.wb_runs.proofs.FirstFlush.{happened, flush_steps, flush_run}
 use Rattle.wb_runs.proofs.FirstOpening.{happenings as first_opening, is_run as opens_run, none_then, rooted_metadata as opened_metadata, opened_is, run_append, after_append}
+use Rattle.wb_runs.proofs.FirstWriteBack.{cleans, cleans_reaches}
 use Rattle.wb_runs.proofs.FirstReplacement.{whole, next_whole, uncut, Reaches, first_card, words_of, now, does, over, left, settled, followed, may_follow, dirtied, home, taken_home, promotes, promoted_now, opened_now, promotes_reaches, writes, written_now, writes_reaches, replaces, left_now, replaces_reaches, dirtied_size, dirtied_gives, home_gives, home_size, fails, fails_reaches, starts_again, again_reaches, follows_tree, sync_gives}
 
 -- ---- one stretch after the other
@@ -487,6 +489,35 @@ module _ (P A : Type 0) (policy : P) (alloc : A) (global : Global) (k meta_secto
         (λ d then o. on_stretch P A shape' _ (giving ∷ []) _ WasGivenUp [] then (gives_reaches P A global k meta_sectors within threshold others rest policy generation more room m dirty at_home carried d) (λ e. ((refl, refl), (refl, refl), refl, refl)) (λ e z o. tt) o) n) (formatted_notes shape');
   }
 
+  -- or the block is written back after the write, and stays
+  abbrev WasCleaned : State P A → Type 0
+  WasCleaned w = AboutToAnswer (Migrate Clean first_block) w × FirstHas [] [] w × Gives w.devices.origin 0 content
+      × OfTarget w.phase (λ target. (place_of target.desk.tree.entries 0 ≡ Some 0) × (word_at target.words.seals first_block ≡ seal_word (Some first_cache_block) false) × (order_at target.desk.orders.slots 0 ≡ None))
+
+  abbrev cleaning : List (Happening P A)
+  cleaning = cleans P A global k meta_sectors within threshold others rest policy generation room m cache origin cache_size origin_size content
+
+  cleans_then : (card : Card) → From (wrote card) ((cleaning, λ w n. WasCleaned w) ∷ [])
+  cleans_then card known n = on_stretch P A shape' _ cleaning _ WasCleaned [] known
+      (cleans_reaches P A global k meta_sectors within threshold others rest policy generation room m cache origin cache_size origin_size content card)
+      (λ c. ((refl, refl), (refl, refl), home_gives P A global k meta_sectors within threshold others rest policy generation room m cache origin cache_size origin_size content, (refl, refl, refl)))
+      (λ d z o. tt) n
+
+  cleaned_from : (card : Card) → From (came card) ((writing, λ w n. WasWritten w) ∷ (cleaning, λ w n. WasCleaned w) ∷ [])
+  cleaned_from card known n = on_stretch P A shape' _ writing _ WasWritten ((cleaning, λ w n. WasCleaned w) ∷ []) known
+      (writes_reaches P A global k meta_sectors within threshold others rest policy generation room m cache origin cache_size origin_size content card)
+      (λ c. ((refl, refl), dirtied_gives P A global k meta_sectors within threshold others rest policy generation room m cache origin cache_size origin_size content)) cleans_then n
+
+  pub writes_back_all : WritesBack P A shape' metadata content
+  writes_back_all = record {
+    promoting = opening ++ promoting;
+    writing = writing;
+    cleaning = cleaning;
+    passes = on_stretch P A shape' (start shape' metadata) (opening ++ promoting) came Came ((writing, λ w n. WasWritten w) ∷ (cleaning, λ w n. WasCleaned w) ∷ [])
+        (known_at_start P A shape' metadata formatted size) first_reaches (λ c. (refl, refl))
+        cleaned_from (formatted_notes shape');
+  }
+
   pub replaces_all : Replaces P A shape' metadata content
   replaces_all = record {
     promoting = opening ++ promoting;
@@ -526,3 +557,10 @@ can_replace P A policy reading begun cache_blocks meta_sectors within threshold 
     by_blocks : (n : ℕ) (within : IsWithinLimits 64 n 2 meta_sectors) → IsFormatted (two_blocks n meta_sectors within) metadata → A × Global → Replaces P A (record { geometry = two_blocks n meta_sectors within; threshold = threshold; actors = suc others }) metadata content
     by_blocks zero within formatted with = absurd (omega (arith, within.cache_from))
     by_blocks (suc k) within formatted with = replaces_all P A policy with.0 with.1 k meta_sectors within threshold others metadata content room formatted size
+
+pub can_write_back : (P A : Type 0) → CanWriteBack P A
+can_write_back P A policy reading begun cache_blocks meta_sectors within threshold others metadata content room formatted size = by_blocks cache_blocks within formatted (by_reading P A reading begun)
+  where
+    by_blocks : (n : ℕ) (within : IsWithinLimits 64 n 2 meta_sectors) → IsFormatted (two_blocks n meta_sectors within) metadata → A × Global → WritesBack P A (record { geometry = two_blocks n meta_sectors within; threshold = threshold; actors = suc others }) metadata content
+    by_blocks zero within formatted with = absurd (omega (arith, within.cache_from))
+    by_blocks (suc k) within formatted with = writes_back_all P A policy with.0 with.1 k meta_sectors within threshold others metadata content room formatted size

@@ -8,6 +8,7 @@ pub mod Faltering
 pub mod Formatted
 pub mod MetadataRuns
 pub mod Lists
+pub mod Located
 pub mod Extents
 pub mod Ruling
 pub mod Suiting
@@ -37,6 +38,7 @@ mod Surviving
 mod FirstPromotion
 mod FirstDemotion
 mod FirstReplacement
+mod FirstWriteBack
 mod FirstFollowing
 mod Bounds
 pub mod InsideRuns
@@ -47,3 +49,4 @@ mod Giving
 mod Applying
 mod Making
 mod Free
+mod Excluding

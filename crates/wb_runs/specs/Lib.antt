@@ -9,3 +9,4 @@ pub mod Possible
 pub mod Latest
 pub mod Inside
 pub mod Sealed
+pub mod Excluded

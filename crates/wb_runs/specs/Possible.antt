@@ -7,13 +7,14 @@ use Rattle.wb_types.specs.declared.mode.Dev.TheVariants.{Origin}
 use Rattle.wb_types.specs.declared.refusal.Refusal.TheVariants.{Memory}
 use Rattle.wb_types.specs.declared.number.OBlock.{OBlock}
 use Rattle.wb_types.specs.declared.number.CBlock.{CBlock}
+use Rattle.wb_words.specs.SharedWords.{word_at, seal_word}
 use Rattle.wb_policy.specs.declared.order.Order.{Order}
 use Rattle.wb_policy.specs.declared.order.Order.TheVariants.{Replace as ReplaceOrder}
 use Rattle.wb_space.specs.declared.block.Block.{Block}
 use Rattle.wb_space.specs.declared.block.Block.TheVariants.{Reserved, Quarantined}
 use Rattle.wb_orders.specs.Orders.{order_at}
 use Rattle.wb_desk.specs.Desks.{IsLive}
-use Rattle.wb_tasks.specs.declared.step.Migration.TheVariants.{Promote, Demote}
+use Rattle.wb_tasks.specs.declared.step.Migration.TheVariants.{Promote, Demote, Clean}
 use Rattle.wb_disk.specs.Device.{Content as Bytes, History, Gives}
 use Rattle.wb_meta.specs.Formats.{IsFormatted}
 use Rattle.wb_meta.specs.Reads.{sectors_read}
@@ -177,6 +178,28 @@ abbrev pub CanReplace : (P A : Type 0) → Type 0
 CanReplace P A = (policy : P) (reading : ReadSteps A) → sectors_read reading ≡ 0 → (cache_blocks meta_sectors : ℕ) (within : IsWithinLimits 64 cache_blocks 2 meta_sectors) (threshold others : ℕ) (metadata : List History) (content : Bytes) → 128 ≤ threshold
     → IsFormatted (two_blocks cache_blocks meta_sectors within) metadata → length metadata ≡ meta_sectors
     → Replaces P A (record { geometry = two_blocks cache_blocks meta_sectors within; threshold = threshold; actors = suc others }) metadata content
+
+-- A run over such a geometry that passes through a promotion of the first block, a write to it, and a write-back of it: what was written is
+-- on the origin then too, the block stands where it was, its seal says that it is clean, and no order lives there.
+pub record WritesBack (P A : Type 0) (shape : Shape) (metadata : List History) (content : Bytes) : Type 0 where
+  pub promoting : List (Happening P A)
+  pub writing : List (Happening P A)
+  pub cleaning : List (Happening P A)
+  pub passes : PassesThrough shape (start shape metadata) (formatted shape) (
+      (promoting, λ w n. AboutToAnswer (Migrate (Promote first_cache_block) first_block) w)
+      ∷ (writing, λ w n. AboutToAnswer (Write first_sector content) w × Gives w.devices.cache 0 content)
+      ∷ (
+        cleaning,
+        λ w n. AboutToAnswer (Migrate Clean first_block) w × FirstHas [] [] w × Gives w.devices.origin 0 content
+            × OfTarget w.phase (λ target. (place_of target.desk.tree.entries 0 ≡ Some 0) × (word_at target.words.seals first_block ≡ seal_word (Some first_cache_block) false) × (order_at target.desk.orders.slots 0 ≡ None)),
+      )
+      ∷ [])
+
+-- There is one where orders may ask for two blocks at once.
+abbrev pub CanWriteBack : (P A : Type 0) → Type 0
+CanWriteBack P A = (policy : P) (reading : ReadSteps A) → sectors_read reading ≡ 0 → (cache_blocks meta_sectors : ℕ) (within : IsWithinLimits 64 cache_blocks 2 meta_sectors) (threshold others : ℕ) (metadata : List History) (content : Bytes) → 128 ≤ threshold
+    → IsFormatted (two_blocks cache_blocks meta_sectors within) metadata → length metadata ≡ meta_sectors
+    → WritesBack P A (record { geometry = two_blocks cache_blocks meta_sectors within; threshold = threshold; actors = suc others }) metadata content
 
 -- A run that comes as far, but whose flush is refused for want of memory: it is about to give the order up then, and with one happening more
 -- it has: the order is over, and its cache block claimed no longer.

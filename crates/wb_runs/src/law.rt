@@ -1,7 +1,8 @@
 //! The theorems over all runs.
 
 ghost use Rattle.wb_runs.specs.Headline.{AnswersCoverTheirSectors, EventsSkipRightly, MetadataAreRead, OpeningsRefuseByCause};
-ghost use Rattle.wb_runs.specs.Possible.{CanDemote, CanFlush, CanGiveUp, CanOpen, CanPromote, CanReplace, CanStartAgain, CanSurvive};
+ghost use Rattle.wb_runs.specs.Excluded.{ExcludesWrongAnswers};
+ghost use Rattle.wb_runs.specs.Possible.{CanDemote, CanFlush, CanGiveUp, CanOpen, CanPromote, CanReplace, CanStartAgain, CanSurvive, CanWriteBack};
 ghost use Rattle.wb_runs.specs.Progress.{NeverStuck};
 ghost use Rattle.wb_runs.specs.Inside.{StepsStayInside};
 ghost use Rattle.wb_runs.specs.Holding.{WordsAreUsedRightly};
@@ -75,6 +76,11 @@ pub fn a_block_can_be_replaced<P, A>()
     ensures { CanReplace P A }
 {}
 
+/// And one in which the first block, which was promoted and written to, is written back: its content goes home, and it stays where it is, clean.
+pub fn a_block_can_be_written_back<P, A>()
+    ensures { CanWriteBack P A }
+{}
+
 /// And one in which that flush is refused for want of memory, and gives the order up.
 pub fn a_replacement_can_be_given_up<P, A>()
     ensures { CanGiveUp P A }
@@ -89,4 +95,10 @@ pub fn a_replacement_can_start_again<P, A>()
 /// seal by a cache block that is, wherever blocks are cached.
 pub fn steps_stay_inside<P, A>()
     ensures { StepsStayInside P A }
+{}
+
+/// The definitions of the promise tell right answers from wrong ones: of a read, a write and an opening on a sector to which two contents
+/// were written, of a flush's floor, and of a skipped step.
+pub fn promises_exclude_wrong_answers<P, A>()
+    ensures { ExcludesWrongAnswers P A }
 {}
