@@ -21,8 +21,14 @@ pub fn run(alloc: Global, geometry: Geometry, events: Vec<Event>) -> Result<Trac
     let mut world = World::new(alloc, geometry)?;
     let mut left = events;
     left.reverse();
-    run_all(&mut world, left)?;
-    Ok(world.into_trace())
+    // The world is let go by its own call on both ways: let go here, each of its parts is one of this function's ways.
+    match run_all(&mut world, left) {
+        Ok(()) => Ok(world.into_trace()),
+        Err(refusal) => {
+            let _unfinished = world.into_trace();
+            Err(refusal)
+        }
+    }
 }
 
 /// These events, the last one first.
