@@ -70,15 +70,16 @@ pub fn a_block_can_be_demoted<P, A>()
     ensures { CanDemote P A }
 {}
 
-/// And over an origin of two blocks one in which the first block, which was promoted and written to, is replaced by the second: its content goes
-/// home, a flush of the same actor ends the quarantine of its cache block, and under the same order the second block is promoted there.
-pub fn a_block_can_be_replaced<P, A>()
-    ensures { CanReplace P A }
-{}
-
-/// And one in which the first block, which was promoted and written to, is written back: its content goes home, and it stays where it is, clean.
+/// And over an origin of two blocks one in which the first block, which was promoted and written to, is written back: its content goes home, and
+/// it stays where it is, clean.
 pub fn a_block_can_be_written_back<P, A>()
     ensures { CanWriteBack P A }
+{}
+
+/// And one in which that block, still dirty, is replaced by the second: its content goes home, a flush of the same actor ends the quarantine of
+/// its cache block, and under the same order the second block is promoted there.
+pub fn a_block_can_be_replaced<P, A>()
+    ensures { CanReplace P A }
 {}
 
 /// And one in which that flush is refused for want of memory, and gives the order up.
