@@ -62,7 +62,7 @@ rm -f "bin/$program" "bin/$program.sources" "crates/$program/out/$program"
 # What it takes, as it was last measured: docs/GATE.md has the machine.
 memory=$(awk '/^MemAvailable/ { print int($2 / 1024) }' /proc/meminfo 2>/dev/null || true)
 disk=$(df -Pm . | awk 'NR == 2 { print $4 }')
-say "proving and building $program: where nothing is proved yet 10 to 16 minutes on four cores, up to 3 GB of memory and 2 GB of disk"
+say "proving and building $program: where nothing is proved yet half an hour or more on four cores, up to 3 GB of memory and 2 GB of disk"
 test "${memory:-9999}" -ge 3000 || say "build.sh: only $memory MB of memory are free: close what uses it, or it may take long"
 test "${disk:-9999}" -ge 2500 || say "build.sh: only $disk MB of disk are free under $top: proofs are kept in crates/*/out"
 
